@@ -1,0 +1,22 @@
+//! The edge to the outside: where bytes come from and where they go, each with a count of its faults,
+//! and what is called round each operation of a thread. The forms over memory serve callers that hold
+//! their input, and tests that want a fault at a chosen call.
+#![tactic(auto)]
+
+mod fault;
+mod gate;
+mod memory;
+mod piece;
+mod plan;
+mod sink;
+mod source;
+mod standard;
+mod sure;
+
+pub use fault::{Failed, GiveFault};
+pub use gate::{Gate, PlainGate};
+pub use memory::{MOST_AT_A_CALL, MemSink, MemSource};
+pub use sink::Sink;
+pub use source::Source;
+pub use standard::{StdSink, StdSource};
+pub use sure::{SureSink, SureSource};

@@ -1,0 +1,122 @@
+//! A source and a sink over memory that never fail.
+ghost use Rattle.std.specs.Prelude.{◌≡◌, ◌<◌, ◌≤◌, ℕ, List, [], min, length, drop, Some, Ok, IfOk, IfErr};
+ghost use Rattle.std.specs.Io.{ReadsAtMost, WritesAtMost};
+ghost use Rattle.std.specs.Io.KnownBytes.{ReadConsumes, WriteAppends};
+ghost use Rattle.io_edge.specs.Edge.{HasCause, HasGiveCause};
+ghost use Rattle.io_edge.specs.declared.fault.GiveFault.TheVariants.{NoMemory};
+
+use crate::piece::fill_piece;
+use crate::{Failed, GiveFault, Sink, Source};
+use std::alloc::Global;
+use std::marker::Model;
+
+/// A source over bytes in memory, which never fails. A clause sees the bytes that are left.
+#[derive(Debug, Drop)]
+pub struct SureSource {
+    bytes: Vec<u8>,
+    at: usize,
+}
+
+impl Model for SureSource {
+    ghost Value = { List ℕ };
+
+    ghost view = { λ source. drop source.at source.bytes.items };
+
+    ghost invariant = { λ source. source.at ≤ length source.bytes.items };
+}
+
+impl SureSource {
+    /// A source with all of these bytes left.
+    pub fn new(bytes: Vec<u8>) -> SureSource
+        ensures { result ≡ bytes.items }
+    {
+        SureSource { bytes, at: 0 }
+    }
+}
+
+impl Source for SureSource {
+    ghost left = { λ source. Some source };
+
+    ghost faults = { λ _. 0 };
+
+    /// Moves as many bytes as the piece holds, or all that are left.
+    fn take(&mut self, into: &mut [u8]) -> Result<usize, Failed>
+        ensures bound { ReadsAtMost result into.new }
+        ensures bytes { ReadConsumes (Some self.old) (Some self.new) result into.new }
+        ensures cause { HasCause 0 0 result }
+        ensures count { result ≡ Ok (min (length self.old) (length into.old)) }
+        ensures rest { IfOk result (λ count. drop count into.new ≡ drop count into.old) }
+    {
+        let count = fill_piece(self.bytes.as_slice(), self.at, usize::MAX, into);
+        self.at += count;
+        Ok(count)
+    }
+}
+
+/// A sink that keeps its bytes in memory and never answers `Failed`. A clause sees the bytes that were written.
+#[derive(Debug, Drop)]
+pub struct SureSink {
+    bytes: Vec<u8>,
+}
+
+impl Model for SureSink {
+    ghost Value = { List ℕ };
+
+    ghost view = { λ sink. sink.bytes.items };
+}
+
+impl SureSink {
+    /// A sink to which nothing was written. It allocates when bytes come.
+    pub fn new(alloc: Global) -> SureSink
+        ensures { result ≡ [] }
+    {
+        SureSink {
+            bytes: Vec::new(alloc),
+        }
+    }
+
+    /// The bytes that were written.
+    pub fn bytes(&self) -> &[u8]
+        ensures { result.now ≡ self.now }
+    {
+        self.bytes.as_slice()
+    }
+}
+
+impl Sink for SureSink {
+    ghost written = { λ sink. Some sink };
+
+    ghost faults = { λ _. 0 };
+
+    /// Takes the whole piece, or answers that there is no memory and takes nothing.
+    fn give(&mut self, piece: &[u8]) -> Result<usize, GiveFault>
+        ensures bound { WritesAtMost result piece.now }
+        ensures some { IfOk result (λ count. 0 < length piece.now → 0 < count) }
+        ensures bytes { WriteAppends (Some self.old) (Some self.new) result piece.now }
+        ensures cause { HasGiveCause 0 0 result }
+        ensures whole { IfOk result (λ count. count ≡ length piece.now) }
+        ensures error { IfErr result (λ fault. fault ≡ NoMemory) }
+    {
+        self.bytes.extend_from_slice(piece)?;
+        Ok(piece.len())
+    }
+}
+
+#[cfg(test)]
+mod tests {
+    use super::*;
+    use std::test::Fail;
+
+    #[test]
+    fn moves_all(rt: HostRuntime) -> Result<(), Fail> {
+        let mut source = SureSource::new(Vec::from_slice(rt.alloc(), b"areas")?);
+        let mut sink = SureSink::new(rt.alloc());
+        let mut piece = [0u8; 3];
+        for count in [3, 2, 0] {
+            assert_eq!(rt; source.take(&mut piece), Ok(count));
+            assert_eq!(rt; sink.give(&piece[..count]), Ok(count));
+        }
+        assert_eq!(rt; sink.bytes(), b"areas".as_slice());
+        Ok(())
+    }
+}

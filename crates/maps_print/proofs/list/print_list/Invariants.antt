@@ -1,0 +1,7 @@
+use Rattle.std.proofs.Common.{◌≡◌, ◌++◌, drop}
+use Rattle.mm_types.specs.MapsText.{list_text}
+use Rattle.maps_print.proofs.list.print_list.Given as goal
+
+abbrev pub invariant-loop-area : goal.invariant-loop-area
+invariant-loop-area l =
+    l.text.items ++ list_text l.files (drop l.area-index l.area-items) ≡ list_text l.files l.area-items

@@ -1,0 +1,61 @@
+-- The text of /proc/PID/maps, as proc_pid_maps(5) has it.
+use Rattle.std.specs.Prelude.{ℕ, ◌+◌, ◌*◌, ◌-◌, Bool, false, List, [], ◌∷◌, ◌++◌, length, Option, Some, None, if◌then◌else◌, nat_eq, nat_lt, codes, decimal, replicate, flat_map, slice_get}
+use Rattle.std.specs.Fmt.{digits}
+use Rattle.mm_types.specs.declared.area.Record.{Record}
+use Rattle.mm_types.specs.declared.files.FileRow.{FileRow}
+
+-- a number in lower-case hexadecimal, filled with zeros in front up to this width
+unfoldable pub hex : ℕ → ℕ → List ℕ
+hex width n = let text = digits 16 false n in replicate (width - length text) 48 ++ text
+
+-- a flag's letter, or a dash
+abbrev pub letter : Bool → ℕ → ℕ
+letter flag c = if flag then c else 45
+
+-- the access that is allowed, and whether the area is shared or private
+unfoldable pub perms : Record → List ℕ
+perms area = letter area.attr.prot.read 114 ∷ letter area.attr.prot.write 119 ∷ letter area.attr.prot.exec 120
+    ∷ (if area.attr.shared then 115 else 112) ∷ []
+
+-- the addresses of an area and what is allowed there, as `<lo>-<hi> <perms>`
+unfoldable pub range_text : Record → List ℕ
+range_text area = hex 8 (4096 * area.span.lo) ++ (45 ∷ (hex 8 (4096 * area.span.hi) ++ (32 ∷ perms area)))
+
+-- what an area maps: a device, an inode and a name
+pub record Backing : Type 0 where
+  pub major : ℕ
+  pub minor : ℕ
+  pub inode : ℕ
+  pub name : List ℕ
+
+-- Private anonymous memory has device 00:00, inode 0 and no name; a file has its own; a shared anonymous object
+-- has device 00:01, its number as inode, and a name of the kernel's.
+unfoldable pub backing : List FileRow → ℕ → Backing
+backing files object = if nat_eq object 0 then record { major = 0; minor = 0; inode = 0; name = [] }
+    else file_backing (slice_get files (object - 1)) object
+  where
+    file_backing : Option FileRow → ℕ → Backing
+    file_backing (Some file) object = record { major = file.major; minor = file.minor; inode = file.inode; name = file.path }
+    file_backing None object = record { major = 0; minor = 1; inode = object; name = codes "/dev/zero (deleted)" }
+
+-- a newline is shown as the four characters \012
+abbrev pub shown_byte : ℕ → List ℕ
+shown_byte c = if nat_eq c 10 then codes "\\012" else c ∷ []
+
+-- the name after so many characters: set off by spaces up to column 73, or by one space where there are 73 or more already
+unfoldable pub name_text : ℕ → List ℕ → List ℕ
+name_text column [] = []
+name_text column (c ∷ name) = replicate (if nat_lt column 73 then 73 - column else 1) 32 ++ flat_map shown_byte (c ∷ name)
+
+-- what stands before the name: `<lo>-<hi> <perms> <offset> <major>:<minor> <inode> `
+unfoldable pub front_text : Record → Backing → List ℕ
+front_text area backing = range_text area ++ (32 ∷ (hex 8 (4096 * area.offset) ++ (32 ∷ (hex 2 backing.major ++ (58 ∷ (hex 2 backing.minor ++ (32 ∷ (decimal backing.inode ++ 32 ∷ []))))))))
+
+-- the line of one area, which ends with a newline
+unfoldable pub area_text : List FileRow → Record → List ℕ
+area_text files area = let object = backing files area.object in let front = front_text area object in
+    front ++ (name_text (length front) object.name ++ 10 ∷ [])
+
+-- a line for each area, in the order of the list
+abbrev pub list_text : List FileRow → List Record → List ℕ
+list_text files areas = flat_map (area_text files) areas

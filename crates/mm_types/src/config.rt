@@ -1,0 +1,94 @@
+ghost use Rattle.std.specs.Prelude.{◌≡◌, ◌≢◌, ◌%◌, ◌↔◌, IsTrue, AllPairs, Any};
+ghost use Rattle.mm_types.specs.Config.{IsValidConfig, default_config};
+
+use crate::files::{FileRow, Files};
+
+/// The bytes of a page.
+pub const PAGE_SIZE: u64 = 4096;
+
+/// The address at which user memory ends, in bytes: one page below 2^47.
+pub const ADDRESS_LIMIT: u64 = 0x7fff_ffff_f000;
+
+/// The lowest address that may be mapped, where a trace names no other: the kernel's default `mmap_min_addr`.
+pub const DEFAULT_MIN: u64 = 0x1_0000;
+
+/// The address below which room is looked for first, where a trace names no other, in bytes.
+pub const DEFAULT_TOP: u64 = 0x7fff_f7ff_f000;
+
+/// The most areas that an address space may be allowed, the kernel's default `max_map_count`.
+pub const MOST_AREAS: u32 = 65530;
+
+/// The most files of a trace.
+pub const MOST_FILES: usize = 1024;
+
+/// What an address space is opened with. `min`, `top` and `limit` are addresses in bytes.
+#[derive(Debug, Drop)]
+pub struct Config {
+    /// The lowest address that a call may map: `mmap_min_addr`.
+    pub min: u64,
+    /// Below this address the kernel looks for room first: `mmap_base`.
+    pub top: u64,
+    /// The end of user memory.
+    pub limit: u64,
+    /// The most areas: `max_map_count`.
+    pub areas: u32,
+    /// The files that may be mapped.
+    pub files: Files,
+}
+
+impl Config {
+    /// The configuration with these files that has the defaults in all else.
+    #[tactic(auto, unfolding(crate::specs::Config::default_config))]
+    pub fn with_files(files: Files) -> Config
+        ensures { result ≡ default_config files }
+    {
+        Config {
+            min: DEFAULT_MIN,
+            top: DEFAULT_TOP,
+            limit: ADDRESS_LIMIT,
+            areas: MOST_AREAS,
+            files,
+        }
+    }
+
+    /// Whether an address space may be opened with it.
+    pub fn valid(&self) -> bool
+        ensures { IsTrue result ↔ IsValidConfig self.now }
+    {
+        let files = self.files.items();
+        is_aligned(self.min)
+            && is_aligned(self.top)
+            && PAGE_SIZE <= self.min
+            && PAGE_SIZE <= self.top
+            && self.min <= self.limit
+            && self.top <= self.limit
+            && self.limit == ADDRESS_LIMIT
+            && 0 < self.areas
+            && self.areas <= MOST_AREAS
+            && files.len() <= MOST_FILES
+            && has_distinct_fds(files)
+    }
+}
+
+fn is_aligned(address: u64) -> bool
+    ensures { IsTrue result ↔ (address % PAGE_SIZE ≡ 0) }
+{
+    address % PAGE_SIZE == 0
+}
+
+fn has_distinct_fds(files: &[FileRow]) -> bool
+    ensures { IsTrue result ↔ AllPairs (λ a b. a.fd ≢ b.fd) files.now }
+{
+    for (place, file) in files.iter().enumerate() {
+        if shares_fd(&files[..place], file) {
+            return false;
+        }
+    }
+    true
+}
+
+fn shares_fd(files: &[FileRow], file: &FileRow) -> bool
+    ensures { IsTrue result ↔ Any (λ other. other.fd ≡ file.now.fd) files.now }
+{
+    files.iter().any(|other| other.fd == file.fd)
+}
