@@ -1,0 +1,13 @@
+use Rattle.std.proofs.Common.{◌≡◌, ◌≤◌, ◌-◌, ◌++◌, length, take, drop}
+use Rattle.area_model.specs.Changes.{insert_area}
+use Rattle.area_model.proofs.changes.insert_area.Given as goal
+
+-- the areas so far lie before the place of the new one
+abbrev pub invariant-loop-place : goal.invariant-loop-place
+invariant-loop-place l = record {
+  within : l.place ≤ length l.areas.items;
+  before : take l.place l.areas.items ++ insert_area l.area (drop l.place l.areas.items) ≡ insert_area l.area l.areas.items;
+}
+
+abbrev pub decreases-loop-place : goal.decreases-loop-place
+decreases-loop-place l = length l.areas.items - l.place

@@ -1,0 +1,15 @@
+use Rattle.std.proofs.lemmas.List.Elements.{All-from_recursion, recursion_from_All}
+use Rattle.area_model.specs.Steps.{step}
+use Rattle.area_model.proofs.Stepping.{IsCounted, step_sound, step_counted, step_objects}
+use Rattle.area_model.proofs.laws.step_keeps_soundness.Goals as goal
+
+pub returns-clause-sound : goal.returns-clause-sound
+returns-clause-sound c = step_sound
+
+pub returns-clause-counted : goal.returns-clause-counted
+returns-clause-counted c = λ config space call ready files.
+    All-from_recursion (IsCounted (step config space call).space.objects) (step config space call).space.areas
+    (step_counted config space call (recursion_from_All (IsCounted space.objects) space.areas ready.counted) files)
+
+pub returns-clause-objects : goal.returns-clause-objects
+returns-clause-objects c = step_objects

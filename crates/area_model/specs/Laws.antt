@@ -1,0 +1,61 @@
+-- What the laws of the calls speak of.
+use Rattle.std.specs.Prelude.{ℕ, ◌≡◌, ◌<◌, ◌≤◌, ◌+◌, ◌⊎◌, true, false, List, Some, None, IfSome}
+use Rattle.mm_types.specs.declared.area.Span.{Span}
+use Rattle.mm_types.specs.declared.area.Prot.{Prot}
+use Rattle.mm_types.specs.declared.area.Record.{Record}
+use Rattle.mm_types.specs.Records.{holds_all}
+use Rattle.mm_types.specs.declared.call.Call.TheVariants.{Mmap}
+use Rattle.mm_types.specs.declared.call.MmapArgs.{MmapArgs}
+use Rattle.mm_types.specs.declared.call.Reply.TheVariants.{Addr}
+use Rattle.mm_types.specs.declared.config.Config.{Config}
+use Rattle.mm_types.specs.Config.{IsValidConfig}
+use Rattle.area_model.specs.Areas.{page_of, has_page, area_at, IsCanonical}
+use Rattle.area_model.specs.Tables.{AddressSpace, pages_of, first_row}
+use Rattle.area_model.specs.Mmap.{is_anonymous, is_shared}
+use Rattle.area_model.specs.Mprotect.{may_have, stop_of}
+use Rattle.area_model.specs.declared.remapping.MremapArgs.{MremapArgs}
+use Rattle.area_model.specs.Mremap.{moves_to, grows, has_room, new_place, mremap_rows}
+use Rattle.area_model.specs.Steps.{step}
+
+-- each mapped page of the span may have the protection
+abbrev pub AllMayHave : Prot → Span → List Record → Type 0
+AllMayHave prot span areas = (page : ℕ) → has_page span page ≡ true
+    → IfSome (area_at areas page) (λ area. holds_all area.attr.most prot ≡ true)
+
+-- A page is where mprotect(2) stops in a range where each page of the range before it is mapped and may have the
+-- protection, and it is the range's end, or not mapped, or may not have the protection.
+pub record IsStop (prot : Prot) (range : Span) (areas : List Record) (stop : ℕ) : Type 0 where
+  pub begins : range.lo ≤ stop
+  pub ends : stop ≤ range.hi
+  pub before : (page : ℕ) → range.lo ≤ page → page < stop → may_have prot (area_at areas page) ≡ true
+  pub stopped : stop < range.hi → may_have prot (area_at areas stop) ≡ false
+
+-- the pages of the range before the stop
+abbrev pub prefix_of : Prot → Span → List Record → Span
+prefix_of prot range areas = record { lo = range.lo; hi = stop_of prot range areas }
+
+-- the pages of a moved range that begins at this page
+abbrev pub moved_range : MremapArgs → ℕ → Span
+moved_range args start = record { lo = start; hi = start + pages_of args.new_len }
+
+-- the page that mremap(2) moves a range to: the fixed one, or the one that is found for a range that grows where it has
+-- no room
+abbrev pub MovesTo : Config → List Record → MremapArgs → ℕ → Type 0
+MovesTo config areas args start = ((moves_to args ≡ true) × (page_of args.new ≡ start))
+    ⊎ ((moves_to args ≡ false) × (grows args ≡ true) × (has_room config areas args ≡ false)
+    × (new_place config areas args ≡ Some start))
+
+-- A move as mremap(2) makes it: of the area that has the first page of the old range, to the page that the range moves
+-- to, where no test of the request refuses it.
+pub record IsMove (config : Config) (areas : List Record) (area : Record) (args : MremapArgs) (start : ℕ) : Type 0 where
+  pub valid : IsValidConfig config
+  pub canonical : IsCanonical (page_of config.limit) areas
+  pub found : area_at areas (page_of args.old) ≡ Some area
+  pub accepted : first_row (mremap_rows config areas args) ≡ None
+  pub place : MovesTo config areas args start
+
+-- a mapping of shared anonymous memory that succeeds, at this address
+pub record MapsShared (config : Config) (space : AddressSpace) (args : MmapArgs) (address : ℕ) : Type 0 where
+  pub anonymous : is_anonymous args ≡ true
+  pub shared : is_shared args ≡ true
+  pub reply : (step config space (Mmap args)).reply ≡ Addr address

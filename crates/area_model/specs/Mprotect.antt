@@ -1,0 +1,57 @@
+-- mprotect(2), row by row.
+use Rattle.std.specs.Prelude.{ℕ, ◌+◌, ◌*◌, ◌^◌, Bool, true, false, not, ◌&&◌, if◌then◌else◌, nat_eq, nat_le, List, [], ◌∷◌, Option, Some, None, unwrap_or}
+use Rattle.mm_types.specs.declared.area.Span.{Span}
+use Rattle.mm_types.specs.declared.area.Prot.{Prot}
+use Rattle.mm_types.specs.declared.area.Record.{Record}
+use Rattle.mm_types.specs.declared.call.Errno.TheVariants.{Enomem, Eacces, Einval}
+use Rattle.mm_types.specs.declared.call.Reply.{Reply}
+use Rattle.mm_types.specs.declared.call.Reply.TheVariants.{Zero, Refused}
+use Rattle.mm_types.specs.declared.config.Config.{Config}
+use Rattle.mm_types.specs.declared.config.TheConstants.{PAGE_SIZE}
+use Rattle.mm_types.specs.Records.{holds_all}
+use Rattle.area_model.specs.Areas.{area_at}
+use Rattle.area_model.specs.Changes.{protected_list}
+use Rattle.area_model.specs.Placement.{least_below}
+use Rattle.area_model.specs.Tables.{AddressSpace, Outcome, first_row, is_aligned, pages_of, has_too_many_areas}
+use Rattle.area_model.specs.Munmap.{range_of}
+
+-- whether a page is mapped by an area that may have this protection
+unfoldable pub may_have : Prot → Option Record → Bool
+may_have prot None = false
+may_have prot (Some area) = holds_all area.attr.most prot
+
+-- the first page of the range that is not mapped or may not have the protection, or the range's end
+unfoldable pub stop_of : Prot → Span → List Record → ℕ
+stop_of prot range areas = unwrap_or (least_below (λ page. nat_le range.lo page && not (may_have prot (area_at areas page))) range.hi) range.hi
+
+-- the list with the protection on the pages before the stop
+unfoldable pub protected_prefix : Prot → Span → List Record → List Record
+protected_prefix prot range areas = protected_list prot (record { lo = range.lo; hi = stop_of prot range areas }) areas
+
+-- the tests that change nothing, in their order: not aligned, empty length, past 2^64, too many areas
+unfoldable pub mprotect_rows : Config → List Record → ℕ → ℕ → Prot → List (Bool × Reply)
+mprotect_rows config areas addr len prot =
+    (not (is_aligned addr), Refused Einval)
+    ∷ (nat_eq len 0, Zero)
+    ∷ (nat_le (2 ^ 64) (addr + PAGE_SIZE * pages_of len), Refused Enomem)
+    ∷ (has_too_many_areas config (protected_prefix prot (range_of addr len) areas), Refused Enomem)
+    ∷ []
+
+-- the reply by what the stop is: the range's end, a page that is not mapped, or one that may not have the protection
+unfoldable pub stopped_reply : Span → ℕ → Option Record → Reply
+stopped_reply range stop area = if nat_le range.hi stop then Zero else denied_reply area
+  where
+    denied_reply : Option Record → Reply
+    denied_reply None = Refused Enomem
+    denied_reply (Some area) = Refused Eacces
+
+-- mprotect(2): the first test that holds answers and changes nothing; else the pages before the stop have the protection
+unfoldable pub mprotect : Config → AddressSpace → ℕ → ℕ → Prot → Outcome
+mprotect config space addr len prot = answered (first_row (mprotect_rows config space.areas addr len prot))
+  where
+    answered : Option Reply → Outcome
+    answered (Some reply) = record { space = space; reply = reply }
+    answered None = let range = range_of addr len in let stop = stop_of prot range space.areas in record {
+      space = record space { areas = protected_prefix prot range space.areas };
+      reply = stopped_reply range stop (area_at space.areas stop);
+    }

@@ -1,0 +1,70 @@
+-- Where a new area goes that names no fixed place.
+use Rattle.std.specs.Prelude.{ℕ, zero, suc, ◌+◌, ◌/◌, ◌≡◌, ◌<◌, max, Bool, true, false, ◌&&◌, ◌||◌, if◌then◌else◌, nat_eq, nat_lt, nat_le, List, [], ◌∷◌, find, Option, Some, None}
+use Rattle.std.specs.List.{list_all}
+use Rattle.mm_types.specs.declared.area.Record.{Record}
+use Rattle.mm_types.specs.declared.config.Config.{Config}
+use Rattle.area_model.specs.declared.placement.Bounds.{Bounds}
+use Rattle.area_model.specs.declared.placement.TheConstants.{FLOOR}
+use Rattle.area_model.specs.Areas.{page_of}
+
+-- the first of the two that is there
+abbrev pub or_else : {A : Type 0} → Option A → Option A → Option A
+or_else (Some x) other = Some x
+or_else None other = other
+
+-- the greatest number below the bound that passes the test
+unfoldable pub greatest_below : (ℕ → Bool) → ℕ → Option ℕ
+greatest_below passes zero = None
+greatest_below passes (suc n) = if passes n then Some n else greatest_below passes n
+
+-- the least number below the bound that passes the test
+unfoldable pub least_below : (ℕ → Bool) → ℕ → Option ℕ
+least_below passes zero = None
+least_below passes (suc n) = or_else (least_below passes n) (if passes n then Some n else None)
+
+-- a number is the greatest below the bound that passes where it is below the bound and passes, and no greater one does
+pub record IsGreatest (passes : ℕ → Bool) (bound : ℕ) (n : ℕ) : Type 0 where
+  pub below : n < bound
+  pub passing : passes n ≡ true
+  pub none_greater : (m : ℕ) → n < m → m < bound → passes m ≡ false
+
+-- a number is the least below the bound that passes where it is below the bound and passes, and no lesser one does
+pub record IsLeast (passes : ℕ → Bool) (bound : ℕ) (n : ℕ) : Type 0 where
+  pub below : n < bound
+  pub passing : passes n ≡ true
+  pub none_lesser : (m : ℕ) → m < n → passes m ≡ false
+
+-- no number below the bound passes
+abbrev pub NonePasses : (ℕ → Bool) → ℕ → Type 0
+NonePasses passes bound = (n : ℕ) → n < bound → passes n ≡ false
+
+-- the pages between which a configuration places areas
+abbrev pub bounds_of : Config → Bounds
+bounds_of config = record { low = page_of config.min; top = page_of config.top; limit = page_of config.limit }
+
+-- whether no area has one of so many pages from this start on
+unfoldable pub is_free : List Record → ℕ → ℕ → Bool
+is_free areas pages start = list_all (λ area. nat_le (start + pages) area.span.lo || nat_le area.span.hi start) areas
+
+-- the first area that has one of so many pages from this start on
+unfoldable pub blocker : List Record → ℕ → ℕ → Option Record
+blocker areas pages start = find (λ area. nat_lt area.span.lo (start + pages) && nat_lt start area.span.hi) areas
+
+-- The hint's page, where so many pages from it on are free and end at or below the limit. A hint below one page is none,
+-- and another is raised to the lowest page.
+unfoldable pub hinted_place : Bounds → List Record → ℕ → ℕ → Option ℕ
+hinted_place bounds areas pages hint = let start = max (page_of hint) bounds.low in
+    if nat_eq (page_of hint) 0 then None
+    else (if nat_le (start + pages) bounds.limit && is_free areas pages start then Some start else None)
+
+-- the greatest free start from the lowest page on whose pages end at or below the top
+unfoldable pub high_place : Bounds → List Record → ℕ → Option ℕ
+high_place bounds areas pages = greatest_below (λ start. nat_le bounds.low start && (nat_le (start + pages) bounds.top && is_free areas pages start)) (bounds.top + 1)
+
+-- the least free start from the floor on whose pages end at or below the limit
+unfoldable pub low_place : Bounds → List Record → ℕ → Option ℕ
+low_place bounds areas pages = least_below (λ start. nat_le (max FLOOR bounds.low) start && (nat_le (start + pages) bounds.limit && is_free areas pages start)) (bounds.limit + 1)
+
+-- where so many pages go: at the hint, else as high as there is room below the top, else as low as there is room from the floor on
+unfoldable pub place : Bounds → List Record → ℕ → ℕ → Option ℕ
+place bounds areas pages hint = or_else (hinted_place bounds areas pages hint) (or_else (high_place bounds areas pages) (low_place bounds areas pages))

@@ -1,0 +1,44 @@
+-- What the tables of the calls have in common.
+use Rattle.std.specs.Prelude.{ℕ, ◌≡◌, ◌+◌, ◌-◌, ◌/◌, ◌%◌, Bool, true, false, not, if◌then◌else◌, nat_eq, nat_lt, bit_and, List, [], ◌∷◌, length, Option, Some, None}
+use Rattle.mm_types.specs.declared.area.Record.{Record}
+use Rattle.mm_types.specs.declared.call.Errno.{Errno}
+use Rattle.mm_types.specs.declared.call.Reply.{Reply}
+use Rattle.mm_types.specs.declared.call.Reply.TheVariants.{Refused}
+use Rattle.mm_types.specs.declared.config.Config.{Config}
+use Rattle.mm_types.specs.declared.config.TheConstants.{PAGE_SIZE}
+
+-- an address space as a list of areas, and how many objects were numbered
+pub record AddressSpace : Type 0 where
+  pub areas : List Record
+  pub objects : ℕ
+
+-- what a call comes to: the address space after it, and its reply
+pub record Outcome : Type 0 where
+  pub space : AddressSpace
+  pub reply : Reply
+
+-- the answer of the first row whose test holds
+abbrev pub first_row : {A : Type 0} → List (Bool × A) → Option A
+first_row [] = None
+first_row (row ∷ rows) = if row.0 then Some row.1 else first_row rows
+
+-- a refusal changes nothing, and without one the call goes through
+abbrev pub unless_refused : AddressSpace → Option Errno → Outcome → Outcome
+unless_refused space (Some errno) done = record { space = space; reply = Refused errno }
+unless_refused space None done = done
+
+-- whether an address begins a page
+abbrev pub is_aligned : ℕ → Bool
+is_aligned address = nat_eq (address % PAGE_SIZE) 0
+
+-- how many pages a length takes
+unfoldable pub pages_of : ℕ → ℕ
+pages_of len = (len + (PAGE_SIZE - 1)) / PAGE_SIZE
+
+-- whether a flag is set
+unfoldable pub has_flag : ℕ → ℕ → Bool
+has_flag flags flag = not (nat_eq (bit_and flags flag) 0)
+
+-- whether a list has more areas than are allowed
+abbrev pub has_too_many_areas : Config → List Record → Bool
+has_too_many_areas config areas = nat_lt config.areas (length areas)

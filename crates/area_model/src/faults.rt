@@ -1,0 +1,78 @@
+//! What a page fault comes to.
+ghost use Rattle.std.specs.Prelude.{◌≡◌, ◌≢◌, ◌<◌, ◌-◌, ◌+◌, ◌^◌, All, option_copied, true};
+ghost use Rattle.mm_types.specs.Records.{IsValid};
+ghost use Rattle.area_model.specs.Areas.{area_at, has_page};
+ghost use Rattle.area_model.specs.Verdicts.{permits, is_past_end, area_verdict, verdict};
+
+use crate::areas::index_of;
+use crate::tables::pages_of;
+use mm_types::{Access, AreaList, FileRow, Files, Page, Prot, Record, Verdict};
+
+/// The area that has this page.
+pub(crate) fn area_at(areas: &[Record], page: u64) -> Option<&Record>
+    ensures { option_copied result ≡ area_at areas.now page }
+{
+    areas
+        .iter()
+        .find(|area| area.span.lo <= page && page < area.span.hi)
+}
+
+/// Whether a protection allows an access. To read takes any of the three.
+#[tactic(auto, unfolding(crate::specs::Verdicts::permits))]
+fn permits(prot: Prot, access: Access) -> bool
+    ensures { result ≡ permits prot access }
+{
+    match access {
+        Access::Read => prot.read || prot.write || prot.exec,
+        Access::Write => prot.write,
+        Access::Exec => prot.exec,
+    }
+}
+
+/// Whether a page of an area lies at or behind the end of its file, in pages rounded up.
+#[tactic(auto, unfolding(crate::specs::Verdicts::is_past_end))]
+fn is_past_end(files: &[FileRow], area: &Record, page: u64) -> bool
+    requires valid { IsValid area.now }
+    requires has { has_page area.now.span page ≡ true }
+    ensures { result ≡ is_past_end files.now area.now page }
+{
+    if area.object == 0 {
+        return false;
+    }
+    match files.get(area.object as usize - 1) {
+        Some(file) => pages_of(file.size) <= index_of(area, page),
+        None => false,
+    }
+}
+
+/// What a fault at a page of this area comes to.
+#[tactic(auto, unfolding(crate::specs::Verdicts::area_verdict))]
+fn area_verdict(files: &[FileRow], page: u64, access: Access, area: &Record) -> Verdict
+    requires valid { IsValid area.now }
+    requires has { has_page area.now.span page ≡ true }
+    ensures { result ≡ area_verdict files.now page access area.now }
+{
+    if !permits(area.attr.prot, access) {
+        return Verdict::AccErr;
+    }
+    if is_past_end(files, area, page) {
+        return Verdict::BusErr;
+    }
+    Verdict::Served {
+        area: *area,
+        index: index_of(area, page),
+    }
+}
+
+/// What a fault comes to on a list of areas: no area has the page; its protection does not allow the access; the
+/// page lies behind the end of the file; or it is served.
+#[tactic(auto, unfolding(crate::specs::Verdicts::verdict))]
+pub fn model_verdict(files: &Files, list: &AreaList, page: Page, access: Access) -> Verdict
+    requires { All IsValid list.now }
+    ensures { result ≡ verdict files.now list.now page.0 access }
+{
+    match area_at(list.items(), page.0) {
+        Some(area) => area_verdict(files.items(), page.0, access, area),
+        None => Verdict::MapErr,
+    }
+}

@@ -1,0 +1,76 @@
+//! What the tables of the calls have in common.
+ghost use Rattle.std.specs.Prelude.{◌≡◌, ◌≤◌, ◌+◌, ◌*◌, ◌^◌, IfOk, Some};
+ghost use Rattle.mm_types.specs.declared.config.TheConstants.{PAGE_SIZE};
+ghost use Rattle.area_model.specs.Stepped.{space_of, outcome_of};
+ghost use Rattle.area_model.specs.Tables.{is_aligned, pages_of, has_flag, has_too_many_areas, unless_refused};
+
+use crate::step::Stepped;
+use mm_types::{AreaList, Config, Errno, NoMemory, PAGE_SIZE, Record, Reply};
+use std::alloc::Global;
+
+/// Whether an address or a file offset is a whole number of pages.
+pub(crate) fn is_aligned(address: u64) -> bool
+    ensures { result ≡ is_aligned address }
+{
+    address % PAGE_SIZE == 0
+}
+
+/// How many pages a length takes.
+#[tactic(auto, unfolding(crate::specs::Tables::pages_of))]
+pub(crate) fn pages_of(len: u64) -> u64
+    ensures value { result ≡ pages_of len }
+    ensures most { result ≤ 2 ^ 52 }
+{
+    len.div_ceil(PAGE_SIZE)
+}
+
+/// The byte behind the last page of a range, which may lie past 2^64.
+pub(crate) fn end_of(addr: u64, len: u64) -> u128
+    ensures { result ≡ addr + PAGE_SIZE * pages_of len }
+{
+    u128::from(addr) + u128::from(PAGE_SIZE) * u128::from(pages_of(len))
+}
+
+/// Whether a flag is set.
+#[tactic(auto, unfolding(crate::specs::Tables::has_flag))]
+pub(crate) fn has_flag(flags: u32, flag: u32) -> bool
+    ensures { result ≡ has_flag flags flag }
+{
+    flags & flag != 0
+}
+
+/// Whether a list has more areas than are allowed.
+pub(crate) fn has_too_many_areas(config: &Config, areas: &[Record]) -> bool
+    ensures { result ≡ has_too_many_areas config.now areas.now }
+{
+    let most = config.areas;
+    areas.len() > most as usize
+}
+
+/// A reply that leaves the list and the counter of objects as they were.
+pub(crate) fn unchanged(
+    alloc: Global,
+    objects: u32,
+    areas: &[Record],
+    reply: Reply,
+) -> Result<Stepped, NoMemory>
+    ensures { IfOk result (λ stepped. outcome_of stepped ≡ record { space = space_of areas.now objects; reply = reply }) }
+{
+    Ok(Stepped {
+        list: AreaList::of(Vec::from_slice(alloc, areas)?),
+        objects,
+        reply,
+    })
+}
+
+/// A refusal, which leaves them as they were.
+pub(crate) fn refused(
+    alloc: Global,
+    objects: u32,
+    areas: &[Record],
+    errno: Errno,
+) -> Result<Stepped, NoMemory>
+    ensures { IfOk result (λ stepped. outcome_of stepped ≡ record { space = space_of areas.now objects; reply = Reply.Refused errno }) }
+{
+    unchanged(alloc, objects, areas, Reply::Refused(errno))
+}

@@ -1,0 +1,48 @@
+//! Replays a trace: `vma_main serial` reads it from standard input and writes every reply and the final list of
+//! areas to standard output. Where that fails, a line on standard error says why, and the exit status is 2 to 6.
+#![tactic(auto)]
+
+use io_edge::{PlainGate, StdSink, StdSource};
+use std::alloc::Global;
+use std::process::ExitCode;
+use std::rt::Env;
+use std::sync::Wait;
+use std::thread::Threads;
+use std::{env, io};
+use vma_replay::{Status, replay, status_line, status_number};
+
+/// The words behind the program's name.
+fn words<R: Env + AllocGlobal>(rt: &R) -> io::Result<Vec<String>> {
+    let words = env::args(rt)?.skip(1).collect(rt.alloc())?;
+    Ok(words)
+}
+
+fn run<R: Threads + Wait + Sync + Env + Input + Print + AllocGlobal>(rt: &R) -> Status {
+    match words(rt) {
+        Ok(words) => replay(
+            rt,
+            rt.alloc(),
+            words.as_slice(),
+            &mut StdSource::new(rt),
+            &mut StdSink::new(rt),
+            &PlainGate,
+        ),
+        Err(error) if error.kind() == io::ErrorKind::OutOfMemory => Status::NoMemory,
+        // A word that is no text is none of the accepted ones.
+        Err(_) => Status::Words,
+    }
+}
+
+fn report<R: Eprint + AllocGlobal>(rt: &R, status: &Status) {
+    if let Ok(line) = status_line(rt.alloc(), status) {
+        if !matches!(status, Status::Done) {
+            let _ = eprintln!(rt; "{}", line.as_str());
+        }
+    }
+}
+
+fn main(rt: HostRuntime) -> ExitCode {
+    let status = run(&rt);
+    report(&rt, &status);
+    ExitCode::from(status_number(&status))
+}

@@ -1,0 +1,32 @@
+-- That a text is given a piece at a time, and that what was given is the text of a legal history.
+use Rattle.std.proofs.Common.{◌≡◌, ℕ, ◌+◌, ◌-◌, List, ◌++◌, length, take, drop, Option, Some, None, Ok, IfSome, sym, ap, ◌∙◌, arith, append_assoc, length-drop}
+use Rattle.std.proofs.Math.Seq.{take-add}
+use Rattle.std.proofs.lemmas.List.{take_all}
+use Rattle.std.specs.Io.KnownBytes.{Appends}
+use Rattle.mm_types.specs.declared.history.TraceLine.{TraceLine}
+use Rattle.vma_replay.specs.Grammar.{trace_of}
+use Rattle.vma_replay.specs.Output.{serial_output}
+use Rattle.vma_replay.specs.Plain.{IsPlain}
+use Rattle.vma_replay.specs.Replaying.{GivesOutput}
+use Rattle.vma_replay.proofs.Legal.{serial_is_history}
+
+-- two pieces of a text, one after the other, are a longer one
+pub appends_more : (text : List ℕ) (given count : ℕ) (old mid new : Option (List ℕ)) → Appends old mid (take given text)
+    → Appends mid new (take count (take (length text - given) (drop given text))) → Appends old new (take (given + count) text)
+appends_more text given count None mid new front more = tt
+appends_more text given count (Some xs) None new front more = absurd front
+appends_more text given count (Some xs) (Some ys) None front more = absurd more
+appends_more text given count (Some xs) (Some ys) (Some zs) front more =
+    let left : take (length text - given) (drop given text) ≡ drop given text
+    = take_all (length text - given) (drop given text) (omega (arith, length-drop given text)) in
+    more ∙ ap (λ (piece : List ℕ). ys ++ take count piece) left
+    ∙ ap (λ (before : List ℕ). before ++ take count (drop given text)) front
+    ∙ append_assoc xs (take given text) (take count (drop given text))
+    ∙ ap (λ (both : List ℕ). xs ++ both) (sym (take-add given count text))
+
+-- the output of the input's trace is the text of a history of it, which is legal
+pub gives_output : (input old new : Option (List ℕ)) (lines : List TraceLine) → IfSome input (λ bytes. trace_of bytes ≡ Ok lines)
+    → IsPlain lines → Appends old new (serial_output lines) → IfSome input (λ bytes. GivesOutput bytes old new)
+unfolding serial_output
+gives_output None old new lines read plain given = tt
+gives_output (Some bytes) old new lines read plain given = rw read (serial_is_history lines plain, given)

@@ -1,0 +1,14 @@
+use Rattle.std.proofs.Common.{◌≡◌, ◌-◌, length, vec_len}
+use Rattle.std.specs.Io.KnownBytes.{Consumes}
+use Rattle.vma_replay.proofs.reading.take_bytes.Given as goal
+
+-- what was taken so far is in `bytes`, and no take failed
+abbrev pub invariant-loop-piece : goal.invariant-loop-piece
+invariant-loop-piece g l = record {
+  moved : Consumes (g.S.Source.left l.fn.source) (g.S.Source.left l.source) l.bytes.items;
+  calm : g.S.Source.faults l.source ≡ g.S.Source.faults l.fn.source;
+  piece : length l.piece ≡ 4096;
+}
+
+abbrev pub decreases-loop-piece : goal.decreases-loop-piece
+decreases-loop-piece g l = 65537 - vec_len l.bytes

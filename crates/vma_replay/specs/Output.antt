@@ -1,0 +1,81 @@
+-- The text of a history.
+use Rattle.std.specs.Prelude.{ℕ, ◌+◌, false, List, [], ◌∷◌, ◌++◌, length, codes, decimal, Option}
+use Rattle.std.specs.Fmt.{digits}
+use Rattle.std.specs.Option.{option_map_or}
+use Rattle.mm_types.specs.declared.area.Record.{Record}
+use Rattle.mm_types.specs.declared.area.Verdict.{Verdict}
+use Rattle.mm_types.specs.declared.area.Verdict.TheVariants as verdicts
+use Rattle.mm_types.specs.declared.call.Errno.{Errno}
+use Rattle.mm_types.specs.declared.call.Errno.TheVariants as errnos
+use Rattle.mm_types.specs.declared.call.Reply.{Reply}
+use Rattle.mm_types.specs.declared.call.Reply.TheVariants as replies
+use Rattle.mm_types.specs.declared.config.Config.{Config}
+use Rattle.mm_types.specs.declared.files.FileRow.{FileRow}
+use Rattle.mm_types.specs.declared.history.Content.{Content}
+use Rattle.mm_types.specs.declared.history.Content.TheVariants as contents
+use Rattle.mm_types.specs.declared.history.Item.{Item}
+use Rattle.mm_types.specs.declared.history.TraceLine.{TraceLine}
+use Rattle.mm_types.specs.Config.{default_config}
+use Rattle.mm_types.specs.MapsText.{range_text, list_text}
+use Rattle.area_model.specs.Steps.{after}
+use Rattle.area_model.specs.Histories.{line_of, journal_of, serial_history}
+
+-- the name of an error
+unfoldable pub errno_name : Errno → List ℕ
+errno_name errnos.Eperm = codes "EPERM"
+errno_name errnos.Ebadf = codes "EBADF"
+errno_name errnos.Enomem = codes "ENOMEM"
+errno_name errnos.Eacces = codes "EACCES"
+errno_name errnos.Efault = codes "EFAULT"
+errno_name errnos.Eexist = codes "EEXIST"
+errno_name errnos.Einval = codes "EINVAL"
+errno_name errnos.Eoverflow = codes "EOVERFLOW"
+
+-- an address in hexadecimal, 0, or -1 and the error's name
+unfoldable pub reply_text : Reply → List ℕ
+reply_text (replies.Addr address) = codes "0x" ++ digits 16 false address
+reply_text replies.Zero = codes "0"
+reply_text (replies.Refused errno) = codes "-1 " ++ errno_name errno
+
+-- the area that serves and the page of its object, or the signal and its code
+unfoldable pub verdict_text : Verdict → List ℕ
+verdict_text (verdicts.Served area index) = codes "served " ++ (range_text area ++ (codes " page " ++ decimal index))
+verdict_text verdicts.MapErr = codes "SIGSEGV SEGV_MAPERR"
+verdict_text verdicts.AccErr = codes "SIGSEGV SEGV_ACCERR"
+verdict_text verdicts.BusErr = codes "SIGBUS BUS_ADRERR"
+
+-- how many areas there are, and their lines
+unfoldable pub maps_text : List FileRow → List Record → List ℕ
+maps_text files areas = codes "maps " ++ (decimal (length areas) ++ (10 ∷ list_text files areas))
+
+-- what happened, up to the end of its last line
+unfoldable pub content_text : List FileRow → Content → List ℕ
+content_text files (contents.Called call reply) = reply_text reply ++ 10 ∷ []
+content_text files (contents.Fault page access verdict) = verdict_text verdict ++ 10 ∷ []
+content_text files (contents.List areas) = maps_text files areas
+
+-- what stands before it: `L<line> t<thread> v<version> = `
+unfoldable pub front_text : TraceLine → ℕ → List ℕ
+front_text line version = 76 ∷ (decimal line.number ++ (codes " t" ++ (decimal line.thread ++ (codes " v" ++ (decimal version ++ codes " = ")))))
+
+-- an item, with the line that it answers
+abbrev pub item_text : List FileRow → TraceLine → Item → List ℕ
+item_text files line item = front_text line item.version ++ content_text files item.content
+
+-- the items behind others, each with the line that it answers
+abbrev pub items_text : List FileRow → List TraceLine → List Item → List Item → List ℕ
+items_text files lines before [] = []
+items_text files lines before (item ∷ items) = option_map_or (λ line. item_text files line item) (line_of lines before item) []
+    ++ items_text files lines (before ++ item ∷ []) items
+
+-- the items of a history, and behind them the list after all its calls
+unfoldable pub output_text : Config → List TraceLine → List Item → List ℕ
+output_text config lines items = items_text config.files lines [] items ++ maps_text config.files (after config (journal_of items)).areas
+
+-- the configuration of the traces that are read so far
+abbrev pub trace_config : Config
+trace_config = default_config []
+
+-- the output of a trace that runs in the order of its lines
+unfoldable pub serial_output : List TraceLine → List ℕ
+serial_output lines = output_text trace_config lines (serial_history trace_config lines)

@@ -1,0 +1,29 @@
+-- What `replay` answers, as a number and as a line of text.
+use Rattle.std.specs.Prelude.{ℕ, List, [], ◌++◌, codes, decimal}
+use Rattle.vma_replay.specs.declared.status.Cause.{Cause}
+use Rattle.vma_replay.specs.declared.status.Cause.TheVariants.{Header, NotBuilt}
+use Rattle.vma_replay.specs.declared.status.Status.{Status}
+use Rattle.vma_replay.specs.declared.status.Status.TheVariants as statuses
+
+-- the number and the name of a cause
+unfoldable pub cause_text : Cause → List ℕ
+cause_text Header = codes "1 Header"
+cause_text NotBuilt = codes "12 NotBuilt"
+
+-- the exit status of the program
+abbrev pub number_of_status : Status → ℕ
+number_of_status statuses.Done = 0
+number_of_status statuses.Words = 2
+number_of_status (statuses.Trace line cause) = 3
+number_of_status statuses.ReadFault = 4
+number_of_status statuses.WriteFault = 5
+number_of_status statuses.NoMemory = 6
+
+-- the line on standard error; none for a run that is done
+abbrev pub line_of_status : Status → List ℕ
+line_of_status statuses.Done = []
+line_of_status statuses.Words = codes "words"
+line_of_status (statuses.Trace line cause) = codes "trace line " ++ (decimal line ++ (codes " cause " ++ cause_text cause))
+line_of_status statuses.ReadFault = codes "read fault"
+line_of_status statuses.WriteFault = codes "write fault"
+line_of_status statuses.NoMemory = codes "no memory"

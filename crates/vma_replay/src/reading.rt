@@ -1,0 +1,55 @@
+ghost use Rattle.std.specs.Prelude.{◌<◌, ◌^◌, ◌-◌};
+ghost use Rattle.vma_replay.specs.Replaying.{IsReading, IsTaking, trace_lines, taken_bytes};
+
+use crate::status::Status;
+use crate::trace::{ReadError, read_trace};
+use io_edge::{Failed, Source};
+use mm_types::TraceLine;
+use std::alloc::Global;
+
+/// How many bytes a read asks for at most.
+const PIECE: usize = 4096;
+
+/// How many bytes are read at most: one more than a trace may have, which shows that there are too many.
+const MOST_READ: usize = 65_537;
+
+/// Reads all of a source as a trace. A status says why it is none.
+pub(crate) fn read_source<S: Source>(
+    alloc: Global,
+    source: &mut S,
+) -> Result<Vec<TraceLine>, Status>
+    requires { S.faults source.old < 2 ^ 64 - 1 }
+    ensures { IsReading (S.left source.old) (S.left source.new) (S.faults source.old) (S.faults source.new) (trace_lines result) }
+{
+    let bytes = take_bytes(alloc, source)?;
+    match read_trace(alloc, &bytes) {
+        Ok(lines) => Ok(lines),
+        Err(ReadError::Bad(fault)) => Err(Status::Trace {
+            line: fault.line,
+            cause: fault.cause,
+        }),
+        Err(ReadError::NoMemory) => Err(Status::NoMemory),
+    }
+}
+
+/// Takes bytes from a source up to its end, or more of them than a trace may have.
+fn take_bytes<S: Source>(alloc: Global, source: &mut S) -> Result<Vec<u8>, Status>
+    requires { S.faults source.old < 2 ^ 64 - 1 }
+    ensures { IsTaking (S.left source.old) (S.left source.new) (S.faults source.old) (S.faults source.new) (taken_bytes result) }
+{
+    let mut bytes = Vec::new(alloc);
+    let mut piece = [0u8; PIECE];
+    while bytes.len() < MOST_READ {
+        let room = (MOST_READ - bytes.len()).min(PIECE);
+        match source.take(&mut piece[..room]) {
+            Ok(0) => return Ok(bytes),
+            Ok(count) => {
+                if bytes.extend_from_slice(&piece[..count]).is_err() {
+                    return Err(Status::NoMemory);
+                }
+            }
+            Err(Failed) => return Err(Status::ReadFault),
+        }
+    }
+    Ok(bytes)
+}

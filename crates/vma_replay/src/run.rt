@@ -1,0 +1,67 @@
+ghost use Rattle.std.specs.Prelude.{◌≡◌, ◌<◌, ◌^◌, ◌-◌, ◌⊎◌, ◌↔◌, ℕ, true, false, IfSome, Err};
+ghost use Rattle.std.specs.Io.KnownBytes.{Keeps, IsAtEnd};
+ghost use Rattle.vma_replay.specs.declared.status.Cause.{Cause};
+ghost use Rattle.vma_replay.specs.Grammar.{trace_of};
+ghost use Rattle.vma_replay.specs.Replaying.{are_accepted, GivesOutput, GivesFront, GivesNothing, status_of};
+
+use crate::giving::write_output;
+use crate::reading::read_source;
+use crate::status::Status;
+use io_edge::{Gate, Sink, Source};
+use std::alloc::Global;
+use std::sync::Wait;
+use std::thread::Threads;
+
+/// Replays the trace that a source gives, and gives a sink every reply and the final list of areas.
+/// `words` are the words behind the program's name; `serial` alone is accepted, which runs the lines
+/// in their order. The gate has no part in it.
+///
+/// On `Words`, `Trace` and `ReadFault` nothing is given to the sink. On `WriteFault` and `NoMemory` what
+/// was given is a front of the output.
+pub fn replay<R: Threads + Wait + Sync, S: Source, K: Sink, G: Gate>(
+    _rt: &R,
+    alloc: Global,
+    words: &[String],
+    source: &mut S,
+    sink: &mut K,
+    _gate: &G,
+) -> Status
+    requires source { S.faults source.old < 2 ^ 64 - 1 }
+    requires sink { K.faults sink.old < 2 ^ 64 - 1 }
+
+    // The headline: what was given is the text of the history of the trace, which is legal.
+    ensures text { result ≡ Status.Done → IfSome (S.left source.old) (λ input. GivesOutput input (K.written sink.old) (K.written sink.new)) }
+    ensures end { result ≡ Status.Done → IsAtEnd (S.left source.new) }
+    ensures calm { result ≡ Status.Done → (S.faults source.new ≡ S.faults source.old) × (K.faults sink.new ≡ K.faults sink.old) }
+
+    // When each other answer comes.
+    ensures words { (result ≡ Status.Words) ↔ (are_accepted words.now ≡ false) }
+    ensures trace { (line : ℕ) (cause : Cause) → result ≡ Status.Trace line cause → (S.faults source.new ≡ S.faults source.old)
+        × IfSome (S.left source.old) (λ input. trace_of input ≡ Err (record { line = line; cause = cause })) }
+    ensures unread { result ≡ Status.Words → source.new ≡ source.old }
+    ensures read_fault { result ≡ Status.ReadFault → S.faults source.old < S.faults source.new }
+    ensures write_fault { result ≡ Status.WriteFault → K.faults sink.old < K.faults sink.new }
+    ensures complete { are_accepted words.now ≡ true → S.faults source.new ≡ S.faults source.old → K.faults sink.new ≡ K.faults sink.old →
+        IfSome (S.left source.old) (λ input. (result ≡ Status.NoMemory) ⊎ (result ≡ status_of (trace_of input))) }
+
+    // What was given where not all was.
+    ensures front { (result ≡ Status.WriteFault) ⊎ (result ≡ Status.NoMemory) → IfSome (S.left source.old) (λ input.
+        Keeps (K.written sink.old) (K.written sink.new) ⊎ GivesFront input (K.written sink.old) (K.written sink.new)) }
+    ensures nothing { GivesNothing result → sink.new ≡ sink.old }
+{
+    if !are_accepted(words) {
+        return Status::Words;
+    }
+    match read_source(alloc, source) {
+        Ok(lines) => write_output(alloc, sink, &lines),
+        Err(status) => status,
+    }
+}
+
+/// Whether the words behind the program's name are accepted: `serial` alone is.
+#[tactic(auto, unfolding(crate::specs::Replaying::are_accepted))]
+fn are_accepted(words: &[String]) -> bool
+    ensures { result ≡ are_accepted words.now }
+{
+    words.len() == 1 && words[0].as_str() == "serial"
+}

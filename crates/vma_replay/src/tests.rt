@@ -1,0 +1,172 @@
+//! Whole runs over sources and sinks in memory. The expected texts follow the manual pages mmap(2) and
+//! proc_pid_maps(5), from the highest address down.
+
+use crate::{Cause, Status, replay, status_line, status_number};
+use io_edge::{MOST_AT_A_CALL, MemSink, MemSource, PlainGate, SureSink, SureSource};
+use std::alloc::{AllocError, Global};
+use std::test::Fail;
+
+/// A trace that maps two pages, which a `MemSource` gives in two calls.
+const TWO_PAGES: &[u8] =
+    b"vmatrace 1\n0 mmap 0 8192 PROT_READ|PROT_WRITE MAP_PRIVATE|MAP_ANONYMOUS -1 0\n";
+
+/// What is given for it, which a `MemSink` takes in two calls.
+const TWO_PAGES_OUTPUT: &[u8] =
+    b"L2 t0 v1 = 0x7ffff7ffd000\nmaps 1\n7ffff7ffd000-7ffff7fff000 rw-p 00000000 00:00 0 \n";
+
+/// The words of the command line.
+fn words(alloc: Global, texts: &[&str]) -> Result<Vec<String>, AllocError> {
+    let mut words = Vec::new(alloc);
+    for text in texts {
+        words.push(String::from_str(alloc, text)?)?;
+    }
+    Ok(words)
+}
+
+#[test]
+fn gives_replies_and_areas(rt: HostRuntime) -> Result<(), Fail> {
+    let words = words(rt.alloc(), &["serial"])?;
+    let runs: [(&[u8], &[u8]); 4] = [
+        (b"vmatrace 1\n", b"maps 0\n"),
+        (TWO_PAGES, TWO_PAGES_OUTPUT),
+        (
+            b"vmatrace 1\n0 mmap 0 8192 PROT_READ|PROT_WRITE MAP_PRIVATE|MAP_ANONYMOUS -1 0\n\
+              0 mmap 0 1 PROT_READ|PROT_WRITE MAP_PRIVATE|MAP_ANONYMOUS -1 0\n",
+            b"L2 t0 v1 = 0x7ffff7ffd000\nL3 t0 v2 = 0x7ffff7ffc000\nmaps 1\n\
+              7ffff7ffc000-7ffff7fff000 rw-p 00000000 00:00 0 \n",
+        ),
+        (
+            b"vmatrace 1\n0 mmap 0 0 PROT_READ MAP_PRIVATE|MAP_ANONYMOUS -1 0\n\
+              0 mmap 0 18446744073709551615 PROT_READ MAP_PRIVATE|MAP_ANONYMOUS -1 0\n",
+            b"L2 t0 v1 = -1 EINVAL\nL3 t0 v2 = -1 ENOMEM\nmaps 0\n",
+        ),
+    ];
+    for (trace, output) in runs {
+        let mut source = SureSource::new(Vec::from_slice(rt.alloc(), trace)?);
+        let mut sink = SureSink::new(rt.alloc());
+        assert_eq!(rt;
+            replay(&rt, rt.alloc(), &words, &mut source, &mut sink, &PlainGate),
+            Status::Done
+        );
+        assert_eq!(rt; sink.bytes(), output);
+    }
+    Ok(())
+}
+
+#[test]
+fn gives_nothing_for_what_is_no_trace(rt: HostRuntime) -> Result<(), Fail> {
+    let words = words(rt.alloc(), &["serial"])?;
+    let runs: [(&[u8], u64, Cause); 4] = [
+        (b"", 1, Cause::Header),
+        (b"vmatrace 1", 1, Cause::Header),
+        (b"vmatrace 1\n0 maps\n", 2, Cause::NotBuilt),
+        (&TWO_PAGES[..TWO_PAGES.len() - 1], 2, Cause::NotBuilt),
+    ];
+    for (trace, line, cause) in runs {
+        let mut source = SureSource::new(Vec::from_slice(rt.alloc(), trace)?);
+        let mut sink = SureSink::new(rt.alloc());
+        let status = replay(&rt, rt.alloc(), &words, &mut source, &mut sink, &PlainGate);
+        assert_eq!(rt; status, Status::Trace { line, cause });
+        assert!(rt; sink.bytes().is_empty());
+    }
+    Ok(())
+}
+
+#[test]
+fn accepts_serial_alone(rt: HostRuntime) -> Result<(), Fail> {
+    let lists: [&[&str]; 5] = [
+        &[],
+        &["serial", "serial"],
+        &["--help"],
+        &["help"],
+        &["Serial"],
+    ];
+    for list in lists {
+        let words = words(rt.alloc(), list)?;
+        let mut source = SureSource::new(Vec::from_slice(rt.alloc(), TWO_PAGES)?);
+        let mut sink = SureSink::new(rt.alloc());
+        assert_eq!(rt;
+            replay(&rt, rt.alloc(), &words, &mut source, &mut sink, &PlainGate),
+            Status::Words
+        );
+        assert!(rt; sink.bytes().is_empty());
+    }
+    Ok(())
+}
+
+#[test]
+fn tells_each_fault_of_the_source(rt: HostRuntime) -> Result<(), Fail> {
+    let words = words(rt.alloc(), &["serial"])?;
+    // Two calls give the trace, and the third tells its end.
+    for call in 0..4u64 {
+        let fail = vec![in rt.alloc(); call]?;
+        let mut source = MemSource::new(Vec::from_slice(rt.alloc(), TWO_PAGES)?, fail);
+        let mut sink = SureSink::new(rt.alloc());
+        let status = replay(&rt, rt.alloc(), &words, &mut source, &mut sink, &PlainGate);
+        let is_reached = call < 3;
+        assert_eq!(rt;
+            status,
+            if is_reached {
+                Status::ReadFault
+            } else {
+                Status::Done
+            },
+            "call {call}"
+        );
+        assert_eq!(rt;
+            sink.bytes(),
+            if is_reached { b"" } else { TWO_PAGES_OUTPUT },
+            "call {call}"
+        );
+    }
+    Ok(())
+}
+
+#[test]
+fn tells_each_fault_of_the_sink(rt: HostRuntime) -> Result<(), Fail> {
+    let words = words(rt.alloc(), &["serial"])?;
+    // What each call that fails leaves given: nothing, a front, or all where it is not reached.
+    let runs: [(u64, &[u8], Status); 3] = [
+        (0, b"", Status::WriteFault),
+        (1, &TWO_PAGES_OUTPUT[..MOST_AT_A_CALL], Status::WriteFault),
+        (2, TWO_PAGES_OUTPUT, Status::Done),
+    ];
+    for (call, given, answer) in runs {
+        let mut source = SureSource::new(Vec::from_slice(rt.alloc(), TWO_PAGES)?);
+        let mut sink = MemSink::new(rt.alloc(), vec![in rt.alloc(); call]?);
+        let status = replay(&rt, rt.alloc(), &words, &mut source, &mut sink, &PlainGate);
+        assert_eq!(rt; status, answer, "call {call}");
+        assert_eq!(rt; sink.bytes(), given, "call {call}");
+    }
+    Ok(())
+}
+
+#[test]
+fn numbers_and_words_each_status(rt: HostRuntime) -> Result<(), Fail> {
+    let header = Status::Trace {
+        line: 1,
+        cause: Cause::Header,
+    };
+    let not_built = Status::Trace {
+        line: u64::MAX,
+        cause: Cause::NotBuilt,
+    };
+    let statuses = [
+        (Status::Done, 0, ""),
+        (Status::Words, 2, "words"),
+        (header, 3, "trace line 1 cause 1 Header"),
+        (
+            not_built,
+            3,
+            "trace line 18446744073709551615 cause 12 NotBuilt",
+        ),
+        (Status::ReadFault, 4, "read fault"),
+        (Status::WriteFault, 5, "write fault"),
+        (Status::NoMemory, 6, "no memory"),
+    ];
+    for (status, number, line) in statuses {
+        assert_eq!(rt; status_number(&status), number);
+        assert_eq!(rt; status_line(rt.alloc(), &status)?.as_str(), line);
+    }
+    Ok(())
+}
