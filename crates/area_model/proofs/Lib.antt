@@ -1,7 +1,9 @@
+pub mod Callers
 pub mod Cutting
 pub mod Elements
 pub mod Finding
 pub mod Fitting
+pub mod Gathering
 pub mod Holding
 pub mod Journals
 pub mod Merging
@@ -22,5 +24,6 @@ pub mod Searching
 pub mod Serial
 pub mod Sharing
 pub mod SmallNumbers
+pub mod Sorting
 pub mod Stepping
 pub mod Uniqueness

@@ -1,30 +1,27 @@
 -- The history of a trace in the order of its lines is legal and of the trace.
-use Rattle.std.proofs.Common.{ℕ, zero, suc, ◌≡◌, ◌+◌, ◌<◌, ◌≤◌, ◌∙◌, refl, sym, ap, subst, cond, if◌then◌else◌, Bool, true, false, not, ◌&&◌, ◌||◌, nat_eq, nat_lt, nat_le, List, [], ◌∷◌, ◌++◌, append_assoc, length, length-append, filter, filter_map, take, slice_get, fold, All, Option, Some, None, IfSome, IsSomeAnd, arith}
+use Rattle.std.proofs.Common.{ℕ, zero, suc, ◌≡◌, ◌+◌, ◌≤◌, ◌∙◌, refl, sym, ap, subst, cond, if◌then◌else◌, Bool, true, false, nat_eq, List, [], ◌∷◌, ◌++◌, append_assoc, length, length-append, map, filter, filter_map, take, slice_get, fold, Option, Some, None, IfSome, IsSomeAnd, arith}
 use Rattle.std.specs.List.{last_or}
-use Rattle.std.proofs.lemmas.Bool.{false≢true, lt-ltb}
 use Rattle.std.proofs.lemmas.Bool.Decides.{nat_tests}
 use Rattle.std.proofs.lemmas.List.{append-nil}
-use Rattle.std.proofs.lemmas.List.Elements.{All-head, All-tail, filter-append, filter_map-append}
+use Rattle.std.proofs.lemmas.List.Elements.{filter-append, filter_map-append}
 use Rattle.std.proofs.lemmas.List.Sums.{fold-append}
-use Rattle.mm_types.specs.declared.call.Call.{Call}
 use Rattle.mm_types.specs.declared.call.Entry.{Entry}
 use Rattle.mm_types.specs.declared.config.Config.{Config}
-use Rattle.mm_types.specs.declared.history.Content.{Content}
 use Rattle.mm_types.specs.declared.history.Content.TheVariants as contents
 use Rattle.mm_types.specs.declared.history.Item.{Item}
 use Rattle.mm_types.specs.declared.history.Op.{Op}
 use Rattle.mm_types.specs.declared.history.Op.TheVariants as ops
 use Rattle.mm_types.specs.declared.history.TraceLine.{TraceLine}
-use Rattle.area_model.specs.Tables.{AddressSpace, Outcome}
+use Rattle.area_model.specs.Tables.{AddressSpace}
 use Rattle.area_model.specs.Verdicts.{verdict}
 use Rattle.area_model.specs.Steps.{step, opening, after}
-use Rattle.area_model.specs.Histories.{caller_of, lines_of, items_of, op_of, asks_call, is_call, entry_of, journal_of, line_of, CanStand, IsRight, IsLegalHistory, goes_first, insert_item, gather, answer_of, space_after, version_after, items_from, serial_history}
+use Rattle.area_model.specs.Histories.{caller_of, lines_of, items_of, op_of, asks_call, is_call, entry_of, journal_of, line_of, CanStand, IsRight, IsLegalHistory, answer_of, space_after, version_after, items_from, space_after_all, answered_by}
 
 -- the item of a line
 abbrev pub item_of : Config → List TraceLine → AddressSpace → ℕ → TraceLine → Item
 item_of config trace space version line = record { caller = caller_of trace line.thread; version = version_after version line.op; content = answer_of config space line.op }
 
-call_answer : (config : Config) (space : AddressSpace) (op : Op) → is_call (answer_of config space op) ≡ asks_call op
+pub call_answer : (config : Config) (space : AddressSpace) (op : Op) → is_call (answer_of config space op) ≡ asks_call op
 call_answer config space (ops.Call call) = refl
 call_answer config space (ops.Fault page access) = refl
 call_answer config space ops.Maps = refl
@@ -38,31 +35,6 @@ next_version : (config : Config) (space : AddressSpace) (version : ℕ) (op : Op
 next_version config space version (ops.Call call) = refl
 next_version config space version (ops.Fault page access) = omega arith
 next_version config space version ops.Maps = omega arith
-
-pub call_version : (version : ℕ) (op : Op) → asks_call op ≡ true → version_after version op ≡ version + 1
-call_version version (ops.Call call) asks = refl
-call_version version (ops.Fault page access) asks = absurd (false≢true asks)
-call_version version ops.Maps asks = absurd (false≢true asks)
-
-earlier_first : (a b : Item) → a.version < b.version → goes_first a b ≡ true
-unfolding goes_first
-earlier_first a b earlier = ap (λ (t : Bool). t || (nat_eq a.version b.version && (is_call a.content || (not (is_call b.content) && nat_le a.caller b.caller)))) (lt-ltb a.version b.version earlier)
-
--- calls in the order of their lines are in the order of a history
-pub gathered_calls : (config : Config) (trace : List TraceLine) (space : AddressSpace) (version : ℕ) (lines : List TraceLine)
-    → All (λ line. asks_call line.op ≡ true) lines → gather (items_from config trace space version lines) ≡ items_from config trace space version lines
-gathered_calls config trace space version [] calls = refl
-gathered_calls config trace space version (line ∷ []) calls = refl
-gathered_calls config trace space version (line ∷ next ∷ lines) calls =
-    let rest : All (λ (l : TraceLine). asks_call l.op ≡ true) (next ∷ lines) = All-tail (λ (l : TraceLine). asks_call l.op ≡ true) line (next ∷ lines) calls in
-    let first : Item = item_of config trace space version line in
-    let now : ℕ = version_after version line.op in
-    let next_space : AddressSpace = space_after config space line.op in
-    let second : Item = item_of config trace next_space now next in
-    let later : List Item = items_from config trace (space_after config next_space next.op) (version_after now next.op) lines in
-    let up : first.version < second.version = omega (arith, call_version now next.op (All-head (λ (l : TraceLine). asks_call l.op ≡ true) next lines rest)) in
-    ap (insert_item first) (gathered_calls config trace next_space now (next ∷ lines) rest)
-    ∙ ap (λ (t : Bool). cond t (first ∷ second ∷ later) (second ∷ insert_item first later)) (earlier_first first second up)
 
 -- the element behind a front
 get_middle : {A : Type 0} (xs : List A) (y : A) (ys : List A) → slice_get (xs ++ y ∷ ys) (length xs) ≡ Some y
@@ -93,15 +65,19 @@ counts_more config trace space version line before front same caller =
     one_more true item line = refl
     one_more false item line = refl
 
+-- these lines are those of the trace, and those of each caller are in its order
+abbrev pub HasLines : List TraceLine → List TraceLine → Type 0
+HasLines trace lines = (caller : ℕ) → lines_of trace caller ≡ filter (λ line. nat_eq (caller_of trace line.thread) caller) lines
+
 -- the line that an item answers, where the lines before it are answered
 pub answers_line : (trace : List TraceLine) (before : List Item) (front : List TraceLine) (line : TraceLine) (rest : List TraceLine) (item : Item)
-    → trace ≡ front ++ line ∷ rest → Counts trace before front → item.caller ≡ caller_of trace line.thread → line_of trace before item ≡ Some line
-unfolding line_of lines_of
+    → HasLines trace (front ++ line ∷ rest) → Counts trace before front → item.caller ≡ caller_of trace line.thread → line_of trace before item ≡ Some line
+unfolding line_of
 answers_line trace before front line rest item whole same by =
     let q : TraceLine → Bool = λ l. nat_eq (caller_of trace l.thread) item.caller in
     let here : q line ≡ true = ap (λ (n : ℕ). nat_eq n item.caller) (sym by) ∙ nat_eq_itself item.caller in
-    let split : filter q trace ≡ filter q front ++ line ∷ filter q rest =
-    ap (λ (l : List TraceLine). filter q l) whole ∙ filter-append q front (line ∷ rest)
+    let split : lines_of trace item.caller ≡ filter q front ++ line ∷ filter q rest =
+    whole item.caller ∙ filter-append q front (line ∷ rest)
     ∙ ap (λ (t : Bool). filter q front ++ cond t (line ∷ filter q rest) (filter q rest)) here in
     ap (λ (l : List TraceLine). slice_get l (length (items_of before item.caller))) split
     ∙ ap (λ (n : ℕ). slice_get (filter q front ++ line ∷ filter q rest) n) (same item.caller)
@@ -145,51 +121,85 @@ right_answer config journal space (ops.Call call) here = ap (λ (s : AddressSpac
 right_answer config journal space (ops.Fault page access) here = ap (λ (s : AddressSpace). verdict config.files s.areas page.0 access) (sym here)
 right_answer config journal space ops.Maps here = ap (λ (s : AddressSpace). s.areas) (sym here)
 
--- no order is asked of a call
-any_order : (prior : Option Item) (item : Item) → is_call item.content ≡ true → IfSome prior (λ p. is_call p.content ≡ false → is_call item.content ≡ false → p.caller ≤ item.caller)
-any_order None item call = tt
-any_order (Some p) item call = λ _ read. absurd (false≢true (sym read ∙ call))
+-- lines, one after another, each with what it comes to
+abbrev pub pairs_from : Config → List TraceLine → AddressSpace → ℕ → List TraceLine → List (TraceLine × Item)
+pairs_from config trace space version [] = []
+pairs_from config trace space version (line ∷ lines) =
+    answered_by config trace space version line ∷ pairs_from config trace (space_after config space line.op) (version_after version line.op) lines
 
--- an item of these stands behind others and is right there
-record Fits (config : Config) (trace : List TraceLine) (before : List Item) (item : Item) : Type 0 where
-  pub stands : CanStand trace before item
-  pub right : IsRight config (journal_of before) item.content
+pub items_of_pairs : (config : Config) (trace : List TraceLine) (space : AddressSpace) (version : ℕ) (lines : List TraceLine)
+    → map (λ (p : TraceLine × Item). p.1) (pairs_from config trace space version lines) ≡ items_from config trace space version lines
+items_of_pairs config trace space version [] = refl
+items_of_pairs config trace space version (line ∷ lines) =
+    ap (λ (l : List Item). item_of config trace space version line ∷ l)
+    (items_of_pairs config trace (space_after config space line.op) (version_after version line.op) lines)
 
-first_fits : (config : Config) (trace : List TraceLine) (space : AddressSpace) (version : ℕ) (front : List TraceLine) (line : TraceLine) (rest : List TraceLine) (before : List Item)
-    → trace ≡ front ++ line ∷ rest → Counts trace before front → Stands config before space version → asks_call line.op ≡ true
-    → Fits config trace before (item_of config trace space version line)
-first_fits config trace space version front line rest before whole same stands call =
-    let item : Item = item_of config trace space version line in
-    record {
-      stands = record {
+-- behind others, an item of its version answers this line, and is right
+pub record Answers (config : Config) (trace : List TraceLine) (before : List Item) (pair : TraceLine × Item) : Type 0 where
+  pub version : pair.1.version ≡ length (journal_of before) + (if is_call pair.1.content then 1 else 0)
+  pub line : line_of trace before pair.1 ≡ Some pair.0
+  pub asks : pair.0.op ≡ op_of pair.1.content
+  pub right : IsRight config (journal_of before) pair.1.content
+
+-- each item answers its line, behind those before it
+abbrev pub AllAnswer : Config → List TraceLine → List Item → List (TraceLine × Item) → Type 0
+AllAnswer config trace before [] = Unit {0}
+AllAnswer config trace before (pair ∷ pairs) = Answers config trace before pair × AllAnswer config trace (before ++ pair.1 ∷ []) pairs
+
+pub all_answer : (config : Config) (trace : List TraceLine) (space : AddressSpace) (version : ℕ) (front lines : List TraceLine) (before : List Item)
+    → HasLines trace (front ++ lines) → Counts trace before front → Stands config before space version
+    → AllAnswer config trace before (pairs_from config trace space version lines)
+all_answer config trace space version front [] before whole same stands = tt
+all_answer config trace space version front (line ∷ lines) before whole same stands =
+    let item : Item = item_of config trace space version line in (
+      record {
         version = next_version config space version line.op ∙ ap (λ (n : ℕ). n + (if is_call item.content then 1 else 0)) (sym stands.counted);
-        order = any_order (last_or None before) item (call_answer config space line.op ∙ call);
-        next = subst (λ (o : Option TraceLine). IsSomeAnd o (λ l. l.op ≡ op_of item.content)) (sym (answers_line trace before front line rest item whole same refl)) (asked config space line.op);
-      };
-      right = right_answer config (journal_of before) space line.op stands.reached;
-    }
+        line = answers_line trace before front line lines item whole same refl;
+        asks = asked config space line.op;
+        right = right_answer config (journal_of before) space line.op stands.reached;
+      },
+      all_answer config trace (space_after config space line.op) (version_after version line.op) (front ++ line ∷ []) lines (before ++ item ∷ [])
+          (subst (λ (l : List TraceLine). HasLines trace l) (sym (append_assoc front (line ∷ []) lines)) whole)
+          (counts_more config trace space version line before front same)
+          (stands_more config before space version item.caller item.version line.op stands),
+    )
 
--- every item fits at its place
-all_fit : (config : Config) (trace : List TraceLine) (space : AddressSpace) (version : ℕ) (front lines : List TraceLine) (before : List Item)
-    → trace ≡ front ++ lines → Counts trace before front → Stands config before space version → All (λ line. asks_call line.op ≡ true) lines
-    → (place : ℕ) (item : Item) → slice_get (items_from config trace space version lines) place ≡ Some item
-    → Fits config trace (before ++ take place (items_from config trace space version lines)) item
-all_fit config trace space version front [] before whole same stands calls place item found = absurd (cc)
-all_fit config trace space version front (line ∷ lines) before whole same stands calls zero item found =
-    let first : Item = item_of config trace space version line in
+-- so does the item of each place
+pub answer_at : (config : Config) (trace : List TraceLine) (before : List Item) (pairs : List (TraceLine × Item)) (place : ℕ) (pair : TraceLine × Item)
+    → AllAnswer config trace before pairs → slice_get pairs place ≡ Some pair
+    → Answers config trace (before ++ take place (map (λ (p : TraceLine × Item). p.1) pairs)) pair
+answer_at config trace before [] place pair all found = absurd (cc)
+answer_at config trace before (first ∷ pairs) zero pair all found =
+    let is_first : first ≡ pair = cc in
+    subst (λ (b : List Item). Answers config trace b pair) (sym (append-nil before))
+    (subst (λ (p : TraceLine × Item). Answers config trace before p) is_first all.0)
+answer_at config trace before (first ∷ pairs) (suc place) pair all found =
+    subst (λ (b : List Item). Answers config trace b pair) (append_assoc before (first.1 ∷ []) (take place (map (λ (p : TraceLine × Item). p.1) pairs)))
+    (answer_at config trace (before ++ first.1 ∷ []) pairs place pair all.1 found)
+
+-- an item at a place has a line there
+pub pair_at : (pairs : List (TraceLine × Item)) (place : ℕ) (item : Item) → slice_get (map (λ (p : TraceLine × Item). p.1) pairs) place ≡ Some item
+    → (pair : TraceLine × Item) × (slice_get pairs place ≡ Some pair) × (pair.1 ≡ item)
+pair_at [] place item found = absurd (cc)
+pair_at (first ∷ pairs) zero item found = (first, refl, cc)
+pair_at (first ∷ pairs) (suc place) item found = pair_at pairs place item found
+
+-- two reads go by caller
+abbrev pub GoesBefore : Item → Item → Type 0
+GoesBefore prior item = is_call prior.content ≡ false → is_call item.content ≡ false → prior.caller ≤ item.caller
+
+-- reads go by caller, behind this item too
+abbrev pub AreOrdered : Option Item → List Item → Type 0
+AreOrdered prior [] = Unit {0}
+AreOrdered prior (item ∷ items) = IfSome prior (λ p. GoesBefore p item) × AreOrdered (Some item) items
+
+pub ordered_at : (prior : Option Item) (items : List Item) (place : ℕ) (item : Item) → AreOrdered prior items → slice_get items place ≡ Some item
+    → IfSome (last_or prior (take place items)) (λ p. GoesBefore p item)
+ordered_at prior [] place item ordered found = absurd (cc)
+ordered_at prior (first ∷ items) zero item ordered found =
     let is_first : first ≡ item = cc in
-    subst (λ (b : List Item). Fits config trace b item) (sym (append-nil before))
-    (subst (λ (i : Item). Fits config trace before i) is_first
-    (first_fits config trace space version front line lines before whole same stands (All-head (λ (l : TraceLine). asks_call l.op ≡ true) line lines calls)))
-all_fit config trace space version front (line ∷ lines) before whole same stands calls (suc place) item found =
-    let first : Item = item_of config trace space version line in
-    let later : List Item = items_from config trace (space_after config space line.op) (version_after version line.op) lines in
-    subst (λ (b : List Item). Fits config trace b item) (append_assoc before (first ∷ []) (take place later))
-    (all_fit config trace (space_after config space line.op) (version_after version line.op) (front ++ line ∷ []) lines (before ++ first ∷ [])
-    (whole ∙ sym (append_assoc front (line ∷ []) lines))
-    (counts_more config trace space version line before front same)
-    (stands_more config before space version first.caller first.version line.op stands)
-    (All-tail (λ (l : TraceLine). asks_call l.op ≡ true) line lines calls) place item found)
+    subst (λ (i : Item). IfSome prior (λ p. GoesBefore p i)) is_first ordered.0
+ordered_at prior (first ∷ items) (suc place) item ordered found = ordered_at (Some first) items place item ordered.1 found
 
 -- as many items of each caller as lines
 all_counted : (config : Config) (trace : List TraceLine) (space : AddressSpace) (version : ℕ) (front lines : List TraceLine) (before : List Item)
@@ -212,21 +222,40 @@ pub opening_stands : (config : Config) → Stands config [] (opening config) 0
 unfolding after journal_of
 opening_stands config = record { reached = refl; counted = refl }
 
--- the history of calls in the order of their lines is legal and of the trace
-pub serial_is_history : (config : Config) (lines : List TraceLine) → All (λ line. asks_call line.op ≡ true) lines → IsLegalHistory config lines (serial_history config lines)
-unfolding serial_history lines_of
-serial_is_history config lines calls =
-    let items : List Item = items_from config lines (opening config) 0 lines in
-    let is_history : IsLegalHistory config lines items = record {
-      stands = λ place item found. (all_fit config lines (opening config) 0 [] lines [] refl (none_counted lines) (opening_stands config) calls place item found).stands;
-      right = λ place item found. (all_fit config lines (opening config) 0 [] lines [] refl (none_counted lines) (opening_stands config) calls place item found).right;
-      none_left = λ caller. all_counted config lines (opening config) 0 [] lines [] (none_counted lines) caller;
-    } in
-    subst (λ (h : List Item). IsLegalHistory config lines h) (sym (gathered_calls config lines (opening config) 0 lines calls)) is_history
+-- of lines that are those of the trace, the pair of each place
+pub answers_place : (config : Config) (trace lines : List TraceLine) (place : ℕ) (pair : TraceLine × Item) → HasLines trace lines
+    → slice_get (pairs_from config trace (opening config) 0 lines) place ≡ Some pair
+    → Answers config trace (take place (items_from config trace (opening config) 0 lines)) pair
+answers_place config trace lines place pair whole found =
+    subst (λ (items : List Item). Answers config trace (take place items) pair) (items_of_pairs config trace (opening config) 0 lines)
+    (answer_at config trace [] (pairs_from config trace (opening config) 0 lines) place pair
+    (all_answer config trace (opening config) 0 [] lines [] whole (none_counted trace) (opening_stands config)) found)
 
--- the address space after some lines
-abbrev pub space_after_all : Config → AddressSpace → List TraceLine → AddressSpace
-space_after_all config space lines = fold (λ s line. space_after config s line.op) space lines
+can_stand : (config : Config) (trace : List TraceLine) (before : List Item) (pair : TraceLine × Item) → Answers config trace before pair
+    → IfSome (last_or None before) (λ p. GoesBefore p pair.1) → CanStand trace before pair.1
+can_stand config trace before pair answers order = record {
+  version = answers.version;
+  order = order;
+  next = subst (λ (o : Option TraceLine). IsSomeAnd o (λ l. l.op ≡ op_of pair.1.content)) (sym answers.line) answers.asks;
+}
+
+-- the items of lines that are those of the trace, where reads go by caller, are a legal history
+pub items_are_history : (config : Config) (trace lines : List TraceLine) → HasLines trace lines
+    → AreOrdered None (items_from config trace (opening config) 0 lines) → IsLegalHistory config trace (items_from config trace (opening config) 0 lines)
+items_are_history config trace lines whole ordered =
+    let items : List Item = items_from config trace (opening config) 0 lines in
+    let pairs : List (TraceLine × Item) = pairs_from config trace (opening config) 0 lines in
+    let paired : (place : ℕ) (item : Item) → slice_get items place ≡ Some item → (pair : TraceLine × Item) × (slice_get pairs place ≡ Some pair) × (pair.1 ≡ item) =
+    λ place item found. pair_at pairs place item (ap (λ (l : List Item). slice_get l place) (items_of_pairs config trace (opening config) 0 lines) ∙ found) in
+    record {
+      stands = λ place item found. let p = paired place item found in
+          subst (λ (i : Item). CanStand trace (take place items) i) p.2
+          (can_stand config trace (take place items) p.0 (answers_place config trace lines place p.0 whole p.1)
+          (subst (λ (i : Item). IfSome (last_or None (take place items)) (λ q. GoesBefore q i)) (sym p.2) (ordered_at None items place item ordered found)));
+      right = λ place item found. let p = paired place item found in
+          subst (λ (i : Item). IsRight config (journal_of (take place items)) i.content) p.2 (answers_place config trace lines place p.0 whole p.1).right;
+      none_left = λ caller. all_counted config trace (opening config) 0 [] lines [] (none_counted trace) caller ∙ ap (λ (l : List TraceLine). length l) (sym (whole caller));
+    }
 
 -- where the journal of their items leads
 pub all_reached : (config : Config) (trace : List TraceLine) (space : AddressSpace) (version : ℕ) (lines : List TraceLine) (before : List Item)

@@ -1,5 +1,5 @@
 -- Histories: what the callers of a trace did, in one order.
-use Rattle.std.specs.Prelude.{ℕ, zero, suc, ◌≡◌, ◌≤◌, ◌+◌, Bool, true, false, not, ◌&&◌, ◌||◌, if◌then◌else◌, nat_eq, nat_lt, nat_le, List, [], ◌∷◌, ◌++◌, length, map, filter, filter_map, take, slice_get, Option, Some, None, IfSome, IsSomeAnd}
+use Rattle.std.specs.Prelude.{ℕ, zero, suc, ◌≡◌, ◌≤◌, ◌+◌, Bool, true, false, not, ◌&&◌, ◌||◌, if◌then◌else◌, nat_eq, nat_lt, nat_le, List, [], ◌∷◌, ◌++◌, length, map, fold, filter, filter_map, take, slice_get, Option, Some, None, IfSome, IsSomeAnd}
 use Rattle.std.specs.List.{list_any, last_or}
 use Rattle.mm_types.specs.declared.call.Entry.{Entry}
 use Rattle.mm_types.specs.declared.config.Config.{Config}
@@ -128,3 +128,46 @@ items_from config trace space version (line ∷ lines) =
 -- the history of a trace in the order of its lines
 unfoldable pub serial_history : Config → List TraceLine → List Item
 serial_history config lines = gather (items_from config lines (opening config) 0 lines)
+
+-- the address space after some lines, one after another
+abbrev pub space_after_all : Config → AddressSpace → List TraceLine → AddressSpace
+space_after_all config space lines = fold (λ space line. space_after config space line.op) space lines
+
+-- an element in its place by a number, before those of the same number
+abbrev pub insert_by : {X : Type 0} → (X → ℕ) → X → List X → List X
+insert_by key x [] = x ∷ []
+insert_by key x (first ∷ xs) = if nat_le (key x) (key first) then x ∷ first ∷ xs else first ∷ insert_by key x xs
+
+-- elements by ascending number; those of the same number keep their order
+abbrev pub sort_by : {X : Type 0} → (X → ℕ) → List X → List X
+sort_by key [] = []
+sort_by key (x ∷ xs) = insert_by key x (sort_by key xs)
+
+-- lines of a trace by ascending caller; those of one caller keep their order
+unfoldable pub sort_by_caller : List TraceLine → List TraceLine → List TraceLine
+sort_by_caller trace lines = sort_by (λ line. caller_of trace line.thread) lines
+
+-- the lines before the first that asks for a call
+abbrev pub leading_reads : List TraceLine → List TraceLine
+leading_reads [] = []
+leading_reads (line ∷ lines) = if asks_call line.op then [] else line ∷ leading_reads lines
+
+-- the lines from the first that asks for a call on
+abbrev pub after_reads : List TraceLine → List TraceLine
+after_reads [] = []
+after_reads (line ∷ lines) = if asks_call line.op then line ∷ lines else after_reads lines
+
+-- a line of a trace, and the item that it comes to
+abbrev pub answered_by : Config → List TraceLine → AddressSpace → ℕ → TraceLine → TraceLine × Item
+answered_by config trace space version line =
+    (line, record { caller = caller_of trace line.thread; version = version_after version line.op; content = answer_of config space line.op })
+
+-- lines in the order of a history, each with its item; reads, pending until the next call or the end, go by caller there
+abbrev pub answered : Config → List TraceLine → AddressSpace → ℕ → List TraceLine → List TraceLine → List (TraceLine × Item)
+answered config trace space version pending [] = map (answered_by config trace space version) (sort_by_caller trace pending)
+answered config trace space version pending (line ∷ lines) =
+    if asks_call line.op
+    then map (answered_by config trace space version) (sort_by_caller trace pending)
+    ++ answered_by config trace space version line
+    ∷ answered config trace (space_after config space line.op) (version_after version line.op) [] lines
+    else answered config trace space version (pending ++ line ∷ []) lines

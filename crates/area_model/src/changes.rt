@@ -1,6 +1,7 @@
 //! Changes of a list of areas.
-ghost use Rattle.std.specs.Prelude.{◌≡◌, ◌≢◌, ◌<◌, ◌≤◌, ◌+◌, ◌-◌, ◌^◌, ◌++◌, All, IfOk, OnOk, map};
-ghost use Rattle.area_model.specs.Changes.{IsSmall, piece, parts_outside, cut, joined_area, merge, insert_area, put, with_prot, parts_protected, protected_list};
+ghost use Rattle.std.specs.Prelude.{◌≡◌, ◌≢◌, ◌<◌, ◌+◌, ◌-◌, ◌^◌, ◌++◌, All, IfOk, OnOk, map};
+ghost use Rattle.area_model.specs.Changes.{IsSmall, piece, parts_outside, cut, merge, insert_area, put};
+ghost use Rattle.area_model.specs.Changes.{with_prot, parts_protected, protected_list};
 
 use crate::areas::{index_of, joins};
 use mm_types::{Attr, NoMemory, Prot, Record, Span};

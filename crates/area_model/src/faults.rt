@@ -1,5 +1,5 @@
 //! What a page fault comes to.
-ghost use Rattle.std.specs.Prelude.{◌≡◌, ◌≢◌, ◌<◌, ◌-◌, ◌+◌, ◌^◌, All, option_copied, true};
+ghost use Rattle.std.specs.Prelude.{◌≡◌, All, option_copied, true};
 ghost use Rattle.mm_types.specs.Records.{IsValid};
 ghost use Rattle.area_model.specs.Areas.{area_at, has_page};
 ghost use Rattle.area_model.specs.Verdicts.{permits, is_past_end, area_verdict, verdict};

@@ -23,7 +23,7 @@ ghost use Rattle.area_model.specs.Mremap.{old_range, overlap, moved_list, mremap
 ghost use Rattle.area_model.specs.Laws.{AllMayHave, IsStop, prefix_of, moved_range, IsMove, MapsShared};
 ghost use Rattle.area_model.specs.Steps.{step, IsReady, opening, after, IsLegalJournal};
 ghost use Rattle.mm_types.specs.declared.history.TraceLine.{TraceLine};
-ghost use Rattle.area_model.specs.Histories.{asks_call, IsLegalHistory, serial_history};
+ghost use Rattle.area_model.specs.Histories.{IsLegalHistory, serial_history};
 
 /// A cut keeps a list canonical, and unmaps exactly the pages of the span.
 pub fn cut_unmaps_the_span()
@@ -140,8 +140,8 @@ pub fn new_object_is_fresh()
     ensures pages { (config : Config) (space : AddressSpace) (args : MmapArgs) (address page : ℕ) → IsReady config space
         → MapsShared config space args address → has_page (range_of address args.len) page ≡ true
         → IsSomeAnd (page_map (step config space (Mmap args)).space.areas page)
-        (λ mapped. (mapped.object ≡ (step config space (Mmap args)).space.objects)
-        × (mapped.index ≡ page - page_of address)) }
+        (λ mapped_list. (mapped_list.object ≡ (step config space (Mmap args)).space.objects)
+        × (mapped_list.index ≡ page - page_of address)) }
 {}
 
 /// After a legal journal, and after each prefix of it, the list is sound and a step may be taken; the files stay counted.
@@ -167,7 +167,7 @@ pub fn journal_laws()
         → IsLegalJournal config (take count journal) }
 {}
 
-/// The calls of a trace, run in the order of its lines, are a legal history of the trace.
+/// The lines of a trace, run in their order, make a legal history of the trace.
 pub fn serial_history_is_legal()
-    ensures { (config : Config) (lines : List TraceLine) → All (λ line. asks_call line.op ≡ true) lines → IsLegalHistory config lines (serial_history config lines) }
+    ensures { (config : Config) (lines : List TraceLine) → IsLegalHistory config lines (serial_history config lines) }
 {}

@@ -5,6 +5,7 @@
 mod areas;
 mod changes;
 mod faults;
+mod history_laws;
 mod laws;
 mod mapping;
 mod placement;
@@ -17,6 +18,7 @@ mod tables;
 mod unmapping;
 
 pub use faults::model_verdict;
+pub use history_laws::{serial_history_by_version, sort_by_caller_is_stable};
 pub use laws::{
     cut_unmaps_the_span, journal_laws, legal_journal_is_sound, merge_keeps_pages,
     move_carries_the_pages, new_object_is_fresh, page_map_determines_list,

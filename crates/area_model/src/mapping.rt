@@ -1,13 +1,15 @@
 //! mmap(2): the tests of its table in their order, and the mapping itself.
-ghost use Rattle.std.specs.Prelude.{◌≡◌, ◌<◌, ◌≤◌, ◌+◌, ◌-◌, ◌^◌, All, IfOk, IfSome, Some, length, nat_lt, not, option_copied, ◌&&◌, ◌*◌};
+ghost use Rattle.std.specs.Prelude.{◌≡◌, ◌<◌, ◌≤◌, ◌+◌, ◌-◌, ◌^◌, IfOk, IfSome, length, nat_lt, not};
+ghost use Rattle.std.specs.Prelude.{option_copied, ◌&&◌, ◌*◌};
 ghost use Rattle.mm_types.specs.Config.{IsValidConfig};
 ghost use Rattle.mm_types.specs.declared.config.TheConstants.{PAGE_SIZE};
-ghost use Rattle.mm_types.specs.Records.{IsValid};
-ghost use Rattle.area_model.specs.Placement.{bounds_of};
 ghost use Rattle.area_model.specs.Stepped.{space_of, outcome_of};
 ghost use Rattle.area_model.specs.Steps.{IsReady};
 ghost use Rattle.area_model.specs.Tables.{first_row, is_aligned, pages_of};
-ghost use Rattle.area_model.specs.Mmap.{is_anonymous, is_shared, is_noreplace, is_fixed, file_of, file_place, object_of, lacks_file, overflows_offset, has_no_sharing, denies, is_denied, is_taken, start_of, most_of, most_allowed, object_mapped, objects_after, new_area, mapped_list, mmap_rows, mmap};
+ghost use Rattle.area_model.specs.Mmap.{is_anonymous, is_shared, is_noreplace, is_fixed, file_of, file_place};
+ghost use Rattle.area_model.specs.Mmap.{object_of, lacks_file, overflows_offset, has_no_sharing, denies};
+ghost use Rattle.area_model.specs.Mmap.{is_denied, is_taken, start_of, most_of, most_allowed, object_mapped};
+ghost use Rattle.area_model.specs.Mmap.{objects_after, new_area, mapped_list, mmap_rows, mmap};
 
 use crate::areas::page_of;
 use crate::changes::put;
@@ -30,12 +32,14 @@ const EVERY_ACCESS: Prot = Prot {
     exec: true,
 };
 
+/// Whether no file is mapped.
 fn is_anonymous(args: &MmapArgs) -> bool
     ensures { result ≡ is_anonymous args.now }
 {
     has_flag(args.flags, MAP_ANONYMOUS)
 }
 
+/// Whether the mapping is shared.
 fn is_shared(args: &MmapArgs) -> bool
     ensures { result ≡ is_shared args.now }
 {
@@ -125,7 +129,8 @@ fn is_too_low(config: &Config, args: &MmapArgs) -> bool
 
 /// Whether the fixed place ends past the limit.
 fn is_past_limit(config: &Config, args: &MmapArgs) -> bool
-    ensures { result ≡ (is_fixed args.now && nat_lt config.now.limit (args.now.addr + PAGE_SIZE * pages_of args.now.len)) }
+    ensures { result ≡ (is_fixed args.now
+        && nat_lt config.now.limit (args.now.addr + PAGE_SIZE * pages_of args.now.len)) }
 {
     is_fixed(args) && u128::from(config.limit) < end_of(args.addr, args.len)
 }

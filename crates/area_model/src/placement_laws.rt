@@ -5,13 +5,17 @@ ghost use Rattle.area_model.specs.Placement.{greatest_below, least_below, IsGrea
 /// The search from above finds the greatest number below a bound that passes a test, and nothing exactly where none
 /// passes.
 pub fn greatest_below_finds_the_greatest()
-    ensures found { (passes : ℕ → Bool) (bound n : ℕ) → (greatest_below passes bound ≡ Some n) ↔ IsGreatest passes bound n }
-    ensures none { (passes : ℕ → Bool) (bound : ℕ) → (greatest_below passes bound ≡ None) ↔ NonePasses passes bound }
+    ensures found { (passes : ℕ → Bool) (bound n : ℕ) →
+        (greatest_below passes bound ≡ Some n) ↔ IsGreatest passes bound n }
+    ensures none { (passes : ℕ → Bool) (bound : ℕ) →
+        (greatest_below passes bound ≡ None) ↔ NonePasses passes bound }
 {}
 
 /// The search from below finds the least number below a bound that passes a test, and nothing exactly where none
 /// passes.
 pub fn least_below_finds_the_least()
-    ensures found { (passes : ℕ → Bool) (bound n : ℕ) → (least_below passes bound ≡ Some n) ↔ IsLeast passes bound n }
-    ensures none { (passes : ℕ → Bool) (bound : ℕ) → (least_below passes bound ≡ None) ↔ NonePasses passes bound }
+    ensures found { (passes : ℕ → Bool) (bound n : ℕ) →
+        (least_below passes bound ≡ Some n) ↔ IsLeast passes bound n }
+    ensures none { (passes : ℕ → Bool) (bound : ℕ) →
+        (least_below passes bound ≡ None) ↔ NonePasses passes bound }
 {}

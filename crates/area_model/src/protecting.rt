@@ -1,8 +1,8 @@
 //! mprotect(2): the tests of its table in their order, and the new protection up to where it stops.
-ghost use Rattle.std.specs.Prelude.{◌≡◌, ◌<◌, ◌≤◌, All, IfOk, option_copied, None, Some};
+ghost use Rattle.std.specs.Prelude.{◌≡◌, ◌≤◌, All, IfOk, option_copied};
 ghost use Rattle.mm_types.specs.Records.{IsValid};
-ghost use Rattle.area_model.specs.Areas.{Neighbours, area_at};
-ghost use Rattle.area_model.specs.Mprotect.{may_have, stop_of, stopped_reply, mprotect};
+ghost use Rattle.area_model.specs.Areas.{Neighbours};
+ghost use Rattle.area_model.specs.Mprotect.{stop_of, stopped_reply, mprotect};
 ghost use Rattle.area_model.specs.Stepped.{space_of, outcome_of};
 ghost use Rattle.area_model.specs.Steps.{IsReady};
 
@@ -64,7 +64,8 @@ pub(crate) fn mprotect(
     prot: Prot,
 ) -> Result<Stepped, NoMemory>
     requires { IsReady config.now (space_of areas.now objects) }
-    ensures { IfOk result (λ stepped. outcome_of stepped ≡ mprotect config.now (space_of areas.now objects) addr len prot) }
+    ensures { IfOk result
+        (λ stepped. outcome_of stepped ≡ mprotect config.now (space_of areas.now objects) addr len prot) }
 {
     if !is_aligned(addr) {
         return refused(alloc, objects, areas, Errno::Einval);

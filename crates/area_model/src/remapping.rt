@@ -1,5 +1,6 @@
 //! mremap(2): the tests of its table in their order, and the move, the shrinking or the growth itself.
-ghost use Rattle.std.specs.Prelude.{◌≡◌, ◌<◌, ◌≤◌, ◌+◌, ◌*◌, ◌^◌, ◌&&◌, All, IfOk, IfSome, None, Some, nat_eq, nat_le, nat_lt, not, option_and_then, ◌-◌};
+ghost use Rattle.std.specs.Prelude.{◌≡◌, ◌<◌, ◌≤◌, ◌+◌, ◌^◌, ◌&&◌, All, IfOk, IfSome, nat_eq, nat_le, nat_lt};
+ghost use Rattle.std.specs.Prelude.{not, option_and_then, ◌-◌};
 ghost use Rattle.std.specs.List.{list_any};
 ghost use Rattle.mm_types.specs.Config.{IsValidConfig};
 ghost use Rattle.mm_types.specs.Records.{IsValid};
@@ -7,8 +8,11 @@ ghost use Rattle.area_model.specs.Areas.{area_at, index_of, page_of};
 ghost use Rattle.area_model.specs.Changes.{IsSmall};
 ghost use Rattle.area_model.specs.Stepped.{space_of, outcome_of};
 ghost use Rattle.area_model.specs.Steps.{IsReady};
-ghost use Rattle.area_model.specs.Tables.{first_row, is_aligned, pages_of};
-ghost use Rattle.area_model.specs.Mremap.{moves_to, may_move, old_range, new_range, overlap, grows, has_other_flag, is_new_misplaced, crosses_areas, overflows_object, mremap_rows, carried_area, moved, shrunk_list, added_range, has_room, grown_list, new_place, mremap_change, mremap};
+ghost use Rattle.area_model.specs.Tables.{first_row, pages_of};
+ghost use Rattle.area_model.specs.Mremap.{moves_to, may_move, old_range, new_range, overlap, grows};
+ghost use Rattle.area_model.specs.Mremap.{has_other_flag, is_new_misplaced, crosses_areas, overflows_object};
+ghost use Rattle.area_model.specs.Mremap.{mremap_rows, carried_area, moved, shrunk_list, added_range, has_room};
+ghost use Rattle.area_model.specs.Mremap.{grown_list, new_place, mremap_change, mremap};
 
 use crate::areas::{index_of, page_of};
 use crate::changes::{cut, put};
@@ -49,6 +53,7 @@ fn moves_to(args: &MremapArgs) -> bool
     has_flag(args.flags, MREMAP_FIXED)
 }
 
+/// Whether the area may move.
 fn may_move(args: &MremapArgs) -> bool
     ensures { result ≡ may_move args.now }
 {
@@ -143,7 +148,8 @@ fn crosses_areas(areas: &[Record], args: &MremapArgs) -> bool
 /// Whether a range of this area would go past the greatest index of its object.
 fn runs_past_object(area: &Record, args: &MremapArgs) -> bool
     requires { IsSmall area.now }
-    ensures { result ≡ (not (nat_eq area.now.object 0) && nat_lt (2 ^ 51 - 1) (index_of area.now (page_of args.now.old) + pages_of args.now.new_len)) }
+    ensures { result ≡ (not (nat_eq area.now.object 0)
+        && nat_lt (2 ^ 51 - 1) (index_of area.now (page_of args.now.old) + pages_of args.now.new_len)) }
 {
     let end = u128::from(index_of(area, page_of(args.old))) + u128::from(pages_of(args.new_len));
     area.object != 0 && MOST_PAGES < end
@@ -367,7 +373,9 @@ fn change(
 ) -> Result<Option<Moved>, NoMemory>
     requires config { IsValidConfig config.now }
     requires valid { All IsValid areas.now }
-    ensures value { IfOk result (λ v. v ≡ option_and_then (λ area. mremap_change config.now areas.now area args.now) (area_at areas.now (page_of args.now.old))) }
+    ensures value { IfOk result (λ v. v
+        ≡ option_and_then (λ area. mremap_change config.now areas.now area args.now)
+        (area_at areas.now (page_of args.now.old))) }
     ensures low { IfOk result (λ v. IfSome v (λ moved. moved.page < 2 ^ 52)) }
 {
     match area_at(areas, page_of(args.old)) {
@@ -386,7 +394,8 @@ pub(crate) fn mremap(
     args: &MremapArgs,
 ) -> Result<Stepped, NoMemory>
     requires { IsReady config.now (space_of areas.now objects) }
-    ensures { IfOk result (λ stepped. outcome_of stepped ≡ mremap config.now (space_of areas.now objects) args.now) }
+    ensures { IfOk result
+        (λ stepped. outcome_of stepped ≡ mremap config.now (space_of areas.now objects) args.now) }
 {
     if let Some(errno) = request_error(config, areas, args) {
         return refused(alloc, objects, areas, errno);

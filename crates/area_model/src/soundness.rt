@@ -1,7 +1,7 @@
 //! Which lists of areas are sound.
 ghost use Rattle.std.specs.Prelude.{◌≡◌, ◌≤◌, ◌↔◌, All, IsTrue, false};
 ghost use Rattle.mm_types.specs.Records.{IsValid, holds_all};
-ghost use Rattle.area_model.specs.Areas.{IsSound, IsCanonical, Neighbours, joins, page_of};
+ghost use Rattle.area_model.specs.Areas.{IsSound, Neighbours, joins};
 ghost use Rattle.area_model.specs.Stepped.{space_of};
 ghost use Rattle.area_model.specs.Steps.{IsReady};
 

@@ -12,13 +12,17 @@ use std::alloc::Global;
 /// What a call comes to: the list of areas after it, the counter of objects after it, and its reply.
 #[derive(Debug, Drop)]
 pub struct Stepped {
+    /// The areas after the call.
     pub list: AreaList,
+    /// How many objects are numbered after it: the files, and each shared anonymous mapping.
     pub objects: u32,
+    /// What the call returned.
     pub reply: Reply,
 }
 
-/// One call on a list of areas, as mmap(2), munmap(2), mprotect(2) and mremap(2) have it. `objects` is how many objects were
-/// numbered before it. A refused call leaves list and counter as they were.
+/// One call on a list of areas, as mmap(2), munmap(2), mprotect(2) and mremap(2) have it. `objects` is how
+/// many objects were numbered before it. A refused call leaves list and counter as they were, but mprotect(2)
+/// keeps the new protection of the pages before the one at which it stopped.
 #[tactic(auto, unfolding(crate::specs::Steps::step))]
 pub fn model_step(
     alloc: Global,
@@ -28,7 +32,8 @@ pub fn model_step(
     call: &Call,
 ) -> Result<Stepped, NoMemory>
     requires { IsReady config.now (space_of list.now objects) }
-    ensures { IfOk result (λ stepped. outcome_of stepped ≡ step config.now (space_of list.now objects) call.now) }
+    ensures { IfOk result
+        (λ stepped. outcome_of stepped ≡ step config.now (space_of list.now objects) call.now) }
 {
     let areas = list.items();
     match call {

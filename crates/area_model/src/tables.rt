@@ -1,8 +1,8 @@
 //! What the tables of the calls have in common.
-ghost use Rattle.std.specs.Prelude.{◌≡◌, ◌≤◌, ◌+◌, ◌*◌, ◌^◌, IfOk, Some};
+ghost use Rattle.std.specs.Prelude.{◌≡◌, ◌≤◌, ◌+◌, ◌*◌, ◌^◌, IfOk};
 ghost use Rattle.mm_types.specs.declared.config.TheConstants.{PAGE_SIZE};
 ghost use Rattle.area_model.specs.Stepped.{space_of, outcome_of};
-ghost use Rattle.area_model.specs.Tables.{is_aligned, pages_of, has_flag, has_too_many_areas, unless_refused};
+ghost use Rattle.area_model.specs.Tables.{is_aligned, pages_of, has_flag, has_too_many_areas};
 
 use crate::step::Stepped;
 use mm_types::{AreaList, Config, Errno, NoMemory, PAGE_SIZE, Record, Reply};
@@ -54,7 +54,8 @@ pub(crate) fn unchanged(
     areas: &[Record],
     reply: Reply,
 ) -> Result<Stepped, NoMemory>
-    ensures { IfOk result (λ stepped. outcome_of stepped ≡ record { space = space_of areas.now objects; reply = reply }) }
+    ensures { IfOk result
+        (λ stepped. outcome_of stepped ≡ record { space = space_of areas.now objects; reply = reply }) }
 {
     Ok(Stepped {
         list: AreaList::of(Vec::from_slice(alloc, areas)?),
@@ -70,7 +71,8 @@ pub(crate) fn refused(
     areas: &[Record],
     errno: Errno,
 ) -> Result<Stepped, NoMemory>
-    ensures { IfOk result (λ stepped. outcome_of stepped ≡ record { space = space_of areas.now objects; reply = Reply.Refused errno }) }
+    ensures { IfOk result (λ stepped.
+        outcome_of stepped ≡ record { space = space_of areas.now objects; reply = Reply.Refused errno }) }
 {
     unchanged(alloc, objects, areas, Reply::Refused(errno))
 }

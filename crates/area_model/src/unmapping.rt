@@ -1,10 +1,8 @@
 //! munmap(2): the tests of its table in their order, and the unmapping itself.
-ghost use Rattle.std.specs.Prelude.{◌≡◌, ◌≤◌, ◌+◌, ◌*◌, ◌&&◌, IfOk, None, nat_eq, nat_lt, not};
-ghost use Rattle.mm_types.specs.declared.config.TheConstants.{PAGE_SIZE};
+ghost use Rattle.std.specs.Prelude.{◌≡◌, IfOk};
 ghost use Rattle.area_model.specs.Munmap.{range_of, munmap};
 ghost use Rattle.area_model.specs.Stepped.{space_of, outcome_of};
 ghost use Rattle.area_model.specs.Steps.{IsReady};
-ghost use Rattle.area_model.specs.Tables.{is_aligned, pages_of};
 
 use crate::areas::page_of;
 use crate::changes::cut;
@@ -36,7 +34,8 @@ pub(crate) fn munmap(
     len: u64,
 ) -> Result<Stepped, NoMemory>
     requires { IsReady config.now (space_of areas.now objects) }
-    ensures { IfOk result (λ stepped. outcome_of stepped ≡ munmap config.now (space_of areas.now objects) addr len) }
+    ensures { IfOk result
+        (λ stepped. outcome_of stepped ≡ munmap config.now (space_of areas.now objects) addr len) }
 {
     if !is_aligned(addr) {
         return refused(alloc, objects, areas, Errno::Einval);

@@ -3,12 +3,11 @@ use Rattle.std.proofs.Common.{◌≡◌, ℕ, ◌+◌, ◌-◌, List, ◌++◌, 
 use Rattle.std.proofs.Math.Seq.{take-add}
 use Rattle.std.proofs.lemmas.List.{take_all}
 use Rattle.std.specs.Io.KnownBytes.{Appends}
-use Rattle.mm_types.specs.declared.history.TraceLine.{TraceLine}
-use Rattle.vma_replay.specs.Grammar.{trace_of}
+use Rattle.area_model.proofs.Gathering.{serial_is_history}
+use Rattle.trace_reader.specs.declared.trace.Trace.{Trace}
+use Rattle.trace_reader.specs.Grammar.{trace_of}
 use Rattle.vma_replay.specs.Output.{serial_output}
-use Rattle.vma_replay.specs.Plain.{IsPlain}
 use Rattle.vma_replay.specs.Replaying.{GivesOutput}
-use Rattle.vma_replay.proofs.Legal.{serial_is_history}
 
 -- two pieces of a text, one after the other, are a longer one
 pub appends_more : (text : List ℕ) (given count : ℕ) (old mid new : Option (List ℕ)) → Appends old mid (take given text)
@@ -25,8 +24,8 @@ appends_more text given count (Some xs) (Some ys) (Some zs) front more =
     ∙ ap (λ (both : List ℕ). xs ++ both) (sym (take-add given count text))
 
 -- the output of the input's trace is the text of a history of it, which is legal
-pub gives_output : (input old new : Option (List ℕ)) (lines : List TraceLine) → IfSome input (λ bytes. trace_of bytes ≡ Ok lines)
-    → IsPlain lines → Appends old new (serial_output lines) → IfSome input (λ bytes. GivesOutput bytes old new)
+pub gives_output : (input old new : Option (List ℕ)) (trace : Trace) → IfSome input (λ bytes. trace_of bytes ≡ Ok trace)
+    → Appends old new (serial_output trace) → IfSome input (λ bytes. GivesOutput bytes old new)
 unfolding serial_output
-gives_output None old new lines read plain given = tt
-gives_output (Some bytes) old new lines read plain given = rw read (serial_is_history lines plain, given)
+gives_output None old new trace read given = tt
+gives_output (Some bytes) old new trace read given = rw read (serial_is_history trace.config trace.lines, given)

@@ -1,14 +1,6 @@
-pub mod Accepts
-pub mod Calls
-pub mod Fronts
 pub mod Given
-pub mod Legal
 pub mod Lines
-pub mod Pieces
-pub mod Plains
 pub mod Ready
-pub mod Refused
 pub mod Running
 pub mod Taken
-pub mod Texts
-pub mod TraceTexts
+pub mod CommandLine

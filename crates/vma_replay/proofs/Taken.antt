@@ -3,15 +3,13 @@ use Rattle.std.proofs.Common.{◌≡◌, ◌≤◌, ◌<◌, ℕ, ◌+◌, Bool,
 use Rattle.std.proofs.lemmas.Bool.{and_parts, leb-true, cond_both, cases_lt}
 use Rattle.std.proofs.lemmas.List.{take-append-le}
 use Rattle.std.specs.Io.KnownBytes.{Consumes, IsAtEnd}
-use Rattle.mm_types.specs.declared.call.MmapArgs.{MmapArgs}
-use Rattle.mm_types.specs.declared.history.TraceLine.{TraceLine}
-use Rattle.vma_replay.specs.declared.status.Cause.TheVariants.{Header}
+use Rattle.trace_reader.specs.declared.fault.TraceFault.{TraceFault}
+use Rattle.trace_reader.specs.declared.trace.Trace.{Trace}
+use Rattle.trace_reader.specs.Grammar.{trace_of}
+use Rattle.trace_reader.specs.Lines.{trace_limit}
 use Rattle.vma_replay.specs.declared.status.Status.TheVariants as statuses
-use Rattle.vma_replay.specs.declared.trace.TraceFault.{TraceFault}
-use Rattle.vma_replay.specs.Grammar.{TRACE_LIMIT, trace_of, lines_of_trace, calls_from, call_of, in_front, ends_whole, whole_lines, fault}
-use Rattle.vma_replay.specs.Plain.{IsPlain}
-use Rattle.vma_replay.specs.Replaying.{IsReading, IsTaking}
-use Rattle.vma_replay.proofs.Fronts.{trace_of-front}
+use Rattle.vma_replay.specs.Replaying.{Takes, IsReading, IsTaking}
+use Rattle.trace_reader.proofs.Fronts.{trace_of-front, trace_within}
 
 -- Of a function that the first `limit + 1` bytes settle: what follows more than `limit` bytes does not change it.
 read-append : {A : Type 0} (read : List ℕ → A) (limit : ℕ)
@@ -33,52 +31,18 @@ taken_settles read limit same (Some input) (Some rest) bytes answer moved end e 
 ]
 
 -- of the trace
-trace_settled : (old new : Option (List ℕ)) (bytes : List ℕ) (answer : Result (List TraceLine) TraceFault)
-    → Consumes old new bytes → (length bytes ≤ TRACE_LIMIT → IsAtEnd new) → trace_of bytes ≡ answer
-    → IfSome old (λ input. trace_of input ≡ answer)
-trace_settled = taken_settles trace_of TRACE_LIMIT trace_of-front
-
--- a line is read only in front of a rest that is read
-in_front-ok : (number : ℕ) (asked : Option MmapArgs) (rest : Result (List TraceLine) TraceFault) (lines : List TraceLine)
-    → in_front number asked rest ≡ Ok lines → (more : List TraceLine) × (rest ≡ Ok more)
-unfolding in_front
-in_front-ok number None rest lines e = cc
-in_front-ok number (Some args) (Ok more) lines e = (more, refl)
-in_front-ok number (Some args) (Err first) lines e = cc
-
--- lines are read only where the trace ends behind them
-calls_from-ok : (ends : Bool) (number : ℕ) (pieces : List (List ℕ)) (lines : List TraceLine)
-    → calls_from ends number pieces ≡ Ok lines → ends ≡ true
-calls_from-ok true number pieces lines e = refl
-calls_from-ok false number [] lines e = cc
-calls_from-ok false number (piece ∷ pieces) lines e =
-    let rest = in_front-ok number (call_of piece) (calls_from false (number + 1) pieces) lines e in
-    calls_from-ok false (number + 1) pieces rest.0 rest.1
-
--- and so is a trace
-lines_of_trace-ok : (ends : Bool) (pieces : List (List ℕ)) (lines : List TraceLine)
-    → lines_of_trace ends pieces ≡ Ok lines → ends ≡ true
-unfolding lines_of_trace
-lines_of_trace-ok ends [] lines e = cc
-lines_of_trace-ok ends (piece ∷ pieces) lines e =
-    cond_both (bytes_eq piece (codes "vmatrace 1")) (calls_from ends 2 pieces) (Err (fault 1 Header))
-    (λ read. read ≡ Ok lines → ends ≡ true) (λ _ ok. calls_from-ok ends 2 pieces lines ok) (λ _ bad. cc) e
-
--- a trace has no byte past the limit
-trace_within : (bytes : List ℕ) (lines : List TraceLine) → trace_of bytes ≡ Ok lines → length bytes ≤ TRACE_LIMIT
-unfolding trace_of ends_whole
-trace_within bytes lines e =
-    leb-true _ _ (and_parts _ _ (lines_of_trace-ok (ends_whole bytes) (whole_lines bytes) lines e)).0
+trace_settled : (old new : Option (List ℕ)) (bytes : List ℕ) (answer : Result Trace TraceFault)
+    → Takes old new bytes → trace_of bytes ≡ answer → IfSome old (λ input. trace_of input ≡ answer)
+trace_settled old new bytes answer taken e = taken_settles trace_of trace_limit trace_of-front old new bytes answer taken.moved taken.whole e
 
 -- where what was taken is a trace, the source gave it whole
-pub reads_lines : (old new : Option (List ℕ)) (before now : ℕ) (bytes : List ℕ) (lines : List TraceLine)
-    → IsTaking old new before now (Ok bytes) → trace_of bytes ≡ Ok lines → IsPlain lines
-    → IsReading old new before now (Ok lines)
-reads_lines old new before now bytes lines taken read plain =
-    (taken.0, taken.2 (trace_within bytes lines read), plain, trace_settled old new bytes (Ok lines) taken.1 taken.2 read)
+pub reads_lines : (old new : Option (List ℕ)) (before now : ℕ) (bytes : List ℕ) (trace : Trace)
+    → IsTaking old new before now (Ok bytes) → trace_of bytes ≡ Ok trace → IsReading old new before now (Ok trace)
+reads_lines old new before now bytes trace taken read =
+    (taken.0, (bytes, taken.1), taken.1.whole (trace_within bytes trace read), trace_settled old new bytes (Ok trace) taken.1 read)
 
 -- where it is none, it has the source's first bad line
 pub reads_fault : (old new : Option (List ℕ)) (before now : ℕ) (bytes : List ℕ) (first : TraceFault)
     → IsTaking old new before now (Ok bytes) → trace_of bytes ≡ Err first
     → IsReading old new before now (Err (statuses.Trace first.line first.cause))
-reads_fault old new before now bytes first taken read = (taken.0, trace_settled old new bytes (Err first) taken.1 taken.2 read)
+reads_fault old new before now bytes first taken read = (taken.0, (bytes, taken.1), trace_settled old new bytes (Err first) taken.1 read)

@@ -14,9 +14,13 @@ use Rattle.mm_types.specs.declared.files.FileRow.{FileRow}
 use Rattle.mm_types.specs.declared.history.Content.{Content}
 use Rattle.mm_types.specs.declared.history.Content.TheVariants as contents
 use Rattle.mm_types.specs.declared.history.Item.{Item}
+use Rattle.mm_types.specs.declared.history.Op.{Op}
+use Rattle.mm_types.specs.declared.history.Op.TheVariants as ops
 use Rattle.mm_types.specs.declared.history.TraceLine.{TraceLine}
-use Rattle.mm_types.specs.Config.{default_config}
+use Rattle.maps_print.specs.Printable.{IsPrintable}
 use Rattle.mm_types.specs.MapsText.{range_text, list_text}
+use Rattle.trace_reader.specs.declared.trace.Trace.{Trace}
+use Rattle.area_model.specs.Verdicts.{verdict}
 use Rattle.area_model.specs.Steps.{after}
 use Rattle.area_model.specs.Histories.{line_of, journal_of, serial_history}
 
@@ -44,6 +48,13 @@ verdict_text verdicts.MapErr = codes "SIGSEGV SEGV_MAPERR"
 verdict_text verdicts.AccErr = codes "SIGSEGV SEGV_ACCERR"
 verdict_text verdicts.BusErr = codes "SIGBUS BUS_ADRERR"
 
+-- a verdict whose area can be printed, if it has one
+abbrev pub IsServable : Verdict → Type 0
+IsServable (verdicts.Served area index) = IsPrintable area
+IsServable verdicts.MapErr = Unit {0}
+IsServable verdicts.AccErr = Unit {0}
+IsServable verdicts.BusErr = Unit {0}
+
 -- how many areas there are, and their lines
 unfoldable pub maps_text : List FileRow → List Record → List ℕ
 maps_text files areas = codes "maps " ++ (decimal (length areas) ++ (10 ∷ list_text files areas))
@@ -54,28 +65,30 @@ content_text files (contents.Called call reply) = reply_text reply ++ 10 ∷ []
 content_text files (contents.Fault page access verdict) = verdict_text verdict ++ 10 ∷ []
 content_text files (contents.List areas) = maps_text files areas
 
+-- what a line comes to that asks for no call: the verdict of its fault, or the list of areas
+unfoldable pub read_text : List FileRow → List Record → Op → List ℕ
+read_text files areas (ops.Fault page access) = verdict_text (verdict files areas page.0 access) ++ 10 ∷ []
+read_text files areas ops.Maps = maps_text files areas
+read_text files areas (ops.Call call) = []
+
 -- what stands before it: `L<line> t<thread> v<version> = `
-unfoldable pub front_text : TraceLine → ℕ → List ℕ
-front_text line version = 76 ∷ (decimal line.number ++ (codes " t" ++ (decimal line.thread ++ (codes " v" ++ (decimal version ++ codes " = ")))))
+unfoldable pub start_text : TraceLine → ℕ → List ℕ
+start_text line version = 76 ∷ (decimal line.number ++ (codes " t" ++ (decimal line.thread ++ (codes " v" ++ (decimal version ++ codes " = ")))))
 
 -- an item, with the line that it answers
 abbrev pub item_text : List FileRow → TraceLine → Item → List ℕ
-item_text files line item = front_text line item.version ++ content_text files item.content
+item_text files line item = start_text line item.version ++ content_text files item.content
 
--- the items behind others, each with the line that it answers
+-- the items after others, each with the line that it answers
 abbrev pub items_text : List FileRow → List TraceLine → List Item → List Item → List ℕ
 items_text files lines before [] = []
 items_text files lines before (item ∷ items) = option_map_or (λ line. item_text files line item) (line_of lines before item) []
     ++ items_text files lines (before ++ item ∷ []) items
 
--- the items of a history, and behind them the list after all its calls
+-- the items of a history, and after them the list after all its calls
 unfoldable pub output_text : Config → List TraceLine → List Item → List ℕ
 output_text config lines items = items_text config.files lines [] items ++ maps_text config.files (after config (journal_of items)).areas
 
--- the configuration of the traces that are read so far
-abbrev pub trace_config : Config
-trace_config = default_config []
-
 -- the output of a trace that runs in the order of its lines
-unfoldable pub serial_output : List TraceLine → List ℕ
-serial_output lines = output_text trace_config lines (serial_history trace_config lines)
+unfoldable pub serial_output : Trace → List ℕ
+serial_output trace = output_text trace.config trace.lines (serial_history trace.config trace.lines)

@@ -1,21 +1,22 @@
 ghost use Rattle.std.specs.Prelude.{◌<◌, ◌^◌, ◌-◌};
 ghost use Rattle.vma_replay.specs.Output.{serial_output};
-ghost use Rattle.vma_replay.specs.Plain.{IsPlain};
+ghost use Rattle.trace_reader.specs.Values.{IsTraceValue};
 ghost use Rattle.vma_replay.specs.Replaying.{IsGiving};
 
 use crate::output::serial_text;
 use crate::status::Status;
 use io_edge::{GiveFault, Sink};
-use mm_types::{NoMemory, TraceLine};
+use mm_types::NoMemory;
 use std::alloc::Global;
+use trace_reader::Trace;
 
 /// Gives a sink the output of a trace that runs in the order of its lines.
-pub(crate) fn write_output<K: Sink>(alloc: Global, sink: &mut K, lines: &[TraceLine]) -> Status
-    requires plain { IsPlain lines.now }
+pub(crate) fn write_output<K: Sink>(alloc: Global, sink: &mut K, trace: &Trace) -> Status
+    requires trace { IsTraceValue trace.now }
     requires sink { K.faults sink.old < 2 ^ 64 - 1 }
-    ensures { IsGiving (serial_output lines.now) (K.written sink.old) (K.written sink.new) (K.faults sink.old) (K.faults sink.new) result }
+    ensures { IsGiving (serial_output trace.now) (K.written sink.old) (K.written sink.new) (K.faults sink.old) (K.faults sink.new) result }
 {
-    match serial_text(alloc, lines) {
+    match serial_text(alloc, trace) {
         Ok(text) => give_all(sink, &text),
         Err(NoMemory) => Status::NoMemory,
     }

@@ -2,16 +2,14 @@
 #![tactic(auto)]
 
 mod giving;
-mod laws;
 mod output;
 mod reading;
 mod run;
 mod status;
 #[cfg(test)]
 mod tests;
-mod trace;
 mod words;
 
-pub use laws::first_bad_line;
 pub use run::replay;
-pub use status::{Cause, Status, status_line, status_number};
+pub use status::{Status, status_line, status_number};
+pub use trace_reader::Cause;

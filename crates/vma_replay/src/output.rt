@@ -1,38 +1,134 @@
-ghost use Rattle.std.specs.Prelude.{◌≡◌, ◌++◌, ◌∷◌, [], All, IfOk, OnOk};
-ghost use Rattle.std.specs.Fmt.{digits};
-ghost use Rattle.mm_types.specs.MapsText.{list_text};
+ghost use Rattle.std.specs.Prelude.{◌≡◌, ◌++◌, ◌∷◌, [], List, All, IfOk, OnOk, codes, decimal, false, flat_map, IsPermutation, IsSortedByKey};
+ghost use Rattle.std.specs.List.Sorted.{IsStableByKey};
+ghost use Rattle.std.specs.Ordering.{nat_cmp};
+ghost use Rattle.mm_types.specs.declared.history.TraceLine.{TraceLine};
+ghost use Rattle.mm_types.specs.MapsText.{list_text, range_text};
+ghost use Rattle.mm_types.specs.Records.{IsValid};
 ghost use Rattle.maps_print.specs.Printable.{IsPrintable};
-ghost use Rattle.vma_replay.specs.Output.{errno_name, reply_text, front_text, maps_text, serial_output};
-ghost use Rattle.vma_replay.specs.Plain.{IsPlain};
+ghost use Rattle.area_model.specs.Histories.{asks_call};
+ghost use Rattle.trace_reader.specs.Values.{IsTraceValue};
+ghost use Rattle.vma_replay.specs.Output.{IsServable, errno_name, reply_text, verdict_text, read_text, start_text, maps_text, serial_output};
 
-use area_model::model_step;
-use maps_print::print_list;
-use mm_types::{AreaList, Call, Config, Errno, Files, NoMemory, Op, Reply, TraceLine};
+use area_model::{model_step, model_verdict};
+use maps_print::{print_list, push_range};
+use mm_types::{AreaList, Config, Errno, Files, NoMemory, Op, Record, Reply, TraceLine, Verdict};
 use std::alloc::Global;
 use std::io::Write;
+use trace_reader::Trace;
 
-/// The output of a trace that runs in the order of its lines: every reply, then the final list.
-pub(crate) fn serial_text(alloc: Global, lines: &[TraceLine]) -> Result<Vec<u8>, NoMemory>
-    requires { IsPlain lines.now }
-    ensures { IfOk result (λ text. text.items ≡ serial_output lines.now) }
+/// The output of a trace that runs in the order of its lines: what each line comes to, in the order of a history,
+/// and then the final list. Reads of one version wait for the next call, and are told by caller.
+pub(crate) fn serial_text(alloc: Global, trace: &Trace) -> Result<Vec<u8>, NoMemory>
+    requires { IsTraceValue trace.now }
+    ensures { IfOk result (λ text. text.items ≡ serial_output trace.now) }
 {
-    let config = Config::with_files(Files::of(Vec::new(alloc)));
+    let config = &trace.config;
     let mut text = Vec::new(alloc);
     let mut list = AreaList::of(Vec::new(alloc));
-    let mut objects = 0;
+    let mut objects = config.files.items().len() as u32;
     let mut version = 0;
-    for line in lines {
+    let mut reads = Vec::new(alloc);
+    for line in trace.lines.items() {
         let Op::Call(call) = line.op else {
-            unreachable!();
+            reads.push(*line)?;
+            continue;
         };
-        let stepped = model_step(alloc, &config, objects, &list, &call)?;
+        push_reads(alloc, &mut text, config, &list, version, &mut reads)?;
+        let stepped = model_step(alloc, config, objects, &list, &call)?;
         version += 1;
         push_called(&mut text, line, version, stepped.reply)?;
         list = stepped.list;
         objects = stepped.objects;
     }
+    push_reads(alloc, &mut text, config, &list, version, &mut reads)?;
     push_maps(alloc, &mut text, &list, &config.files)?;
     Ok(text)
+}
+
+/// Sorts lines by thread; those of one thread keep their order.
+fn sort_by_thread(reads: &mut Vec<TraceLine>) -> Result<(), NoMemory>
+    ensures sorted { OnOk result (IsSortedByKey (λ line. line.thread) nat_cmp reads.new.items) }
+    ensures stable { IsStableByKey (λ line. line.thread) nat_cmp reads.old.items reads.new.items }
+    ensures permutation { IsPermutation reads.old.items reads.new.items }
+{
+    reads.sort_by_key(|line| line.thread)?;
+    Ok(())
+}
+
+/// Appends what the reads of a version come to, by thread, and forgets them.
+fn push_reads(
+    alloc: Global,
+    text: &mut Vec<u8>,
+    config: &Config,
+    list: &AreaList,
+    version: u64,
+    reads: &mut Vec<TraceLine>,
+) -> Result<(), NoMemory>
+    requires valid { All IsValid list.now }
+    requires reads { All (λ line. asks_call line.op ≡ false) reads.old.items }
+    ensures text { OnOk result ((sorted : List TraceLine) × IsSortedByKey (λ line. line.thread) nat_cmp sorted
+        × IsStableByKey (λ line. line.thread) nat_cmp reads.old.items sorted × IsPermutation reads.old.items sorted
+        × (text.new.items ≡ text.old.items ++ flat_map (λ line. start_text line version ++ read_text config.now.files list.now line.op) sorted)) }
+    ensures reads { OnOk result (reads.new.items ≡ []) }
+{
+    sort_by_thread(reads)?;
+    for line in reads.iter() {
+        push_read(alloc, text, config, list, version, line)?;
+    }
+    reads.clear();
+    Ok(())
+}
+
+/// Appends what a fault or a read of the list comes to.
+fn push_read(
+    alloc: Global,
+    text: &mut Vec<u8>,
+    config: &Config,
+    list: &AreaList,
+    version: u64,
+    line: &TraceLine,
+) -> Result<(), NoMemory>
+    requires valid { All IsValid list.now }
+    requires read { asks_call line.now.op ≡ false }
+    ensures { OnOk result (text.new.items ≡ text.old.items ++ (start_text line.now version ++ read_text config.now.files list.now line.now.op)) }
+{
+    push_start(text, line, version)?;
+    push_content(alloc, text, &config.files, list, line.op)
+}
+
+#[tactic(auto, unfolding(crate::specs::Output::read_text))]
+fn push_content(
+    alloc: Global,
+    text: &mut Vec<u8>,
+    files: &Files,
+    list: &AreaList,
+    op: Op,
+) -> Result<(), NoMemory>
+    requires valid { All IsValid list.now }
+    requires read { asks_call op ≡ false }
+    ensures { OnOk result (text.new.items ≡ text.old.items ++ read_text files.now list.now op) }
+{
+    match op {
+        Op::Fault { page, access } => push_verdict(text, model_verdict(files, list, page, access)),
+        Op::Maps => push_maps(alloc, text, list, files),
+        Op::Call(_) => unreachable!(),
+    }
+}
+
+/// Appends a fault's verdict, and ends its line.
+#[tactic(auto, unfolding(crate::specs::Output::verdict_text))]
+fn push_verdict(text: &mut Vec<u8>, verdict: Verdict) -> Result<(), NoMemory>
+    requires { IsServable verdict }
+    ensures { OnOk result (text.new.items ≡ text.old.items ++ (verdict_text verdict ++ 10 ∷ [])) }
+{
+    match verdict {
+        Verdict::Served { area, index } => push_served(text, &area, index)?,
+        Verdict::MapErr => text.extend_from_slice(b"SIGSEGV SEGV_MAPERR")?,
+        Verdict::AccErr => text.extend_from_slice(b"SIGSEGV SEGV_ACCERR")?,
+        Verdict::BusErr => text.extend_from_slice(b"SIGBUS BUS_ADRERR")?,
+    }
+    text.push(b'\n')?;
+    Ok(())
 }
 
 /// Appends the line of a call: `L<line> t<thread> v<version> = <reply>`.
@@ -42,17 +138,33 @@ fn push_called(
     version: u64,
     reply: Reply,
 ) -> Result<(), NoMemory>
-    ensures { OnOk result (text.new.items ≡ text.old.items ++ (front_text line.now version ++ (reply_text reply ++ 10 ∷ []))) }
+    ensures { OnOk result (text.new.items ≡ text.old.items ++ (start_text line.now version ++ (reply_text reply ++ 10 ∷ []))) }
 {
-    push_front(text, line, version)?;
+    push_start(text, line, version)?;
     push_reply(text, reply)?;
     text.push(b'\n')?;
     Ok(())
 }
 
-#[tactic(auto, unfolding(crate::specs::Output::front_text))]
-fn push_front(text: &mut Vec<u8>, line: &TraceLine, version: u64) -> Result<(), NoMemory>
-    ensures { OnOk result (text.new.items ≡ text.old.items ++ front_text line.now version) }
+/// Appends the area that serves a fault, and the page of its object.
+fn push_served(text: &mut Vec<u8>, area: &Record, index: u64) -> Result<(), NoMemory>
+    requires { IsPrintable area.now }
+    ensures { OnOk result (text.new.items ≡ text.old.items ++ (codes "served " ++ (range_text area.now ++ (codes " page " ++ decimal index)))) }
+{
+    text.extend_from_slice(b"served ")?;
+    push_range(text, area)?;
+    push_page(text, index)
+}
+
+fn push_page(text: &mut Vec<u8>, index: u64) -> Result<(), NoMemory>
+    ensures { OnOk result (text.new.items ≡ text.old.items ++ (codes " page " ++ decimal index)) }
+{
+    write!(text, " page {index}").map_err(|_| NoMemory)
+}
+
+#[tactic(auto, unfolding(crate::specs::Output::start_text))]
+fn push_start(text: &mut Vec<u8>, line: &TraceLine, version: u64) -> Result<(), NoMemory>
+    ensures { OnOk result (text.new.items ≡ text.old.items ++ start_text line.now version) }
 {
     let (number, thread) = (line.number, line.thread);
     write!(text, "L{number} t{thread} v{version} = ").map_err(|_| NoMemory)

@@ -1,29 +1,27 @@
-ghost use Rattle.std.specs.Prelude.{◌<◌, ◌^◌, ◌-◌};
-ghost use Rattle.vma_replay.specs.Replaying.{IsReading, IsTaking, trace_lines, taken_bytes};
+ghost use Rattle.std.specs.Prelude.{◌<◌, ◌^◌, ◌-◌, IfOk};
+ghost use Rattle.trace_reader.specs.Values.{IsTraceValue};
+ghost use Rattle.vma_replay.specs.Replaying.{IsReading, IsTaking, taken_bytes};
 
 use crate::status::Status;
-use crate::trace::{ReadError, read_trace};
 use io_edge::{Failed, Source};
-use mm_types::TraceLine;
 use std::alloc::Global;
+use trace_reader::{ReadError, TRACE_LIMIT, Trace, read};
 
 /// How many bytes a read asks for at most.
-const PIECE: usize = 4096;
+const PIECE: usize = 65_536;
 
 /// How many bytes are read at most: one more than a trace may have, which shows that there are too many.
-const MOST_READ: usize = 65_537;
+const MOST_READ: usize = TRACE_LIMIT + 1;
 
 /// Reads all of a source as a trace. A status says why it is none.
-pub(crate) fn read_source<S: Source>(
-    alloc: Global,
-    source: &mut S,
-) -> Result<Vec<TraceLine>, Status>
+pub(crate) fn read_source<S: Source>(alloc: Global, source: &mut S) -> Result<Trace, Status>
     requires { S.faults source.old < 2 ^ 64 - 1 }
-    ensures { IsReading (S.left source.old) (S.left source.new) (S.faults source.old) (S.faults source.new) (trace_lines result) }
+    ensures value { IfOk result IsTraceValue }
+    ensures reading { IsReading (S.left source.old) (S.left source.new) (S.faults source.old) (S.faults source.new) result }
 {
     let bytes = take_bytes(alloc, source)?;
-    match read_trace(alloc, &bytes) {
-        Ok(lines) => Ok(lines),
+    match read(alloc, &bytes) {
+        Ok(trace) => Ok(trace),
         Err(ReadError::Bad(fault)) => Err(Status::Trace {
             line: fault.line,
             cause: fault.cause,
@@ -33,6 +31,7 @@ pub(crate) fn read_source<S: Source>(
 }
 
 /// Takes bytes from a source up to its end, or more of them than a trace may have.
+#[tactic(auto, unfolding(trace_reader::specs::Lines::trace_limit))]
 fn take_bytes<S: Source>(alloc: Global, source: &mut S) -> Result<Vec<u8>, Status>
     requires { S.faults source.old < 2 ^ 64 - 1 }
     ensures { IsTaking (S.left source.old) (S.left source.new) (S.faults source.old) (S.faults source.new) (taken_bytes result) }

@@ -1,12 +1,13 @@
-ghost use Rattle.std.specs.Prelude.{◌≡◌, ◌<◌, ◌^◌, ◌-◌, ◌⊎◌, ◌↔◌, ℕ, true, false, IfSome, Err};
+ghost use Rattle.std.specs.Prelude.{◌≡◌, ◌<◌, ◌^◌, ◌-◌, ◌⊎◌, ℕ, true, false, IfSome, Err};
 ghost use Rattle.std.specs.Io.KnownBytes.{Keeps, IsAtEnd};
-ghost use Rattle.vma_replay.specs.declared.status.Cause.{Cause};
-ghost use Rattle.vma_replay.specs.Grammar.{trace_of};
-ghost use Rattle.vma_replay.specs.Replaying.{are_accepted, GivesOutput, GivesFront, GivesNothing, status_of};
+ghost use Rattle.trace_reader.specs.declared.fault.Cause.{Cause};
+ghost use Rattle.trace_reader.specs.Grammar.{trace_of};
+ghost use Rattle.vma_replay.specs.Replaying.{are_accepted, GivesOutput, GivesFront, GivesNothing, ReadsEnough, status_of};
 
 use crate::giving::write_output;
 use crate::reading::read_source;
 use crate::status::Status;
+use crate::words::{Mode, WordsFault, mode_of};
 use io_edge::{Gate, Sink, Source};
 use std::alloc::Global;
 use std::sync::Wait;
@@ -35,10 +36,12 @@ pub fn replay<R: Threads + Wait + Sync, S: Source, K: Sink, G: Gate>(
     ensures calm { result ≡ Status.Done → (S.faults source.new ≡ S.faults source.old) × (K.faults sink.new ≡ K.faults sink.old) }
 
     // When each other answer comes.
-    ensures words { (result ≡ Status.Words) ↔ (are_accepted words.now ≡ false) }
+    ensures words { result ≡ Status.Words → are_accepted words.now ≡ false }
+    ensures words_refused { are_accepted words.now ≡ false → (result ≡ Status.Words) ⊎ (result ≡ Status.NoMemory) }
     ensures trace { (line : ℕ) (cause : Cause) → result ≡ Status.Trace line cause → (S.faults source.new ≡ S.faults source.old)
         × IfSome (S.left source.old) (λ input. trace_of input ≡ Err (record { line = line; cause = cause })) }
     ensures unread { result ≡ Status.Words → source.new ≡ source.old }
+    ensures read { (result ≡ Status.Done) ⊎ ((line : ℕ) × (cause : Cause) × (result ≡ Status.Trace line cause)) → ReadsEnough (S.left source.old) (S.left source.new) }
     ensures read_fault { result ≡ Status.ReadFault → S.faults source.old < S.faults source.new }
     ensures write_fault { result ≡ Status.WriteFault → K.faults sink.old < K.faults sink.new }
     ensures complete { are_accepted words.now ≡ true → S.faults source.new ≡ S.faults source.old → K.faults sink.new ≡ K.faults sink.old →
@@ -49,19 +52,12 @@ pub fn replay<R: Threads + Wait + Sync, S: Source, K: Sink, G: Gate>(
         Keeps (K.written sink.old) (K.written sink.new) ⊎ GivesFront input (K.written sink.old) (K.written sink.new)) }
     ensures nothing { GivesNothing result → sink.new ≡ sink.old }
 {
-    if !are_accepted(words) {
-        return Status::Words;
+    match mode_of(alloc, words) {
+        Ok(Mode::Serial) => match read_source(alloc, source) {
+            Ok(trace) => write_output(alloc, sink, &trace),
+            Err(status) => status,
+        },
+        Err(WordsFault::Words) => Status::Words,
+        Err(WordsFault::NoMemory) => Status::NoMemory,
     }
-    match read_source(alloc, source) {
-        Ok(lines) => write_output(alloc, sink, &lines),
-        Err(status) => status,
-    }
-}
-
-/// Whether the words behind the program's name are accepted: `serial` alone is.
-#[tactic(auto, unfolding(crate::specs::Replaying::are_accepted))]
-fn are_accepted(words: &[String]) -> bool
-    ensures { result ≡ are_accepted words.now }
-{
-    words.len() == 1 && words[0].as_str() == "serial"
 }

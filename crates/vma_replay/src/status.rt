@@ -1,17 +1,9 @@
-ghost use Rattle.std.specs.Prelude.{◌≡◌, IfOk};
-ghost use Rattle.vma_replay.specs.Statuses.{number_of_status, line_of_status, cause_text};
+ghost use Rattle.std.specs.Prelude.{◌≡◌, ◌++◌, ◌∷◌, IfOk, codes, decimal, string_bytes};
+ghost use Rattle.vma_replay.specs.Statuses.{number_of_status, line_of_status};
 
 use mm_types::{NoMemory, Text};
 use std::alloc::Global;
-
-/// Why a line of a trace is bad. Each cause keeps its number.
-#[derive(Clone, Copy, Debug, PartialEq, Eq)]
-pub enum Cause {
-    /// 1: the first line is not the header.
-    Header,
-    /// 12: the line is none of the forms that are read so far.
-    NotBuilt,
-}
+use trace_reader::Cause;
 
 /// What a run comes to.
 #[derive(Clone, Copy, Debug, PartialEq, Eq)]
@@ -45,17 +37,14 @@ pub fn status_number(status: &Status) -> u8
 }
 
 /// The line for standard error, without its newline: empty where the run is done, else as `read fault` or
-/// `trace line 2 cause 12 NotBuilt`.
+/// `trace line 2 cause 11 NoEnd`.
 pub fn status_line(alloc: Global, status: &Status) -> Result<Text, NoMemory>
     ensures { IfOk result (λ line. line ≡ line_of_status status.now) }
 {
     let line = match *status {
         Status::Done => String::new(alloc),
         Status::Words => String::from_str(alloc, "words")?,
-        Status::Trace { line, cause } => format!(in alloc;
-            "trace line {line} cause {}",
-            cause_text(cause)
-        )?,
+        Status::Trace { line, cause } => trace_line(alloc, line, cause.number(), cause.name())?,
         Status::ReadFault => String::from_str(alloc, "read fault")?,
         Status::WriteFault => String::from_str(alloc, "write fault")?,
         Status::NoMemory => String::from_str(alloc, "no memory")?,
@@ -63,13 +52,8 @@ pub fn status_line(alloc: Global, status: &Status) -> Result<Text, NoMemory>
     Ok(Text::of(line))
 }
 
-/// The number of a cause and its name.
-#[tactic(auto, unfolding(crate::specs::Statuses::cause_text))]
-fn cause_text(cause: Cause) -> &'static str
-    ensures { result.now ≡ cause_text cause }
+fn trace_line(alloc: Global, line: u64, number: u8, name: &str) -> Result<String, NoMemory>
+    ensures { IfOk result (λ text. string_bytes text ≡ codes "trace line " ++ (decimal line ++ (codes " cause " ++ (decimal number ++ (32 ∷ name.now))))) }
 {
-    match cause {
-        Cause::Header => "1 Header",
-        Cause::NotBuilt => "12 NotBuilt",
-    }
+    Ok(format!(in alloc; "trace line {line} cause {number} {name}")?)
 }

@@ -26,7 +26,7 @@ fn words(alloc: Global, texts: &[&str]) -> Result<Vec<String>, AllocError> {
 #[test]
 fn gives_replies_and_areas(rt: HostRuntime) -> Result<(), Fail> {
     let words = words(rt.alloc(), &["serial"])?;
-    let runs: [(&[u8], &[u8]); 4] = [
+    let runs: [(&[u8], &[u8]); 6] = [
         (b"vmatrace 1\n", b"maps 0\n"),
         (TWO_PAGES, TWO_PAGES_OUTPUT),
         (
@@ -39,6 +39,20 @@ fn gives_replies_and_areas(rt: HostRuntime) -> Result<(), Fail> {
             b"vmatrace 1\n0 mmap 0 0 PROT_READ MAP_PRIVATE|MAP_ANONYMOUS -1 0\n\
               0 mmap 0 18446744073709551615 PROT_READ MAP_PRIVATE|MAP_ANONYMOUS -1 0\n",
             b"L2 t0 v1 = -1 EINVAL\nL3 t0 v2 = -1 ENOMEM\nmaps 0\n",
+        ),
+        // Two faults of one version go by thread, whatever the order of their lines.
+        (
+            b"vmatrace 1\n1 fault 0x10000 r\n0 fault 0x10000 w\n\
+              0 mmap 0x10000 4096 PROT_READ MAP_PRIVATE|MAP_ANONYMOUS -1 0\n",
+            b"L3 t0 v0 = SIGSEGV SEGV_MAPERR\nL2 t1 v0 = SIGSEGV SEGV_MAPERR\nL4 t0 v1 = 0x10000\n\
+              maps 1\n00010000-00011000 r--p 00000000 00:00 0 \n",
+        ),
+        // A call refused for the limit of areas counts as a version, and a read shows the list there.
+        (
+            b"vmatrace 1\nlimit areas 1\n0 mmap 0 8192 PROT_NONE MAP_PRIVATE|MAP_ANONYMOUS -1 0\n\
+              0 mprotect 0x7ffff7ffd000 4096 PROT_READ\n0 maps\n0 munmap 0x7ffff7ffd000 8192\n",
+            b"L3 t0 v1 = 0x7ffff7ffd000\nL4 t0 v2 = -1 ENOMEM\nL5 t0 v2 = maps 1\n\
+              7ffff7ffd000-7ffff7fff000 ---p 00000000 00:00 0 \nL6 t0 v3 = 0\nmaps 0\n",
         ),
     ];
     for (trace, output) in runs {
@@ -58,9 +72,9 @@ fn gives_nothing_for_what_is_no_trace(rt: HostRuntime) -> Result<(), Fail> {
     let words = words(rt.alloc(), &["serial"])?;
     let runs: [(&[u8], u64, Cause); 4] = [
         (b"", 1, Cause::Header),
-        (b"vmatrace 1", 1, Cause::Header),
-        (b"vmatrace 1\n0 maps\n", 2, Cause::NotBuilt),
-        (&TWO_PAGES[..TWO_PAGES.len() - 1], 2, Cause::NotBuilt),
+        (b"vmatrace 1", 1, Cause::NoEnd),
+        (b"vmatrace 1\n0 mapped\n", 2, Cause::Word),
+        (&TWO_PAGES[..TWO_PAGES.len() - 1], 2, Cause::NoEnd),
     ];
     for (trace, line, cause) in runs {
         let mut source = SureSource::new(Vec::from_slice(rt.alloc(), trace)?);
@@ -147,19 +161,15 @@ fn numbers_and_words_each_status(rt: HostRuntime) -> Result<(), Fail> {
         line: 1,
         cause: Cause::Header,
     };
-    let not_built = Status::Trace {
+    let no_end = Status::Trace {
         line: u64::MAX,
-        cause: Cause::NotBuilt,
+        cause: Cause::NoEnd,
     };
     let statuses = [
         (Status::Done, 0, ""),
         (Status::Words, 2, "words"),
         (header, 3, "trace line 1 cause 1 Header"),
-        (
-            not_built,
-            3,
-            "trace line 18446744073709551615 cause 12 NotBuilt",
-        ),
+        (no_end, 3, "trace line 18446744073709551615 cause 11 NoEnd"),
         (Status::ReadFault, 4, "read fault"),
         (Status::WriteFault, 5, "write fault"),
         (Status::NoMemory, 6, "no memory"),

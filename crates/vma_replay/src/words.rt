@@ -1,130 +1,95 @@
-ghost use Rattle.std.specs.Prelude.{◌≡◌, IfOk, bytes_eq, map};
-ghost use Rattle.vma_replay.specs.Grammar.{number_of, prot_bits, prot_of, plain_mapping, mapping_of, words_of, is_plain, call_of_words, call_of};
+ghost use Rattle.std.specs.Prelude.{◌≡◌, IfErr, IfOk, Err, Ok, false, map, string_bytes, true};
+ghost use Rattle.std.specs.List.{list_any};
+ghost use Rattle.clap.specs.Words.{app_of, found_of, matches_of, rows_of, takes};
+ghost use Rattle.vma_replay.specs.Replaying.{are_accepted};
+ghost use Rattle.vma_replay.specs.CommandLine.{begins_with_dash, is_serial, words_command};
 
-use mm_types::{MAP_ANONYMOUS, MAP_PRIVATE, MmapArgs, NoMemory, Prot};
+use clap::error::ErrorKind;
+use clap::{Arg, ArgMatches, Command};
 use std::alloc::{AllocError, Global};
 
-/// The most digits that a number may have.
-const MOST_DIGITS: usize = 20;
+/// The name of the argument that is the mode.
+const MODE: &str = "mode";
 
-/// Whether a word is this text.
-pub(crate) fn is_text(word: &[u8], text: &str) -> bool
-    ensures { result ≡ bytes_eq word.now text.now }
-{
-    word == text.as_bytes()
+/// The name of the argument for the words behind it.
+const REST: &str = "rest";
+
+/// How the lines of a trace are run.
+#[derive(Clone, Copy, Debug, PartialEq, Eq)]
+pub(crate) enum Mode {
+    /// One after the other, in their order.
+    Serial,
 }
 
-/// The number that 1 to 20 decimal digits spell, where it fits 64 bits.
-#[tactic(auto, unfolding(crate::specs::Grammar::number_of, crate::specs::Grammar::digits_value))]
-fn number_of(word: &[u8]) -> Option<u64>
-    ensures { result ≡ number_of word.now }
-{
-    if word.is_empty() || MOST_DIGITS < word.len() {
-        return None;
-    }
-    let mut value: u128 = 0;
-    for byte in word {
-        if !byte.is_ascii_digit() {
-            return None;
-        }
-        value = 10 * value + u128::from(*byte - b'0');
-    }
-    u64::try_from(value).ok()
+/// Why words name no mode.
+#[derive(Clone, Copy, Debug, PartialEq, Eq)]
+pub(crate) enum WordsFault {
+    /// They are none of the accepted lists.
+    Words,
+    /// There was no memory.
+    NoMemory,
 }
 
-/// The protection of mmap(2) that a word names, of those that are read so far.
-#[tactic(auto, unfolding(crate::specs::Grammar::prot_of))]
-fn prot_of(word: &[u8]) -> Option<Prot>
-    ensures { result ≡ prot_of word.now }
+/// The mode that words name: `serial` alone names one. No word may begin with `-`, so there are no options and no
+/// `--`.
+#[tactic(auto, using(crate::proofs::CommandLine::accepted_taken, crate::proofs::CommandLine::dash_refused, crate::proofs::CommandLine::is_serial_words))]
+pub(crate) fn mode_of(alloc: Global, words: &[String]) -> Result<Mode, WordsFault>
+    ensures serial { result ≡ Ok Mode.Serial → are_accepted words.now ≡ true }
+    ensures words { result ≡ Err WordsFault.Words → are_accepted words.now ≡ false }
 {
-    if is_text(word, "PROT_NONE") {
-        return Some(prot_bits(false, false));
+    if has_dash_word(words) {
+        return Err(WordsFault::Words);
     }
-    if is_text(word, "PROT_READ") {
-        return Some(prot_bits(true, false));
-    }
-    if is_text(word, "PROT_READ|PROT_WRITE") {
-        return Some(prot_bits(true, true));
-    }
-    None
-}
-
-/// Reads and writes as they are allowed here, and nothing is executed.
-fn prot_bits(read: bool, write: bool) -> Prot
-    ensures { result ≡ prot_bits read write }
-{
-    Prot {
-        read,
-        write,
-        exec: false,
-    }
-}
-
-/// Private anonymous memory of `len` bytes, wherever mmap(2) finds room.
-#[tactic(auto, unfolding(crate::specs::Grammar::plain_mapping))]
-fn plain_mapping(len: u64, prot: Prot) -> MmapArgs
-    ensures { result ≡ plain_mapping len prot }
-{
-    MmapArgs {
-        addr: 0,
-        len,
-        prot,
-        flags: MAP_PRIVATE | MAP_ANONYMOUS,
-        fd: -1,
-        offset: 0,
-    }
-}
-
-/// The mapping of a length and a protection, where both were read.
-fn mapping_of(len: Option<u64>, prot: Option<Prot>) -> Option<MmapArgs>
-    ensures { result ≡ mapping_of len prot }
-{
-    match (len, prot) {
-        (Some(len), Some(prot)) => Some(plain_mapping(len, prot)),
-        _ => None,
-    }
-}
-
-/// The words of a line, between single spaces.
-#[tactic(auto, unfolding(crate::specs::Grammar::words_of))]
-fn words_of(alloc: Global, line: &[u8]) -> Result<Vec<&[u8]>, AllocError>
-    ensures { IfOk result (λ words. map (λ word. word.now) words.items ≡ words_of line.now) }
-{
-    line.split(|byte| *byte == b' ').collect(alloc)
-}
-
-/// Whether the words that are the same in each line are these.
-#[tactic(auto, unfolding(crate::specs::Grammar::is_plain))]
-fn is_plain(thread: &[u8], call: &[u8], hint: &[u8], flags: &[u8], fd: &[u8], offset: &[u8]) -> bool
-    ensures { result ≡ is_plain thread.now call.now hint.now flags.now fd.now offset.now }
-{
-    is_text(thread, "0")
-        && (is_text(call, "mmap")
-            && (is_text(hint, "0")
-                && (is_text(flags, "MAP_PRIVATE|MAP_ANONYMOUS")
-                    && (is_text(fd, "-1") && is_text(offset, "0")))))
-}
-
-/// What the words of a line ask for.
-#[tactic(auto, unfolding(crate::specs::Grammar::call_of_words))]
-fn call_of_words(words: &[&[u8]]) -> Option<MmapArgs>
-    ensures { result ≡ call_of_words (map (λ word. word.now) words.now) }
-{
-    let [thread, call, hint, len, prot, flags, fd, offset] = words else {
-        return None;
-    };
-    if is_plain(thread, call, hint, flags, fd, offset) {
-        mapping_of(number_of(len), prot_of(prot))
+    let matches = parse(alloc, words)?;
+    if is_serial(&matches) {
+        Ok(Mode::Serial)
     } else {
-        None
+        Err(WordsFault::Words)
     }
 }
 
-/// What a line asks for.
-#[tactic(auto, unfolding(crate::specs::Grammar::call_of))]
-pub(crate) fn call_of(alloc: Global, line: &[u8]) -> Result<Option<MmapArgs>, NoMemory>
-    ensures { IfOk result (λ call. call ≡ call_of line.now) }
+/// Whether a word begins with `-`.
+fn has_dash_word(words: &[String]) -> bool
+    ensures { result ≡ list_any begins_with_dash words.now }
 {
-    let words = words_of(alloc, line)?;
-    Ok(call_of_words(words.as_slice()))
+    words.iter().any(|word| word.as_str().starts_with('-'))
+}
+
+/// What `clap` finds in the words.
+fn parse<'a>(alloc: Global, words: &'a [String]) -> Result<ArgMatches<'a>, WordsFault>
+    ensures ok { IfOk result (λ matches. rows_of (found_of matches) ≡ matches_of words_command (map string_bytes words.now)) }
+    ensures err { IfErr result (λ fault. takes words_command (map string_bytes words.now) ≡ true → fault ≡ WordsFault.NoMemory) }
+{
+    let Ok(command) = command(alloc) else {
+        return Err(WordsFault::NoMemory);
+    };
+    match command.try_get_matches_from(words) {
+        Ok(matches) => Ok(matches),
+        Err(error) if error.kind() == ErrorKind::OutOfMemory => Err(WordsFault::NoMemory),
+        Err(_) => Err(WordsFault::Words),
+    }
+}
+
+/// Whether the values are those of the accepted list `serial`.
+#[tactic(auto, unfolding(crate::specs::CommandLine::is_serial))]
+fn is_serial(matches: &ArgMatches<'_>) -> bool
+    ensures { result ≡ is_serial (rows_of (found_of matches.now)) }
+{
+    let rest = matches.get_strs(REST).unwrap_or(&[]);
+    rest.is_empty() && matches.get_str(MODE) == Some("serial")
+}
+
+/// The command line: a mode, and any number of words behind it.
+fn command<'a>(alloc: Global) -> Result<Command<'a>, AllocError>
+    ensures { IfOk result (λ command. app_of command ≡ words_command) }
+{
+    let mode = Arg::new(alloc, MODE).required(true);
+    let rest = Arg::new(alloc, REST).num_args(0..);
+    let command = Command::new(alloc, "replay")
+        .no_binary_name(true)
+        .disable_help_flag(true)
+        .disable_version_flag(true)
+        .arg(mode)?
+        .arg(rest)?;
+    Ok(command)
 }

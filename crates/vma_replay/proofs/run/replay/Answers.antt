@@ -4,5 +4,4 @@ use Rattle.vma_replay.proofs.run.replay.Goals as goal
 pub returns-in-Ok-clause-text : goal.returns-in-Ok-clause-text
 returns-in-Ok-clause-text g c done =
     let giving = rw done at c.write_output.ensures in
-    let given = rw c.deref.ensures.value at giving in
-    gives_output (g.S.Source.left c.args.source.now) _ _ c.in-Ok.lines.items c.in-Ok.ensures.3 c.in-Ok.ensures.2 given.1
+    gives_output (g.S.Source.left c.args.source.now) _ _ c.in-Ok.trace c.in-Ok.ensures.reading.3 giving.1

@@ -1,0 +1,9 @@
+pub mod Bits
+pub mod Joins
+pub mod Names
+pub mod Pairs
+pub mod Prints
+pub mod Refusals
+pub mod Sound
+pub mod Texts
+pub mod Words

@@ -1,0 +1,5 @@
+pub mod Kinds
+pub mod Laws
+pub mod Printing
+pub mod Reading
+pub mod Tables

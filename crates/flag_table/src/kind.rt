@@ -1,0 +1,118 @@
+//! The rows of the three tables.
+
+/// Calls a macro on the rows of a table, each a name and its bit, in the order in which they are printed.
+macro_rules! rows {
+    (Prot, $with:ident, $given:tt) => {
+        $with!($given, "PROT_READ" = 1, "PROT_WRITE" = 2, "PROT_EXEC" = 4)
+    };
+    (Map, $with:ident, $given:tt) => {
+        $with!(
+            $given,
+            "MAP_SHARED" = 0x1,
+            "MAP_PRIVATE" = 0x2,
+            "MAP_FIXED" = 0x10,
+            "MAP_ANONYMOUS" = 0x20,
+            "MAP_DENYWRITE" = 0x800,
+            "MAP_EXECUTABLE" = 0x1000,
+            "MAP_NORESERVE" = 0x4000,
+            "MAP_POPULATE" = 0x8000,
+            "MAP_STACK" = 0x2_0000,
+            "MAP_FIXED_NOREPLACE" = 0x10_0000
+        )
+    };
+    (Mremap, $with:ident, $given:tt) => {
+        $with!($given, "MREMAP_MAYMOVE" = 1, "MREMAP_FIXED" = 2, "MREMAP_DONTUNMAP" = 4)
+    };
+}
+
+/// The bits of the rows.
+macro_rules! bits {
+    ($given:tt, $($name:literal = $bit:literal),*) => {
+        [$($bit),*]
+    };
+}
+
+/// The bit of the row with this name.
+macro_rules! bit_named {
+    ($word:ident, $($name:literal = $bit:literal),*) => {
+        match $word {
+            $($name => Some($bit),)*
+            _ => None,
+        }
+    };
+}
+
+/// The name of the row with this bit, or the empty text.
+macro_rules! name_with {
+    ($wanted:ident, $($name:literal = $bit:literal),*) => {
+        match $wanted {
+            $($bit => $name,)*
+            _ => "",
+        }
+    };
+}
+
+/// Which table it is.
+#[derive(Clone, Copy, Debug, PartialEq, Eq)]
+pub enum Kind {
+    Prot,
+    Map,
+    Mremap,
+}
+
+/// The bits of the accesses, in the order of their table.
+pub const PROT_BITS: [u32; 3] = rows!(Prot, bits, ());
+
+/// The bits of the flags of mmap(2), in the order of their table.
+pub const MAP_BITS: [u32; 10] = rows!(Map, bits, ());
+
+/// The bits of the flags of mremap(2), in the order of their table.
+pub const MREMAP_BITS: [u32; 3] = rows!(Mremap, bits, ());
+
+#[tactic(auto, unfolding(crate::specs::Tables::prot_flags, crate::specs::Tables::map_flags, crate::specs::Tables::mremap_flags, crate::specs::Tables::bit_with_name, crate::specs::Tables::name_with_bit))]
+impl Kind {
+    ghost use Rattle.std.specs.Prelude.{◌≡◌, option_map};
+    ghost use Rattle.flag_table.specs.Tables.{bit_with_name, name_with_bit};
+    ghost use Rattle.flag_table.specs.Kinds.{table_of};
+    ghost use Rattle.flag_table.specs.Reading.{is_zero};
+
+    /// The bit of the flag with this name.
+    pub fn bit_named(self, word: &str) -> Option<u32>
+        ensures { result ≡ bit_with_name (table_of self).rows word.now }
+    {
+        match self {
+            Kind::Prot => rows!(Prot, bit_named, word),
+            Kind::Map => rows!(Map, bit_named, word),
+            Kind::Mremap => rows!(Mremap, bit_named, word),
+        }
+    }
+
+    /// The name of the flag with this bit, or the empty text where no flag has it.
+    pub fn name_with(self, bit: u32) -> &'static str
+        ensures { result.now ≡ name_with_bit (table_of self).rows bit }
+    {
+        match self {
+            Kind::Prot => rows!(Prot, name_with, bit),
+            Kind::Map => rows!(Map, name_with, bit),
+            Kind::Mremap => rows!(Mremap, name_with, bit),
+        }
+    }
+
+    /// Whether a text is `0`, or the name that stands for no flag.
+    #[tactic(auto, unfolding(crate::specs::Reading::is_zero))]
+    pub fn is_zero(self, text: &str) -> bool
+        ensures { result ≡ is_zero (table_of self) text.now }
+    {
+        text == "0" || text == self.zero_name()
+    }
+
+    /// The name that stands for no flag.
+    pub fn zero_name(self) -> &'static str
+        ensures { result.now ≡ (table_of self).zero }
+    {
+        match self {
+            Kind::Prot => "PROT_NONE",
+            Kind::Map | Kind::Mremap => "0",
+        }
+    }
+}

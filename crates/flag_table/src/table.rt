@@ -1,0 +1,252 @@
+ghost use Rattle.std.specs.Prelude.{◌≡◌, IfOk, OnOk, map, string_bytes};
+ghost use Rattle.flag_table.specs.Tables.{prot_flags, map_flags, mremap_flags, words_of};
+ghost use Rattle.flag_table.specs.Kinds.{table_of};
+ghost use Rattle.flag_table.specs.Reading.{read_words, Gives};
+ghost use Rattle.flag_table.specs.Printing.{has_bit, printed, with_name};
+
+use crate::fault::NameFault;
+use crate::kind::{Kind, MAP_BITS, MREMAP_BITS, PROT_BITS};
+use mm_types::{NoMemory, Text};
+use std::alloc::{AllocError, Global};
+use std::marker::Model;
+
+/// A table of N flags, each a name and a bit. Contracts see its rows in their order, and the name that
+/// stands for none of them.
+#[derive(Debug, Drop)]
+pub struct FlagTable<const N: usize> {
+    /// Which table it is. The names go by it.
+    kind: Kind,
+    /// The bits, in the order of the rows.
+    bits: [u32; N],
+}
+
+impl<const N: usize> Model for FlagTable<N> {
+    ghost use Rattle.std.specs.Prelude.{◌≡◌, map};
+    ghost use Rattle.flag_table.specs.Tables.{Table};
+    ghost use Rattle.flag_table.specs.Kinds.{table_of};
+
+    ghost Value = { Table };
+
+    ghost view = { λ t. table_of t.kind };
+
+    ghost invariant = { λ t. t.bits ≡ map (λ row. row.bit) (table_of t.kind).rows };
+}
+
+/// The accesses that mmap(2) and mprotect(2) are asked for. `PROT_NONE` stands for none of them.
+#[tactic(auto, unfolding(crate::specs::Tables::prot_flags))]
+pub fn prot_table() -> FlagTable<3>
+    ensures { result ≡ prot_flags }
+{
+    FlagTable {
+        kind: Kind::Prot,
+        bits: PROT_BITS,
+    }
+}
+
+/// The flags of mmap(2).
+#[tactic(auto, unfolding(crate::specs::Tables::map_flags))]
+pub fn map_table() -> FlagTable<10>
+    ensures { result ≡ map_flags }
+{
+    FlagTable {
+        kind: Kind::Map,
+        bits: MAP_BITS,
+    }
+}
+
+/// The flags of mremap(2).
+#[tactic(auto, unfolding(crate::specs::Tables::mremap_flags))]
+pub fn mremap_table() -> FlagTable<3>
+    ensures { result ≡ mremap_flags }
+{
+    FlagTable {
+        kind: Kind::Mremap,
+        bits: MREMAP_BITS,
+    }
+}
+
+impl<const N: usize> FlagTable<N> {
+    ghost use Rattle.std.specs.Prelude.{◌≡◌, IfOk, Ok};
+    ghost use Rattle.flag_table.specs.Tables.{HasRows};
+    ghost use Rattle.flag_table.specs.Reading.{reading, Gives};
+    ghost use Rattle.flag_table.specs.Printing.{printed};
+
+    /// Reads a text of flags: `0`, the name that stands for no flag, or names joined by `|`, whose bits
+    /// it gives together. The first bad name from the left is refused and kept, which alone takes memory.
+    #[tactic(auto, unfolding(crate::specs::Reading::reading))]
+    pub fn read(&self, alloc: Global, text: &str) -> Result<u32, NameFault>
+        ensures gives { Gives result (reading self.now text.now) }
+        ensures rows { IfOk result (HasRows self.now) }
+    {
+        if self.kind.is_zero(text) {
+            return Ok(0);
+        }
+        read_words(alloc, self.kind, text)
+    }
+
+    /// Prints the names of the flags whose bits are there, in the order of the table and joined by `|`,
+    /// or the name that stands for no flag.
+    pub fn print(&self, alloc: Global, bits: u32) -> Result<Text, NoMemory>
+        requires { HasRows self.now bits }
+        ensures text { IfOk result (λ text. text ≡ printed self.now bits) }
+        ensures reads_back { IfOk result (λ text. reading self.now text ≡ Ok bits) }
+    {
+        print_bits(alloc, self.kind, &self.bits, bits)
+    }
+}
+
+/// Reads the names between the bars.
+fn read_words(alloc: Global, kind: Kind, text: &str) -> Result<u32, NameFault>
+    ensures { Gives result (read_words (table_of kind).rows (words_of text.now)) }
+{
+    let mut bits = 0;
+    for word in text.split('|') {
+        match kind.bit_named(word) {
+            None => return Err(NameFault::Unknown(copy_of(alloc, word)?)),
+            // Each row has a bit of its own, so a bit that is there says that its name came before.
+            Some(bit) if has_bit(bits, bit) => return Err(NameFault::Twice(copy_of(alloc, word)?)),
+            Some(bit) => bits |= bit,
+        }
+    }
+    Ok(bits)
+}
+
+/// A text of its own with these bytes.
+fn copy_of(alloc: Global, word: &str) -> Result<Text, AllocError>
+    ensures { IfOk result (λ text. text ≡ word.now) }
+{
+    Ok(Text::of(String::from_str(alloc, word)?))
+}
+
+/// Prints the names of the bits that are there, where `rows` has the bits of the table.
+fn print_bits(alloc: Global, kind: Kind, rows: &[u32], bits: u32) -> Result<Text, NoMemory>
+    requires { rows.now ≡ map (λ row. row.bit) (table_of kind).rows }
+    ensures { IfOk result (λ text. text ≡ printed (table_of kind) bits) }
+{
+    if bits == 0 {
+        return Ok(copy_of(alloc, kind.zero_name())?);
+    }
+    let mut text = String::new(alloc);
+    for bit in rows {
+        if has_bit(bits, *bit) {
+            push_name(&mut text, kind.name_with(*bit))?;
+        }
+    }
+    Ok(Text::of(text))
+}
+
+/// Adds one more name, behind a bar unless it is the first.
+#[tactic(auto, unfolding(crate::specs::Printing::with_name))]
+fn push_name(text: &mut String, name: &str) -> Result<(), AllocError>
+    ensures { OnOk result (string_bytes text.new ≡ with_name (string_bytes text.old) name.now) }
+{
+    if !text.is_empty() {
+        text.push('|')?;
+    }
+    text.push_str(name)?;
+    Ok(())
+}
+
+/// Whether a bit is one of these.
+fn has_bit(bits: u32, bit: u32) -> bool
+    ensures { result ≡ has_bit bits bit }
+{
+    bits & bit != 0
+}
+
+#[cfg(test)]
+mod tests {
+    use super::*;
+    use std::test::Fail;
+
+    fn unknown(answer: &Result<u32, NameFault>) -> Option<&str> {
+        match answer {
+            Err(NameFault::Unknown(name)) => Some(name.as_str()),
+            _ => None,
+        }
+    }
+
+    fn twice(answer: &Result<u32, NameFault>) -> Option<&str> {
+        match answer {
+            Err(NameFault::Twice(name)) => Some(name.as_str()),
+            _ => None,
+        }
+    }
+
+    #[test]
+    fn names_are_read(rt: HostRuntime) -> Result<(), Fail> {
+        let prot = prot_table();
+        assert_eq!(rt; prot.read(rt.alloc(), "PROT_READ|PROT_WRITE")?, 3);
+        assert_eq!(rt; prot.read(rt.alloc(), "PROT_EXEC|PROT_READ")?, 5);
+        assert_eq!(rt; prot.read(rt.alloc(), "0")?, 0);
+        assert_eq!(rt; prot.read(rt.alloc(), "PROT_NONE")?, 0);
+        assert_eq!(rt;
+            map_table().read(rt.alloc(), "MAP_PRIVATE|MAP_ANONYMOUS")?,
+            0x22
+        );
+        assert_eq!(rt;
+            map_table().read(rt.alloc(), "MAP_FIXED_NOREPLACE")?,
+            0x10_0000
+        );
+        assert_eq!(rt;
+            mremap_table().read(rt.alloc(), "MREMAP_FIXED|MREMAP_MAYMOVE")?,
+            3
+        );
+        Ok(())
+    }
+
+    #[test]
+    fn unknown_names_are_kept(rt: HostRuntime) {
+        let prot = prot_table();
+        assert_eq!(rt; unknown(&prot.read(rt.alloc(), "PROT_READ|")), Some(""));
+        assert_eq!(rt; unknown(&prot.read(rt.alloc(), "")), Some(""));
+        assert_eq!(rt; unknown(&prot.read(rt.alloc(), "0|PROT_READ")), Some("0"));
+        assert_eq!(rt;
+            unknown(&prot.read(rt.alloc(), "PROT_READ|PROT_NONE")),
+            Some("PROT_NONE")
+        );
+        assert_eq!(rt;
+            unknown(&prot.read(rt.alloc(), "PROT_READ |PROT_WRITE")),
+            Some("PROT_READ ")
+        );
+        assert_eq!(rt;
+            unknown(&map_table().read(rt.alloc(), "PROT_NONE")),
+            Some("PROT_NONE")
+        );
+    }
+
+    #[test]
+    fn the_first_bad_name_decides(rt: HostRuntime) {
+        let prot = prot_table();
+        assert_eq!(rt;
+            twice(&prot.read(rt.alloc(), "PROT_READ|PROT_READ")),
+            Some("PROT_READ")
+        );
+        assert_eq!(rt;
+            twice(&prot.read(rt.alloc(), "PROT_EXEC|PROT_EXEC|X")),
+            Some("PROT_EXEC")
+        );
+        assert_eq!(rt;
+            unknown(&prot.read(rt.alloc(), "PROT_EXEC|X|PROT_EXEC")),
+            Some("X")
+        );
+    }
+
+    #[test]
+    #[tactic(auto, unfolding(crate::specs::Tables::prot_flags, crate::specs::Tables::map_flags))]
+    fn flags_are_printed(rt: HostRuntime) -> Result<(), Fail> {
+        let prot = prot_table();
+        assert_eq!(rt; prot.print(rt.alloc(), 0)?.as_str(), "PROT_NONE");
+        assert_eq!(rt;
+            prot.print(rt.alloc(), 7)?.as_str(),
+            "PROT_READ|PROT_WRITE|PROT_EXEC"
+        );
+        let map = map_table();
+        assert_eq!(rt; map.print(rt.alloc(), 0)?.as_str(), "0");
+        assert_eq!(rt;
+            map.print(rt.alloc(), 0x22)?.as_str(),
+            "MAP_PRIVATE|MAP_ANONYMOUS"
+        );
+        Ok(())
+    }
+}

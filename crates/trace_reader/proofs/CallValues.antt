@@ -1,0 +1,154 @@
+-- The values of the calls and operations of a line fit their types.
+use Rattle.std.proofs.Common.{ℕ, ◌/◌, ◌^◌, ◌<◌, Bool, List, [], ◌∷◌, codes, bytes_eq, ℤ, Option, Some, None, Result, Ok, Err, IfOk, IfSome, if◌then◌else◌, arith}
+use Rattle.std.proofs.lemmas.Bool.{cond_both}
+use Rattle.mm_types.specs.declared.area.Access.{Access}
+use Rattle.mm_types.specs.declared.area.Prot.{Prot}
+use Rattle.mm_types.specs.declared.call.Call.{Call}
+use Rattle.mm_types.specs.declared.call.Call.TheVariants.{Mmap, Munmap, Mprotect, Mremap}
+use Rattle.mm_types.specs.declared.config.TheConstants.{PAGE_SIZE}
+use Rattle.mm_types.specs.declared.flags.TheConstants.{MREMAP_FIXED}
+use Rattle.mm_types.specs.declared.history.Op.TheVariants as ops
+use Rattle.flag_table.specs.Tables.{map_flags, mremap_flags}
+use Rattle.trace_reader.specs.declared.fault.Cause.{Cause}
+use Rattle.trace_reader.specs.declared.fault.Cause.TheVariants.{Word, Arity}
+use Rattle.trace_reader.specs.Causes.{◌>>=◌}
+use Rattle.trace_reader.specs.Calls.{mmap, mmap_of, munmap_of, mprotect, mprotect_of, moved, number_if, mremap, mremap_of, call_of_words, fault_of, maps_of, op_of}
+use Rattle.trace_reader.specs.Fields.{number, mapped_descriptor, access, flags, has_flag, prot}
+use Rattle.trace_reader.specs.Values.{IsCallValue, IsOpValue}
+use Rattle.trace_reader.proofs.FieldValues.{IsWord, IsDescriptor, number-value, mapped_descriptor-value, map_flags-value, mremap_flags-value}
+
+abbrev IsFlags : ℕ → Type 0
+IsFlags bits = bits < 2 ^ 32
+
+-- each call by the results of its fields
+mmap_fits : (addr len : Result ℕ Cause) (allowed : Result Prot Cause) (bits : Result ℕ Cause) (fd : Result ℤ Cause)
+    (offset : Result ℕ Cause)
+    → IfOk addr IsWord → IfOk len IsWord → IfOk bits IsFlags → IfOk fd IsDescriptor → IfOk offset IsWord
+    → IfOk (addr >>= λ a. len >>= λ l. allowed >>= λ p. bits >>= λ f. fd >>= λ d. offset >>= λ o.
+    Ok (Mmap (record { addr = a; len = l; prot = p; flags = f; fd = d; offset = o }))) IsCallValue
+mmap_fits (Ok a) (Ok l) (Ok p) (Ok f) (Ok d) (Ok o) ha hl hf hd ho =
+    record { addr = ha; len = hl; flags = hf; low = hd.0; high = hd.1; offset = ho }
+mmap_fits (Err c) len allowed bits fd offset ha hl hf hd ho = tt
+mmap_fits (Ok a) (Err c) allowed bits fd offset ha hl hf hd ho = tt
+mmap_fits (Ok a) (Ok l) (Err c) bits fd offset ha hl hf hd ho = tt
+mmap_fits (Ok a) (Ok l) (Ok p) (Err c) fd offset ha hl hf hd ho = tt
+mmap_fits (Ok a) (Ok l) (Ok p) (Ok f) (Err c) offset ha hl hf hd ho = tt
+mmap_fits (Ok a) (Ok l) (Ok p) (Ok f) (Ok d) (Err c) ha hl hf hd ho = tt
+
+munmap_fits : (addr len : Result ℕ Cause) → IfOk addr IsWord → IfOk len IsWord
+    → IfOk (addr >>= λ a. len >>= λ l. Ok (Munmap a l)) IsCallValue
+munmap_fits (Ok a) (Ok l) ha hl = (ha, hl)
+munmap_fits (Err c) len ha hl = tt
+munmap_fits (Ok a) (Err c) ha hl = tt
+
+mprotect_fits : (addr len : Result ℕ Cause) (allowed : Result Prot Cause) → IfOk addr IsWord → IfOk len IsWord
+    → IfOk (addr >>= λ a. len >>= λ l. allowed >>= λ p. Ok (Mprotect a l p)) IsCallValue
+mprotect_fits (Ok a) (Ok l) (Ok p) ha hl = (ha, hl)
+mprotect_fits (Err c) len allowed ha hl = tt
+mprotect_fits (Ok a) (Err c) allowed ha hl = tt
+mprotect_fits (Ok a) (Ok l) (Err c) ha hl = tt
+
+moved-value : (old old_len new_len bits : ℕ) (new : Option ℕ) → IsWord old → IsWord old_len → IsWord new_len
+    → IsFlags bits → IfSome new IsWord
+    → IfOk (moved old old_len new_len bits new) IsCallValue
+unfolding moved
+moved-value old old_len new_len bits None ho hl hn hf hw =
+    cond_both (has_flag bits MREMAP_FIXED) (Err Arity) (Ok (Mremap old old_len new_len bits 0))
+    (λ r. IfOk r IsCallValue) (λ _. tt) (λ _. (ho, hl, hn, hf, omega arith))
+moved-value old old_len new_len bits (Some new) ho hl hn hf hw =
+    cond_both (has_flag bits MREMAP_FIXED) (Ok (Mremap old old_len new_len bits new)) (Err Arity)
+    (λ r. IfOk r IsCallValue) (λ _. (ho, hl, hn, hf, hw)) (λ _. tt)
+
+mremap_fits : (old old_len new_len bits : Result ℕ Cause) (new : Result (Option ℕ) Cause) → IfOk old IsWord
+    → IfOk old_len IsWord → IfOk new_len IsWord → IfOk bits IsFlags
+    → IfOk new (λ o. IfSome o IsWord)
+    → IfOk (old >>= λ o. old_len >>= λ l. new_len >>= λ n. bits >>= λ f. new >>= λ a. moved o l n f a) IsCallValue
+mremap_fits (Ok o) (Ok l) (Ok n) (Ok f) (Ok a) ho hl hn hf ha = moved-value o l n f a ho hl hn hf ha
+mremap_fits (Err c) old_len new_len bits new ho hl hn hf ha = tt
+mremap_fits (Ok o) (Err c) new_len bits new ho hl hn hf ha = tt
+mremap_fits (Ok o) (Ok l) (Err c) bits new ho hl hn hf ha = tt
+mremap_fits (Ok o) (Ok l) (Ok n) (Err c) new ho hl hn hf ha = tt
+mremap_fits (Ok o) (Ok l) (Ok n) (Ok f) (Err c) ho hl hn hf ha = tt
+
+fault_fits : (addr : Result ℕ Cause) (wanted : Result Access Cause) → IfOk addr IsWord
+    → IfOk (addr >>= λ a. wanted >>= λ w. Ok (ops.Fault (record { 0 = a / PAGE_SIZE }) w)) IsOpValue
+fault_fits (Ok a) (Ok w) ha = omega (arith, ha)
+fault_fits (Err c) wanted ha = tt
+fault_fits (Ok a) (Err c) ha = tt
+
+-- each form by its words
+mmap_of-value : (words : List (List ℕ)) → IfOk (mmap_of words) IsCallValue
+unfolding mmap_of mmap
+mmap_of-value (addr ∷ len ∷ allowed ∷ kind ∷ fd ∷ offset ∷ []) =
+    mmap_fits (number addr) (number len) (prot allowed) (flags map_flags kind) (mapped_descriptor fd) (number offset)
+    (number-value addr) (number-value len) (map_flags-value kind) (mapped_descriptor-value fd) (number-value offset)
+mmap_of-value _ = tt
+
+munmap_of-value : (words : List (List ℕ)) → IfOk (munmap_of words) IsCallValue
+unfolding munmap_of
+munmap_of-value (addr ∷ len ∷ []) = munmap_fits (number addr) (number len) (number-value addr) (number-value len)
+munmap_of-value _ = tt
+
+mprotect_of-value : (words : List (List ℕ)) → IfOk (mprotect_of words) IsCallValue
+unfolding mprotect_of mprotect
+mprotect_of-value (addr ∷ len ∷ allowed ∷ []) = mprotect_fits (number addr) (number len) (prot allowed)
+    (number-value addr) (number-value len)
+mprotect_of-value _ = tt
+
+number_if-value : (word : Option (List ℕ)) → IfOk (number_if word) (λ o. IfSome o IsWord)
+unfolding number_if
+number_if-value None = tt
+number_if-value (Some word) = by_number (number word) (number-value word)
+  where
+    by_number : (r : Result ℕ Cause) → IfOk r IsWord → IfOk (r >>= λ n. Ok (Some n)) (λ o. IfSome o IsWord)
+    by_number (Ok n) h = h
+    by_number (Err c) h = tt
+
+mremap-value : (old old_len new_len how : List ℕ) (new : Option (List ℕ))
+    → IfOk (mremap old old_len new_len how new) IsCallValue
+unfolding mremap
+mremap-value old old_len new_len how new = mremap_fits (number old) (number old_len) (number new_len)
+    (flags mremap_flags how) (number_if new)
+    (number-value old) (number-value old_len) (number-value new_len) (mremap_flags-value how) (number_if-value new)
+
+mremap_of-value : (words : List (List ℕ)) → IfOk (mremap_of words) IsCallValue
+unfolding mremap_of
+mremap_of-value (old ∷ old_len ∷ new_len ∷ how ∷ []) = mremap-value old old_len new_len how None
+mremap_of-value (old ∷ old_len ∷ new_len ∷ how ∷ new ∷ []) = mremap-value old old_len new_len how (Some new)
+mremap_of-value _ = tt
+
+-- one of two readings
+either : {A : Type 0} (P : A → Type 0) (test : Bool) (x y : Result A Cause) → IfOk x P → IfOk y P
+    → IfOk (if test then x else y) P
+either P test x y hx hy = cond_both test x y (λ r. IfOk r P) (λ _. hx) (λ _. hy)
+
+call_of_words-value : (words : List (List ℕ)) → IfOk (call_of_words words) IsCallValue
+unfolding call_of_words
+call_of_words-value [] = tt
+call_of_words-value (name ∷ words) =
+    either IsCallValue (bytes_eq name (codes "mmap")) (mmap_of words) _ (mmap_of-value words)
+    (either IsCallValue (bytes_eq name (codes "munmap")) (munmap_of words) _ (munmap_of-value words)
+    (either IsCallValue (bytes_eq name (codes "mprotect")) (mprotect_of words) _ (mprotect_of-value words)
+    (either IsCallValue (bytes_eq name (codes "mremap")) (mremap_of words) (Err Word) (mremap_of-value words) tt)))
+
+fault_of-value : (words : List (List ℕ)) → IfOk (fault_of words) IsOpValue
+unfolding fault_of
+fault_of-value (addr ∷ wanted ∷ []) = fault_fits (number addr) (access wanted) (number-value addr)
+fault_of-value _ = tt
+
+maps_of-value : (words : List (List ℕ)) → IfOk (maps_of words) IsOpValue
+unfolding maps_of
+maps_of-value [] = tt
+maps_of-value _ = tt
+
+call_op : (r : Result Call Cause) → IfOk r IsCallValue → IfOk (r >>= λ call. Ok (ops.Call call)) IsOpValue
+call_op (Ok call) h = h
+call_op (Err c) h = tt
+
+pub op_of-value : (words : List (List ℕ)) → IfOk (op_of words) IsOpValue
+unfolding op_of
+op_of-value [] = tt
+op_of-value (name ∷ words) =
+    either IsOpValue (bytes_eq name (codes "fault")) (fault_of words) _ (fault_of-value words)
+    (either IsOpValue (bytes_eq name (codes "maps")) (maps_of words) _ (maps_of-value words)
+    (call_op (call_of_words (name ∷ words)) (call_of_words-value (name ∷ words))))

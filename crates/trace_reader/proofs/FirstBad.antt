@@ -1,0 +1,88 @@
+-- The line that is named is the first bad one.
+use Rattle.std.proofs.Common.{◌≡◌, ◌⊎◌, ℕ, nat_eq, List, [], ◌∷◌, ◌++◌, length, Result, Ok, Err, inl, inr, refl, ap, ◌∙◌}
+use Rattle.std.proofs.lemmas.Bool.{cond_both, eqb-true}
+use Rattle.std.proofs.lemmas.List.{nil_from_length}
+use Rattle.trace_reader.specs.declared.fault.Cause.{Cause}
+use Rattle.trace_reader.specs.declared.fault.Cause.TheVariants.{Header}
+use Rattle.trace_reader.specs.declared.fault.TraceFault.{TraceFault}
+use Rattle.trace_reader.specs.Grammar.{fault, nothing, at_line, after_lines, lines_read, whole, trace_of}
+use Rattle.trace_reader.specs.Laws.{IsFirstBad}
+use Rattle.trace_reader.specs.Lines.{SoFar, after_line}
+use Rattle.trace_reader.specs.RawLines.{RawLine, raw_lines}
+
+-- `IsFirstBad` of lines that follow others
+record IsFirstAmong (before : SoFar) (lines : List RawLine) (first : TraceFault) : Type 0 where
+  above : List RawLine
+  line : RawLine
+  below : List RawLine
+  read : SoFar
+  parts : lines ≡ above ++ line ∷ below
+  good : after_lines before above ≡ Ok read
+  bad : after_line read line ≡ Err first.cause
+  number : line.number ≡ first.line
+
+first_among : (before : SoFar) (line : RawLine) (lines : List RawLine) (first : TraceFault) (r : Result SoFar Cause)
+    → after_line before line ≡ r
+    → at_line line.number r (λ next. after_lines next lines) ≡ Err first
+    → ((next : SoFar) → after_lines next lines ≡ Err first → IsFirstAmong next lines first)
+    → IsFirstAmong before (line ∷ lines) first
+first_among before line lines first (Ok next) is e later =
+    let rest = later next e in
+    record {
+      above = line ∷ rest.above;
+      line = rest.line;
+      below = rest.below;
+      read = rest.read;
+      parts = ap (λ (ls : List RawLine). line ∷ ls) rest.parts;
+      good = ap (λ (r : Result SoFar Cause). at_line line.number r (λ next. after_lines next rest.above)) is
+          ∙ rest.good;
+      bad = rest.bad;
+      number = rest.number;
+    }
+first_among before line lines first (Err cause) is e later =
+    let same : fault line.number cause ≡ first = cc in
+    record {
+      above = [];
+      line = line;
+      below = lines;
+      read = before;
+      parts = refl;
+      good = refl;
+      bad = is ∙ ap (λ (f : TraceFault). Err f.cause) same;
+      number = ap (λ (f : TraceFault). f.line) same;
+    }
+
+after_lines-Err : (before : SoFar) (lines : List RawLine) (first : TraceFault) → after_lines before lines ≡ Err first
+    → IsFirstAmong before lines first
+after_lines-Err before [] first e = absurd cc
+after_lines-Err before (line ∷ lines) first e =
+    first_among before line lines first (after_line before line) refl e
+    (λ next bad. after_lines-Err next lines first bad)
+
+first_bad : (bytes : List ℕ) (first : TraceFault) → IsFirstAmong nothing (raw_lines bytes) first
+    → IsFirstBad bytes first
+first_bad bytes first h = record {
+  above = h.above;
+  line = h.line;
+  below = h.below;
+  read = h.read;
+  parts =
+      h.parts;
+  good = h.good;
+  bad = h.bad;
+  number = h.number;
+}
+
+whole-Err : (bytes : List ℕ) (r : Result SoFar TraceFault) (first : TraceFault) → lines_read bytes ≡ r
+    → whole r ≡ Err first → lines_read bytes ≡ Err first
+whole-Err bytes (Ok s) first is e = absurd cc
+whole-Err bytes (Err other) first is e = is ∙ cc
+
+pub trace_of-Err : (bytes : List ℕ) (first : TraceFault) → trace_of bytes ≡ Err first
+    → ((bytes ≡ []) × (first ≡ fault 1 Header)) ⊎ IsFirstBad bytes first
+unfolding trace_of lines_read
+trace_of-Err bytes first = cond_both (nat_eq (length bytes) 0) (Err (fault 1 Header)) (whole (lines_read bytes))
+    (λ r. r ≡ Err first → ((bytes ≡ []) × (first ≡ fault 1 Header)) ⊎ IsFirstBad bytes first)
+    (λ none e. inl (nil_from_length bytes (eqb-true (length bytes) 0 none), cc))
+    (λ _ e. inr (first_bad bytes first (after_lines-Err nothing (raw_lines bytes) first
+    (whole-Err bytes (lines_read bytes) first refl e))))

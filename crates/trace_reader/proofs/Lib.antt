@@ -1,0 +1,12 @@
+pub mod CallValues
+pub mod Digits
+pub mod FieldValues
+pub mod Paths
+pub mod FirstBad
+pub mod Fronts
+pub mod LineTests
+pub mod RawLaws
+pub mod RawPieces
+pub mod RawReading
+pub mod TraceValues
+pub mod WordParts

@@ -1,0 +1,5 @@
+use Rattle.trace_reader.proofs.Fronts.{trace_of-front}
+use Rattle.trace_reader.proofs.laws.front_is_enough.Goals as goal
+
+pub returns : goal.returns
+returns c = trace_of-front

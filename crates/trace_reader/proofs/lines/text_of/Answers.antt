@@ -1,0 +1,14 @@
+use Rattle.std.proofs.Common.{◌∙◌, sym, ap, Ok}
+use Rattle.std.proofs.lemmas.Bool.{false_from_ne_true}
+use Rattle.std.proofs.lemmas.Str.{is_utf8-from_IsUtf8, IsUtf8-from_is_utf8}
+use Rattle.trace_reader.specs.Reading.{line_view}
+use Rattle.trace_reader.proofs.LineTests.{text_of-good, text_of-utf8}
+use Rattle.trace_reader.proofs.lines.text_of.Goals as goal
+
+pub returns-in-Ok : goal.returns-in-Ok
+returns-in-Ok c = text_of-good (line_view c.args.line.now) (sym c.if-is_too_long.ensures) c.if-not-line.false
+    (is_utf8-from_IsUtf8 _ c.in-Ok.ensures.cases.1) ∙ ap Ok (sym c.in-Ok.ensures.cases.0)
+
+pub returns-in-Err : goal.returns-in-Err
+returns-in-Err c = text_of-utf8 (line_view c.args.line.now) (sym c.if-is_too_long.ensures) c.if-not-line.false
+    (false_from_ne_true _ (λ utf8. c.in-Err.ensures.cases.0 (IsUtf8-from_is_utf8 _ utf8)))

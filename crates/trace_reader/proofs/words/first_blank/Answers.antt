@@ -1,0 +1,14 @@
+use Rattle.std.proofs.Common.{rules, tests}
+use Rattle.std.proofs.lemmas.Iterator.{YieldsList-from_slice}
+use Rattle.std.proofs.lemmas.Iterator.Search.{position_from_yields_List}
+use Rattle.trace_reader.specs.Words.{is_blank}
+use Rattle.trace_reader.proofs.WordParts.{place_is}
+use Rattle.trace_reader.proofs.words.first_blank.Goals as goal
+
+pub returns : goal.returns
+returns c =
+    let text = c.args.text.now in
+    place_is is_blank text c.position.result c.unwrap_or.result
+    (position_from_yields_List is_blank _ _ c.position.result c.position.ensures.ran (YieldsList-from_slice text cc)
+    (λ x b q k. search (rules, tests)))
+    c.unwrap_or.ensures

@@ -1,0 +1,48 @@
+-- The causes for which a line is bad, and how the first of them is found.
+use Rattle.std.specs.Prelude.{ℕ, Bool, List, [], ◌∷◌, codes, Option, Some, None, Result, Ok, Err, if◌then◌else◌}
+use Rattle.trace_reader.specs.declared.fault.Cause.{Cause}
+use Rattle.trace_reader.specs.declared.fault.Cause.TheVariants.{Header, TooLong, Word, Number, Flag, Arity, Thread, TooMany, FileTwice, Utf8, NoEnd}
+
+-- the number of a cause
+abbrev pub cause_number : Cause → ℕ
+cause_number Header = 1
+cause_number TooLong = 2
+cause_number Word = 3
+cause_number Number = 4
+cause_number Flag = 5
+cause_number Arity = 6
+cause_number Thread = 7
+cause_number TooMany = 8
+cause_number FileTwice = 9
+cause_number Utf8 = 10
+cause_number NoEnd = 11
+
+-- the name of a cause
+abbrev pub cause_name : Cause → List ℕ
+cause_name Header = codes "Header"
+cause_name TooLong = codes "TooLong"
+cause_name Word = codes "Word"
+cause_name Number = codes "Number"
+cause_name Flag = codes "Flag"
+cause_name Arity = codes "Arity"
+cause_name Thread = codes "Thread"
+cause_name TooMany = codes "TooMany"
+cause_name FileTwice = codes "FileTwice"
+cause_name Utf8 = codes "Utf8"
+cause_name NoEnd = codes "NoEnd"
+
+-- one reading and then another, unless the first has a cause
+infixl 10 ◌>>=◌
+abbrev pub ◌>>=◌ : {A B : Type 0} → Result A Cause → (A → Result B Cause) → Result B Cause
+(Ok x) >>= f = f x
+(Err cause) >>= f = Err cause
+
+-- the cause of the first row whose test holds
+abbrev pub first_row : List (Bool × Cause) → Option Cause
+first_row [] = None
+first_row (row ∷ rows) = if row.0 then Some row.1 else first_row rows
+
+-- what is read, unless there is a cause
+abbrev pub unless : {A : Type 0} → Option Cause → Result A Cause → Result A Cause
+unless None read = read
+unless (Some cause) read = Err cause

@@ -1,0 +1,86 @@
+-- The fields of a line, each a word.
+use Rattle.std.specs.Prelude.{ℕ, ◌-◌, ◌%◌, ◌^◌, Bool, true, false, not, ◌&&◌, List, codes, bytes_eq, bit_and, nat_eq, nat_le, ℤ, pos, negsuc, Result, Ok, Err, ok_or, if◌then◌else◌}
+use Rattle.std.specs.List.{before_first, after_first}
+use Rattle.mm_types.specs.declared.area.Access.{Access}
+use Rattle.mm_types.specs.declared.area.Access.TheVariants.{Read, Write, Exec}
+use Rattle.mm_types.specs.declared.area.Prot.{Prot}
+use Rattle.mm_types.specs.declared.config.TheConstants.{PAGE_SIZE, ADDRESS_LIMIT}
+use Rattle.flag_table.specs.Reading.{reading}
+use Rattle.flag_table.specs.Tables.{Table, prot_flags}
+use Rattle.flag_table.specs.declared.fault.NameFault.{NameFault}
+use Rattle.trace_reader.specs.declared.fault.Cause.{Cause}
+use Rattle.trace_reader.specs.declared.fault.Cause.TheVariants.{Word, Number, Flag}
+use Rattle.trace_reader.specs.Causes.{◌>>=◌}
+use Rattle.trace_reader.specs.Numbers.{digits_of, number_of}
+
+-- any number
+unfoldable pub number : List ℕ → Result ℕ Cause
+number word = ok_or (number_of word) Number
+
+-- a number from low up to and including high
+unfoldable pub number_in : ℕ → ℕ → List ℕ → Result ℕ Cause
+number_in low high word = do
+  n ← number word
+  if nat_le low n && nat_le n high then Ok n else Err Number
+
+-- an address that may bound the memory: a multiple of the page size, from one page up to the address limit
+unfoldable pub bound : List ℕ → Result ℕ Cause
+bound word = do
+  n ← number word
+  if nat_eq (n % PAGE_SIZE) 0 && (nat_le PAGE_SIZE n && nat_le n ADDRESS_LIMIT) then Ok n else Err Number
+
+-- the descriptor of a file: a number that fits 31 bits
+unfoldable pub descriptor : List ℕ → Result ℤ Cause
+descriptor word = do
+  n ← number_in 0 (2 ^ 31 - 1) word
+  Ok (pos n)
+
+-- the descriptor of a mapping, which may be -1
+unfoldable pub mapped_descriptor : List ℕ → Result ℤ Cause
+mapped_descriptor word = if bytes_eq word (codes "-1") then Ok (negsuc 0) else descriptor word
+
+-- a half of a device number: at most so many hexadecimal digits
+unfoldable pub device_part : ℕ → List ℕ → Result ℕ Cause
+device_part most word = ok_or (digits_of 16 most word) Number
+
+-- a device number: 1 to 3 digits before the first colon, and 1 to 5 digits behind it
+unfoldable pub device : List ℕ → Result (ℕ × ℕ) Cause
+device word = do
+  major ← device_part 3 (before_first (λ c. nat_eq c 58) word)
+  minor ← device_part 5 (after_first (λ c. nat_eq c 58) word)
+  Ok (major, minor)
+
+-- how a file is open: for reading, and for writing
+unfoldable pub mode : List ℕ → Result (Bool × Bool) Cause
+mode word = if bytes_eq word (codes "r") then Ok (true, false)
+    else (if bytes_eq word (codes "w") then Ok (false, true)
+    else (if bytes_eq word (codes "rw") then Ok (true, true) else Err Word))
+
+-- what a page fault wants to do
+unfoldable pub access : List ℕ → Result Access Cause
+access word = if bytes_eq word (codes "r") then Ok Read
+    else (if bytes_eq word (codes "w") then Ok Write
+    else (if bytes_eq word (codes "x") then Ok Exec else Err Word))
+
+-- the bits of a text of flags, where it was one
+abbrev pub or_flag : Result ℕ NameFault → Result ℕ Cause
+or_flag (Ok bits) = Ok bits
+or_flag (Err fault) = Err Flag
+
+-- flags of a table
+unfoldable pub flags : Table → List ℕ → Result ℕ Cause
+flags table word = or_flag (reading table word)
+
+-- whether one of these bits is there
+abbrev pub has_flag : ℕ → ℕ → Bool
+has_flag bits flag = not (nat_eq (bit_and bits flag) 0)
+
+-- the accesses that bits allow: PROT_READ is 1, PROT_WRITE 2 and PROT_EXEC 4
+unfoldable pub prot_of_bits : ℕ → Prot
+prot_of_bits bits = record { read = has_flag bits 1; write = has_flag bits 2; exec = has_flag bits 4 }
+
+-- a protection of mmap(2) and mprotect(2)
+unfoldable pub prot : List ℕ → Result Prot Cause
+prot word = do
+  bits ← flags prot_flags word
+  Ok (prot_of_bits bits)

@@ -1,0 +1,54 @@
+-- Which trace bytes are, or else which line is bad first and for which cause.
+use Rattle.std.specs.Prelude.{ℕ, List, [], ◌∷◌, length, nat_eq, None, Result, Ok, Err, unwrap_or, if◌then◌else◌}
+use Rattle.mm_types.specs.declared.config.Config.{Config}
+use Rattle.mm_types.specs.Config.{default_config}
+use Rattle.trace_reader.specs.declared.fault.Cause.{Cause}
+use Rattle.trace_reader.specs.declared.fault.Cause.TheVariants.{Header}
+use Rattle.trace_reader.specs.declared.fault.TraceFault.{TraceFault}
+use Rattle.trace_reader.specs.declared.trace.Trace.{Trace}
+use Rattle.trace_reader.specs.RawLines.{RawLine, raw_lines}
+use Rattle.trace_reader.specs.Lines.{SoFar, after_line}
+
+-- the fault of a line, from its number
+abbrev pub fault : ℕ → Cause → TraceFault
+fault line cause = record { line = line; cause = cause }
+
+-- before the first line
+abbrev pub nothing : SoFar
+nothing = record { areas = None; top = None; min = None; files = []; lines = []; maps = 0 }
+
+-- what follows a line that was read, or the number of the bad line and its cause
+abbrev pub at_line : {A : Type 0} → ℕ → Result SoFar Cause → (SoFar → Result A TraceFault) → Result A TraceFault
+at_line number (Ok so_far) rest = rest so_far
+at_line number (Err cause) rest = Err (fault number cause)
+
+-- what the lines leave, or the first of them that is bad
+abbrev pub after_lines : SoFar → List RawLine → Result SoFar TraceFault
+after_lines so_far [] = Ok so_far
+after_lines so_far (line ∷ lines) = at_line line.number (after_line so_far line) (λ next. after_lines next lines)
+
+-- what all the lines of bytes leave, or the first that is bad
+unfoldable pub lines_read : List ℕ → Result SoFar TraceFault
+lines_read bytes = after_lines nothing (raw_lines bytes)
+
+-- the configuration: what was named, and else the default
+unfoldable pub config_of : SoFar → Config
+config_of so_far = let default = default_config so_far.files in
+    record default {
+      min = unwrap_or so_far.min default.min;
+      top = unwrap_or so_far.top default.top;
+      areas = unwrap_or so_far.areas default.areas;
+    }
+
+-- the trace of what was read
+abbrev pub trace_so_far : SoFar → Trace
+trace_so_far so_far = record { config = config_of so_far; lines = so_far.lines }
+
+-- the trace of lines that were all read
+abbrev pub whole : Result SoFar TraceFault → Result Trace TraceFault
+whole (Ok so_far) = Ok (trace_so_far so_far)
+whole (Err first) = Err first
+
+-- The trace that the bytes are, or the first bad line and its cause. Where there are no bytes, there is no header.
+unfoldable pub trace_of : List ℕ → Result Trace TraceFault
+trace_of bytes = if nat_eq (length bytes) 0 then Err (fault 1 Header) else whole (lines_read bytes)

@@ -1,0 +1,12 @@
+pub mod Causes
+pub mod RawLines
+pub mod Words
+pub mod Numbers
+pub mod Fields
+pub mod Calls
+pub mod Settings
+pub mod Lines
+pub mod Grammar
+pub mod Laws
+pub mod Reading
+pub mod Values

@@ -1,0 +1,20 @@
+-- The numbers of a trace.
+use Rattle.std.specs.Prelude.{ℕ, ◌^◌, ◌&&◌, List, length, drop, codes, nat_eq, nat_lt, nat_le, Option, Some, None, option_and_then, if◌then◌else◌}
+use Rattle.std.specs.Char.{is_digit}
+use Rattle.std.specs.List.{list_all, starts_with}
+use Rattle.std.specs.Str.Parse.{digits_value}
+
+-- the value below 2^64 that at least one and at most so many digits of a base spell
+unfoldable pub digits_of : ℕ → ℕ → List ℕ → Option ℕ
+digits_of base most word =
+    if nat_lt 0 (length word) && (nat_le (length word) most
+    && (list_all (λ c. is_digit c base) word && nat_lt (digits_value base word) (2 ^ 64)))
+    then Some (digits_value base word) else None
+
+-- the number that a word is: 1 to 20 decimal digits, or `0x` and 1 to 16 hexadecimal digits
+unfoldable pub number_of : List ℕ → Option ℕ
+number_of word = if starts_with nat_eq word (codes "0x") then digits_of 16 16 (drop 2 word) else digits_of 10 20 word
+
+-- the thread that a word is: 1 to 20 decimal digits with a value of at most 63
+unfoldable pub thread_of : List ℕ → Option ℕ
+thread_of word = option_and_then (λ n. if nat_le n 63 then Some n else None) (digits_of 10 20 word)

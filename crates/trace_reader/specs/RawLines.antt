@@ -1,0 +1,35 @@
+-- The lines of a trace as they stand in its bytes.
+use Rattle.std.specs.Prelude.{ℕ, ◌+◌, Bool, true, false, List, [], ◌∷◌, length, nat_eq, if◌then◌else◌}
+use Rattle.std.specs.List.{slice_split}
+
+-- A line: its number, counted from 1, its bytes without the newline, the offset of its first byte, and whether a newline
+-- ends it.
+pub record RawLine : Type 0 where
+  pub number : ℕ
+  pub text : List ℕ
+  pub start : ℕ
+  pub ended : Bool
+
+-- a line of these parts
+abbrev pub raw_line : ℕ → ℕ → List ℕ → Bool → RawLine
+raw_line number start text ended = record { number = number; text = text; start = start; ended = ended }
+
+-- a newline
+abbrev pub is_newline : ℕ → Bool
+is_newline c = nat_eq c 10
+
+-- The lines that pieces between newlines are, the first of this number and at this offset: a newline ends each piece but
+-- the last, which is a line only where it has bytes.
+abbrev pub lines_of_pieces : ℕ → ℕ → List (List ℕ) → List RawLine
+lines_of_pieces number start [] = []
+lines_of_pieces number start (text ∷ []) = if nat_eq (length text) 0 then [] else raw_line number start text false ∷ []
+lines_of_pieces number start (text ∷ next ∷ pieces) = raw_line number start text true
+    ∷ lines_of_pieces (number + 1) (start + length text + 1) (next ∷ pieces)
+
+-- the lines of bytes, the first of this number and at this offset
+unfoldable pub lines_from : ℕ → ℕ → List ℕ → List RawLine
+lines_from number start bytes = lines_of_pieces number start (slice_split is_newline bytes)
+
+-- the lines of a trace
+abbrev pub raw_lines : List ℕ → List RawLine
+raw_lines bytes = lines_from 1 0 bytes

@@ -1,0 +1,32 @@
+-- The words of a line.
+use Rattle.std.specs.Prelude.{ℕ, zero, suc, Bool, not, ◌||◌, List, length, drop, filter, nat_eq}
+use Rattle.std.specs.List.{slice_split, position_or_len}
+
+-- spaces and tabs stand between words
+abbrev pub is_blank : ℕ → Bool
+is_blank c = nat_eq c 32 || nat_eq c 9
+
+-- what is no blank
+abbrev pub is_part : ℕ → Bool
+is_part c = not (is_blank c)
+
+-- whether a piece has bytes
+abbrev pub has_bytes : List ℕ → Bool
+has_bytes piece = not (nat_eq (length piece) 0)
+
+-- the words of a text: the pieces between blanks that have bytes
+unfoldable pub words_of : List ℕ → List (List ℕ)
+words_of text = filter has_bytes (slice_split is_blank text)
+
+-- a text from its first byte on that is no blank
+unfoldable pub after_blanks : List ℕ → List ℕ
+after_blanks text = drop (position_or_len is_part text) text
+
+-- a text from its first blank on
+unfoldable pub after_word : List ℕ → List ℕ
+after_word text = drop (position_or_len is_blank text) text
+
+-- what follows this many words and the blanks behind them
+unfoldable pub behind_words : ℕ → List ℕ → List ℕ
+behind_words zero text = after_blanks text
+behind_words (suc count) text = behind_words count (after_word (after_blanks text))

@@ -1,0 +1,118 @@
+//! Why a trace, or the text of a call, was not read.
+
+use std::alloc::{AllocError, AllocFailed};
+use thiserror::Error;
+
+/// Why a line of a trace is bad. The causes are numbered from 1 in this order. Where a line fails several tests, the
+/// first of these decides: it is too long; it has no end; it is not UTF-8; line 1 is not the header; a first word with
+/// a digit in front is no thread; another first word may not stand there; the second word is missing, or may not stand
+/// there; there are too few words or too many; the words from the left; NEW against the flags; a descriptor for the
+/// second time; too many lines.
+#[derive(Clone, Copy, Debug, PartialEq, Eq)]
+pub enum Cause {
+    /// The first line is not `vmatrace 1`.
+    Header = 1,
+    /// The line has more than 4,096 bytes, or its newline would be past byte 67,108,864 of the trace.
+    TooLong,
+    /// A word is none of those that may stand there. `limit`, `top`, `min` and `file` may not stand after a line with
+    /// a thread, and the first three not for the second time.
+    Word,
+    /// A number, a descriptor or a device number has another form, or is out of its range.
+    Number,
+    /// A text of flags has an unknown name, or a name twice.
+    Flag,
+    /// There are too few words or too many, or an mremap(2) has a new address without `MREMAP_FIXED`, or the reverse.
+    Arity,
+    /// The first word begins with a digit and is no thread from 0 to 63.
+    Thread,
+    /// It is the 1,000,001st line with a thread, the 1,025th file or the 65th `maps`.
+    TooMany,
+    /// A file has the descriptor of one before it.
+    FileTwice,
+    /// The line is not UTF-8.
+    Utf8,
+    /// No newline ends the line.
+    NoEnd,
+}
+
+impl Cause {
+    ghost use Rattle.std.specs.Prelude.{◌≡◌};
+    ghost use Rattle.trace_reader.specs.Causes.{cause_number, cause_name};
+
+    /// The number of the cause, from 1 to 11.
+    pub fn number(self) -> u8
+        ensures { result ≡ cause_number self }
+    {
+        self as u8
+    }
+
+    /// The name of the cause, as `FileTwice`.
+    pub fn name(self) -> &'static str
+        ensures { result.now ≡ cause_name self }
+    {
+        match self {
+            Cause::Header => "Header",
+            Cause::TooLong => "TooLong",
+            Cause::Word => "Word",
+            Cause::Number => "Number",
+            Cause::Flag => "Flag",
+            Cause::Arity => "Arity",
+            Cause::Thread => "Thread",
+            Cause::TooMany => "TooMany",
+            Cause::FileTwice => "FileTwice",
+            Cause::Utf8 => "Utf8",
+            Cause::NoEnd => "NoEnd",
+        }
+    }
+}
+
+/// The first bad line of a trace, counted from 1, and why it is bad.
+#[derive(Clone, Copy, Debug, PartialEq, Eq)]
+pub struct TraceFault {
+    pub line: u64,
+    pub cause: Cause,
+}
+
+/// Why the text of a call, or another part of a line, was not read.
+#[derive(Clone, Copy, Debug, PartialEq, Eq, Error)]
+pub enum CallError {
+    /// The text is bad.
+    #[error("{}", .0.name())]
+    Bad(Cause),
+    /// There was no memory.
+    #[error("no memory")]
+    NoMemory,
+}
+
+/// Why bytes were not read as a trace.
+#[derive(Clone, Copy, Debug, PartialEq, Eq, Error)]
+pub enum ReadError {
+    /// A line is bad.
+    #[error("line {}: {}", .0.line, .0.cause.name())]
+    Bad(TraceFault),
+    /// There was no memory.
+    #[error("no memory")]
+    NoMemory,
+}
+
+impl From<AllocError> for CallError {
+    ghost use Rattle.std.specs.Prelude.{◌≡◌};
+    ghost use Rattle.trace_reader.specs.declared.fault.CallError.TheVariants as errors;
+
+    ghost from_gives = { λ _ error. error ≡ errors.NoMemory };
+
+    fn from(_error: AllocError) -> CallError {
+        CallError::NoMemory
+    }
+}
+
+impl<T: Drop> From<AllocFailed<T>> for CallError {
+    ghost use Rattle.std.specs.Prelude.{◌≡◌};
+    ghost use Rattle.trace_reader.specs.declared.fault.CallError.TheVariants as errors;
+
+    ghost from_gives = { λ _ error. error ≡ errors.NoMemory };
+
+    fn from(_error: AllocFailed<T>) -> CallError {
+        CallError::NoMemory
+    }
+}

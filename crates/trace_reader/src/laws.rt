@@ -1,0 +1,31 @@
+//! Laws of the definitions. Nothing runs here.
+
+ghost use Rattle.std.specs.Prelude.{◌≡◌, ◌≤◌, ◌⊎◌, ◌+◌, ℕ, List, [], length, take, Ok, Err};
+ghost use Rattle.trace_reader.specs.Grammar.{fault, trace_of};
+ghost use Rattle.trace_reader.specs.Laws.{AreLinesOf, IsFirstBad};
+ghost use Rattle.trace_reader.specs.Lines.{trace_limit};
+ghost use Rattle.trace_reader.specs.RawLines.{raw_lines};
+ghost use Rattle.trace_reader.specs.Values.{IsTraceValue};
+ghost use Rattle.trace_reader.specs.declared.fault.Cause.TheVariants.{Header};
+ghost use Rattle.trace_reader.specs.declared.fault.TraceFault.{TraceFault};
+ghost use Rattle.trace_reader.specs.declared.trace.Trace.{Trace};
+
+/// The lines of a trace are its bytes, cut behind each newline and numbered from 1. The line that is named in place of
+/// a trace is the first bad one, or line 1 where there are no bytes.
+pub fn first_bad_line()
+    ensures lines { (bytes : List ℕ) → AreLinesOf bytes (raw_lines bytes) }
+    ensures first { (bytes : List ℕ) (first : TraceFault) → trace_of bytes ≡ Err first
+        → ((bytes ≡ []) × (first ≡ fault 1 Header)) ⊎ IsFirstBad bytes first }
+{}
+
+/// One byte more than the limit settles which trace bytes are, or which line is bad first.
+pub fn front_is_enough()
+    ensures { (bytes : List ℕ) → trace_of (take (trace_limit + 1) bytes) ≡ trace_of bytes }
+{}
+
+/// A trace that was read has a valid configuration and at most 1,000,000 lines, its numbers fit their types, and it has no
+/// byte past the limit.
+pub fn traces_fit()
+    ensures value { (bytes : List ℕ) (trace : Trace) → trace_of bytes ≡ Ok trace → IsTraceValue trace }
+    ensures within { (bytes : List ℕ) (trace : Trace) → trace_of bytes ≡ Ok trace → length bytes ≤ trace_limit }
+{}

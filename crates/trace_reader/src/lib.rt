@@ -1,0 +1,44 @@
+//! Reads a trace: its configuration, its files, and its lines with calls, page faults and reads of the list of
+//! areas, or else names the first bad line and why it is bad.
+//!
+//! A trace is a list of lines, each ended by a newline. Words stand between spaces and tabs. Lines are counted from 1;
+//! a line without words, and one whose first word begins with `#`, is passed over. Line 1 is `vmatrace 1`. The others:
+//!
+//! - `limit areas N`: the most areas, 1 to 65,530.
+//! - `top A` and `min A`: addresses in bytes, multiples of 4,096 from 4,096 to 0x7ffffffff000.
+//! - `file FD MODE SIZE MAJ:MIN INODE PATH`: MODE is `r`, `w` or `rw`, SIZE in bytes at most 2^63 - 1, MAJ 1 to 3 and
+//!   MIN 1 to 5 hexadecimal digits. PATH is the rest of the line, blanks and all, and `\012` in it is a newline.
+//! - `T mmap ADDR LEN PROT FLAGS FD OFF`, `T munmap ADDR LEN`, `T mprotect ADDR LEN PROT` and
+//!   `T mremap OLD OLDLEN NEWLEN FLAGS`, with a fifth word NEW where the flags have `MREMAP_FIXED`, as in mmap(2),
+//!   munmap(2), mprotect(2) and mremap(2). FD may be -1. The flags are those that `flag_table` reads.
+//! - `T fault ADDR A`: an access to a page, with `r`, `w` or `x` as A.
+//! - `T maps`: a read of the list of areas.
+//!
+//! T is a thread from 0 to 63 in decimal digits. A number has 1 to 20 decimal digits, or `0x` and 1 to 16 hexadecimal
+//! digits, and is below 2^64. The first four stand before the first line with a T, in any order, and each but `file`
+//! at most once; no two files have one FD. In one line the causes come in the order in which `Cause` explains them.
+#![tactic(auto)]
+
+mod builder;
+mod calls;
+mod fault;
+mod fields;
+mod laws;
+mod limits;
+mod lines;
+mod numbers;
+mod reading;
+mod settings;
+mod trace;
+mod words;
+
+pub use calls::call_of;
+pub use fault::{CallError, Cause, ReadError, TraceFault};
+pub use laws::{first_bad_line, front_is_enough, traces_fit};
+pub use limits::{LINE_LIMIT, MOST_LINES, MOST_MAPS, TRACE_LIMIT};
+pub use numbers::number_of;
+pub use reading::read;
+pub use trace::{Lines, Trace};
+
+#[cfg(test)]
+mod tests;

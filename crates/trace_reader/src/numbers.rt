@@ -1,0 +1,54 @@
+//! The numbers of a trace.
+
+ghost use Rattle.std.specs.Prelude.{◌≡◌, ◌≤◌};
+ghost use Rattle.std.specs.Char.{is_digit};
+ghost use Rattle.std.specs.List.{list_all};
+ghost use Rattle.trace_reader.specs.Numbers.{digits_of, number_of, thread_of};
+
+/// The number that a word is: 1 to 20 decimal digits, or `0x` and 1 to 16 hexadecimal digits of either case, with a
+/// value below 2^64. There is none where the word is no number.
+#[tactic(auto, unfolding(crate::specs::Numbers::number_of))]
+pub fn number_of(word: &str) -> Option<u64>
+    ensures { result ≡ number_of word.now }
+{
+    match word.strip_prefix("0x") {
+        Some(digits) => digits_of(digits, 16, 16),
+        None => digits_of(word, 10, 20),
+    }
+}
+
+/// The thread that a word is: 1 to 20 decimal digits with a value of 0 to 63.
+#[tactic(auto, unfolding(crate::specs::Numbers::thread_of))]
+pub(crate) fn thread_of(word: &str) -> Option<u32>
+    ensures { result ≡ thread_of word.now }
+{
+    match digits_of(word, 10, 20) {
+        Some(thread) if thread <= 63 => Some(thread as u32),
+        _ => None,
+    }
+}
+
+/// The value below 2^64 that at least one and at most so many digits of a base spell.
+#[tactic(auto, unfolding(crate::specs::Numbers::digits_of))]
+pub(crate) fn digits_of(word: &str, base: u32, most: usize) -> Option<u64>
+    requires low { 2 ≤ base }
+    requires high { base ≤ 36 }
+    ensures { result ≡ digits_of base most word.now }
+{
+    if word.len() <= most && are_digits(word, base) {
+        u64::from_str_radix(word, base).ok()
+    } else {
+        None
+    }
+}
+
+/// Whether every byte is a digit of the base.
+fn are_digits(word: &str, base: u32) -> bool
+    requires low { 2 ≤ base }
+    requires high { base ≤ 36 }
+    ensures { result ≡ list_all (λ c. is_digit c base) word.now }
+{
+    word.as_bytes()
+        .iter()
+        .all(|byte| char::from(*byte).is_digit(base))
+}

@@ -1,0 +1,57 @@
+ghost use Rattle.std.specs.Prelude.{◌≡◌, ◌<◌, length};
+ghost use Rattle.trace_reader.specs.Grammar.{fault, trace_of, lines_read};
+ghost use Rattle.trace_reader.specs.Reading.{GivesLines, GivesTrace, error_at};
+
+use crate::builder::TraceBuilder;
+use crate::fault::{CallError, Cause, ReadError, TraceFault};
+use crate::lines::first_line;
+use crate::trace::Trace;
+use std::alloc::Global;
+
+/// Says that this line is the first bad one.
+fn bad(line: u64, cause: Cause) -> ReadError
+    ensures { result ≡ ReadError.Bad (fault line cause) }
+{
+    ReadError::Bad(TraceFault { line, cause })
+}
+
+/// What is wrong with the line of this number.
+fn at_line(line: u64, error: CallError) -> ReadError
+    ensures { result ≡ error_at line error }
+{
+    match error {
+        CallError::Bad(cause) => bad(line, cause),
+        CallError::NoMemory => ReadError::NoMemory,
+    }
+}
+
+/// What the lines of some bytes say, or the first of them that is bad.
+#[tactic(auto, unfolding(crate::specs::Grammar::lines_read))]
+fn read_lines(alloc: Global, bytes: &[u8]) -> Result<TraceBuilder, ReadError>
+    ensures { GivesLines result (lines_read bytes.now) }
+{
+    let mut builder = TraceBuilder::new(alloc);
+    let mut rest = bytes;
+    let mut number = 1;
+    while !rest.is_empty() {
+        let (line, behind) = first_line(rest, number, bytes.len() - rest.len());
+        if let Err(error) = builder.add(alloc, &line) {
+            return Err(at_line(number, error));
+        }
+        rest = behind;
+        number += 1;
+    }
+    Ok(builder)
+}
+
+/// The trace that the bytes are, or the first bad line and its cause.
+#[tactic(auto, unfolding(crate::specs::Grammar::trace_of))]
+pub fn read(alloc: Global, bytes: &[u8]) -> Result<Trace, ReadError>
+    ensures { GivesTrace result (trace_of bytes.now) }
+{
+    if bytes.is_empty() {
+        return Err(bad(1, Cause::Header));
+    }
+    let builder = read_lines(alloc, bytes)?;
+    Ok(builder.build())
+}

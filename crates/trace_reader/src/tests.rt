@@ -1,0 +1,284 @@
+use super::*;
+use mm_types::{
+    Access, Call, FileRow, MAP_FIXED, MAP_PRIVATE, MREMAP_FIXED, MREMAP_MAYMOVE, MmapArgs, Op,
+    Page, Prot, TraceLine,
+};
+use std::alloc::Global;
+use std::test::Fail;
+
+/// The first bad line of bytes, if one is bad.
+fn refusal(alloc: Global, bytes: &[u8]) -> Result<Option<TraceFault>, ReadError> {
+    match read(alloc, bytes) {
+        Ok(_trace) => Ok(None),
+        Err(ReadError::Bad(fault)) => Ok(Some(fault)),
+        Err(ReadError::NoMemory) => Err(ReadError::NoMemory),
+    }
+}
+
+/// A header and some bytes.
+fn with_header(alloc: Global, rest: &[u8]) -> Result<Vec<u8>, Fail> {
+    let mut bytes = Vec::from_slice(alloc, b"vmatrace 1\n")?;
+    bytes.extend_from_slice(rest)?;
+    Ok(bytes)
+}
+
+#[test]
+fn the_header_comes_first(rt: HostRuntime) -> Result<(), Fail> {
+    for (cause, text) in [
+        (Cause::Header, ""),
+        (Cause::Header, "\n"),
+        (Cause::Header, "vmatrace 2\n"),
+        (Cause::Header, "vmatrace 1 1\n"),
+        (Cause::Header, "vmatrace 1\r\n"),
+        (Cause::Header, "\u{feff}vmatrace 1\n"),
+        (Cause::Header, "# a comment\nvmatrace 1\n"),
+        (Cause::NoEnd, "vmatrace 1"),
+    ] {
+        let wanted = TraceFault { line: 1, cause };
+        assert_eq!(rt;
+            refusal(rt.alloc(), text.as_bytes())?,
+            Some(wanted),
+            "{text}"
+        );
+    }
+    for text in ["vmatrace 1\n", " \tvmatrace \t 1\t\n"] {
+        assert_eq!(rt; refusal(rt.alloc(), text.as_bytes())?, None, "{text}");
+    }
+    Ok(())
+}
+
+#[test]
+fn the_first_bad_line_is_named(rt: HostRuntime) -> Result<(), Fail> {
+    for (line, cause, text) in [
+        (4, Cause::Thread, "\n# a comment\n64 maps\n"),
+        (2, Cause::Thread, "0x1 maps\n"),
+        (2, Cause::Thread, "000000000000000000001 maps\n"),
+        (2, Cause::Word, "seal areas 1\n"),
+        (3, Cause::Word, "0 maps\nlimit areas 5\n"),
+        (3, Cause::Word, "top 4096\ntop 4096\n"),
+        (2, Cause::Arity, "0\n"),
+        (2, Cause::Arity, "limit\n"),
+        (2, Cause::Word, "0 brk 4096\n"),
+        (2, Cause::Word, "0 maps\r\n"),
+        (2, Cause::Arity, "0 maps \r\n"),
+        (2, Cause::Word, "limit pages x\n"),
+        (2, Cause::Arity, "0 munmap x\n"),
+        (2, Cause::Arity, "0 mmap 0 1 PROT_READ MAP_PRIVATE -1 0 0\n"),
+        (2, Cause::Arity, "file x r 1 0:0 1 \t\n"),
+        (2, Cause::Number, "0 munmap 000000000000000000001 1\n"),
+        (2, Cause::Number, "0 munmap 0x10000000000000000 1\n"),
+        (2, Cause::Number, "0 munmap 18446744073709551616 1\n"),
+        (2, Cause::Number, "0 mmap 0 -1 PROT_NO MAP_NO -2 0\n"),
+        (2, Cause::Number, "0 mmap 0 1 PROT_READ MAP_PRIVATE -2 0\n"),
+        (2, Cause::Number, "limit areas 65531\n"),
+        (2, Cause::Number, "min 0\n"),
+        (2, Cause::Number, "file -1 r 1 0:0 1 a\n"),
+        (2, Cause::Number, "file 3 r 1 0:0:0 1 a\n"),
+        (2, Cause::Number, "file 3 r 1 1000:0 1 a\n"),
+        (2, Cause::Flag, "0 mprotect 0 1 PROT_READ|PROT_READ\n"),
+        (2, Cause::Word, "0 fault 0 rw\n"),
+        (2, Cause::Word, "file 3 x 1 0:0 1 a\n"),
+        (2, Cause::Arity, "0 mremap 0 1 2 MREMAP_MAYMOVE 0\n"),
+        (2, Cause::Arity, "0 mremap 0 1 2 MREMAP_FIXED\n"),
+        (
+            3,
+            Cause::FileTwice,
+            "file 3 r 1 0:0 1 a\nfile 3 r 1 0:0 1 b\n",
+        ),
+        (3, Cause::NoEnd, "0 maps\n0 maps"),
+    ] {
+        let bytes = with_header(rt.alloc(), text.as_bytes())?;
+        let wanted = TraceFault { line, cause };
+        assert_eq!(rt;
+            refusal(rt.alloc(), bytes.as_slice())?,
+            Some(wanted),
+            "{text}"
+        );
+    }
+    Ok(())
+}
+
+#[test]
+fn long_lines_and_other_bytes_are_bad(rt: HostRuntime) -> Result<(), Fail> {
+    let alloc = rt.alloc();
+    let long = vec![in alloc; b'#'; LINE_LIMIT]?;
+    let mut bytes = with_header(alloc, long.as_slice())?;
+    bytes.push(b'\n')?;
+    assert_eq!(rt; refusal(alloc, bytes.as_slice())?, None);
+    bytes.extend_from_slice(long.as_slice())?;
+    bytes.push(b'#')?;
+    let wanted = TraceFault {
+        line: 3,
+        cause: Cause::TooLong,
+    };
+    assert_eq!(rt; refusal(alloc, bytes.as_slice())?, Some(wanted));
+
+    let bytes = with_header(alloc, b"# \xff\n")?;
+    let wanted = TraceFault {
+        line: 2,
+        cause: Cause::Utf8,
+    };
+    assert_eq!(rt; refusal(alloc, bytes.as_slice())?, Some(wanted));
+
+    let mut bytes = with_header(alloc, b"")?;
+    for _ in 0..MOST_MAPS {
+        bytes.extend_from_slice(b"0 maps\n")?;
+    }
+    assert_eq!(rt; refusal(alloc, bytes.as_slice())?, None);
+    bytes.extend_from_slice(b"0 maps\n")?;
+    let wanted = TraceFault {
+        line: 66,
+        cause: Cause::TooMany,
+    };
+    assert_eq!(rt; refusal(alloc, bytes.as_slice())?, Some(wanted));
+    Ok(())
+}
+
+/// Whether a file has these fields, of which the path may have a newline.
+fn is_file(
+    file: &FileRow,
+    fd: i32,
+    mode: (bool, bool),
+    size: u64,
+    place: (u32, u32, u64),
+    path: &str,
+) -> bool {
+    file.fd == fd
+        && (file.read, file.write) == mode
+        && file.size == size
+        && (file.major, file.minor, file.inode) == place
+        && file.path.as_str() == path
+}
+
+#[test]
+fn settings_are_read(rt: HostRuntime) -> Result<(), Fail> {
+    let text = "vmatrace 1\n# no `limit` here\nmin 65536\n \ttop\t0x7FFFf7000000 \n\
+        file 3 rw 9223372036854775807 fff:FFFFF 0xF\t /tmp/a  b\\012c \\01 \nfile 0 r 0 0:0 0 x\n";
+    let trace = read(rt.alloc(), text.as_bytes())?;
+    assert_eq!(rt; trace.config.min, 65536);
+    assert_eq!(rt; trace.config.top, 0x7fff_f700_0000);
+    assert_eq!(rt; trace.config.limit, 0x7fff_ffff_f000);
+    assert_eq!(rt; trace.config.areas, 65530);
+    assert!(rt; trace.lines.items().is_empty());
+    let [first, second] = trace.config.files.items() else {
+        return Err("there are two files".into());
+    };
+    let path = "/tmp/a  b\nc \\01 ";
+    assert!(rt;
+        is_file(
+            first,
+            3,
+            (true, true),
+            u64::MAX / 2,
+            (0xfff, 0xf_ffff, 15),
+            path
+        )
+    );
+    assert!(rt; is_file(second, 0, (true, false), 0, (0, 0, 0), "x"));
+    Ok(())
+}
+
+/// Whether the lines are these operations, from line 2 on.
+fn are_ops(lines: &[TraceLine], ops: &[(u32, Op)]) -> bool {
+    lines.len() == ops.len()
+        && lines.iter().zip(ops).enumerate().all(|(place, (line, (thread, op)))| {
+            line.number == place as u64 + 2 && line.thread == *thread && line.op == *op
+        })
+}
+
+#[test]
+fn operations_are_read(rt: HostRuntime) -> Result<(), Fail> {
+    let text = "vmatrace 1\n63 mmap 0xABCdef 8192 PROT_READ|PROT_EXEC MAP_FIXED|MAP_PRIVATE 3 0\n\
+        00\tmunmap\t0 18446744073709551615\n0 mprotect 0 1 PROT_NONE\n\
+        1 mremap 4096 1 2 MREMAP_MAYMOVE\n1 mremap 4096 1 2 MREMAP_MAYMOVE|MREMAP_FIXED 8192\n\
+        0 fault 18446744073709551615 x\n2 maps\n";
+    let trace = read(rt.alloc(), text.as_bytes())?;
+    let args = MmapArgs {
+        addr: 0xab_cdef,
+        len: 8192,
+        prot: Prot {
+            read: true,
+            write: false,
+            exec: true,
+        },
+        flags: MAP_PRIVATE | MAP_FIXED,
+        fd: 3,
+        offset: 0,
+    };
+    let none = Prot {
+        read: false,
+        write: false,
+        exec: false,
+    };
+    let moved = |flags: u32, new: u64| Call::Mremap {
+        old: 4096,
+        old_len: 1,
+        new_len: 2,
+        flags,
+        new,
+    };
+    let ops = [
+        (63, Op::Call(Call::Mmap(args))),
+        (
+            0,
+            Op::Call(Call::Munmap {
+                addr: 0,
+                len: u64::MAX,
+            }),
+        ),
+        (
+            0,
+            Op::Call(Call::Mprotect {
+                addr: 0,
+                len: 1,
+                prot: none,
+            }),
+        ),
+        (1, Op::Call(moved(MREMAP_MAYMOVE, 0))),
+        (1, Op::Call(moved(MREMAP_MAYMOVE | MREMAP_FIXED, 8192))),
+        (
+            0,
+            Op::Fault {
+                page: Page(u64::MAX / 4096),
+                access: Access::Exec,
+            },
+        ),
+        (2, Op::Maps),
+    ];
+    assert!(rt; are_ops(trace.lines.items(), &ops));
+    Ok(())
+}
+
+#[test]
+fn parts_are_read_alone(rt: HostRuntime) -> Result<(), Fail> {
+    for (word, number) in [
+        ("18446744073709551615", Some(u64::MAX)),
+        ("0xFfffffffFFFFFFFF", Some(u64::MAX)),
+        ("00000000000000000007", Some(7)),
+        ("18446744073709551616", None),
+        ("0x", None),
+        ("0X7", None),
+        ("+7", None),
+        ("", None),
+    ] {
+        assert_eq!(rt; number_of(word), number, "{word}");
+    }
+    let call = Call::Munmap { addr: 7, len: 8 };
+    assert_eq!(rt; call_of(rt.alloc(), " munmap 7 8 ")?, call);
+    for (text, cause) in [
+        ("", Cause::Arity),
+        ("maps", Cause::Word),
+        ("munmap 7 x", Cause::Number),
+    ] {
+        assert_eq!(rt;
+            call_of(rt.alloc(), text),
+            Err(CallError::Bad(cause)),
+            "{text}"
+        );
+    }
+    for (number, name, cause) in [(1, "Header", Cause::Header), (11, "NoEnd", Cause::NoEnd)] {
+        assert_eq!(rt; cause.number(), number);
+        assert_eq!(rt; cause.name(), name);
+    }
+    Ok(())
+}

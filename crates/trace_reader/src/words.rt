@@ -1,0 +1,77 @@
+//! The words of a line.
+
+ghost use Rattle.std.specs.Prelude.{◌≡◌, IfOk, map};
+ghost use Rattle.std.specs.List.{position_or_len, before_first};
+ghost use Rattle.trace_reader.specs.Words.{is_blank, is_part, words_of, after_blanks, after_word, behind_words};
+
+use std::alloc::{AllocError, Global};
+
+/// Spaces and tabs stand between words.
+fn is_blank(byte: u8) -> bool
+    ensures { result ≡ is_blank byte }
+{
+    byte == b' ' || byte == b'\t'
+}
+
+/// The place of the first byte that is no blank, or the length.
+fn first_part(text: &[u8]) -> usize
+    ensures { result ≡ position_or_len is_part text.now }
+{
+    text.iter()
+        .position(|byte| !is_blank(*byte))
+        .unwrap_or(text.len())
+}
+
+/// The place of the first blank, or the length.
+fn first_blank(text: &[u8]) -> usize
+    ensures { result ≡ position_or_len is_blank text.now }
+{
+    text.iter()
+        .position(|byte| is_blank(*byte))
+        .unwrap_or(text.len())
+}
+
+/// A text from its first byte on that is no blank.
+#[tactic(auto, unfolding(crate::specs::Words::after_blanks))]
+fn after_blanks(text: &str) -> &str
+    ensures { result.now ≡ after_blanks text.now }
+{
+    let (_, rest) = text.split_at(first_part(text.as_bytes()));
+    rest
+}
+
+/// What stands before the first blank of a text, and what follows.
+#[tactic(auto, unfolding(crate::specs::Words::after_word))]
+fn split_word(text: &str) -> (&str, &str)
+    ensures word { result.0.now ≡ before_first is_blank text.now }
+    ensures rest { result.1.now ≡ after_word text.now }
+{
+    text.split_at(first_blank(text.as_bytes()))
+}
+
+/// The words of a text: what stands between blanks.
+pub(crate) fn words_of(alloc: Global, text: &str) -> Result<Vec<&str>, AllocError>
+    ensures { IfOk result (λ words. map (λ word. word.now) words.items ≡ words_of text.now) }
+{
+    let mut words = Vec::new(alloc);
+    let mut rest = after_blanks(text);
+    while !rest.is_empty() {
+        let (word, behind) = split_word(rest);
+        words.push(word)?;
+        rest = after_blanks(behind);
+    }
+    Ok(words)
+}
+
+/// What follows so many words and the blanks behind them.
+#[tactic(auto, unfolding(crate::specs::Words::behind_words))]
+pub(crate) fn behind_words(text: &str, count: usize) -> &str
+    ensures { result.now ≡ behind_words count text.now }
+{
+    let mut rest = text;
+    for _ in 0..count {
+        let (_, behind) = split_word(after_blanks(rest));
+        rest = behind;
+    }
+    after_blanks(rest)
+}
