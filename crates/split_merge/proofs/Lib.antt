@@ -1,0 +1,11 @@
+pub mod Lists
+pub mod Walking
+pub mod Planning
+pub mod Ascending
+pub mod Replacing
+pub mod Pieces
+pub mod Cuts
+pub mod Splits
+pub mod Joining
+pub mod Widening
+pub mod Puts

@@ -1,0 +1,5 @@
+pub mod Plans
+pub mod Finding
+pub mod Places
+pub mod Walks
+pub mod Joins

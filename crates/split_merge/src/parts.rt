@@ -1,0 +1,117 @@
+//! Parts of areas, and which neighbours join.
+ghost use Rattle.std.specs.Prelude.{◌≡◌, ◌≢◌, ◌<◌, ◌≤◌, ◌+◌, ◌-◌, ◌^◌, nat_eq};
+ghost use Rattle.std.specs.Option.{option_to_list};
+ghost use Rattle.mm_types.specs.Records.{IsValid};
+ghost use Rattle.area_model.specs.Areas.{index_of, joins};
+ghost use Rattle.area_model.specs.Changes.{piece, joined_area};
+ghost use Rattle.split_merge.specs.Joins.{lower_part, upper_part};
+
+use mm_types::{Record, Span};
+
+/// The page of its object that an area maps at this page; 0 for private anonymous memory.
+#[tactic(auto, unfolding(area_model::specs::Areas::index_of))]
+fn index_of(area: &Record, page: u64) -> u64
+    requires { area.now.object ≢ 0 → area.now.offset + (page - area.now.span.lo) < 2 ^ 64 }
+    ensures { result ≡ index_of area.now page }
+{
+    if area.object == 0 {
+        0
+    } else {
+        area.offset + page.saturating_sub(area.span.lo)
+    }
+}
+
+/// The part of an area from `lo` up to `hi`, if it has a page.
+#[tactic(auto, unfolding(area_model::specs::Changes::piece))]
+pub(crate) fn piece(area: &Record, lo: u64, hi: u64) -> Option<Record>
+    requires valid { IsValid area.now }
+    requires within { hi ≤ area.now.span.hi }
+    ensures { option_to_list result ≡ piece area.now lo hi }
+{
+    if lo < hi {
+        Some(Record {
+            span: Span { lo, hi },
+            offset: index_of(area, lo),
+            ..*area
+        })
+    } else {
+        None
+    }
+}
+
+/// Whether two neighbours are one area.
+#[tactic(auto, unfolding(area_model::specs::Areas::joins))]
+fn joins(a: &Record, b: &Record) -> bool
+    ensures { result ≡ joins a.now b.now }
+{
+    a.span.hi == b.span.lo
+        && a.attr == b.attr
+        && a.object == b.object
+        && (a.object == 0 || goes_on(a, b))
+}
+
+/// Whether the second maps what comes behind the first in its object.
+fn goes_on(a: &Record, b: &Record) -> bool
+    ensures { result ≡ nat_eq b.now.offset (a.now.offset + (a.now.span.hi - a.now.span.lo)) }
+{
+    u128::from(a.offset) + u128::from(a.span.hi.saturating_sub(a.span.lo)) == u128::from(b.offset)
+}
+
+/// The part of an area below a page.
+fn lower_part(area: &Record, page: u64) -> Record
+    ensures { result ≡ lower_part area.now page }
+{
+    Record {
+        span: Span {
+            lo: area.span.lo,
+            hi: area.span.hi.min(page),
+        },
+        ..*area
+    }
+}
+
+/// The part of an area from a page on.
+fn upper_part(area: &Record, page: u64) -> Record
+    requires valid { IsValid area.now }
+    requires below_end { page < area.now.span.hi }
+    ensures { result ≡ upper_part area.now page }
+{
+    let lo = area.span.lo.max(page);
+    Record {
+        span: Span {
+            lo,
+            hi: area.span.hi,
+        },
+        offset: index_of(area, lo),
+        ..*area
+    }
+}
+
+/// Whether the part of an area below another joins that.
+pub(crate) fn joins_from_left(left: &Record, area: &Record) -> bool
+    ensures { result ≡ joins (lower_part left.now area.now.span.lo) area.now }
+{
+    joins(&lower_part(left, area.span.lo), area)
+}
+
+/// Whether the part of an area above another joins that.
+pub(crate) fn joins_from_right(area: &Record, right: &Record) -> bool
+    requires valid { IsValid right.now }
+    requires below_end { area.now.span.hi < right.now.span.hi }
+    ensures { result ≡ joins area.now (upper_part right.now area.now.span.hi) }
+{
+    joins(area, &upper_part(right, area.span.hi))
+}
+
+/// The two areas as one.
+pub(crate) fn joined(a: &Record, b: &Record) -> Record
+    ensures { result ≡ joined_area a.now b.now }
+{
+    Record {
+        span: Span {
+            lo: a.span.lo,
+            hi: b.span.hi,
+        },
+        ..*a
+    }
+}

@@ -1,0 +1,112 @@
+-- Lists in which areas go out and come in one by one.
+use Rattle.std.proofs.Common.{◌≡◌, ◌≤◌, ◌<◌, ◌+◌, ◌⊎◌, inl, inr, ℕ, min, max, nat_lt, List, [], ◌∷◌, ◌++◌, length, take, drop, get_or, Some, refl, ap, ◌∙◌, sym, subst, All, arith}
+use Rattle.std.specs.Option.{option_to_list}
+use Rattle.std.specs.List.{Contains}
+use Rattle.std.proofs.lemmas.Bool.{cases_lt, ltb-true}
+use Rattle.std.proofs.lemmas.List.Elements.{All-weaker, All-head, All-append, All-from_recursion, recursion_from_All}
+use Rattle.std.proofs.lemmas.List.Sums.{prefix_len_passes}
+use Rattle.std.proofs.lemmas.Option.{same_Some}
+use Rattle.std.proofs.lemmas.List.{drop_more, take_more, take-append-drop}
+use Rattle.mm_types.specs.declared.area.Record.{Record}
+use Rattle.area_model.proofs.Elements.{Each-left, Each-right}
+use Rattle.split_merge.specs.declared.plan.Change.{Change}
+use Rattle.split_merge.specs.declared.plan.Change.TheVariants.{Detach, Alter, Add}
+use Rattle.split_merge.specs.Plans.{old_of, new_of, olds_of, news_of}
+use Rattle.split_merge.proofs.Replacing.{olds_of-append, news_of-append}
+use Rattle.sys_map.specs.Fronts.{begins_below}
+use Rattle.sys_map.specs.Ranges.{HoldsOld, HoldsNew, IsTouched}
+
+-- an area of a list has its place within it
+pub begins_member : (areas : List Record) (old : Record) → Contains areas old → begins_below old.span.lo areas < length areas
+begins_member areas old member = by (cases_lt (begins_below old.span.lo areas) (length areas))
+  where
+    by : (begins_below old.span.lo areas < length areas) ⊎ (length areas ≤ begins_below old.span.lo areas) → begins_below old.span.lo areas < length areas
+    by (inl within) = within
+    by (inr past) =
+        let passes = prefix_len_passes (λ (area : Record). nat_lt area.span.lo old.span.lo) areas member.0 old (omega (arith, member.1)) in
+        let lower = ltb-true (get_or areas member.0 old).span.lo old.span.lo passes in
+        omega (arith, lower, ap (λ (area : Record). area.span.lo) member.2)
+
+-- the area that a change takes away is one that all take away
+pub old_member : (P : Record → Type 0) (change : Change) (old : Record) → old_of change ≡ Some old → All P (olds_of (change ∷ [])) → P old
+old_member P (Detach other) old is each = subst P (same_Some other old is) (All-head P other [] each)
+old_member P (Alter other new) old is each = subst P (same_Some other old is) (All-head P other [] each)
+old_member P (Add new) old is each = cc
+
+pub touched_none : (areas : List Record) (start end : ℕ) → IsTouched areas [] start end
+touched_none areas start end = record { olds = λ k d within. absurd (omega arith); news = λ k d within. absurd (omega arith) }
+
+-- a wider part has what it has
+pub touched_wider : (areas : List Record) (changes : List Change) (start end first last : ℕ) → IsTouched areas changes start end → first ≤ start → end ≤ last
+    → IsTouched areas changes first last
+touched_wider areas changes start end first last t low high = record {
+  olds = All-weaker (HoldsOld areas start end) (HoldsOld areas first last) (λ old h. (omega (arith, h.0), omega (arith, h.1))) (olds_of changes) t.olds;
+  news = All-weaker (HoldsNew areas start end) (HoldsNew areas first last) (λ new h. (omega (arith, h.0), omega (arith, h.1))) (news_of changes) t.news;
+}
+
+pub touched_both : (areas : List Record) (changes more : List Change) (start end : ℕ) → IsTouched areas changes start end → IsTouched areas more start end
+    → IsTouched areas (changes ++ more) start end
+touched_both areas changes more start end t u = record {
+  olds = subst (λ olds. All (HoldsOld areas start end) olds) (sym (olds_of-append changes more))
+      (All-append (HoldsOld areas start end) (olds_of changes) (olds_of more) t.olds u.olds);
+  news = subst (λ news. All (HoldsNew areas start end) news) (sym (news_of-append changes more))
+      (All-append (HoldsNew areas start end) (news_of changes) (news_of more) t.news u.news);
+}
+
+-- one more change
+pub touched_more : (areas : List Record) (changes : List Change) (change : Change) (start end first last : ℕ) → IsTouched areas changes start end
+    → IsTouched areas (change ∷ []) first last → IsTouched areas (changes ++ change ∷ []) (min start first) (max end last)
+touched_more areas changes change start end first last t u =
+    touched_both areas changes (change ∷ []) (min start first) (max end last)
+    (touched_wider areas changes start end (min start first) (max end last) t (omega arith) (omega arith))
+    (touched_wider areas (change ∷ []) first last (min start first) (max end last) u (omega arith) (omega arith))
+
+-- the areas that the changes take away, around the change at a place
+pub olds_around : (changes : List Change) (place : ℕ) (d : Change) → place < length changes
+    → olds_of changes ≡ olds_of (take place changes) ++ (olds_of (get_or changes place d ∷ []) ++ olds_of (drop (place + 1) changes))
+olds_around changes place d within =
+    ap olds_of (sym (take-append-drop place changes))
+    ∙ olds_of-append (take place changes) (drop place changes)
+    ∙ ap (λ rest. olds_of (take place changes) ++ olds_of rest) (drop_more changes place d within)
+    ∙ ap (λ rest. olds_of (take place changes) ++ rest) (olds_of-append (get_or changes place d ∷ []) (drop (place + 1) changes))
+
+-- what each area has that the changes take away, each has that one of them takes away
+pub olds_at : (P : Record → Type 0) (changes : List Change) (place : ℕ) (d : Change) → place < length changes → All P (olds_of changes)
+    → All P (olds_of (get_or changes place d ∷ []))
+olds_at P changes place d within each =
+    All-from_recursion P (olds_of (get_or changes place d ∷ []))
+    (Each-left P (olds_of (get_or changes place d ∷ [])) (olds_of (drop (place + 1) changes))
+    (Each-right P (olds_of (take place changes)) (olds_of (get_or changes place d ∷ []) ++ olds_of (drop (place + 1) changes))
+    (recursion_from_All P (olds_of (take place changes) ++ (olds_of (get_or changes place d ∷ []) ++ olds_of (drop (place + 1) changes)))
+    (subst (λ olds. All P olds) (olds_around changes place d within) each))))
+
+-- the change at a place, after those before it
+pub touched_step : (areas : List Record) (changes : List Change) (place : ℕ) (d : Change) (start end first last low high : ℕ) → place < length changes
+    → IsTouched areas (take place changes) start end → IsTouched areas (get_or changes place d ∷ []) first last
+    → low ≡ min start first → high ≡ max end last → IsTouched areas (take (place + 1) changes) low high
+touched_step areas changes place d start end first last low high within t u is_low is_high =
+    subst (λ some. IsTouched areas some low high) (sym (take_more changes place d within))
+    (touched_wider areas (take place changes ++ get_or changes place d ∷ []) (min start first) (max end last) low high
+    (touched_more areas (take place changes) (get_or changes place d) start end first last t u) (omega arith) (omega arith))
+
+-- the areas that a change takes away and brings, if there are any
+pub olds_single : (change : Change) → olds_of (change ∷ []) ≡ option_to_list (old_of change)
+olds_single (Detach old) = refl
+olds_single (Alter old new) = refl
+olds_single (Add new) = refl
+
+pub news_single : (change : Change) → news_of (change ∷ []) ≡ option_to_list (new_of change)
+news_single (Detach old) = refl
+news_single (Alter old new) = refl
+news_single (Add new) = refl
+
+-- the changes from a place on
+pub olds_from : (changes : List Change) (place : ℕ) (d : Change) → place < length changes
+    → olds_of (drop place changes) ≡ olds_of (get_or changes place d ∷ []) ++ olds_of (drop (place + 1) changes)
+olds_from changes place d within = ap olds_of (drop_more changes place d within)
+    ∙ olds_of-append (get_or changes place d ∷ []) (drop (place + 1) changes)
+
+pub news_from : (changes : List Change) (place : ℕ) (d : Change) → place < length changes
+    → news_of (drop place changes) ≡ news_of (get_or changes place d ∷ []) ++ news_of (drop (place + 1) changes)
+news_from changes place d within = ap news_of (drop_more changes place d within)
+    ∙ news_of-append (get_or changes place d ∷ []) (drop (place + 1) changes)

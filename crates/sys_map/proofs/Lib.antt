@@ -1,0 +1,13 @@
+pub mod Splicing
+pub mod Fronting
+pub mod Editing
+pub mod Going
+pub mod Leaving
+pub mod Coming
+pub mod Ranging
+pub mod InOrder
+pub mod Scanning
+pub mod Counting
+pub mod Refusing
+pub mod Freeing
+pub mod Mapped

@@ -1,0 +1,11 @@
+use Rattle.std.proofs.Common.{◌≤◌, length, take}
+use Rattle.sys_map.specs.Ranges.{IsTouched}
+use Rattle.sys_map.proofs.edits.touched.Given as goal
+
+-- the changes so far touch the part so far
+abbrev pub invariant-loop-change : goal.invariant-loop-change
+invariant-loop-change l = record {
+  start : l.start ≤ length l.areas;
+  end : l.end ≤ length l.areas;
+  touched : IsTouched l.areas (take l.change-index l.changes) l.start l.end;
+}

@@ -1,0 +1,13 @@
+use Rattle.std.proofs.Common.{sym, ap, ◌∙◌}
+use Rattle.area_model.specs.Placement.{bounds_of, place}
+use Rattle.sys_map.proofs.Freeing.{place_at_hint, place_beside_hint}
+use Rattle.sys_map.proofs.ranges.place.Goals as goal
+
+pub returns-in-Some-clause-value : goal.returns-in-Some-clause-value
+returns-in-Some-clause-value g c = place_at_hint (bounds_of c.args.config.now) (g.A.Areas.list c.args.areas.now) c.args.pages c.args.hint c.in-Some.start
+    (sym c.hinted_place.ensures ∙ c.in-Some.is)
+
+pub returns-clause-value : goal.returns-clause-value
+returns-clause-value g c = let areas = g.A.Areas.list c.args.areas.now in
+    place_beside_hint (bounds_of c.args.config.now) areas c.args.pages c.args.hint c.number_of.result (sym c.hinted_place.ensures ∙ c.in_default.is)
+    (c.number_of.ensures ∙ c.place.ensures.place ∙ ap (λ bounds. place bounds areas c.args.pages 0) c.requires.bounds)

@@ -1,0 +1,17 @@
+-- A list of areas in a vector.
+use Rattle.std.specs.Prelude.{ℕ, ◌≤◌, List}
+use Rattle.mm_types.specs.declared.area.Record.{Record}
+use Rattle.area_model.specs.declared.placement.Bounds.{Bounds}
+use Rattle.split_merge.specs.Plans.{IsKept}
+
+-- a list of areas with the numbers by which it goes
+pub record Stored : Type 0 where
+  pub list : List Record
+  pub bounds : Bounds
+  pub most : ℕ
+
+-- the list is sound for its numbers, and there is room for the most areas that it may have
+pub record HasRoom (bounds : Bounds) (most : ℕ) (areas : List Record) (room middle : ℕ) : Type 0 where
+  pub kept : IsKept bounds most areas
+  pub room_for_all : most ≤ room
+  pub room_for_middle : most ≤ middle

@@ -1,0 +1,70 @@
+//! Free ranges of pages, found by page.
+ghost use Rattle.std.specs.Prelude.{◌≡◌, ◌<◌, ◌≤◌, ◌+◌, ◌^◌, IfSome, nat_le};
+ghost use Rattle.mm_types.specs.Config.{IsValidConfig};
+ghost use Rattle.area_model.specs.Areas.{IsCanonical};
+ghost use Rattle.area_model.specs.Placement.{bounds_of, is_free, hinted_place, place};
+ghost use Rattle.split_merge.specs.Places.{page_number};
+
+use crate::tables::page_of;
+use mm_types::{Config, Page};
+use split_merge::Areas;
+
+/// Whether no area has one of so many pages from this start on.
+pub(crate) fn is_free<A: Areas>(areas: &A, pages: u64, start: u64) -> bool
+    requires canonical { IsCanonical (A.bounds areas.now).limit (A.list areas.now) }
+    requires small { start + pages < 2 ^ 64 }
+    ensures { result ≡ is_free (A.list areas.now) pages start }
+{
+    match areas.from(Page(start)) {
+        Some(area) => start + pages <= area.span.lo,
+        None => true,
+    }
+}
+
+/// Whether so many pages from this start on end at or below the end.
+pub(crate) fn fits(start: u64, pages: u64, end: u64) -> bool
+    ensures { result ≡ nat_le (start + pages) end }
+{
+    pages <= end && start <= end - pages
+}
+
+/// The hint's page where it is free up to the limit. A hint below one page is none, and another is raised to the
+/// lowest page.
+#[tactic(auto, unfolding(area_model::specs::Placement::hinted_place))]
+fn hinted_place<A: Areas>(config: &Config, areas: &A, pages: u64, hint: u64) -> Option<u64>
+    requires canonical { IsCanonical (A.bounds areas.now).limit (A.list areas.now) }
+    ensures { result ≡ hinted_place (bounds_of config.now) (A.list areas.now) pages hint }
+{
+    if page_of(hint) == 0 {
+        return None;
+    }
+    let start = page_of(hint).max(page_of(config.min));
+    if fits(start, pages, page_of(config.limit)) && is_free(areas, pages, start) {
+        Some(start)
+    } else {
+        None
+    }
+}
+
+/// The number of a page, if there is one.
+fn number_of(page: Option<Page>) -> Option<u64>
+    ensures { result ≡ page_number page }
+{
+    page.map(|page| page.0)
+}
+
+/// Where so many pages go: at the hint, else where the list has a place for them.
+pub(crate) fn place<A: Areas>(config: &Config, areas: &mut A, pages: u64, hint: u64) -> Option<u64>
+    requires canonical { IsCanonical (A.bounds areas.old).limit (A.list areas.old) }
+    requires bounds { A.bounds areas.old ≡ bounds_of config.now }
+    requires some_pages { 1 ≤ pages }
+    ensures value { result ≡ place (bounds_of config.now) (A.list areas.old) pages hint }
+    ensures list { A.list areas.new ≡ A.list areas.old }
+    ensures bounds { A.bounds areas.new ≡ A.bounds areas.old }
+    ensures most { A.most areas.new ≡ A.most areas.old }
+{
+    if let Some(start) = hinted_place(config, areas, pages, hint) {
+        return Some(start);
+    }
+    number_of(areas.place(pages))
+}

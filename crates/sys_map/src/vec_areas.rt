@@ -1,0 +1,99 @@
+//! A list of areas in a sorted vector.
+ghost use Rattle.std.specs.Prelude.{◌≡◌, [], IfOk};
+ghost use Rattle.area_model.specs.Placement.{bounds_of};
+ghost use Rattle.split_merge.specs.Plans.{applied, IsPlanOf, IsKept};
+
+use crate::edits::carry_out;
+use crate::fronts::{area_at, begins_below, ends_by, last_of};
+use crate::places::place;
+use crate::tables::page_of;
+use area_model::Bounds;
+use mm_types::{Config, NoMemory, Page, Record};
+use split_merge::{Areas, Plan};
+use std::alloc::Global;
+use std::marker::Model;
+
+/// A list of areas in a sorted vector with room for as many as are allowed, so that it never grows. Contracts see it as
+/// the list and the numbers of its configuration, for which the list is sound.
+#[derive(Debug, Drop)]
+pub struct VecAreas {
+    items: Vec<Record>,
+    /// Where the areas that a plan touches are changed.
+    middle: Vec<Record>,
+    bounds: Bounds,
+    most: u32,
+}
+
+impl Model for VecAreas {
+    ghost use Rattle.std.specs.Vec.{vec_capacity};
+    ghost use Rattle.sys_map.specs.Stored.{Stored, HasRoom};
+
+    ghost Value = { Stored };
+
+    ghost view = { λ v. record { list = v.items.items; bounds = v.bounds; most = v.most } };
+
+    ghost invariant = { λ v. HasRoom v.bounds v.most v.items.items (vec_capacity v.items) (vec_capacity v.middle) };
+}
+
+impl VecAreas {
+    /// An empty list with the numbers of a configuration.
+    #[tactic(auto, unfolding(area_model::specs::Placement::bounds_of))]
+    pub fn with_room(alloc: Global, config: &Config) -> Result<VecAreas, NoMemory>
+        ensures { IfOk result (λ areas. areas ≡ record { list = []; bounds = bounds_of config.now; most = config.now.areas }) }
+    {
+        let most = config.areas as usize;
+        Ok(VecAreas {
+            items: Vec::with_capacity(alloc, most)?,
+            middle: Vec::with_capacity(alloc, most)?,
+            bounds: Bounds {
+                low: page_of(config.min),
+                top: page_of(config.top),
+                limit: page_of(config.limit),
+            },
+            most: config.areas,
+        })
+    }
+
+    /// The areas, in order.
+    pub fn list(&self) -> &[Record]
+        ensures value { result.now ≡ self.now.list }
+        ensures kept { IsKept self.now.bounds self.now.most self.now.list }
+    {
+        self.items.as_slice()
+    }
+
+    /// Changes the list by a plan. The areas behind those that change move at most once.
+    pub fn apply(&mut self, plan: &Plan)
+        requires plan { IsPlanOf self.old.list plan.now.changes }
+        requires kept { IsKept self.old.bounds self.old.most (applied plan.now.changes self.old.list) }
+        ensures { self.new ≡ record self.old { list = applied plan.now.changes self.old.list } }
+    {
+        carry_out(&mut self.items, &mut self.middle, plan.changes());
+    }
+}
+
+impl Areas for VecAreas {
+    ghost list = { λ v. v.list };
+
+    ghost bounds = { λ v. v.bounds };
+
+    ghost most = { λ v. v.most };
+
+    fn count(&self) -> u64 {
+        self.items.len() as u64
+    }
+
+    fn from(&self, page: Page) -> Option<Record> {
+        let place = ends_by(self.items.as_slice(), page.0);
+        area_at(self.items.as_slice(), place)
+    }
+
+    fn before(&self, page: Page) -> Option<Record> {
+        let place = begins_below(self.items.as_slice(), page.0);
+        last_of(self.items.as_slice(), place)
+    }
+
+    fn place(&mut self, len: u64) -> Option<Page> {
+        place(self.bounds, self.items.as_slice(), len).map(Page)
+    }
+}
