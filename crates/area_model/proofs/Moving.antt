@@ -13,7 +13,7 @@ use Rattle.area_model.specs.Changes.{put}
 use Rattle.area_model.specs.Placement.{is_free}
 use Rattle.area_model.specs.Tables.{AddressSpace, Outcome, first_row, unless_refused, pages_of, has_too_many_areas}
 use Rattle.area_model.specs.Munmap.{range_of}
-use Rattle.area_model.specs.declared.remapping.Moved.{Moved}
+use Rattle.area_model.specs.declared.remapped.Moved.{Moved}
 use Rattle.area_model.specs.declared.remapping.MremapArgs.{MremapArgs}
 use Rattle.area_model.specs.Mremap.{moves_to, grows, old_range, new_range, overlap, mremap_rows, carried_area, moved_list, moved, has_room, mremap_change, mremap_change_rows, mremap_done, mremap}
 use Rattle.area_model.specs.Laws.{moved_range, MovesTo, IsMove}

@@ -15,7 +15,7 @@ use Rattle.area_model.specs.Changes.{joined_area, cut, put}
 use Rattle.area_model.specs.Placement.{bounds_of, place}
 use Rattle.area_model.specs.Tables.{AddressSpace, first_row, pages_of}
 use Rattle.area_model.specs.Munmap.{range_of}
-use Rattle.area_model.specs.declared.remapping.Moved.{Moved}
+use Rattle.area_model.specs.declared.remapped.Moved.{Moved}
 use Rattle.area_model.specs.declared.remapping.MremapArgs.{MremapArgs}
 use Rattle.area_model.specs.Mremap.{moves_to, may_move, grows, old_range, new_range, overlap, is_new_misplaced, crosses_areas, overflows_object, mremap_rows, carried_area, moved_list, moved, shrunk_list, added_range, has_room, grown_list, new_place, mremap_change, mremap_change_rows, mremap_done, mremap}
 use Rattle.area_model.specs.Laws.{moved_range, MovesTo}

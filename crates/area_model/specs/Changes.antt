@@ -1,5 +1,5 @@
 -- Changes of a list of areas: cut, put, merge, and a new protection.
-use Rattle.std.specs.Prelude.{ℕ, ◌≤◌, ◌^◌, ◌≡◌, min, max, Bool, true, false, if◌then◌else◌, nat_lt, List, [], ◌∷◌, ◌++◌, flat_map, map}
+use Rattle.std.specs.Prelude.{ℕ, ◌≤◌, ◌^◌, min, max, if◌then◌else◌, nat_lt, List, [], ◌∷◌, ◌++◌, flat_map, map}
 use Rattle.mm_types.specs.declared.area.Span.{Span}
 use Rattle.mm_types.specs.declared.area.Prot.{Prot}
 use Rattle.mm_types.specs.declared.area.Record.{Record}

@@ -9,7 +9,7 @@ use Rattle.mm_types.specs.declared.history.Item.{Item}
 use Rattle.mm_types.specs.declared.history.Op.{Op}
 use Rattle.mm_types.specs.declared.history.Op.TheVariants as ops
 use Rattle.mm_types.specs.declared.history.TraceLine.{TraceLine}
-use Rattle.area_model.specs.Tables.{AddressSpace, Outcome}
+use Rattle.area_model.specs.Tables.{AddressSpace}
 use Rattle.area_model.specs.Verdicts.{verdict}
 use Rattle.area_model.specs.Steps.{step, opening, after}
 

@@ -1,5 +1,5 @@
 -- mmap(2), row by row.
-use Rattle.std.specs.Prelude.{ℕ, ℤ, ◌+◌, ◌-◌, ◌*◌, ◌/◌, ◌^◌, Bool, true, false, not, ◌&&◌, ◌||◌, if◌then◌else◌, nat_eq, nat_lt, List, [], ◌∷◌, ◌++◌, find, position, Option, Some, None, option_map, is_none}
+use Rattle.std.specs.Prelude.{ℕ, ℤ, ◌+◌, ◌-◌, ◌*◌, ◌^◌, Bool, true, false, not, ◌&&◌, ◌||◌, if◌then◌else◌, nat_eq, nat_lt, List, [], ◌∷◌, ◌++◌, find, position, Option, Some, option_map, is_none}
 use Rattle.std.specs.Option.{option_map_or}
 use Rattle.std.specs.Ordering.{int_eq}
 use Rattle.mm_types.specs.declared.area.Prot.{Prot}
@@ -14,7 +14,7 @@ use Rattle.mm_types.specs.declared.files.FileRow.{FileRow}
 use Rattle.mm_types.specs.declared.flags.TheConstants.{MAP_SHARED, MAP_PRIVATE, MAP_FIXED, MAP_ANONYMOUS, MAP_FIXED_NOREPLACE}
 use Rattle.area_model.specs.Areas.{page_of}
 use Rattle.area_model.specs.Changes.{put}
-use Rattle.area_model.specs.Placement.{or_else, bounds_of, place, is_free}
+use Rattle.area_model.specs.Placement.{bounds_of, place, is_free}
 use Rattle.area_model.specs.Tables.{AddressSpace, Outcome, first_row, unless_refused, is_aligned, pages_of, has_flag, has_too_many_areas}
 
 -- MAP_ANONYMOUS: no file is mapped

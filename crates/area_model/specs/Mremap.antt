@@ -1,5 +1,5 @@
 -- mremap(2), row by row.
-use Rattle.std.specs.Prelude.{ℕ, ◌+◌, ◌-◌, ◌*◌, ◌^◌, min, Bool, true, false, not, ◌&&◌, ◌||◌, if◌then◌else◌, nat_eq, nat_lt, nat_le, List, [], ◌∷◌, Option, Some, None, is_none, option_map, option_and_then}
+use Rattle.std.specs.Prelude.{ℕ, ◌+◌, ◌-◌, ◌*◌, ◌^◌, min, Bool, false, not, ◌&&◌, ◌||◌, if◌then◌else◌, nat_eq, nat_lt, nat_le, List, [], ◌∷◌, Option, Some, None, is_none, option_map, option_and_then}
 use Rattle.std.specs.List.{list_any}
 use Rattle.std.specs.Option.{option_map_or}
 use Rattle.mm_types.specs.declared.area.Span.{Span}
@@ -10,7 +10,7 @@ use Rattle.mm_types.specs.declared.call.Reply.TheVariants.{Addr}
 use Rattle.mm_types.specs.declared.config.Config.{Config}
 use Rattle.mm_types.specs.declared.config.TheConstants.{PAGE_SIZE}
 use Rattle.mm_types.specs.declared.flags.TheConstants.{MREMAP_MAYMOVE, MREMAP_FIXED}
-use Rattle.area_model.specs.declared.remapping.Moved.{Moved}
+use Rattle.area_model.specs.declared.remapped.Moved.{Moved}
 use Rattle.area_model.specs.declared.remapping.MremapArgs.{MremapArgs}
 use Rattle.area_model.specs.Areas.{page_of, index_of, area_at}
 use Rattle.area_model.specs.Changes.{cut, put}
@@ -26,10 +26,11 @@ moves_to args = has_flag args.flags MREMAP_FIXED
 abbrev pub may_move : MremapArgs → Bool
 may_move args = has_flag args.flags MREMAP_MAYMOVE
 
--- the pages of the old range, and of the new one at its fixed place
+-- the pages of the old range
 abbrev pub old_range : MremapArgs → Span
 old_range args = range_of args.old args.old_len
 
+-- the pages of the new range at its fixed place
 abbrev pub new_range : MremapArgs → Span
 new_range args = range_of args.new args.new_len
 
@@ -60,9 +61,16 @@ overflows_object areas args = grows args && option_map_or
     (λ area. not (nat_eq area.object 0) && nat_lt (2 ^ 51 - 1) (index_of area (page_of args.old) + pages_of args.new_len))
     (area_at areas (page_of args.old)) false
 
+-- the tests of the old range, in their order: not mapped, spread over areas, object overflow
+abbrev pub range_rows : List Record → MremapArgs → List (Bool × Errno)
+range_rows areas args =
+    (is_none (area_at areas (page_of args.old)), Efault)
+    ∷ (crosses_areas areas args, Efault)
+    ∷ (overflows_object areas args, Einval)
+    ∷ []
+
 -- the tests, in their order: other flag, fixed without MREMAP_MAYMOVE, old not aligned, empty new length, empty old length,
--- old past the limit; of a fixed place: misplaced, below the minimum, overlap; of the old range: not mapped, spread over
--- areas, object overflow
+-- old past the limit; of a fixed place: misplaced, below the minimum, overlap; and those of the old range
 unfoldable pub mremap_rows : Config → List Record → MremapArgs → List (Bool × Errno)
 mremap_rows config areas args =
     (has_other_flag args, Einval)
@@ -74,10 +82,7 @@ mremap_rows config areas args =
     ∷ (is_new_misplaced config args, Einval)
     ∷ (moves_to args && nat_lt args.new config.min, Eperm)
     ∷ (moves_to args && overlap (old_range args) (new_range args), Einval)
-    ∷ (is_none (area_at areas (page_of args.old)), Efault)
-    ∷ (crosses_areas areas args, Efault)
-    ∷ (overflows_object areas args, Einval)
-    ∷ []
+    ∷ range_rows areas args
 
 -- an area with the attributes and the object of the old one, from a page of the old range on
 unfoldable pub carried_area : Record → ℕ → Span → Record

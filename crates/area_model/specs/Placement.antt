@@ -1,5 +1,5 @@
 -- Where a new area goes that names no fixed place.
-use Rattle.std.specs.Prelude.{ℕ, zero, suc, ◌+◌, ◌/◌, ◌≡◌, ◌<◌, max, Bool, true, false, ◌&&◌, ◌||◌, if◌then◌else◌, nat_eq, nat_lt, nat_le, List, [], ◌∷◌, find, Option, Some, None}
+use Rattle.std.specs.Prelude.{ℕ, zero, suc, ◌+◌, ◌≡◌, ◌<◌, max, Bool, true, false, ◌&&◌, ◌||◌, if◌then◌else◌, nat_eq, nat_lt, nat_le, List, find, Option, Some, None}
 use Rattle.std.specs.List.{list_all}
 use Rattle.mm_types.specs.declared.area.Record.{Record}
 use Rattle.mm_types.specs.declared.config.Config.{Config}

@@ -1,5 +1,5 @@
 -- What the tables of the calls have in common.
-use Rattle.std.specs.Prelude.{ℕ, ◌≡◌, ◌+◌, ◌-◌, ◌/◌, ◌%◌, Bool, true, false, not, if◌then◌else◌, nat_eq, nat_lt, bit_and, List, [], ◌∷◌, length, Option, Some, None}
+use Rattle.std.specs.Prelude.{ℕ, ◌+◌, ◌-◌, ◌/◌, ◌%◌, Bool, not, if◌then◌else◌, nat_eq, nat_lt, bit_and, List, [], ◌∷◌, length, Option, Some, None}
 use Rattle.mm_types.specs.declared.area.Record.{Record}
 use Rattle.mm_types.specs.declared.call.Errno.{Errno}
 use Rattle.mm_types.specs.declared.call.Reply.{Reply}

@@ -5,7 +5,7 @@ ghost use Rattle.area_model.specs.Areas.{page_of, index_of, joins};
 use mm_types::{PAGE_SIZE, Record};
 
 /// The page that an address lies in.
-pub(crate) fn page_of(address: u64) -> u64
+pub fn page_of(address: u64) -> u64
     ensures { result ≡ page_of address }
 {
     address / PAGE_SIZE
@@ -13,7 +13,7 @@ pub(crate) fn page_of(address: u64) -> u64
 
 /// The page of its object that an area maps at this page; 0 for private anonymous memory.
 #[tactic(auto, unfolding(crate::specs::Areas::index_of))]
-pub(crate) fn index_of(area: &Record, page: u64) -> u64
+pub fn index_of(area: &Record, page: u64) -> u64
     requires { area.now.object ≢ 0 → area.now.offset + (page - area.now.span.lo) < 2 ^ 64 }
     ensures { result ≡ index_of area.now page }
 {
@@ -26,7 +26,7 @@ pub(crate) fn index_of(area: &Record, page: u64) -> u64
 
 /// Whether two neighbours are one area.
 #[tactic(auto, unfolding(crate::specs::Areas::joins))]
-pub(crate) fn joins(a: &Record, b: &Record) -> bool
+pub fn joins(a: &Record, b: &Record) -> bool
     ensures { result ≡ joins a.now b.now }
 {
     a.span.hi == b.span.lo
@@ -35,7 +35,7 @@ pub(crate) fn joins(a: &Record, b: &Record) -> bool
         && (a.object == 0 || goes_on(a, b))
 }
 
-/// Whether the second maps what comes behind the first in its object.
+/// Whether the second maps what follows the first in its object.
 fn goes_on(a: &Record, b: &Record) -> bool
     ensures { result ≡ nat_eq b.now.offset (a.now.offset + (a.now.span.hi - a.now.span.lo)) }
 {

@@ -29,7 +29,7 @@ fn permits(prot: Prot, access: Access) -> bool
     }
 }
 
-/// Whether a page of an area lies at or behind the end of its file, in pages rounded up.
+/// Whether a page of an area lies at or past the end of its file, in pages rounded up.
 #[tactic(auto, unfolding(crate::specs::Verdicts::is_past_end))]
 fn is_past_end(files: &[FileRow], area: &Record, page: u64) -> bool
     requires valid { IsValid area.now }
@@ -65,7 +65,7 @@ fn area_verdict(files: &[FileRow], page: u64, access: Access, area: &Record) -> 
 }
 
 /// What a fault comes to on a list of areas: no area has the page; its protection does not allow the access; the
-/// page lies behind the end of the file; or it is served.
+/// page lies past the end of the file; or it is served.
 #[tactic(auto, unfolding(crate::specs::Verdicts::verdict))]
 pub fn model_verdict(files: &Files, list: &AreaList, page: Page, access: Access) -> Verdict
     requires { All IsValid list.now }

@@ -140,8 +140,8 @@ pub fn new_object_is_fresh()
     ensures pages { (config : Config) (space : AddressSpace) (args : MmapArgs) (address page : ℕ) → IsReady config space
         → MapsShared config space args address → has_page (range_of address args.len) page ≡ true
         → IsSomeAnd (page_map (step config space (Mmap args)).space.areas page)
-        (λ mapped_list. (mapped_list.object ≡ (step config space (Mmap args)).space.objects)
-        × (mapped_list.index ≡ page - page_of address)) }
+        (λ mapped. (mapped.object ≡ (step config space (Mmap args)).space.objects)
+        × (mapped.index ≡ page - page_of address)) }
 {}
 
 /// After a legal journal, and after each prefix of it, the list is sound and a step may be taken; the files stay counted.

@@ -11,12 +11,14 @@ mod mapping;
 mod placement;
 mod placement_laws;
 mod protecting;
+mod remapped;
 mod remapping;
 mod soundness;
 mod step;
 mod tables;
 mod unmapping;
 
+pub use areas::{index_of, joins, page_of};
 pub use faults::model_verdict;
 pub use history_laws::{serial_history_by_version, sort_by_caller_is_stable};
 pub use laws::{
@@ -24,11 +26,18 @@ pub use laws::{
     move_carries_the_pages, new_object_is_fresh, page_map_determines_list,
     protect_changes_the_prefix, put_maps_the_span, serial_history_is_legal, step_keeps_soundness,
 };
-pub use placement::{Bounds, FLOOR};
+pub use mapping::{is_fixed, is_noreplace, mmap_refusal, new_area, objects_numbered};
+pub use placement::{Bounds, FLOOR, bounds_of, fits};
 pub use placement_laws::{greatest_below_finds_the_greatest, least_below_finds_the_least};
-pub use remapping::{Moved, MremapArgs};
-pub use soundness::{is_ready, sound};
+pub use remapped::Moved;
+pub use remapping::{
+    MremapArgs, added_range, carried_area, grows, may_move, moves_to, mremap_refusal, old_range,
+    runs_past_object,
+};
+pub use soundness::{holds_all, is_ready, sound};
 pub use step::{Stepped, model_step};
+pub use tables::{end_of, has_flag, is_aligned, pages_of};
+pub use unmapping::range_of;
 
 #[cfg(test)]
 mod tests;

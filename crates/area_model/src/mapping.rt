@@ -1,7 +1,8 @@
 //! mmap(2): the tests of its table in their order, and the mapping itself.
-ghost use Rattle.std.specs.Prelude.{◌≡◌, ◌<◌, ◌≤◌, ◌+◌, ◌-◌, ◌^◌, IfOk, IfSome, length, nat_lt, not};
+ghost use Rattle.std.specs.Prelude.{◌≡◌, ◌<◌, ◌≤◌, ◌+◌, ◌-◌, ◌^◌, IfOk, IfSome, length, List, nat_lt, not};
 ghost use Rattle.std.specs.Prelude.{option_copied, ◌&&◌, ◌*◌};
 ghost use Rattle.mm_types.specs.Config.{IsValidConfig};
+ghost use Rattle.mm_types.specs.declared.area.Record.{Record};
 ghost use Rattle.mm_types.specs.declared.config.TheConstants.{PAGE_SIZE};
 ghost use Rattle.area_model.specs.Stepped.{space_of, outcome_of};
 ghost use Rattle.area_model.specs.Steps.{IsReady};
@@ -46,16 +47,16 @@ fn is_shared(args: &MmapArgs) -> bool
     has_flag(args.flags, MAP_SHARED)
 }
 
-/// Whether the call keeps what is mapped.
-fn is_noreplace(args: &MmapArgs) -> bool
+/// Whether the call keeps what is mapped: MAP_FIXED_NOREPLACE.
+pub fn is_noreplace(args: &MmapArgs) -> bool
     ensures { result ≡ is_noreplace args.now }
 {
     has_flag(args.flags, MAP_FIXED_NOREPLACE)
 }
 
-/// Whether the place is the address itself.
+/// Whether the place is the address itself: MAP_FIXED or MAP_FIXED_NOREPLACE.
 #[tactic(auto, unfolding(crate::specs::Mmap::is_fixed))]
-fn is_fixed(args: &MmapArgs) -> bool
+pub fn is_fixed(args: &MmapArgs) -> bool
     ensures { result ≡ is_fixed args.now }
 {
     has_flag(args.flags, MAP_FIXED) || is_noreplace(args)
@@ -76,7 +77,7 @@ fn lacks_file(config: &Config, args: &MmapArgs) -> bool
     !is_anonymous(args) && file_of(config.files.items(), args.fd).is_none()
 }
 
-/// Whether the last byte would lie past 2^63 - 1 of the file.
+/// Whether the range would end past 2^63 - 1 of the file.
 #[tactic(auto, unfolding(crate::specs::Mmap::overflows_offset))]
 fn overflows_offset(args: &MmapArgs) -> bool
     ensures { result ≡ overflows_offset args.now }
@@ -143,10 +144,12 @@ fn is_taken(areas: &[Record], args: &MmapArgs) -> bool
     is_noreplace(args) && !is_free(areas, pages_of(args.len), page_of(args.addr))
 }
 
-/// The first test of the request that refuses it.
+/// The first test of mmap(2)'s request that refuses it. The last test asks whether the call keeps what is mapped and a page
+/// of its range is; whoever has the list of areas answers that as `taken`.
 #[tactic(auto, unfolding(crate::specs::Mmap::mmap_rows))]
-fn request_error(config: &Config, areas: &[Record], args: &MmapArgs) -> Option<Errno>
-    ensures { result ≡ first_row (mmap_rows config.now areas.now args.now) }
+pub fn mmap_refusal(config: &Config, args: &MmapArgs, taken: bool) -> Option<Errno>
+    ensures { (areas : List Record) → taken ≡ is_taken areas args.now
+        → result ≡ first_row (mmap_rows config.now areas args.now) }
 {
     if !is_aligned(args.offset) {
         return Some(Errno::Einval);
@@ -178,7 +181,14 @@ fn request_error(config: &Config, areas: &[Record], args: &MmapArgs) -> Option<E
     if is_past_limit(config, args) {
         return Some(Errno::Enomem);
     }
-    is_taken(areas, args).then_some(Errno::Eexist)
+    taken.then_some(Errno::Eexist)
+}
+
+/// The first test of the request that refuses it.
+fn request_error(config: &Config, areas: &[Record], args: &MmapArgs) -> Option<Errno>
+    ensures { result ≡ first_row (mmap_rows config.now areas.now args.now) }
+{
+    mmap_refusal(config, args, is_taken(areas, args))
 }
 
 /// The page where the mapping begins, if it has a place.
@@ -253,9 +263,9 @@ fn object_mapped(config: &Config, objects: u32, args: &MmapArgs) -> u32
     object_of(config.files.items(), args.fd).unwrap_or(0)
 }
 
-/// How many objects are numbered after it.
+/// How many objects are numbered after a call of mmap(2) that succeeds, where so many were before it.
 #[tactic(auto, unfolding(crate::specs::Mmap::objects_after))]
-fn objects_after(objects: u32, args: &MmapArgs) -> u32
+pub fn objects_numbered(objects: u32, args: &MmapArgs) -> u32
     requires { objects < 2 ^ 32 - 1 }
     ensures { result ≡ objects_after objects args.now }
 {
@@ -266,9 +276,9 @@ fn objects_after(objects: u32, args: &MmapArgs) -> u32
     }
 }
 
-/// The new area at a page.
+/// The new area of a call of mmap(2) that begins at this page. `objects` is how many objects were numbered before it.
 #[tactic(auto, unfolding(crate::specs::Mmap::new_area))]
-fn new_area(config: &Config, objects: u32, args: &MmapArgs, start: u64) -> Record
+pub fn new_area(config: &Config, objects: u32, args: &MmapArgs, start: u64) -> Record
     requires valid { IsValidConfig config.now }
     requires room { objects < 2 ^ 32 - 1 }
     requires low { start < 2 ^ 52 }
@@ -336,7 +346,7 @@ pub(crate) fn mmap(
     }
     Ok(Stepped {
         list: AreaList::of(mapped_list),
-        objects: objects_after(objects, args),
+        objects: objects_numbered(objects, args),
         reply: Reply::Addr(PAGE_SIZE * start),
     })
 }

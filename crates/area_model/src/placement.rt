@@ -20,7 +20,7 @@ pub struct Bounds {
 }
 
 /// The bounds of a configuration.
-pub(crate) fn bounds_of(config: &Config) -> Bounds
+pub fn bounds_of(config: &Config) -> Bounds
     ensures { result ≡ bounds_of config.now }
 {
     Bounds {
@@ -31,7 +31,7 @@ pub(crate) fn bounds_of(config: &Config) -> Bounds
 }
 
 /// Whether so many pages from this start on end at or below the end.
-pub(crate) fn fits(start: u64, pages: u64, end: u64) -> bool
+pub fn fits(start: u64, pages: u64, end: u64) -> bool
     ensures { result ≡ nat_le (start + pages) end }
 {
     pages <= end && start <= end - pages
@@ -58,8 +58,8 @@ fn blocker(areas: &[Record], pages: u64, start: u64) -> Option<Record>
         .copied()
 }
 
-/// The hint's page where it is free up to the limit. A hint below one page is none, and another is raised to the
-/// lowest page.
+/// The hint's page, where so many pages from it on are free and end at or below the limit. A hint below one page is
+/// none, and another is raised to the lowest page.
 #[tactic(auto, unfolding(crate::specs::Placement::hinted_place))]
 fn hinted_place(bounds: Bounds, areas: &[Record], pages: u64, hint: u64) -> Option<u64>
     ensures value { result ≡ hinted_place bounds areas.now pages hint }

@@ -17,7 +17,7 @@ const MOST_PAGES: u64 = (1 << 51) - 1;
 
 /// Whether the one protection holds each access of the other.
 #[tactic(auto, unfolding(mm_types::specs::Records::holds_all))]
-pub(crate) fn holds_all(most: Prot, prot: Prot) -> bool
+pub fn holds_all(most: Prot, prot: Prot) -> bool
     ensures { result ≡ holds_all most prot }
 {
     (!prot.read || most.read) && (!prot.write || most.write) && (!prot.exec || most.exec)

@@ -4,7 +4,8 @@ ghost use Rattle.area_model.specs.Stepped.{space_of, outcome_of};
 
 use crate::mapping::mmap;
 use crate::protecting::mprotect;
-use crate::remapping::{MremapArgs, mremap};
+use crate::remapped::mremap;
+use crate::remapping::MremapArgs;
 use crate::unmapping::munmap;
 use mm_types::{AreaList, Call, Config, NoMemory, Reply};
 use std::alloc::Global;

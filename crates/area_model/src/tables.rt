@@ -8,24 +8,24 @@ use crate::step::Stepped;
 use mm_types::{AreaList, Config, Errno, NoMemory, PAGE_SIZE, Record, Reply};
 use std::alloc::Global;
 
-/// Whether an address or a file offset is a whole number of pages.
-pub(crate) fn is_aligned(address: u64) -> bool
+/// Whether an address or a file offset, in bytes, is a whole number of pages.
+pub fn is_aligned(address: u64) -> bool
     ensures { result ≡ is_aligned address }
 {
     address % PAGE_SIZE == 0
 }
 
-/// How many pages a length takes.
+/// How many pages a length in bytes takes: the tables round a length up.
 #[tactic(auto, unfolding(crate::specs::Tables::pages_of))]
-pub(crate) fn pages_of(len: u64) -> u64
+pub fn pages_of(len: u64) -> u64
     ensures value { result ≡ pages_of len }
     ensures most { result ≤ 2 ^ 52 }
 {
     len.div_ceil(PAGE_SIZE)
 }
 
-/// The byte behind the last page of a range, which may lie past 2^64.
-pub(crate) fn end_of(addr: u64, len: u64) -> u128
+/// The first byte after the last page of a range, which may lie past 2^64. Address and length are in bytes.
+pub fn end_of(addr: u64, len: u64) -> u128
     ensures { result ≡ addr + PAGE_SIZE * pages_of len }
 {
     u128::from(addr) + u128::from(PAGE_SIZE) * u128::from(pages_of(len))
@@ -33,7 +33,7 @@ pub(crate) fn end_of(addr: u64, len: u64) -> u128
 
 /// Whether a flag is set.
 #[tactic(auto, unfolding(crate::specs::Tables::has_flag))]
-pub(crate) fn has_flag(flags: u32, flag: u32) -> bool
+pub fn has_flag(flags: u32, flag: u32) -> bool
     ensures { result ≡ has_flag flags flag }
 {
     flags & flag != 0

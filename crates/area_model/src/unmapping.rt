@@ -11,9 +11,9 @@ use crate::tables::{end_of, has_too_many_areas, is_aligned, pages_of, refused};
 use mm_types::{AreaList, Config, Errno, NoMemory, Record, Reply, Span};
 use std::alloc::Global;
 
-/// The pages from an address on that a length takes.
+/// The pages from an address on that a length takes. Both are in bytes.
 #[tactic(auto, unfolding(crate::specs::Munmap::range_of))]
-pub(crate) fn range_of(addr: u64, len: u64) -> Span
+pub fn range_of(addr: u64, len: u64) -> Span
     ensures { result ≡ range_of addr len }
 {
     let lo = page_of(addr);

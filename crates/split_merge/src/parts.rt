@@ -6,20 +6,8 @@ ghost use Rattle.area_model.specs.Areas.{index_of, joins};
 ghost use Rattle.area_model.specs.Changes.{piece, joined_area};
 ghost use Rattle.split_merge.specs.Joins.{lower_part, upper_part};
 
+use area_model::{index_of, joins};
 use mm_types::{Record, Span};
-
-/// The page of its object that an area maps at this page; 0 for private anonymous memory.
-#[tactic(auto, unfolding(area_model::specs::Areas::index_of))]
-fn index_of(area: &Record, page: u64) -> u64
-    requires { area.now.object ≢ 0 → area.now.offset + (page - area.now.span.lo) < 2 ^ 64 }
-    ensures { result ≡ index_of area.now page }
-{
-    if area.object == 0 {
-        0
-    } else {
-        area.offset + page.saturating_sub(area.span.lo)
-    }
-}
 
 /// The part of an area from `lo` up to `hi`, if it has a page.
 #[tactic(auto, unfolding(area_model::specs::Changes::piece))]
@@ -37,24 +25,6 @@ pub(crate) fn piece(area: &Record, lo: u64, hi: u64) -> Option<Record>
     } else {
         None
     }
-}
-
-/// Whether two neighbours are one area.
-#[tactic(auto, unfolding(area_model::specs::Areas::joins))]
-fn joins(a: &Record, b: &Record) -> bool
-    ensures { result ≡ joins a.now b.now }
-{
-    a.span.hi == b.span.lo
-        && a.attr == b.attr
-        && a.object == b.object
-        && (a.object == 0 || goes_on(a, b))
-}
-
-/// Whether the second maps what comes behind the first in its object.
-fn goes_on(a: &Record, b: &Record) -> bool
-    ensures { result ≡ nat_eq b.now.offset (a.now.offset + (a.now.span.hi - a.now.span.lo)) }
-{
-    u128::from(a.offset) + u128::from(a.span.hi.saturating_sub(a.span.lo)) == u128::from(b.offset)
 }
 
 /// The part of an area below a page.

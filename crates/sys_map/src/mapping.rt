@@ -14,8 +14,9 @@ ghost use Rattle.area_model.specs.Steps.{IsReady};
 ghost use Rattle.split_merge.specs.Plans.{IsLocal, applied, Makes, IsKept, IsFresh};
 
 use crate::ranges::place;
-use crate::requests::{is_fixed, new_area, objects_numbered, request_error};
-use crate::tables::{is_too_long, page_of, pages_of};
+use crate::requests::request_error;
+use crate::tables::is_too_long;
+use area_model::{is_fixed, new_area, objects_numbered, page_of, pages_of};
 use mm_types::{Config, Errno, MmapArgs, PAGE_SIZE, Reply};
 use split_merge::{Areas, Plan, plan_put};
 

@@ -4,8 +4,7 @@ ghost use Rattle.area_model.specs.Areas.{IsCanonical};
 ghost use Rattle.area_model.specs.Placement.{place, high_place, low_place};
 
 use crate::fronts::{area_at, begins_below, ends_by, last_of};
-use crate::ranges::fits;
-use area_model::{Bounds, FLOOR};
+use area_model::{Bounds, FLOOR, fits};
 use mm_types::Record;
 
 /// Where so many pages go that name no place: as high as there is room below the top, else as low as there is room

@@ -5,7 +5,7 @@ ghost use Rattle.area_model.specs.Areas.{IsCanonical};
 ghost use Rattle.area_model.specs.Placement.{bounds_of, is_free, hinted_place, place};
 ghost use Rattle.split_merge.specs.Places.{page_number};
 
-use crate::tables::page_of;
+use area_model::{fits, page_of};
 use mm_types::{Config, Page};
 use split_merge::Areas;
 
@@ -19,13 +19,6 @@ pub(crate) fn is_free<A: Areas>(areas: &A, pages: u64, start: u64) -> bool
         Some(area) => start + pages <= area.span.lo,
         None => true,
     }
-}
-
-/// Whether so many pages from this start on end at or below the end.
-pub(crate) fn fits(start: u64, pages: u64, end: u64) -> bool
-    ensures { result ≡ nat_le (start + pages) end }
-{
-    pages <= end && start <= end - pages
 }
 
 /// The hint's page where it is free up to the limit. A hint below one page is none, and another is raised to the

@@ -9,21 +9,10 @@ ghost use Rattle.area_model.specs.Placement.{bounds_of};
 ghost use Rattle.area_model.specs.Stepped.{space_of};
 ghost use Rattle.split_merge.specs.Plans.{IsLocal, applied, Makes, IsKept, IsFresh};
 
-use crate::tables::{end_of, is_aligned, is_too_long, page_of, pages_of};
-use mm_types::{Config, Errno, Reply, Span};
+use crate::tables::is_too_long;
+use area_model::{end_of, is_aligned, range_of};
+use mm_types::{Config, Errno, Reply};
 use split_merge::{Areas, Plan, plan_cut};
-
-/// The pages from an address on that a length takes.
-#[tactic(auto, unfolding(area_model::specs::Munmap::range_of))]
-fn range_of(addr: u64, len: u64) -> Span
-    ensures { result ≡ range_of addr len }
-{
-    let lo = page_of(addr);
-    Span {
-        lo,
-        hi: lo + pages_of(len),
-    }
-}
 
 /// One call of munmap(2), planned. `addr` and `len` are in bytes. The reply and the list that the plan makes are those
 /// of the model, and do not depend on the counter of objects. After a refusal the plan is empty.

@@ -6,8 +6,7 @@ ghost use Rattle.split_merge.specs.Plans.{applied, IsPlanOf, IsKept};
 use crate::edits::carry_out;
 use crate::fronts::{area_at, begins_below, ends_by, last_of};
 use crate::places::place;
-use crate::tables::page_of;
-use area_model::Bounds;
+use area_model::{Bounds, bounds_of};
 use mm_types::{Config, NoMemory, Page, Record};
 use split_merge::{Areas, Plan};
 use std::alloc::Global;
@@ -45,11 +44,7 @@ impl VecAreas {
         Ok(VecAreas {
             items: Vec::with_capacity(alloc, most)?,
             middle: Vec::with_capacity(alloc, most)?,
-            bounds: Bounds {
-                low: page_of(config.min),
-                top: page_of(config.top),
-                limit: page_of(config.limit),
-            },
+            bounds: bounds_of(config),
             most: config.areas,
         })
     }

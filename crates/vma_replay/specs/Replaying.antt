@@ -28,6 +28,10 @@ GivesOutput input old new = IsOkAnd (trace_of input) (λ trace.
 abbrev pub GivesFront : List ℕ → Option (List ℕ) → Option (List ℕ) → Type 0
 GivesFront input old new = IsOkAnd (trace_of input) (λ trace. (count : ℕ) × Appends old new (take count (serial_output trace)))
 
+-- the input is a trace, and what was given is a front of its output that is not all of it
+abbrev pub GivesShort : List ℕ → Option (List ℕ) → Option (List ℕ) → Type 0
+GivesShort input old new = IsOkAnd (trace_of input) (λ trace. (count : ℕ) × (count < length (serial_output trace)) × Appends old new (take count (serial_output trace)))
+
 -- the answer to accepted words and an input, where neither memory nor the outside fails
 abbrev pub status_of : Result Trace TraceFault → Status
 status_of (Ok trace) = statuses.Done

@@ -2,7 +2,7 @@ ghost use Rattle.std.specs.Prelude.{◌≡◌, ◌<◌, ◌^◌, ◌-◌, ◌⊎
 ghost use Rattle.std.specs.Io.KnownBytes.{Keeps, IsAtEnd};
 ghost use Rattle.trace_reader.specs.declared.fault.Cause.{Cause};
 ghost use Rattle.trace_reader.specs.Grammar.{trace_of};
-ghost use Rattle.vma_replay.specs.Replaying.{are_accepted, GivesOutput, GivesFront, GivesNothing, ReadsEnough, status_of};
+ghost use Rattle.vma_replay.specs.Replaying.{are_accepted, GivesOutput, GivesFront, GivesNothing, GivesShort, ReadsEnough, status_of};
 
 use crate::giving::write_output;
 use crate::reading::read_source;
@@ -17,8 +17,8 @@ use std::thread::Threads;
 /// `words` are the words behind the program's name; `serial` alone is accepted, which runs the lines
 /// in their order. The gate has no part in it.
 ///
-/// On `Words`, `Trace` and `ReadFault` nothing is given to the sink. On `WriteFault` and `NoMemory` what
-/// was given is a front of the output.
+/// On `Words`, `Trace` and `ReadFault` nothing is given to the sink. On `WriteFault` what was given is a front of the
+/// output, and not all of it; on `NoMemory` a front.
 pub fn replay<R: Threads + Wait + Sync, S: Source, K: Sink, G: Gate>(
     _rt: &R,
     alloc: Global,
@@ -48,7 +48,8 @@ pub fn replay<R: Threads + Wait + Sync, S: Source, K: Sink, G: Gate>(
         IfSome (S.left source.old) (λ input. (result ≡ Status.NoMemory) ⊎ (result ≡ status_of (trace_of input))) }
 
     // What was given where not all was.
-    ensures front { (result ≡ Status.WriteFault) ⊎ (result ≡ Status.NoMemory) → IfSome (S.left source.old) (λ input.
+    ensures short { result ≡ Status.WriteFault → IfSome (S.left source.old) (λ input. GivesShort input (K.written sink.old) (K.written sink.new)) }
+    ensures front { result ≡ Status.NoMemory → IfSome (S.left source.old) (λ input.
         Keeps (K.written sink.old) (K.written sink.new) ⊎ GivesFront input (K.written sink.old) (K.written sink.new)) }
     ensures nothing { GivesNothing result → sink.new ≡ sink.old }
 {

@@ -28,7 +28,7 @@ returns-then-has_too_many_areas c = let space = space_of c.args.areas.now c.args
 pub returns : goal.returns
 returns c = let space = space_of c.args.areas.now c.args.objects in
     mmap_outcome c.args.config.now space c.args.args.now c.in-Some-start_of.start (sym c.in_default.ensures) (sym c.in-Some-start_of.ensures.value)
-    c.of.result c.in_ok-mapped_list.mapped_list.items c.objects_after.result c.of.ensures c.in_ok-mapped_list.ensures c.objects_after.ensures
+    c.of.result c.in_ok-mapped_list.mapped_list.items c.objects_numbered.result c.of.ensures c.in_ok-mapped_list.ensures c.objects_numbered.ensures
     (same_length_test c.args.config.now c.has_too_many_areas.result false c.as_slice.result.now c.in_ok-mapped_list.mapped_list.items
     (mapped_list c.args.config.now space c.args.args.now c.in-Some-start_of.start)
     c.has_too_many_areas.ensures c.as_slice.ensures.value c.in_ok-mapped_list.ensures c.if-has_too_many_areas.false)
