@@ -9,4 +9,4 @@ mod mapped;
 mod tests;
 
 pub use line::{print_line, push_range};
-pub use list::print_list;
+pub use list::{print_list, push_list};

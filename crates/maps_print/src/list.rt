@@ -1,10 +1,21 @@
-ghost use Rattle.std.specs.Prelude.{◌≡◌, All, IfOk};
+ghost use Rattle.std.specs.Prelude.{◌≡◌, ◌++◌, All, IfOk, OnOk};
 ghost use Rattle.mm_types.specs.MapsText.{list_text};
 ghost use Rattle.maps_print.specs.Printable.{IsPrintable};
 
 use crate::line::push_line;
-use mm_types::{AreaList, Files, NoMemory};
+use mm_types::{AreaList, Files, NoMemory, Record};
 use std::alloc::Global;
+
+/// Appends a line for each area, in their order. Where memory runs out, a part of the lines may have been appended.
+pub fn push_list(text: &mut Vec<u8>, areas: &[Record], files: &Files) -> Result<(), NoMemory>
+    requires { All IsPrintable areas.now }
+    ensures { OnOk result (text.new.items ≡ text.old.items ++ list_text files.now areas.now) }
+{
+    for area in areas {
+        push_line(text, area, files)?;
+    }
+    Ok(())
+}
 
 /// Prints a line for each area, in the order of the list.
 pub fn print_list(alloc: Global, list: &AreaList, files: &Files) -> Result<Vec<u8>, NoMemory>
@@ -12,8 +23,6 @@ pub fn print_list(alloc: Global, list: &AreaList, files: &Files) -> Result<Vec<u
     ensures { IfOk result (λ text. text.items ≡ list_text files.now list.now) }
 {
     let mut text = Vec::new(alloc);
-    for area in list.items() {
-        push_line(&mut text, area, files)?;
-    }
+    push_list(&mut text, list.items(), files)?;
     Ok(text)
 }

@@ -1,7 +1,7 @@
 use Rattle.std.proofs.Common.{◌≡◌, ◌++◌, drop}
 use Rattle.mm_types.specs.MapsText.{list_text}
-use Rattle.maps_print.proofs.list.print_list.Given as goal
+use Rattle.maps_print.proofs.list.push_list.Given as goal
 
 abbrev pub invariant-loop-area : goal.invariant-loop-area
 invariant-loop-area l =
-    l.text.items ++ list_text l.files (drop l.area-index l.area-items) ≡ list_text l.files l.area-items
+    l.text.items ++ list_text l.files (drop l.area-index l.areas) ≡ l.fn.text.items ++ list_text l.files l.areas
