@@ -298,3 +298,14 @@ step_objects config space (Munmap addr len) = munmap_objects config space addr l
 step_objects config space (Mprotect addr len prot) = mprotect_objects config space addr len prot
 step_objects config space (Mremap old old_len new_len flags new) =
     mremap_objects config space (remap old old_len new_len flags new)
+
+-- no call but mmap numbers an object
+pub others_number_none : (config : Config) (space : AddressSpace) (call : Call) → ((args : MmapArgs) → call ≡ Mmap args → ⊥)
+    → (step config space call).space.objects ≡ space.objects
+unfolding step
+others_number_none config space (Mmap args) other = absurd (other args refl)
+others_number_none config space (Munmap addr len) other = munmap_both (λ s. s.objects ≡ space.objects) config space addr len refl (λ c. refl)
+others_number_none config space (Mprotect addr len prot) other =
+    mprotect_both (λ s. s.objects ≡ space.objects) config space addr len prot refl (λ p. refl)
+others_number_none config space (Mremap old old_len new_len flags new) other =
+    mremap_both (λ s. s.objects ≡ space.objects) config space (remap old old_len new_len flags new) refl (λ area change found r e few. refl)

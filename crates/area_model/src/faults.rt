@@ -45,9 +45,10 @@ fn is_past_end(files: &[FileRow], area: &Record, page: u64) -> bool
     }
 }
 
-/// What a fault at a page of this area comes to.
+/// What a fault at a page of this area comes to: its protection does not allow the access, the page lies past the end of
+/// its file, or the area serves it.
 #[tactic(auto, unfolding(crate::specs::Verdicts::area_verdict))]
-fn area_verdict(files: &[FileRow], page: u64, access: Access, area: &Record) -> Verdict
+pub fn area_verdict(files: &[FileRow], page: u64, access: Access, area: &Record) -> Verdict
     requires valid { IsValid area.now }
     requires has { has_page area.now.span page ≡ true }
     ensures { result ≡ area_verdict files.now page access area.now }

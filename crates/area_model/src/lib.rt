@@ -19,7 +19,7 @@ mod tables;
 mod unmapping;
 
 pub use areas::{index_of, joins, page_of};
-pub use faults::model_verdict;
+pub use faults::{area_verdict, model_verdict};
 pub use history_laws::{serial_history_by_version, sort_by_caller_is_stable};
 pub use laws::{
     cut_unmaps_the_span, journal_laws, legal_journal_is_sound, merge_keeps_pages,
