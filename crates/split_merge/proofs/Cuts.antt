@@ -45,7 +45,7 @@ makes_cut end span areas plan c some is =
     subst (λ changes. Makes changes areas (cut span areas)) (sym (is ∙ walked_is span None areas))
     (subst (λ list. Makes (plan_of (meets span) (parts_left span None) areas) areas list) left made)
 
-met_near : (lo hi from to : ℕ) → (nat_lt lo to && nat_lt from hi) ≡ true → (nat_le lo to && nat_le from hi) ≡ true
+pub met_near : (lo hi from to : ℕ) → (nat_lt lo to && nat_lt from hi) ≡ true → (nat_le lo to && nat_le from hi) ≡ true
 met_near lo hi from to met = grind (arith, nat_tests)
 
 -- a walk plans at most two changes for each area near a span, where it meets only those

@@ -9,3 +9,7 @@ pub mod Splits
 pub mod Joining
 pub mod Widening
 pub mod Puts
+pub mod Holes
+pub mod Moving
+pub mod BothCuts
+pub mod Relocations

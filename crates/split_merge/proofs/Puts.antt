@@ -136,7 +136,7 @@ applied-add plan areas new =
     ∙ with_all-last (news_of plan) (without (olds_of plan) areas) new
 
 -- a plan with one more area
-makes_more : (plan : List Change) (areas list : List Record) (new : Record) → Makes plan areas list
+pub makes_more : (plan : List Change) (areas list : List Record) (new : Record) → Makes plan areas list
     → Makes (plan ++ Add new ∷ []) areas (insert_area new list)
 makes_more plan areas list new m =
     let same : olds_of (plan ++ Add new ∷ []) ≡ olds_of plan = olds_of-append plan (Add new ∷ []) ∙ append-nil (olds_of plan) in

@@ -1,5 +1,5 @@
 -- Walks from one area to the next.
-use Rattle.std.proofs.Common.{◌≡◌, ◌≤◌, ◌<◌, ℕ, true, false, ◌&&◌, suc, min, max, nat_eq, nat_lt, List, [], ◌∷◌, ◌++◌, length, map, Option, Some, None, refl, ap, ◌∙◌, sym, subst, arith}
+use Rattle.std.proofs.Common.{◌≡◌, ◌≤◌, ◌<◌, ℕ, true, false, ◌&&◌, suc, min, max, nat_eq, nat_lt, List, [], ◌∷◌, ◌++◌, length, map, Option, Some, None, IfSome, refl, ap, ◌∙◌, sym, subst, arith}
 use Rattle.std.specs.List.{filter, AllByRecursion as Each}
 use Rattle.std.proofs.lemmas.Bool.{cond_both, cond-true, cond-false, lt-ltb, le-ltb, ltb-true, ltb-false}
 use Rattle.std.proofs.lemmas.Bool.Decides.{nat_tests}
@@ -97,6 +97,16 @@ next_is (first ∷ areas) page area o found =
     (next_is areas page area (rest_in_order first areas o) later))
     found
 
+-- what is found above a page, if anything is, is valid and ends above it
+pub found_valid : (areas : List Record) (page : ℕ) (found : Option Record) → InOrder areas → found ≡ first_from areas page → IfSome found IsValid
+found_valid areas page None o is = tt
+found_valid areas page (Some area) o is = (next_is areas page area o (sym is)).valid
+
+pub found_above : (areas : List Record) (page : ℕ) (found : Option Record) → InOrder areas → found ≡ first_from areas page
+    → IfSome found (λ area. page < area.span.hi)
+found_above areas page None o is = tt
+found_above areas page (Some area) o is = (next_is areas page area o (sym is)).above
+
 -- without a first area that ends above a page there is none
 pub none_above : (areas : List Record) (page : ℕ) → first_from areas page ≡ None → ending_above page areas ≡ []
 none_above [] page none = refl
@@ -184,7 +194,7 @@ length-map : {A B : Type 0} (f : A → B) (xs : List A) → length (map f xs) �
 length-map f [] = refl
 length-map f (x ∷ xs) = ap (λ n. suc n) (length-map f xs)
 
-length-piece : (area : Record) (lo hi : ℕ) → length (piece area lo hi) ≤ 1
+pub length-piece : (area : Record) (lo hi : ℕ) → length (piece area lo hi) ≤ 1
 unfolding piece
 length-piece area lo hi =
     cond_both (nat_lt lo hi) (part area lo hi ∷ []) [] (λ parts. length parts ≤ 1) (λ h. omega arith) (λ h. omega arith)

@@ -3,3 +3,4 @@ pub mod Finding
 pub mod Places
 pub mod Walks
 pub mod Joins
+pub mod Moves

@@ -1,5 +1,5 @@
 -- Plans: a few changes that turn one list of areas into another.
-use Rattle.std.specs.Prelude.{ℕ, ◌≡◌, ◌≢◌, ◌≤◌, ◌+◌, ◌*◌, Bool, true, not, ◌&&◌, nat_le, List, [], ◌∷◌, length, filter, All, AllPairs, Contains, Option, Some, None}
+use Rattle.std.specs.Prelude.{ℕ, ◌≡◌, ◌≢◌, ◌≤◌, ◌+◌, ◌*◌, Bool, true, not, ◌&&◌, ◌||◌, nat_le, List, [], ◌∷◌, length, filter, All, AllPairs, Contains, Option, Some, None}
 use Rattle.mm_types.specs.declared.area.Span.{Span}
 use Rattle.mm_types.specs.declared.area.Record.{Record}
 use Rattle.area_model.specs.declared.placement.Bounds.{Bounds}
@@ -75,6 +75,15 @@ is_near span area = nat_le area.span.lo span.hi && nat_le span.lo area.span.hi
 pub record IsLocal (span : Span) (areas : List Record) (plan : List Change) : Type 0 where
   pub near : All (λ old. is_near span old ≡ true) (olds_of plan)
   pub short : length plan ≤ 2 * length (filter (is_near span) areas) + 4
+
+-- an area near one of two spans
+abbrev pub is_near_either : Span → Span → Record → Bool
+is_near_either a b area = is_near a area || is_near b area
+
+-- a plan is local to two spans where it takes away only areas near one of them, and has at most twice as many changes as there are such areas, and four
+pub record IsLocalToEither (a b : Span) (areas : List Record) (plan : List Change) : Type 0 where
+  pub near : All (λ old. is_near_either a b old ≡ true) (olds_of plan)
+  pub short : length plan ≤ 2 * length (filter (is_near_either a b) areas) + 4
 
 -- a list that plans are made for: canonical up to the limit, and not longer than allowed
 pub record IsKept (bounds : Bounds) (most : ℕ) (areas : List Record) : Type 0 where

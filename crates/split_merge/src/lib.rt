@@ -3,12 +3,15 @@
 
 mod areas;
 mod cut;
+mod outside;
 mod parts;
 mod plan;
 mod put;
+mod relocate;
 mod walk;
 
 pub use areas::Areas;
 pub use cut::plan_cut;
 pub use plan::{Change, Plan};
 pub use put::plan_put;
+pub use relocate::plan_move;

@@ -1,4 +1,4 @@
-ghost use Rattle.std.specs.Prelude.{◌≡◌, ◌<◌, ◌≤◌, ◌+◌, ◌*◌};
+ghost use Rattle.std.specs.Prelude.{◌≡◌, ◌<◌, ◌≤◌, ◌+◌, ◌*◌, IfSome};
 ghost use Rattle.mm_types.specs.Records.{IsValid};
 ghost use Rattle.area_model.specs.Areas.{IsCanonical};
 ghost use Rattle.area_model.specs.Changes.{put};
@@ -12,28 +12,44 @@ use crate::plan::{Change, Plan};
 use crate::walk::walk;
 use mm_types::{Page, Record};
 
-/// The area that a new one joins on its left, if there is one.
+/// The area found on the left of a new one, if it joins that.
 #[tactic(auto, unfolding(crate::specs::Joins::joining_left))]
-fn left_of<A: Areas>(areas: &A, area: &Record) -> Option<Record>
-    ensures { result ≡ joining_left area.now (last_before (A.list areas.now) area.now.span.lo) }
+pub(crate) fn joining_left(area: &Record, found: Option<Record>) -> Option<Record>
+    ensures { result ≡ joining_left area.now found }
 {
-    let left = areas.before(Page(area.span.lo))?;
+    let left = found?;
     joins_from_left(&left, area).then_some(left)
 }
 
-/// The area that a new one joins on its right, if there is one.
+/// The area found on the right of a new one, if it joins that.
 #[tactic(auto, unfolding(crate::specs::Joins::joining_right))]
+pub(crate) fn joining_right(area: &Record, found: Option<Record>) -> Option<Record>
+    requires valid { IfSome found IsValid }
+    requires above { IfSome found (λ right. area.now.span.hi < right.span.hi) }
+    ensures { result ≡ joining_right area.now found }
+{
+    let right = found?;
+    joins_from_right(area, &right).then_some(right)
+}
+
+/// The area that a new one joins on its left, if there is one.
+fn left_of<A: Areas>(areas: &A, area: &Record) -> Option<Record>
+    ensures { result ≡ joining_left area.now (last_before (A.list areas.now) area.now.span.lo) }
+{
+    joining_left(area, areas.before(Page(area.span.lo)))
+}
+
+/// The area that a new one joins on its right, if there is one.
 fn right_of<A: Areas>(areas: &A, area: &Record) -> Option<Record>
     requires { IsCanonical (A.bounds areas.now).limit (A.list areas.now) }
     ensures { result ≡ joining_right area.now (first_from (A.list areas.now) area.now.span.hi) }
 {
-    let right = areas.from(Page(area.span.hi))?;
-    joins_from_right(area, &right).then_some(right)
+    joining_right(area, areas.from(Page(area.span.hi)))
 }
 
 /// The new area with those that join it.
 #[tactic(auto, unfolding(crate::specs::Joins::from_left, crate::specs::Joins::to_right))]
-fn widened(left: Option<Record>, area: Record, right: Option<Record>) -> Record
+pub(crate) fn widened(left: Option<Record>, area: Record, right: Option<Record>) -> Record
     ensures { result ≡ from_left left (to_right right area) }
 {
     let area = match right {
