@@ -13,3 +13,5 @@ pub mod Holes
 pub mod Moving
 pub mod BothCuts
 pub mod Relocations
+pub mod Counting
+pub mod Freeing

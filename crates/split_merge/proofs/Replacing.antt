@@ -70,14 +70,14 @@ each_filtered passes P (x ∷ xs) each = cond_both (passes x) (x ∷ filter pass
 alike : (a : ℕ) → (nat_le a a && nat_le a a) ≡ true
 alike a = grind (arith, nat_tests)
 
-apart : (a b : ℕ) → a < b → (nat_le a b && nat_le b a) ≡ false
+pub apart : (a b : ℕ) → a < b → (nat_le a b && nat_le b a) ≡ false
 apart a b below = grind (arith, nat_tests)
 
 apart_above : (a b : ℕ) → a < b → not (nat_le b a && nat_le a b) ≡ true
 apart_above a b below = grind (arith, nat_tests)
 
 -- the first area goes out, and none above it
-without_first : (area : Record) (areas : List Record) → Each (Below area) areas
+pub without_first : (area : Record) (areas : List Record) → Each (Below area) areas
     → filter (λ other. not (starts_alike other area)) (area ∷ areas) ≡ areas
 without_first area areas below =
     cond-false (not (starts_alike area area)) (area ∷ filter (λ other. not (starts_alike other area)) areas)

@@ -7,6 +7,7 @@ mod outside;
 mod parts;
 mod plan;
 mod put;
+mod questions;
 mod relocate;
 mod walk;
 
@@ -14,4 +15,5 @@ pub use areas::Areas;
 pub use cut::plan_cut;
 pub use plan::{Change, Plan};
 pub use put::plan_put;
+pub use questions::{is_free, is_too_long};
 pub use relocate::plan_move;

@@ -1,16 +1,17 @@
 -- Areas that go out of a list, and that come in.
-use Rattle.std.proofs.Common.{◌≡◌, ◌<◌, ◌+◌, ◌⊎◌, inl, inr, ℕ, zero, suc, Bool, true, false, not, ◌&&◌, if◌then◌else◌, nat_le, nat_lt, List, [], ◌∷◌, ◌++◌, length, get_or, refl, ap, ◌∙◌, sym, subst, arith}
-use Rattle.std.specs.List.{HoldsAt, filter, remove, insert, Contains, AllByRecursion as Each}
-use Rattle.std.proofs.lemmas.Bool.{both_ways, cases_order, cond-true, cond-false, ltb-true, ltb-false, not_from_false}
+use Rattle.std.proofs.Common.{◌≡◌, ◌<◌, ◌+◌, ◌⊎◌, inl, inr, ℕ, suc, Bool, true, false, not, ◌&&◌, if◌then◌else◌, nat_le, nat_lt, List, [], ◌∷◌, ◌++◌, refl, ap, ◌∙◌, sym, subst, arith}
+use Rattle.std.specs.List.{filter, remove, insert, Contains, AllByRecursion as Each}
+use Rattle.std.proofs.lemmas.Bool.{cond-true, cond-false, ltb-true, ltb-false, not_from_false}
 use Rattle.std.proofs.lemmas.Bool.Decides.{nat_tests}
 use Rattle.std.proofs.lemmas.List.Kept.{AllPairs-filter}
-use Rattle.std.proofs.lemmas.List.Elements.{at_from_Contains, All-contains, All-from_recursion, recursion_from_All}
+use Rattle.std.proofs.lemmas.List.Elements.{All-contains, All-from_recursion, recursion_from_All}
 use Rattle.std.proofs.Math.Numerals.{one-add}
 use Rattle.mm_types.specs.declared.area.Record.{Record}
 use Rattle.area_model.specs.Changes.{insert_area}
 use Rattle.area_model.proofs.Elements.{Pairs, Each-weaker}
 use Rattle.split_merge.proofs.Ascending.{Below}
 use Rattle.split_merge.specs.Plans.{starts_alike, without, with_all}
+use Rattle.split_merge.proofs.Counting.{contains_cases, contains_filter}
 use Rattle.split_merge.proofs.Lists.{filter_all}
 use Rattle.sys_map.specs.Fronts.{begins_below, BeginsAscend}
 
@@ -47,35 +48,6 @@ ascend_without [] areas ascend = ascend
 ascend_without (old ∷ olds) areas ascend =
     ascend_without olds (filter (λ area. not (starts_alike area old)) areas)
     (AllPairs-filter (λ (a b : Record). a.span.lo < b.span.lo) (λ (area : Record). not (starts_alike area old)) areas ascend)
-
--- areas that begin at one page are one area of such a list
-pub same_begin : (areas : List Record) (a b : Record) → BeginsAscend areas → Contains areas a → Contains areas b → a.span.lo ≡ b.span.lo → a ≡ b
-same_begin areas a b ascend first second same = by (at_from_Contains areas a first) (at_from_Contains areas b second)
-  where
-    by : (k : ℕ) × (k < length areas) × HoldsAt (λ area. area ≡ a) areas k → (k : ℕ) × (k < length areas) × HoldsAt (λ area. area ≡ b) areas k → a ≡ b
-    by (i, low, at) (j, high, there) = elim (cases_order i j) [
-      | inl alike ↦ sym (at a) ∙ ap (λ k. get_or areas k a) alike ∙ there a
-      | inr (inl before) ↦ absurd (omega (arith, ascend i j a before high, ap (λ (area : Record). area.span.lo) (at a), ap (λ (area : Record). area.span.lo) (there a)))
-      | inr (inr behind) ↦ absurd (omega (arith, ascend j i a behind low, ap (λ (area : Record). area.span.lo) (at a), ap (λ (area : Record). area.span.lo) (there a)))
-    ]
-
-contains_cases : {A : Type 0} (first : A) (xs : List A) (x : A) → Contains (first ∷ xs) x → (first ≡ x) ⊎ Contains xs x
-contains_cases first xs x (zero, within, is) = inl is
-contains_cases first xs x (suc k, within, is) = inr (k, omega arith, is)
-
-contains_later : {A : Type 0} (first : A) (xs : List A) (x : A) → Contains xs x → Contains (first ∷ xs) x
-contains_later first xs x member = (suc member.0, omega (arith, member.1), member.2)
-
-pub contains_filter : (p : Record → Bool) (areas : List Record) (area : Record) → Contains areas area → p area ≡ true → Contains (filter p areas) area
-contains_filter p [] area member passes = member
-contains_filter p (first ∷ areas) area member passes = by (p first) refl (contains_cases first areas area member) (λ later. contains_filter p areas area later passes)
-  where
-    by : (test : Bool) → p first ≡ test → (first ≡ area) ⊎ Contains areas area → (Contains areas area → Contains (filter p areas) area)
-        → Contains (if test then first ∷ filter p areas else filter p areas) area
-    by true is (inl same) before = (0, omega arith, same)
-    by true is (inr later) before = contains_later first (filter p areas) area (before later)
-    by false is (inl same) before = absurd (both_ways (p first) is (ap p same ∙ passes))
-    by false is (inr later) before = before later
 
 -- an area that begins as none of those that go out stays
 pub contains_without : (olds areas : List Record) (area : Record) → Contains areas area → Each (λ old. starts_alike area old ≡ false) olds

@@ -1,22 +1,15 @@
 -- The areas of a plan go out one after the other.
-use Rattle.std.proofs.Common.{◌≡◌, ◌≢◌, ◌<◌, ◌+◌, ℕ, suc, false, nat_le, List, [], ◌∷◌, ◌++◌, length, take, drop, get_or, ap, ◌∙◌, sym, subst, All, AllPairs, arith}
+use Rattle.std.proofs.Common.{◌≡◌, ◌≢◌, ◌<◌, ◌+◌, ℕ, false, List, [], ◌∷◌, ◌++◌, length, take, drop, get_or, ap, ◌∙◌, sym, subst, All, AllPairs}
 use Rattle.std.specs.List.{Contains, AllByRecursion as Each}
-use Rattle.std.proofs.lemmas.Bool.{and_parts, leb-true, false_from_ne_true}
 use Rattle.std.proofs.lemmas.List.Elements.{All-from_recursion, recursion_from_All}
 use Rattle.mm_types.specs.declared.area.Record.{Record}
 use Rattle.area_model.proofs.Elements.{Pairs, Each-also, Each-left, Each-right}
 use Rattle.split_merge.specs.declared.plan.Change.{Change}
 use Rattle.split_merge.specs.Plans.{olds_of, starts_alike, without}
+use Rattle.split_merge.proofs.Counting.{Pairs-from_AllPairs, unlike}
 use Rattle.sys_map.specs.Fronts.{BeginsAscend}
 use Rattle.sys_map.proofs.Editing.{olds_around, olds_from}
-use Rattle.sys_map.proofs.Going.{same_begin, contains_without, without-append, without_swap}
-
-pub Pairs-from_AllPairs : {A : Type 0} (R : A → A → Type 0) (xs : List A) → AllPairs R xs → Pairs R xs
-Pairs-from_AllPairs R [] pairs = tt
-Pairs-from_AllPairs R (x ∷ xs) pairs = (
-  recursion_from_All (R x) xs (λ k d within. pairs 0 (suc k) d (omega arith) (omega arith)),
-  Pairs-from_AllPairs R xs (λ i j d before within. pairs (suc i) (suc j) d (omega arith) (omega arith)),
-)
+use Rattle.sys_map.proofs.Going.{ascending_pairs, contains_without, without-append, without_swap}
 
 Pairs-right : {A : Type 0} (R : A → A → Type 0) (xs ys : List A) → Pairs R (xs ++ ys) → Pairs R ys
 Pairs-right R [] ys pairs = pairs
@@ -25,13 +18,6 @@ Pairs-right R (x ∷ xs) ys pairs = Pairs-right R xs ys pairs.1
 Pairs-across : {A : Type 0} (R : A → A → Type 0) (xs ys : List A) → Pairs R (xs ++ ys) → Each (λ x. Each (R x) ys) xs
 Pairs-across R [] ys pairs = tt
 Pairs-across R (x ∷ xs) ys pairs = (Each-right (R x) xs ys pairs.0, Pairs-across R xs ys pairs.1)
-
--- distinct areas of a list begin at different pages
-pub unlike : (areas : List Record) (a b : Record) → BeginsAscend areas → Contains areas a → Contains areas b → a ≢ b → starts_alike a b ≡ false
-unlike areas a b ascend first second distinct = false_from_ne_true (starts_alike a b)
-    (λ alike. let parts = and_parts (nat_le a.span.lo b.span.lo) (nat_le b.span.lo a.span.lo) alike in
-    distinct (same_begin areas a b ascend first second
-    (omega (arith, leb-true a.span.lo b.span.lo parts.0, leb-true b.span.lo a.span.lo parts.1))))
 
 module _ (areas : List Record) (changes : List Change) (ascend : BeginsAscend areas) (members : All (Contains areas) (olds_of changes))
     (distinct : AllPairs (λ a b. a ≢ b) (olds_of changes)) where
@@ -42,7 +28,7 @@ module _ (areas : List Record) (changes : List Change) (ascend : BeginsAscend ar
       All-from_recursion (Contains (without later areas)) here
       (Each-also (Contains areas) (λ x. Each (λ y. x ≢ y) later) (Contains (without later areas))
       (λ x member apart. contains_without later areas x member
-      (Each-also (Contains areas) (λ y. x ≢ y) (λ y. starts_alike x y ≡ false) (λ y there differs. unlike areas x y ascend member there differs)
+      (Each-also (Contains areas) (λ y. x ≢ y) (λ y. starts_alike x y ≡ false) (λ y there differs. unlike areas x y (ascending_pairs areas ascend) member there differs)
       later (Each-right (Contains areas) here later contained) apart))
       here (Each-left (Contains areas) here later contained)
       (Pairs-across (λ a b. a ≢ b) here later

@@ -7,7 +7,6 @@ pub mod Coming
 pub mod Ranging
 pub mod InOrder
 pub mod Scanning
-pub mod Counting
 pub mod Refusing
-pub mod Freeing
+pub mod Hinting
 pub mod Mapped

@@ -166,27 +166,7 @@ module _ (areas : List Record) (changes : List Change) (start end : ℕ) (ascend
         ap (λ (area : Record). area.span.lo) second,
       )
 
-length-insert_area : (new : Record) (areas : List Record) → length (insert_area new areas) ≡ length areas + 1
-length-insert_area new [] = omega arith
-length-insert_area new (first ∷ areas) = by (nat_lt first.span.lo new.span.lo) (length-insert_area new areas)
-  where
-    by : (test : Bool) → length (insert_area new areas) ≡ length areas + 1
-        → length (if test then first ∷ insert_area new areas else new ∷ (first ∷ areas)) ≡ length (first ∷ areas) + 1
-    by true before = omega (arith, before)
-    by false before = omega arith
-
--- each area that comes in makes the list longer by one
-pub length-with_all : (news areas : List Record) → length (with_all news areas) ≡ length areas + length news
-length-with_all [] areas = omega arith
-length-with_all (new ∷ news) areas = omega (arith, length-with_all news (insert_area new areas), length-insert_area new areas)
-
--- how long a list is after a plan
-pub length-applied : (changes : List Change) (areas : List Record)
-    → length (applied changes areas) ≡ length (without (olds_of changes) areas) + length (news_of changes)
-unfolding applied
-length-applied changes areas = length-with_all (news_of changes) (without (olds_of changes) areas)
-
--- and where only a part of it changes
+-- how long a list is where only a part of it changes
 pub length-applied_within : (areas list : List Record) (start end : ℕ) (whole : List Record) → start ≤ end → end ≤ length areas
     → whole ≡ take start areas ++ (list ++ drop end areas) → length whole + (end - start) ≡ length areas + length list
 length-applied_within areas list start end whole order within is =

@@ -8,7 +8,6 @@ mod places;
 mod ranges;
 mod requests;
 mod splices;
-mod tables;
 #[cfg(test)]
 mod tests;
 mod unmapping;

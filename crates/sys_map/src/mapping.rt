@@ -15,10 +15,9 @@ ghost use Rattle.split_merge.specs.Plans.{IsLocal, applied, Makes, IsKept, IsFre
 
 use crate::ranges::place;
 use crate::requests::request_error;
-use crate::tables::is_too_long;
 use area_model::{is_fixed, new_area, objects_numbered, page_of, pages_of};
 use mm_types::{Config, Errno, MmapArgs, PAGE_SIZE, Reply};
-use split_merge::{Areas, Plan, plan_put};
+use split_merge::{Areas, Plan, is_too_long, plan_put};
 
 /// The page where the mapping begins, if it has a place.
 #[tactic(auto, unfolding(area_model::specs::Mmap::start_of))]

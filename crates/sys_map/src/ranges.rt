@@ -1,25 +1,13 @@
-//! Free ranges of pages, found by page.
+//! Places of ranges: at a hint, and without one.
 ghost use Rattle.std.specs.Prelude.{◌≡◌, ◌<◌, ◌≤◌, ◌+◌, ◌^◌, IfSome, nat_le};
 ghost use Rattle.mm_types.specs.Config.{IsValidConfig};
 ghost use Rattle.area_model.specs.Areas.{IsCanonical};
-ghost use Rattle.area_model.specs.Placement.{bounds_of, is_free, hinted_place, place};
+ghost use Rattle.area_model.specs.Placement.{bounds_of, hinted_place, place};
 ghost use Rattle.split_merge.specs.Places.{page_number};
 
 use area_model::{fits, page_of};
 use mm_types::{Config, Page};
-use split_merge::Areas;
-
-/// Whether no area has one of so many pages from this start on.
-pub(crate) fn is_free<A: Areas>(areas: &A, pages: u64, start: u64) -> bool
-    requires canonical { IsCanonical (A.bounds areas.now).limit (A.list areas.now) }
-    requires small { start + pages < 2 ^ 64 }
-    ensures { result ≡ is_free (A.list areas.now) pages start }
-{
-    match areas.from(Page(start)) {
-        Some(area) => start + pages <= area.span.lo,
-        None => true,
-    }
-}
+use split_merge::{Areas, is_free};
 
 /// The hint's page where it is free up to the limit. A hint below one page is none, and another is raised to the
 /// lowest page.

@@ -4,10 +4,9 @@ ghost use Rattle.area_model.specs.Areas.{IsCanonical};
 ghost use Rattle.area_model.specs.Tables.{first_row};
 ghost use Rattle.area_model.specs.Mmap.{is_taken, mmap_rows};
 
-use crate::ranges::is_free;
 use area_model::{is_noreplace, mmap_refusal, page_of, pages_of};
 use mm_types::{Config, Errno, MmapArgs};
-use split_merge::Areas;
+use split_merge::{Areas, is_free};
 
 /// Whether a page of the range is mapped, and the call keeps what is mapped.
 #[tactic(auto, unfolding(area_model::specs::Mmap::is_taken))]

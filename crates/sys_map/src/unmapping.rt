@@ -9,10 +9,9 @@ ghost use Rattle.area_model.specs.Placement.{bounds_of};
 ghost use Rattle.area_model.specs.Stepped.{space_of};
 ghost use Rattle.split_merge.specs.Plans.{IsLocal, applied, Makes, IsKept, IsFresh};
 
-use crate::tables::is_too_long;
 use area_model::{end_of, is_aligned, range_of};
 use mm_types::{Config, Errno, Reply};
-use split_merge::{Areas, Plan, plan_cut};
+use split_merge::{Areas, Plan, is_too_long, plan_cut};
 
 /// One call of munmap(2), planned. `addr` and `len` are in bytes. The reply and the list that the plan makes are those
 /// of the model, and do not depend on the counter of objects. After a refusal the plan is empty.

@@ -2,7 +2,8 @@ use Rattle.std.proofs.Common.{◌≡◌, length, subst, sym, ap, arith}
 use Rattle.split_merge.specs.Plans.{olds_of}
 use Rattle.sys_map.specs.Fronts.{BeginsRise}
 use Rattle.sys_map.proofs.Going.{ascend_without}
-use Rattle.sys_map.proofs.Ranging.{rise_from_ascend, length-applied}
+use Rattle.split_merge.proofs.Counting.{length-applied}
+use Rattle.sys_map.proofs.Ranging.{rise_from_ascend}
 use Rattle.sys_map.proofs.edits.change_each.Goals as goal
 
 pub insert_news-requires-clause-rise : goal.insert_news-requires-clause-rise

@@ -1,6 +1,6 @@
 use Rattle.std.proofs.Common.{sym, ap, ◌∙◌}
 use Rattle.area_model.specs.Placement.{bounds_of, place}
-use Rattle.sys_map.proofs.Freeing.{place_at_hint, place_beside_hint}
+use Rattle.sys_map.proofs.Hinting.{place_at_hint, place_beside_hint}
 use Rattle.sys_map.proofs.ranges.place.Goals as goal
 
 pub returns-in-Some-clause-value : goal.returns-in-Some-clause-value
