@@ -15,3 +15,4 @@ pub mod BothCuts
 pub mod Relocations
 pub mod Counting
 pub mod Freeing
+pub mod Refusing

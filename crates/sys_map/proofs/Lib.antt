@@ -7,6 +7,6 @@ pub mod Coming
 pub mod Ranging
 pub mod InOrder
 pub mod Scanning
-pub mod Refusing
+pub mod Cutting
 pub mod Hinting
 pub mod Mapped

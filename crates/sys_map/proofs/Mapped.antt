@@ -26,7 +26,7 @@ use Rattle.split_merge.specs.declared.plan.Change.{Change}
 use Rattle.split_merge.specs.Plans.{applied, Makes, IsKept, IsLocal}
 use Rattle.area_model.specs.Munmap.{range_of}
 use Rattle.area_model.specs.Tables.{pages_of}
-use Rattle.sys_map.proofs.Refusing.{nothing_made, kept_if_sound}
+use Rattle.split_merge.proofs.Refusing.{nothing_made, kept_if_sound}
 
 module _ (config : Config) (space : AddressSpace) (args : MmapArgs) where
   -- a call that is refused

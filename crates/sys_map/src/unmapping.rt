@@ -15,7 +15,7 @@ use split_merge::{Areas, Plan, is_too_long, plan_cut};
 
 /// One call of munmap(2), planned. `addr` and `len` are in bytes. The reply and the list that the plan makes are those
 /// of the model, and do not depend on the counter of objects. After a refusal the plan is empty.
-#[tactic(auto, using(crate::proofs::Refusing::nothing_made, crate::proofs::Refusing::nothing_local), unfolding(area_model::specs::Munmap::munmap, area_model::specs::Munmap::munmap_rows))]
+#[tactic(auto, using(split_merge::proofs::Refusing::nothing_made, split_merge::proofs::Refusing::nothing_local), unfolding(area_model::specs::Munmap::munmap, area_model::specs::Munmap::munmap_rows))]
 pub fn plan_munmap<A: Areas>(
     config: &Config,
     areas: &mut A,

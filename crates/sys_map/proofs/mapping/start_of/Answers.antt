@@ -1,5 +1,5 @@
 use Rattle.std.proofs.Common.{arith}
-use Rattle.sys_map.proofs.Refusing.{some_pages}
+use Rattle.split_merge.proofs.Refusing.{some_pages}
 use Rattle.sys_map.proofs.mapping.start_of.Goals as goal
 
 pub place-requires-clause-some_pages : goal.place-requires-clause-some_pages

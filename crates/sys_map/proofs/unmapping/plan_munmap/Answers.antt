@@ -1,5 +1,6 @@
 use Rattle.std.proofs.Common.{sym, ◌∙◌, arith}
-use Rattle.sys_map.proofs.Refusing.{range_some, range_within, cut_kept}
+use Rattle.split_merge.proofs.Refusing.{range_some, range_within}
+use Rattle.sys_map.proofs.Cutting.{cut_kept}
 use Rattle.sys_map.proofs.unmapping.plan_munmap.Goals as goal
 
 pub plan_cut-requires-clause-some_pages : goal.plan_cut-requires-clause-some_pages

@@ -1,15 +1,12 @@
--- Calls that are refused plan nothing.
-use Rattle.std.proofs.Common.{◌≡◌, ◌≤◌, ◌<◌, ◌+◌, ◌*◌, ◌/◌, ◌%◌, ◌∙◌, ℕ, true, false, nat_eq, nat_lt, List, [], length, refl, ap, sym, subst, arith}
+-- What the calls have in common: plans of calls that are refused, ranges, and sound lists.
+use Rattle.std.proofs.Common.{◌≡◌, ◌≤◌, ◌<◌, ◌+◌, ◌*◌, ◌/◌, ◌%◌, ◌∙◌, ℕ, true, nat_eq, List, [], refl, ap, sym, subst, arith}
 use Rattle.std.proofs.lemmas.Bool.Decides.{nat_tests}
 use Rattle.mm_types.specs.declared.area.Span.{Span}
 use Rattle.mm_types.specs.declared.area.Record.{Record}
 use Rattle.mm_types.specs.declared.config.Config.{Config}
 use Rattle.mm_types.specs.declared.config.TheConstants.{PAGE_SIZE}
 use Rattle.area_model.specs.declared.placement.Bounds.{Bounds}
-use Rattle.area_model.specs.Areas.{page_of, IsCanonical, IsSound}
-use Rattle.area_model.specs.Changes.{cut}
-use Rattle.area_model.proofs.Cutting.{cut_canonical}
-use Rattle.std.proofs.lemmas.Bool.{ltb-false}
+use Rattle.area_model.specs.Areas.{IsCanonical, IsSound}
 use Rattle.area_model.specs.Munmap.{range_of}
 use Rattle.area_model.specs.Placement.{bounds_of}
 use Rattle.area_model.specs.Tables.{pages_of, is_aligned}
@@ -73,13 +70,3 @@ pub nothing_kept : (config : Config) (bounds : Bounds) (most : ℕ) (plan : List
     → most ≡ config.areas → plan ≡ [] → IsSound config areas → IsKept bounds most (applied plan areas)
 nothing_kept config bounds most plan areas numbers allowed none sound = kept_if_sound config bounds most plan areas areas numbers allowed
     (ap (λ changes. applied changes areas) none ∙ applied_none areas) sound
-
--- munmap(2) cuts where its tests pass
-pub cut_kept : (config : Config) (bounds : Bounds) (most addr len : ℕ) (range : Span) (plan : List Change) (areas : List Record) → bounds ≡ bounds_of config
-    → most ≡ config.areas → IsSound config areas → range ≡ range_of addr len → range.lo < range.hi → Makes plan areas (cut range areas)
-    → nat_lt config.areas (length (applied plan areas)) ≡ false → IsKept bounds most (applied plan areas)
-cut_kept config bounds most addr len range plan areas numbers allowed sound is some made fits =
-    kept_if_sound config bounds most plan areas (cut range areas) numbers allowed made.result (record {
-      canonical = cut_canonical (page_of config.limit) range areas some sound.canonical;
-      few = subst (λ (list : List Record). length list ≤ config.areas) made.result (ltb-false config.areas (length (applied plan areas)) fits);
-    })
