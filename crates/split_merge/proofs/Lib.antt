@@ -16,3 +16,9 @@ pub mod Relocations
 pub mod Counting
 pub mod Freeing
 pub mod Refusing
+pub mod Turning
+pub mod Extending
+pub mod NewParts
+pub mod Apart
+pub mod Stopping
+pub mod Protecting

@@ -87,16 +87,16 @@ widened end areas area c good =
     }
 
 -- neither of two areas joins the other
-abbrev Unjoined : Record → Record → Type 0
+abbrev pub Unjoined : Record → Record → Type 0
 Unjoined a b = joins a b ≡ false
 
-merge_from_nothing : (first : Record) (areas : List Record) → Pairs Unjoined (first ∷ areas) → merge_from first areas ≡ first ∷ areas
+pub merge_from_nothing : (first : Record) (areas : List Record) → Pairs Unjoined (first ∷ areas) → merge_from first areas ≡ first ∷ areas
 merge_from_nothing first [] pairs = refl
 merge_from_nothing first (next ∷ areas) pairs =
     cond-false (joins first next) (merge_from (joined_area first next) areas) (first ∷ merge_from next areas) pairs.0.0
     ∙ ap (λ rest. first ∷ rest) (merge_from_nothing next areas pairs.1)
 
-merge_nothing : (areas : List Record) → Pairs Unjoined areas → merge areas ≡ areas
+pub merge_nothing : (areas : List Record) → Pairs Unjoined areas → merge areas ≡ areas
 merge_nothing [] pairs = refl
 merge_nothing (first ∷ areas) pairs = merge_from_nothing first areas pairs
 

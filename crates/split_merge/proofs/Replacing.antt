@@ -11,7 +11,7 @@ use Rattle.split_merge.specs.declared.plan.Change.{Change}
 use Rattle.split_merge.specs.declared.plan.Change.TheVariants.{Detach, Alter, Add}
 use Rattle.split_merge.specs.Plans.{olds_of, news_of, starts_alike, without, with_all, applied, Makes}
 use Rattle.split_merge.specs.Walks.{replaced}
-use Rattle.split_merge.proofs.Lists.{filter_all, Each-filter}
+use Rattle.split_merge.proofs.Lists.{filter_all, Each-filter, Pairs-right}
 use Rattle.split_merge.proofs.Ascending.{Below, Pairs-filter, ascending_distinct, with_all_behind, with_all_in_front}
 
 pub olds_of-append : (xs ys : List Change) → olds_of (xs ++ ys) ≡ olds_of xs ++ olds_of ys
@@ -50,18 +50,14 @@ plan_of touched parts areas = flat_map (λ area. if touched area then replaced a
 abbrev pub list_after : (Record → Bool) → (Record → List Record) → List Record → List Record
 list_after touched parts areas = flat_map (λ area. if touched area then parts area else area ∷ []) areas
 
-Pairs-right : {A : Type 0} (R : A → A → Type 0) (xs ys : List A) → Pairs R (xs ++ ys) → Pairs R ys
-Pairs-right R [] ys pairs = pairs
-Pairs-right R (x ∷ xs) ys pairs = Pairs-right R xs ys pairs.1
-
-each_contained : (areas : List Record) → Each (Contains areas) areas
+pub each_contained : (areas : List Record) → Each (Contains areas) areas
 each_contained [] = tt
 each_contained (area ∷ areas) = ((0, omega arith, refl), Each-weaker (Contains areas) (Contains (area ∷ areas)) further areas (each_contained areas))
   where
     further : (other : Record) → Contains areas other → Contains (area ∷ areas) other
     further other c = (suc c.0, omega (arith, c.1), c.2)
 
-each_filtered : {A : Type 0} (passes : A → Bool) (P : A → Type 0) (xs : List A) → Each (λ x. passes x ≡ true → P x) xs
+pub each_filtered : {A : Type 0} (passes : A → Bool) (P : A → Type 0) (xs : List A) → Each (λ x. passes x ≡ true → P x) xs
     → Each P (filter passes xs)
 each_filtered passes P [] each = tt
 each_filtered passes P (x ∷ xs) each = cond_both (passes x) (x ∷ filter passes xs) (filter passes xs) (Each P)
@@ -86,7 +82,7 @@ without_first area areas below =
     (Each-weaker (Below area) (λ other. not (starts_alike other area) ≡ true) (λ other below. apart_above area.span.lo other.span.lo below) areas below)
 
 -- an area below those that go out stays
-without_behind : (area : Record) (olds areas : List Record) → Each (λ old. starts_alike area old ≡ false) olds
+pub without_behind : (area : Record) (olds areas : List Record) → Each (λ old. starts_alike area old ≡ false) olds
     → without olds (area ∷ areas) ≡ area ∷ without olds areas
 without_behind area [] areas apart = refl
 without_behind area (old ∷ olds) areas apart =

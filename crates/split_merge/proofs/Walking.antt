@@ -37,7 +37,7 @@ in_order end areas c = record {
   ordered = Pairs-weaker Apart Before (λ a b p. p.order) areas (pairs_from_canonical end areas c);
 }
 
-rest_in_order : (area : Record) (areas : List Record) → InOrder (area ∷ areas) → InOrder areas
+pub rest_in_order : (area : Record) (areas : List Record) → InOrder (area ∷ areas) → InOrder areas
 rest_in_order area areas o = record { valid = o.valid.1; ordered = o.ordered.1 }
 
 -- each area behind one in order ends above it
@@ -190,7 +190,7 @@ walked_next span joined page areas area n low below =
     ∙ ap (λ changes. changes ++ walked span joined (ending_above area.span.hi areas)) (changes_at-meeting span joined area
     (meets_true span.lo span.hi area.span.lo area.span.hi below (omega (arith, n.above))))
 
-length-map : {A B : Type 0} (f : A → B) (xs : List A) → length (map f xs) ≡ length xs
+pub length-map : {A B : Type 0} (f : A → B) (xs : List A) → length (map f xs) ≡ length xs
 length-map f [] = refl
 length-map f (x ∷ xs) = ap (λ n. suc n) (length-map f xs)
 

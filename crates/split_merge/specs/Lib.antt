@@ -4,3 +4,5 @@ pub mod Places
 pub mod Walks
 pub mod Joins
 pub mod Moves
+pub mod Stops
+pub mod Runs

@@ -3,11 +3,11 @@ ghost use Rattle.std.specs.Prelude.{◌≡◌, ◌≢◌, ◌<◌, ◌≤◌, �
 ghost use Rattle.std.specs.Option.{option_to_list};
 ghost use Rattle.mm_types.specs.Records.{IsValid};
 ghost use Rattle.area_model.specs.Areas.{index_of, joins};
-ghost use Rattle.area_model.specs.Changes.{piece, joined_area};
+ghost use Rattle.area_model.specs.Changes.{piece, joined_area, with_prot};
 ghost use Rattle.split_merge.specs.Joins.{lower_part, upper_part};
 
 use area_model::{index_of, joins};
-use mm_types::{Record, Span};
+use mm_types::{Attr, Prot, Record, Span};
 
 /// The part of an area from `lo` up to `hi`, if it has a page.
 #[tactic(auto, unfolding(area_model::specs::Changes::piece))]
@@ -83,5 +83,15 @@ pub(crate) fn joined(a: &Record, b: &Record) -> Record
             hi: b.span.hi,
         },
         ..*a
+    }
+}
+
+/// The area with another protection.
+pub(crate) fn with_prot(prot: Prot, area: Record) -> Record
+    ensures { result ≡ with_prot prot area }
+{
+    Record {
+        attr: Attr { prot, ..area.attr },
+        ..area
     }
 }

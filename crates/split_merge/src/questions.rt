@@ -1,12 +1,21 @@
 //! What the tests of the calls ask of a list of areas.
 ghost use Rattle.std.specs.Prelude.{◌≡◌, ◌<◌, ◌≤◌, ◌+◌, ◌^◌, length, nat_lt};
-ghost use Rattle.area_model.specs.Areas.{IsCanonical};
+ghost use Rattle.area_model.specs.Areas.{IsCanonical, area_at};
 ghost use Rattle.area_model.specs.Placement.{is_free};
 ghost use Rattle.split_merge.specs.Plans.{applied, IsPlanOf};
 
 use crate::areas::Areas;
 use crate::plan::Plan;
-use mm_types::Page;
+use mm_types::{Page, Record};
+
+/// The area that has a page, if one has it. One look by page.
+pub fn area_at<A: Areas>(areas: &A, page: u64) -> Option<Record>
+    requires { IsCanonical (A.bounds areas.now).limit (A.list areas.now) }
+    ensures { result ≡ area_at (A.list areas.now) page }
+{
+    let area = areas.from(Page(page))?;
+    (area.span.lo <= page).then_some(area)
+}
 
 /// Whether no area has one of so many pages from this start on.
 pub fn is_free<A: Areas>(areas: &A, pages: u64, start: u64) -> bool
