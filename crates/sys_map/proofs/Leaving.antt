@@ -7,17 +7,10 @@ use Rattle.area_model.proofs.Elements.{Pairs, Each-also, Each-left, Each-right}
 use Rattle.split_merge.specs.declared.plan.Change.{Change}
 use Rattle.split_merge.specs.Plans.{olds_of, starts_alike, without}
 use Rattle.split_merge.proofs.Counting.{Pairs-from_AllPairs, unlike}
+use Rattle.split_merge.proofs.Lists.{Pairs-right, Pairs-across}
 use Rattle.sys_map.specs.Fronts.{BeginsAscend}
 use Rattle.sys_map.proofs.Editing.{olds_around, olds_from}
 use Rattle.sys_map.proofs.Going.{ascending_pairs, contains_without, without-append, without_swap}
-
-Pairs-right : {A : Type 0} (R : A → A → Type 0) (xs ys : List A) → Pairs R (xs ++ ys) → Pairs R ys
-Pairs-right R [] ys pairs = pairs
-Pairs-right R (x ∷ xs) ys pairs = Pairs-right R xs ys pairs.1
-
-Pairs-across : {A : Type 0} (R : A → A → Type 0) (xs ys : List A) → Pairs R (xs ++ ys) → Each (λ x. Each (R x) ys) xs
-Pairs-across R [] ys pairs = tt
-Pairs-across R (x ∷ xs) ys pairs = (Each-right (R x) xs ys pairs.0, Pairs-across R xs ys pairs.1)
 
 module _ (areas : List Record) (changes : List Change) (ascend : BeginsAscend areas) (members : All (Contains areas) (olds_of changes))
     (distinct : AllPairs (λ a b. a ≢ b) (olds_of changes)) where
