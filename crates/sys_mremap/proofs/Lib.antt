@@ -1,0 +1,5 @@
+pub mod Finding
+pub mod Nearness
+pub mod Cases
+pub mod Made
+pub mod Outcomes
