@@ -8,8 +8,6 @@ mod places;
 mod ranges;
 mod requests;
 mod splices;
-#[cfg(test)]
-mod tests;
 mod unmapping;
 mod vec_areas;
 

@@ -68,7 +68,7 @@ step_ready config space call ready files room =
     )
 
 -- an area that serves a fault is one of the list
-servable_area : (files : List FileRow) (page : ℕ) (access : Access) (area : Record) → IsValid area → IsServable (area_verdict files page access area)
+pub servable_area : (files : List FileRow) (page : ℕ) (access : Access) (area : Record) → IsValid area → IsServable (area_verdict files page access area)
 unfolding area_verdict
 servable_area files page access area valid = grind (arith, printable area valid)
 

@@ -62,6 +62,12 @@ runs_start trace text space reads value no_text is_opening no_reads =
       occurring = All-nil (λ (line : TraceLine). occurs trace.lines line.thread ≡ true);
     })))
 
+-- what is no call asks for none
+pub asks_none : (op : Op) → ((call : Call) → op ≡ ops.Call call → ⊥) → asks_call op ≡ false
+asks_none (ops.Call call) none = absurd (none call refl)
+asks_none (ops.Fault page access) none = refl
+asks_none ops.Maps none = refl
+
 -- a read more, which waits
 pub runs_read : (trace : Trace) (place : ℕ) (text : List ℕ) (space : AddressSpace) (version : ℕ) (reads : List TraceLine) (d : TraceLine)
     → Runs trace place text space version reads → place < length trace.lines → asks_call (get_or trace.lines place d).op ≡ false

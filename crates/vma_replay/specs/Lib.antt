@@ -1,3 +1,4 @@
+pub mod Spaces
 pub mod Output
 pub mod Statuses
 pub mod Replaying

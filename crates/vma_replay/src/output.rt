@@ -9,9 +9,9 @@ ghost use Rattle.area_model.specs.Histories.{asks_call};
 ghost use Rattle.trace_reader.specs.Values.{IsTraceValue};
 ghost use Rattle.vma_replay.specs.Output.{IsServable, errno_name, reply_text, verdict_text, read_text, start_text, maps_text, serial_output};
 
-use area_model::{model_step, model_verdict};
-use maps_print::{print_list, push_range};
-use mm_types::{AreaList, Config, Errno, Files, NoMemory, Op, Record, Reply, TraceLine, Verdict};
+use crate::space::Space;
+use maps_print::{push_list, push_range};
+use mm_types::{Errno, Files, NoMemory, Op, Record, Reply, TraceLine, Verdict};
 use std::alloc::Global;
 use std::io::Write;
 use trace_reader::Trace;
@@ -24,8 +24,7 @@ pub(crate) fn serial_text(alloc: Global, trace: &Trace) -> Result<Vec<u8>, NoMem
 {
     let config = &trace.config;
     let mut text = Vec::new(alloc);
-    let mut list = AreaList::of(Vec::new(alloc));
-    let mut objects = config.files.items().len() as u32;
+    let mut space = Space::open(alloc, config)?;
     let mut version = 0;
     let mut reads = Vec::new(alloc);
     for line in trace.lines.items() {
@@ -33,15 +32,13 @@ pub(crate) fn serial_text(alloc: Global, trace: &Trace) -> Result<Vec<u8>, NoMem
             reads.push(*line)?;
             continue;
         };
-        push_reads(alloc, &mut text, config, &list, version, &mut reads)?;
-        let stepped = model_step(alloc, config, objects, &list, &call)?;
+        push_reads(&mut text, &config.files, &space, version, &mut reads)?;
+        let reply = space.call(config, &call);
         version += 1;
-        push_called(&mut text, line, version, stepped.reply)?;
-        list = stepped.list;
-        objects = stepped.objects;
+        push_called(&mut text, line, version, reply)?;
     }
-    push_reads(alloc, &mut text, config, &list, version, &mut reads)?;
-    push_maps(alloc, &mut text, &list, &config.files)?;
+    push_reads(&mut text, &config.files, &space, version, &mut reads)?;
+    push_maps(&mut text, &config.files, &space)?;
     Ok(text)
 }
 
@@ -57,23 +54,21 @@ fn sort_by_thread(reads: &mut Vec<TraceLine>) -> Result<(), NoMemory>
 
 /// Appends what the reads of a version come to, by thread, and forgets them.
 fn push_reads(
-    alloc: Global,
     text: &mut Vec<u8>,
-    config: &Config,
-    list: &AreaList,
+    files: &Files,
+    space: &Space,
     version: u64,
     reads: &mut Vec<TraceLine>,
 ) -> Result<(), NoMemory>
-    requires valid { All IsValid list.now }
-    requires reads { All (λ line. asks_call line.op ≡ false) reads.old.items }
+    requires { All (λ line. asks_call line.op ≡ false) reads.old.items }
     ensures text { OnOk result ((sorted : List TraceLine) × IsSortedByKey (λ line. line.thread) nat_cmp sorted
         × IsStableByKey (λ line. line.thread) nat_cmp reads.old.items sorted × IsPermutation reads.old.items sorted
-        × (text.new.items ≡ text.old.items ++ flat_map (λ line. start_text line version ++ read_text config.now.files list.now line.op) sorted)) }
+        × (text.new.items ≡ text.old.items ++ flat_map (λ line. start_text line version ++ read_text files.now space.now.space.areas line.op) sorted)) }
     ensures reads { OnOk result (reads.new.items ≡ []) }
 {
     sort_by_thread(reads)?;
     for line in reads.iter() {
-        push_read(alloc, text, config, list, version, line)?;
+        push_read(text, files, space, version, line)?;
     }
     reads.clear();
     Ok(())
@@ -81,36 +76,27 @@ fn push_reads(
 
 /// Appends what a fault or a read of the list comes to.
 fn push_read(
-    alloc: Global,
     text: &mut Vec<u8>,
-    config: &Config,
-    list: &AreaList,
+    files: &Files,
+    space: &Space,
     version: u64,
     line: &TraceLine,
 ) -> Result<(), NoMemory>
-    requires valid { All IsValid list.now }
-    requires read { asks_call line.now.op ≡ false }
-    ensures { OnOk result (text.new.items ≡ text.old.items ++ (start_text line.now version ++ read_text config.now.files list.now line.now.op)) }
+    requires { asks_call line.now.op ≡ false }
+    ensures { OnOk result (text.new.items ≡ text.old.items ++ (start_text line.now version ++ read_text files.now space.now.space.areas line.now.op)) }
 {
     push_start(text, line, version)?;
-    push_content(alloc, text, &config.files, list, line.op)
+    push_content(text, files, space, line.op)
 }
 
 #[tactic(auto, unfolding(crate::specs::Output::read_text))]
-fn push_content(
-    alloc: Global,
-    text: &mut Vec<u8>,
-    files: &Files,
-    list: &AreaList,
-    op: Op,
-) -> Result<(), NoMemory>
-    requires valid { All IsValid list.now }
-    requires read { asks_call op ≡ false }
-    ensures { OnOk result (text.new.items ≡ text.old.items ++ read_text files.now list.now op) }
+fn push_content(text: &mut Vec<u8>, files: &Files, space: &Space, op: Op) -> Result<(), NoMemory>
+    requires { asks_call op ≡ false }
+    ensures { OnOk result (text.new.items ≡ text.old.items ++ read_text files.now space.now.space.areas op) }
 {
     match op {
-        Op::Fault { page, access } => push_verdict(text, model_verdict(files, list, page, access)),
-        Op::Maps => push_maps(alloc, text, list, files),
+        Op::Fault { page, access } => push_verdict(text, space.verdict(files, page, access)),
+        Op::Maps => push_maps(text, files, space),
         Op::Call(_) => unreachable!(),
     }
 }
@@ -202,17 +188,11 @@ fn errno_name(errno: Errno) -> &'static str
 
 /// Appends how many areas there are, and their lines.
 #[tactic(auto, unfolding(crate::specs::Output::maps_text))]
-fn push_maps(
-    alloc: Global,
-    text: &mut Vec<u8>,
-    list: &AreaList,
-    files: &Files,
-) -> Result<(), NoMemory>
-    requires { All IsPrintable list.now }
-    ensures { OnOk result (text.new.items ≡ text.old.items ++ maps_text files.now list.now) }
+fn push_maps(text: &mut Vec<u8>, files: &Files, space: &Space) -> Result<(), NoMemory>
+    ensures { OnOk result (text.new.items ≡ text.old.items ++ maps_text files.now space.now.space.areas) }
 {
-    let count = list.items().len();
+    let areas = space.areas();
+    let count = areas.len();
     write!(text, "maps {count}\n").map_err(|_| NoMemory)?;
-    text.extend_from_slice(print_list(alloc, list, files)?.as_slice())?;
-    Ok(())
+    push_list(text, areas, files)
 }
