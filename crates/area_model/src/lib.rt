@@ -28,7 +28,9 @@ pub use laws::{
 };
 pub use mapping::{is_fixed, is_noreplace, mmap_refusal, new_area, objects_numbered};
 pub use placement::{Bounds, FLOOR, bounds_of, fits};
-pub use placement_laws::{greatest_below_finds_the_greatest, least_below_finds_the_least};
+pub use placement_laws::{
+    floor_is_a_third_of_user_memory, greatest_below_finds_the_greatest, least_below_finds_the_least,
+};
 pub use remapped::Moved;
 pub use remapping::{
     MremapArgs, added_range, carried_area, grows, may_move, moves_to, mremap_refusal, old_range,

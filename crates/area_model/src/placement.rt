@@ -5,7 +5,7 @@ ghost use Rattle.area_model.specs.Placement.{bounds_of, is_free, blocker, hinted
 use crate::areas::page_of;
 use mm_types::{Config, Record};
 
-/// The lowest page of the second search, a third of user memory.
+/// The lowest page of the second search: a third of user memory, rounded up to a page.
 pub const FLOOR: u64 = 0x2_aaaa_aaab;
 
 /// The pages between which areas are placed.
