@@ -1,6 +1,7 @@
 //! mremap(2): its arguments, and what they ask for, whatever the list of areas is.
-ghost use Rattle.std.specs.Prelude.{◌≡◌, ◌≤◌, ◌<◌, ◌+◌, ◌-◌, ◌^◌, ◌&&◌, List, nat_eq, nat_lt, not};
+ghost use Rattle.std.specs.Prelude.{◌≡◌, ◌≢◌, ◌≤◌, ◌<◌, ◌+◌, ◌-◌, ◌*◌, ◌^◌, ◌&&◌, List, nat_eq, nat_lt, not};
 ghost use Rattle.mm_types.specs.declared.area.Record.{Record};
+ghost use Rattle.mm_types.specs.declared.config.TheConstants.{PAGE_SIZE};
 ghost use Rattle.area_model.specs.Areas.{index_of, page_of};
 ghost use Rattle.area_model.specs.Changes.{IsSmall};
 ghost use Rattle.area_model.specs.Placement.{or_else};
@@ -107,11 +108,15 @@ fn overlaps_itself(args: &MremapArgs) -> bool
     moves_to(args) && overlap(old_range(args), new_range(args))
 }
 
-/// The first test of mremap(2)'s request that refuses it, of those that ask nothing of the list of areas.
+/// The first test of mremap(2)'s request that refuses it, of those that ask nothing of the list of areas. Where none does,
+/// neither length is 0, and the old range ends at or below the limit.
 #[tactic(auto, unfolding(crate::specs::Mremap::mremap_rows))]
 pub fn mremap_refusal(config: &Config, args: &MremapArgs) -> Option<Errno>
-    ensures { (areas : List Record) → first_row (mremap_rows config.now areas args.now)
+    ensures refusal { (areas : List Record) → first_row (mremap_rows config.now areas args.now)
         ≡ or_else result (first_row (range_rows areas args.now)) }
+    ensures some_old { result ≡ None → args.now.old_len ≢ 0 }
+    ensures some_new { result ≡ None → args.now.new_len ≢ 0 }
+    ensures within { result ≡ None → args.now.old + PAGE_SIZE * pages_of args.now.old_len ≤ config.now.limit }
 {
     if has_other_flag(args) {
         return Some(Errno::Einval);

@@ -1,8 +1,8 @@
 -- The tests of mremap(2) on the old range, on the one area that has its first page.
-use Rattle.std.proofs.Common.{◌≡◌, ◌<◌, ◌+◌, ◌-◌, ◌^◌, ℕ, Bool, true, false, not, ◌&&◌, ◌||◌, if◌then◌else◌, nat_eq, nat_lt, nat_le, min, List, [], ◌∷◌, Option, Some, None, refl, ap, ◌∙◌, subst, arith}
+use Rattle.std.proofs.Common.{◌≡◌, ◌≢◌, ◌<◌, ◌+◌, ◌-◌, ◌^◌, ℕ, Bool, true, false, not, ◌&&◌, ◌||◌, if◌then◌else◌, nat_eq, nat_lt, nat_le, min, List, [], ◌∷◌, Option, Some, None, refl, ap, ◌∙◌, subst, arith}
 use Rattle.std.specs.Option.{option_map_or}
 use Rattle.std.specs.List.{list_any, AllByRecursion as Each}
-use Rattle.std.proofs.lemmas.Bool.{cond_both, cond-true}
+use Rattle.std.proofs.lemmas.Bool.{cond_both}
 use Rattle.std.proofs.lemmas.Bool.Decides.{nat_tests}
 use Rattle.std.proofs.lemmas.Option.{same_Some}
 use Rattle.mm_types.specs.declared.area.Record.{Record}
@@ -17,10 +17,7 @@ use Rattle.area_model.specs.Mremap.{moves_to, grows, crosses_areas, overflows_ob
 use Rattle.area_model.proofs.Elements.{Pairs, Each-weaker}
 use Rattle.area_model.proofs.Parts.{Apart}
 use Rattle.area_model.proofs.Order.{pairs_from_canonical}
-use Rattle.area_model.proofs.Holding.{inside}
 use Rattle.area_model.proofs.NewArea.{pages_some}
-use Rattle.area_model.proofs.Rows.{rows_false}
-use Rattle.area_model.proofs.RemapLaws.{IsRemappable, remappable_from_rows}
 use Rattle.sys_mremap.specs.Remapping.{leaves_area, outgrows_object}
 
 -- areas that begin above a page
@@ -85,57 +82,24 @@ module _ (areas : List Record) (args : MremapArgs) (area : Record) (found : area
       → first_row (range_rows areas args) ≡ (if crosses then Some Efault else (if overflows then Some Einval else None))
   rows_by_area crosses overflows lies short = rw (found, lies, short)
 
--- a list of one area that has the whole range, and to which no test of the old range objects
-abbrev whole_area : MremapArgs → Record → Record
-whole_area args area = record area { span = record { lo = 0; hi = page_of args.old + pages_of args.old_len + pages_of args.new_len + 1 }; object = 0 }
-
-abbrev whole_list : MremapArgs → Record → List Record
-whole_list args area = whole_area args area ∷ []
-
-whole_found : (args : MremapArgs) (area : Record) → area_at (whole_list args area) (page_of args.old) ≡ Some (whole_area args area)
-whole_found args area = cond-true (has_page (whole_area args area).span (page_of args.old)) (Some (whole_area args area)) None
-    (inside (whole_area args area).span (page_of args.old) (omega arith) (omega arith))
-
-whole_lies : (args : MremapArgs) (area : Record) → crosses_areas (whole_list args area) args ≡ false
-unfolding crosses_areas
-whole_lies args area = tests (moves_to args || grows args) (page_of args.old) (pages_of args.old_len) (pages_of args.new_len)
-  where
-    tests : (moves : Bool) (first old new : ℕ)
-        → (moves && not ((nat_le 0 first && nat_le (first + min old new) (first + old + new + 1)) || false)) ≡ false
-    tests moves first old new = grind (arith, nat_tests)
-
-whole_short : (args : MremapArgs) (area : Record) → overflows_object (whole_list args area) args ≡ false
-unfolding outgrows_object
-whole_short args area = overflows_by_area (whole_list args area) args (whole_area args area) (whole_found args area) ∙ never (grows args)
-  where
-    never : (b : Bool) → (b && false) ≡ false
-    never b = grind arith
-
-whole_passes : (args : MremapArgs) (area : Record) → first_row (range_rows (whole_list args area) args) ≡ None
-whole_passes args area = rows_by_area (whole_list args area) args (whole_area args area) (whole_found args area) false false
-    (whole_lies args area) (whole_short args area)
-
--- what the tests of the request leave whatever the list is, they leave for that list
-some_stay : (config : Config) (args : MremapArgs) (area : Record)
-    → ((areas : List Record) → first_row (mremap_rows config areas args) ≡ first_row (range_rows areas args))
-    → 0 < min (pages_of args.old_len) (pages_of args.new_len)
-some_stay config args area through =
-    let asked : IsRemappable config (whole_list args area) args = remappable_from_rows config (whole_list args area) args
-    (rows_false (mremap_rows config (whole_list args area) args) (through (whole_list args area) ∙ whole_passes args area)) in
-    omega (arith, pages_some args.old_len asked.some_old, pages_some args.new_len asked.some_new)
+not_zero : (n : ℕ) → n ≢ 0 → nat_eq n 0 ≡ false
+not_zero n some = grind (arith, nat_tests)
 
 -- where the request is not refused whatever the list is, the tests are those of the area that has the old range's first page
 pub rows_of_area : (config : Config) (end : ℕ) (areas : List Record) (args : MremapArgs) (refusal : Option Errno) (page : ℕ) (area : Record) (leaves outgrows : Bool)
     → IsCanonical end areas → ((areas : List Record) → first_row (mremap_rows config areas args) ≡ or_else refusal (first_row (range_rows areas args)))
-    → refusal ≡ None → area_at areas page ≡ Some area → page ≡ page_of args.old → leaves_area args area ≡ leaves → outgrows_object args area ≡ outgrows
+    → args.old_len ≢ 0 → args.new_len ≢ 0 → refusal ≡ None → area_at areas page ≡ Some area → page ≡ page_of args.old → leaves_area args area ≡ leaves → outgrows_object args area ≡ outgrows
     → first_row (mremap_rows config areas args) ≡ (if leaves then Some Efault else (if outgrows then Some Einval else None))
-rows_of_area config end areas args refusal page area leaves outgrows canonical asked none there first lies short =
-    through areas ∙ rows_by_area areas args area found leaves outgrows
-    (crosses_by_area areas args area found (pairs_from_canonical end areas canonical) (some_stay config args area through) ∙ lies)
+rows_of_area config end areas args refusal page area leaves outgrows canonical asked some_old some_new none there first lies short =
+    through ∙ rows_by_area areas args area found leaves outgrows
+    (crosses_by_area areas args area found (pairs_from_canonical end areas canonical) stays ∙ lies)
     (overflows_by_area areas args area found ∙ short)
   where
-    through : (areas : List Record) → first_row (mremap_rows config areas args) ≡ first_row (range_rows areas args)
-    through areas = asked areas ∙ ap (λ refused. or_else refused (first_row (range_rows areas args))) none
+    stays : 0 < min (pages_of args.old_len) (pages_of args.new_len)
+    stays = omega (arith, pages_some args.old_len (not_zero args.old_len some_old), pages_some args.new_len (not_zero args.new_len some_new))
+
+    through : first_row (mremap_rows config areas args) ≡ first_row (range_rows areas args)
+    through = asked areas ∙ ap (λ refused. or_else refused (first_row (range_rows areas args))) none
 
     found : area_at areas (page_of args.old) ≡ Some area
     found = subst (λ page. area_at areas page ≡ Some area) first there
