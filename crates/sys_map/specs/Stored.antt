@@ -10,7 +10,7 @@ pub record Stored : Type 0 where
   pub bounds : Bounds
   pub most : ℕ
 
--- the list is sound for its numbers, and there is room for the most areas that it may have
+-- the list is kept for its numbers, and it and the copy of the part that changes have room for the most areas that it may have
 pub record HasRoom (bounds : Bounds) (most : ℕ) (areas : List Record) (room middle : ℕ) : Type 0 where
   pub kept : IsKept bounds most areas
   pub room_for_all : most ≤ room
