@@ -9,6 +9,7 @@ mod config;
 mod files;
 mod flags;
 mod history;
+mod laws;
 mod memory;
 mod text;
 
@@ -23,5 +24,6 @@ pub use flags::{
     MREMAP_MAYMOVE,
 };
 pub use history::{Content, Item, Op, TraceLine};
+pub use laws::{flag_bits, profile_numbers};
 pub use memory::NoMemory;
 pub use text::Text;

@@ -8,6 +8,7 @@ ghost use Rattle.trace_reader.specs.RawLines.{raw_lines};
 ghost use Rattle.trace_reader.specs.Values.{IsTraceValue};
 ghost use Rattle.trace_reader.specs.declared.fault.Cause.TheVariants.{Header};
 ghost use Rattle.trace_reader.specs.declared.fault.TraceFault.{TraceFault};
+ghost use Rattle.trace_reader.specs.declared.limits.TheConstants.{LINE_LIMIT, TRACE_LIMIT, MOST_LINES, MOST_MAPS};
 ghost use Rattle.trace_reader.specs.declared.trace.Trace.{Trace};
 
 /// The lines of a trace are its bytes, cut behind each newline and numbered from 1. The line that is named in place of
@@ -28,4 +29,12 @@ pub fn front_is_enough()
 pub fn traces_fit()
     ensures value { (bytes : List ℕ) (trace : Trace) → trace_of bytes ≡ Ok trace → IsTraceValue trace }
     ensures within { (bytes : List ℕ) (trace : Trace) → trace_of bytes ≡ Ok trace → length bytes ≤ trace_limit }
+{}
+
+/// The limits: 4,096 bytes of a line, 2^26 of a trace, 1,000,000 lines with a thread, and 64 that read the list of areas.
+pub fn trace_limits()
+    ensures line { LINE_LIMIT ≡ 4096 }
+    ensures trace { TRACE_LIMIT ≡ 67108864 }
+    ensures lines { MOST_LINES ≡ 1000000 }
+    ensures maps { MOST_MAPS ≡ 64 }
 {}

@@ -34,7 +34,7 @@ mod words;
 
 pub use calls::call_of;
 pub use fault::{CallError, Cause, ReadError, TraceFault};
-pub use laws::{first_bad_line, front_is_enough, traces_fit};
+pub use laws::{first_bad_line, front_is_enough, trace_limits, traces_fit};
 pub use limits::{LINE_LIMIT, MOST_LINES, MOST_MAPS, TRACE_LIMIT};
 pub use numbers::number_of;
 pub use reading::read;
