@@ -1,12 +1,13 @@
--- A place that is found has room below the limit, and is free.
+-- For the laws of the step: a place that is found has room below the limit, and is free.
 use Rattle.std.proofs.Common.{◌≡◌, ◌≤◌, ◌+◌, ℕ, zero, suc, max, Bool, true, false, ◌&&◌, if◌then◌else◌, nat_eq, nat_le, List, Option, Some, None, subst, arith}
 use Rattle.std.proofs.lemmas.Bool.{cond_both, and_parts, leb-true}
 use Rattle.std.proofs.lemmas.Option.{same_Some, cond_some}
 use Rattle.mm_types.specs.declared.area.Record.{Record}
 use Rattle.mm_types.specs.declared.config.Config.{Config}
 use Rattle.mm_types.specs.Config.{IsValidConfig}
-use Rattle.area_model.specs.Areas.{page_of}
-use Rattle.area_model.specs.Placement.{or_else, greatest_below, least_below, bounds_of, is_free, hinted_place, high_place, low_place, place}
+use Rattle.area_list.specs.Areas.{page_of}
+use Rattle.std.specs.Option.{option_or}
+use Rattle.area_model.specs.Placement.{greatest_below, least_below, bounds_of, is_free, hinted_place, high_place, low_place, place}
 
 -- what the search downwards finds passes the test
 pub greatest_passes : (passes : ℕ → Bool) (bound found : ℕ) → greatest_below passes bound ≡ Some found
@@ -20,7 +21,7 @@ greatest_passes passes (suc n) found h =
 
 -- what holds of an answer of each of the two, holds of an answer of the first that has one
 or_else_both : {A : Type 0} (P : A → Type 0) (a b : Option A) (x : A) → (a ≡ Some x → P x) → (b ≡ Some x → P x)
-    → or_else a b ≡ Some x → P x
+    → option_or a b ≡ Some x → P x
 or_else_both P (Some y) b x first second h = first h
 or_else_both P None b x first second h = second h
 
@@ -79,7 +80,7 @@ place_fits config areas pages hint start valid h =
     let hinted = hinted_place (bounds_of config) areas pages hint in
     let high = high_place (bounds_of config) areas pages in
     let low = low_place (bounds_of config) areas pages in
-    or_else_both Fits hinted (or_else high low) start (hinted_fits config areas pages hint start)
+    or_else_both Fits hinted (option_or high low) start (hinted_fits config areas pages hint start)
     (or_else_both Fits high low start
     (λ found. omega (arith, high_fits config areas pages start found, valid.top.within))
     (low_fits config areas pages start))
@@ -120,5 +121,5 @@ place_free config areas pages hint start h =
     let hinted = hinted_place (bounds_of config) areas pages hint in
     let high = high_place (bounds_of config) areas pages in
     let low = low_place (bounds_of config) areas pages in
-    or_else_both Free hinted (or_else high low) start (hinted_free config areas pages hint start)
+    or_else_both Free hinted (option_or high low) start (hinted_free config areas pages hint start)
     (or_else_both Free high low start (high_free config areas pages start) (low_free config areas pages start)) h

@@ -1,4 +1,4 @@
--- Journals: each prefix leaves a space where a step may be taken, and what it means that a journal is legal.
+-- For the laws `journal_laws` and `legal_journal_is_sound`: each prefix of a journal leaves a space where a step may be taken.
 use Rattle.std.proofs.Common.{◌≡◌, ◌<◌, ◌≤◌, ◌+◌, ◌-◌, ◌^◌, ◌⊎◌, inl, inr, ℕ, zero, suc, List, [], ◌∷◌, ◌++◌, length, take, drop, slice_get, Some, refl, sym, ap, subst, ◌∙◌, ◌↔◌, arith}
 use Rattle.std.specs.List.{fold}
 use Rattle.std.proofs.lemmas.Bool.{cases_lt}
@@ -9,10 +9,10 @@ use Rattle.std.proofs.lemmas.Option.{same_Some, slice_get_within}
 use Rattle.mm_types.specs.declared.call.Entry.{Entry}
 use Rattle.mm_types.specs.declared.config.Config.{Config}
 use Rattle.mm_types.specs.Config.{IsValidConfig}
-use Rattle.area_model.specs.Areas.{page_of, IsSound}
+use Rattle.area_list.specs.Areas.{page_of, IsSound}
 use Rattle.area_model.specs.Tables.{AddressSpace}
 use Rattle.area_model.specs.Steps.{step, IsReady, opening, after, IsLegalJournal}
-use Rattle.area_model.proofs.Order.{canonical_from_good}
+use Rattle.area_list.proofs.Order.{canonical_from_good}
 use Rattle.area_model.proofs.Stepping.{IsCounted, AllCounted, step_sound, step_counted, step_objects}
 
 -- a space with a sound list, in which the files and the objects of all areas are counted

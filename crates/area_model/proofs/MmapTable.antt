@@ -1,5 +1,5 @@
--- mmap(2), by how far its tests come.
-use Rattle.std.proofs.Common.{◌≡◌, ℕ, Bool, true, false, cond, List, [], ◌∷◌, ◌++◌, Option, Some, None, Result, IfOk, ◌*◌, ◌∙◌, sym, ap, refl, subst}
+-- For the function `mmap`: the outcome by how far its tests go.
+use Rattle.std.proofs.Common.{◌≡◌, ℕ, Bool, true, false, List, Some, None, Result, IfOk, ◌*◌, ◌∙◌, sym, ap, subst}
 use Rattle.mm_types.specs.declared.area.Record.{Record}
 use Rattle.mm_types.specs.declared.call.Errno.{Errno}
 use Rattle.mm_types.specs.declared.call.Errno.TheVariants.{Enomem}
@@ -7,10 +7,10 @@ use Rattle.mm_types.specs.declared.call.MmapArgs.{MmapArgs}
 use Rattle.mm_types.specs.declared.call.Reply.TheVariants.{Refused, Addr}
 use Rattle.mm_types.specs.declared.config.Config.{Config}
 use Rattle.area_model.specs.declared.step.Stepped.{Stepped}
-use Rattle.area_model.specs.Placement.{or_else}
 use Rattle.area_model.specs.Stepped.{outcome_of}
-use Rattle.area_model.specs.Tables.{AddressSpace, Outcome, first_row, has_too_many_areas}
-use Rattle.area_model.specs.Mmap.{mmap, mmap_rows, mmap_place_rows, mmap_done, start_of, mapped_list, objects_after}
+use Rattle.area_model.specs.Tables.{AddressSpace, Outcome, has_too_many_areas}
+use Rattle.mm_types.specs.Rows.{first_row}
+use Rattle.area_model.specs.Mmap.{mmap, mmap_rows, mmap_placed, mmap_done, start_of, mapped_list, objects_after}
 
 -- a refusal
 abbrev pub refusal : AddressSpace → Errno → Outcome
@@ -25,34 +25,25 @@ pub same_length_test : (config : Config) (result test : Bool) (xs ys zs : List R
     → has_too_many_areas config zs ≡ test
 same_length_test config result test xs ys zs is first second outcome = sym (ap (λ (l : List Record). has_too_many_areas config l) (first ∙ second)) ∙ sym is ∙ outcome
 
-row_first : {A : Type 0} (test : Bool) (x : A) (rest other : Option A) → cond test (Some x) (or_else rest other) ≡ or_else (cond test (Some x) rest) other
-row_first true x rest other = refl
-row_first false x rest other = refl
-
--- the tests of two tables, one after the other
-pub first_row-append : {A : Type 0} (rows others : List (Bool × A)) → first_row (rows ++ others) ≡ or_else (first_row rows) (first_row others)
-first_row-append [] others = refl
-first_row-append (row ∷ rows) others = rw (first_row-append rows others) (row_first row.0 row.1 (first_row rows) (first_row others))
-
 pub mmap_refused : (config : Config) (space : AddressSpace) (args : MmapArgs) (errno : Errno) → first_row (mmap_rows config space.areas args) ≡ Some errno
     → mmap config space args ≡ refusal space errno
 unfolding mmap
-mmap_refused config space args errno refused = rw (first_row-append, refused)
+mmap_refused config space args errno refused = rw refused
 
 pub mmap_no_place : (config : Config) (space : AddressSpace) (args : MmapArgs) → first_row (mmap_rows config space.areas args) ≡ None
     → start_of config space.areas args ≡ None → mmap config space args ≡ refusal space Enomem
-unfolding mmap mmap_place_rows
-mmap_no_place config space args passes none = rw (first_row-append, passes, none)
+unfolding mmap mmap_placed
+mmap_no_place config space args passes none = rw (passes, none)
 
 module _ (config : Config) (space : AddressSpace) (args : MmapArgs) (start : ℕ) (passes : first_row (mmap_rows config space.areas args) ≡ None)
     (found : start_of config space.areas args ≡ Some start) where
   pub mmap_too_long : has_too_many_areas config (mapped_list config space args start) ≡ true → mmap config space args ≡ refusal space Enomem
-  unfolding mmap mmap_place_rows
-  mmap_too_long long = rw (first_row-append, passes, found, long)
+  unfolding mmap mmap_placed
+  mmap_too_long long = rw (passes, found, long)
 
   pub mmap_maps : has_too_many_areas config (mapped_list config space args start) ≡ false → mmap config space args ≡ mmap_done config space args start
-  unfolding mmap mmap_place_rows
-  mmap_maps fits = rw (first_row-append, passes, found, fits)
+  unfolding mmap mmap_placed
+  mmap_maps fits = rw (passes, found, fits)
 
   pub mmap_outcome : (list items : List Record) (objects : ℕ) → list ≡ items → items ≡ mapped_list config space args start → objects ≡ objects_after space.objects args
       → has_too_many_areas config (mapped_list config space args start) ≡ false

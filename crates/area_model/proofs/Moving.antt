@@ -1,4 +1,4 @@
--- A move of mremap(2) carries the pages of its range.
+-- For the law `move_carries_the_pages`: a move of mremap(2) carries the pages of its range.
 use Rattle.std.proofs.Common.{◌≡◌, ◌≤◌, ◌<◌, ◌+◌, ◌-◌, ◌*◌, ◌⊎◌, inl, inr, ℕ, Bool, true, false, not, ◌&&◌, ◌||◌, if◌then◌else◌, nat_eq, nat_lt, nat_le, min, List, [], ◌∷◌, length, Option, Some, None, option_map, refl, ap, ◌∙◌, sym, subst, arith}
 use Rattle.std.specs.Option.{option_and_then}
 use Rattle.std.specs.List.{AllByRecursion as Each}
@@ -8,21 +8,22 @@ use Rattle.mm_types.specs.declared.area.Record.{Record}
 use Rattle.mm_types.specs.declared.call.Reply.TheVariants.{Addr}
 use Rattle.mm_types.specs.declared.config.Config.{Config}
 use Rattle.mm_types.specs.declared.config.TheConstants.{PAGE_SIZE}
-use Rattle.area_model.specs.Areas.{MappedPage, IsCanonical, page_of, has_page, index_of, mapped_page, page_map, area_at}
-use Rattle.area_model.specs.Changes.{put}
+use Rattle.area_list.specs.Areas.{MappedPage, IsCanonical, page_of, has_page, index_of, mapped_page, page_map, area_at}
+use Rattle.area_list.specs.Changes.{put}
 use Rattle.area_model.specs.Placement.{is_free}
-use Rattle.area_model.specs.Tables.{AddressSpace, Outcome, first_row, unless_refused, pages_of, has_too_many_areas}
+use Rattle.area_model.specs.Tables.{AddressSpace, Outcome, unless_refused, pages_of, has_too_many_areas}
+use Rattle.mm_types.specs.Rows.{first_row}
 use Rattle.area_model.specs.Munmap.{range_of}
-use Rattle.area_model.specs.declared.remapped.Moved.{Moved}
-use Rattle.area_model.specs.declared.remapping.MremapArgs.{MremapArgs}
-use Rattle.area_model.specs.Mremap.{moves_to, grows, old_range, new_range, overlap, mremap_rows, carried_area, moved_list, moved, has_room, mremap_change, mremap_change_rows, mremap_done, mremap}
+use Rattle.area_model.specs.declared.mremap_table.Moved.{Moved}
+use Rattle.area_model.specs.declared.mremap_request.MremapArgs.{MremapArgs}
+use Rattle.area_model.specs.Mremap.{moves_to, grows, old_range, new_range, overlap, mremap_rows, carried_area, moved_list, moved, has_room, mremap_change, mremap_list_rows, mremap_changed, mremap_done, mremap}
 use Rattle.area_model.specs.Laws.{moved_range, MovesTo, IsMove}
-use Rattle.area_model.proofs.Order.{good_from_canonical, pairs_from_canonical}
-use Rattle.area_model.proofs.Cutting.{page_map-cut}
-use Rattle.area_model.proofs.Putting.{page_map-put}
+use Rattle.area_list.proofs.Order.{good_from_canonical, pairs_from_canonical}
+use Rattle.area_list.proofs.Cutting.{page_map-cut}
+use Rattle.area_list.proofs.Putting.{page_map-put}
 use Rattle.area_model.proofs.Rows.{rows_false}
 use Rattle.area_model.proofs.Fitting.{place_free}
-use Rattle.area_model.proofs.Holding.{inside, Finds, each_found, found_keeps}
+use Rattle.area_list.proofs.Holding.{inside, Finds, each_found, found_keeps}
 use Rattle.area_model.proofs.RemapLaws.{IsRemappable, remappable_from_rows, IsOld, old_area, stay_within, changes_place, found_place, some_range, moved_good, moved_canonical}
 
 -- an area has none of so many pages from this start on
@@ -83,8 +84,7 @@ change_moves config areas area args start (inr found) =
     ∙ ap (option_map (moved areas area args)) found.3
 
 few_rows : (config : Config) (change : Moved) → length change.areas ≤ config.areas
-    → first_row (mremap_change_rows config (Some change)) ≡ None
-unfolding mremap_change_rows
+    → first_row (mremap_list_rows config change) ≡ None
 few_rows config change few =
     cond-false (has_too_many_areas config change.areas) _ _ (le-ltb config.areas (length change.areas) few)
 
@@ -96,17 +96,16 @@ pub mremap_moves : (config : Config) (space : AddressSpace) (area : Record) (arg
       space = record space { areas = moved_list space.areas area args start };
       reply = Addr (PAGE_SIZE * start);
     }
-unfolding mremap mremap_done
+unfolding mremap mremap_changed mremap_done
 mremap_moves config space area args start move few =
     let made : Moved = moved space.areas area args start in
     let change : Option Moved = option_and_then (λ a. mremap_change config space.areas a args)
     (area_at space.areas (page_of args.old)) in
-    let last : Option Moved → Outcome =
-    λ found. unless_refused space (first_row (mremap_change_rows config found)) (mremap_done space found) in
+    let last : Option Moved → Outcome = mremap_changed config space in
     ap (λ o. unless_refused space o (last change)) move.accepted
     ∙ ap last (ap (option_and_then (λ a. mremap_change config space.areas a args)) move.found
     ∙ change_moves config space.areas area args start move.place)
-    ∙ ap (λ o. unless_refused space o (mremap_done space (Some made))) (few_rows config made few)
+    ∙ ap (λ o. unless_refused space o (mremap_done space made)) (few_rows config made few)
 
 module _ (config : Config) (areas : List Record) (area : Record) (args : MremapArgs) (start : ℕ)
     (move : IsMove config areas area args start) where

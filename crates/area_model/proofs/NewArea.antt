@@ -1,4 +1,4 @@
--- The area of a mapping that is accepted is valid, and its object is counted.
+-- For the laws of the step: the area of a mapping that is accepted is valid, and its object is counted.
 use Rattle.std.proofs.Common.{ℤ, ◌^◌, ◌≡◌, ◌<◌, ◌≤◌, ◌+◌, ◌-◌, ◌*◌, ◌/◌, ◌%◌, ◌⊎◌, inl, inr, ℕ, Bool, true, false, not, ◌&&◌, ◌||◌, if◌then◌else◌, nat_eq, nat_lt, List, length, find, position, Option, Some, None, option_map, is_none, refl, subst, sym, ap, ◌∙◌, arith}
 use Rattle.std.specs.Option.{option_map_or}
 use Rattle.std.specs.List.{position_or_len}
@@ -15,11 +15,11 @@ use Rattle.mm_types.specs.declared.config.TheConstants.{PAGE_SIZE}
 use Rattle.mm_types.specs.declared.files.FileRow.{FileRow}
 use Rattle.mm_types.specs.Config.{IsValidConfig}
 use Rattle.mm_types.specs.Records.{holds_all}
-use Rattle.area_model.specs.Areas.{page_of}
+use Rattle.area_list.specs.Areas.{page_of}
 use Rattle.area_model.specs.Placement.{bounds_of, place}
 use Rattle.area_model.specs.Tables.{is_aligned, pages_of}
 use Rattle.area_model.specs.Mmap.{is_anonymous, is_shared, is_fixed, file_of, file_place, object_of, lacks_file, overflows_offset, denies, is_denied, start_of, most_of, most_allowed, object_mapped, objects_after, new_area, mmap_rows}
-use Rattle.area_model.proofs.Order.{IsGood}
+use Rattle.area_list.proofs.Order.{IsGood}
 use Rattle.area_model.proofs.Rows.{NoneHolds}
 use Rattle.area_model.proofs.Fitting.{place_fits}
 

@@ -1,11 +1,12 @@
--- What blocks a place, and where the searches of the code stand.
+-- For the two searches of the code: what blocks a place, and where a search stands.
 use Rattle.std.proofs.Common.{◌≡◌, ℕ, ◌+◌, ◌-◌, ◌<◌, ◌≤◌, ◌&&◌, ◌||◌, Bool, true, false, cond, nat_lt, nat_le, List, [], ◌∷◌, Option, Some, None, refl, max, arith}
 use Rattle.std.proofs.lemmas.Bool.Decides.{nat_tests}
 use Rattle.mm_types.specs.declared.area.Record.{Record}
 use Rattle.area_model.specs.declared.placement.Bounds.{Bounds}
 use Rattle.area_model.specs.declared.placement.TheConstants.{FLOOR}
-use Rattle.area_model.specs.Placement.{is_free, blocker, high_place, low_place}
-use Rattle.area_model.proofs.Finding.{find_passes, find_fails_all}
+use Rattle.area_model.specs.Placement.{is_free, high_place, low_place}
+use Rattle.area_model.specs.Blockers.{blocker}
+use Rattle.area_list.proofs.Finding.{find_passes, find_fails_all}
 use Rattle.area_model.proofs.Searching.{greatest_is, greatest_none, least_is, least_none}
 
 -- one area, by its numbers: it is in the way, or the place is free of it

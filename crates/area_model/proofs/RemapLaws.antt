@@ -1,32 +1,34 @@
--- What the tests of mremap(2) leave, and that each of its changes keeps a list canonical.
-use Rattle.std.proofs.Common.{◌^◌, ◌≡◌, ◌≢◌, ◌≤◌, ◌<◌, ◌+◌, ◌-◌, ◌*◌, ◌/◌, ◌%◌, ◌⊎◌, inl, inr, ℕ, Bool, true, false, not, ◌&&◌, ◌||◌, if◌then◌else◌, nat_eq, nat_lt, nat_le, min, List, [], ◌∷◌, length, Option, Some, None, refl, ◌∙◌, sym, subst, arith}
+-- For the law `move_carries_the_pages` and those of the step: what the tests of mremap(2) leave, and that each of its changes keeps a list canonical.
+use Rattle.std.proofs.Common.{◌^◌, ◌≡◌, ◌≢◌, ◌≤◌, ◌<◌, ◌+◌, ◌-◌, ◌*◌, ◌/◌, ◌%◌, ◌⊎◌, inl, inr, ℕ, Bool, true, false, not, ◌&&◌, ◌||◌, if◌then◌else◌, nat_eq, nat_lt, nat_le, min, List, [], ◌∷◌, length, Option, Some, None, refl, subst, arith}
 use Rattle.std.specs.Option.{option_map_or, option_map, option_and_then}
-use Rattle.std.specs.List.{list_any, AllByRecursion as Each}
-use Rattle.std.proofs.lemmas.Bool.{cond_both, and_parts, or_cases, leb-true, ltb-true, ltb-false}
+use Rattle.std.specs.List.{AllByRecursion as Each}
+use Rattle.std.proofs.lemmas.Bool.{cond_both, and_parts, leb-true, ltb-true, ltb-false}
 use Rattle.std.proofs.lemmas.Bool.Decides.{nat_tests}
 use Rattle.std.proofs.lemmas.Option.{same_Some, option_and_then_some}
 use Rattle.mm_types.specs.declared.area.Span.{Span}
 use Rattle.mm_types.specs.declared.area.Record.{Record}
+use Rattle.mm_types.specs.declared.call.Errno.TheVariants.{Efault}
 use Rattle.mm_types.specs.declared.config.Config.{Config}
 use Rattle.mm_types.specs.Config.{IsValidConfig}
 use Rattle.mm_types.specs.Records.{IsValid}
-use Rattle.area_model.specs.Areas.{page_of, index_of, joins, area_at, IsCanonical}
-use Rattle.area_model.specs.Changes.{joined_area, cut, put}
+use Rattle.area_list.specs.Areas.{page_of, index_of, joins, area_at, IsCanonical}
+use Rattle.area_list.specs.Changes.{joined_area, cut, put}
 use Rattle.area_model.specs.Placement.{bounds_of, place}
-use Rattle.area_model.specs.Tables.{AddressSpace, first_row, pages_of}
+use Rattle.area_model.specs.Tables.{AddressSpace, pages_of}
+use Rattle.mm_types.specs.Rows.{first_row}
 use Rattle.area_model.specs.Munmap.{range_of}
-use Rattle.area_model.specs.declared.remapped.Moved.{Moved}
-use Rattle.area_model.specs.declared.remapping.MremapArgs.{MremapArgs}
-use Rattle.area_model.specs.Mremap.{moves_to, may_move, grows, old_range, new_range, overlap, is_new_misplaced, crosses_areas, overflows_object, mremap_rows, carried_area, moved_list, moved, shrunk_list, added_range, has_room, grown_list, new_place, mremap_change, mremap_change_rows, mremap_done, mremap}
+use Rattle.area_model.specs.declared.mremap_table.Moved.{Moved}
+use Rattle.area_model.specs.declared.mremap_request.MremapArgs.{MremapArgs}
+use Rattle.area_model.specs.Mremap.{moves_to, may_move, grows, old_range, new_range, overlap, is_new_misplaced, leaves_area, overflows_object, area_rows, mremap_rows, carried_area, moved_list, moved, shrunk_list, added_range, has_room, grown_list, new_place, mremap_change, mremap_list_rows, mremap_changed, mremap_done, mremap}
 use Rattle.area_model.specs.Laws.{moved_range, MovesTo}
-use Rattle.area_model.proofs.Parts.{part}
-use Rattle.area_model.proofs.Order.{IsGood, good_from_canonical, pairs_from_canonical}
-use Rattle.area_model.proofs.Cutting.{cut_canonical, cut_each}
-use Rattle.area_model.proofs.Putting.{put_canonical, put_each}
+use Rattle.area_list.proofs.Parts.{part}
+use Rattle.area_list.proofs.Order.{IsGood, good_from_canonical}
+use Rattle.area_list.proofs.Cutting.{cut_canonical, cut_each}
+use Rattle.area_list.proofs.Putting.{put_canonical, put_each}
 use Rattle.area_model.proofs.Rows.{NoneHolds, rows_false, unless_refused_both}
 use Rattle.area_model.proofs.Fitting.{place_fits}
 use Rattle.area_model.proofs.NewArea.{pages_some}
-use Rattle.area_model.proofs.Holding.{lies_in, inside, Finds, each_found, found_has, found_keeps}
+use Rattle.area_list.proofs.Holding.{lies_in, found_has, found_keeps}
 
 -- what the tests leave, those that the changes rest on
 pub record IsRemappable (config : Config) (areas : List Record) (args : MremapArgs) : Type 0 where
@@ -34,8 +36,8 @@ pub record IsRemappable (config : Config) (areas : List Record) (args : MremapAr
   pub some_old : nat_eq args.old_len 0 ≡ false
   pub placed : is_new_misplaced config args ≡ false
   pub beside : (moves_to args && overlap (old_range args) (new_range args)) ≡ false
-  pub whole : crosses_areas areas args ≡ false
-  pub short : overflows_object areas args ≡ false
+  pub whole : (area : Record) → area_at areas (page_of args.old) ≡ Some area → leaves_area args area ≡ false
+  pub short : (area : Record) → area_at areas (page_of args.old) ≡ Some area → overflows_object args area ≡ false
 
 pub remappable_from_rows : (config : Config) (areas : List Record) (args : MremapArgs)
     → NoneHolds (mremap_rows config areas args) → IsRemappable config areas args
@@ -45,28 +47,13 @@ remappable_from_rows config areas args h = record {
   some_old = h.1.1.1.1.0;
   placed = h.1.1.1.1.1.1.0;
   beside = h.1.1.1.1.1.1.1.1.0;
-  whole = h.1.1.1.1.1.1.1.1.1.1.0;
-  short = h.1.1.1.1.1.1.1.1.1.1.1.0;
+  whole = λ area found. (of_area area found).0;
+  short = λ area found. (of_area area found).1.0;
 }
-
--- where an element passes, there is one with what each has
-any_passes : {A : Type 0} (P : A → Type 0) (passes : A → Bool) (xs : List A) → Each P xs → list_any passes xs ≡ true
-    → (x : A) × P x × (passes x ≡ true)
-any_passes P passes [] each h = cc
-any_passes P passes (x ∷ xs) each h =
-    split (or_cases (passes x) (list_any passes xs) h) (any_passes P passes xs each.1)
   where
-    Passing : Type 0
-    Passing = (y : _) × P y × (passes y ≡ true)
-
-    split : (passes x ≡ true) ⊎ (list_any passes xs ≡ true) → (list_any passes xs ≡ true → Passing) → Passing
-    split (inl here) rest = (x, each.0, here)
-    split (inr later) rest = rest later
-
--- whether the pages that stay lie in an area
-abbrev holds_stay : MremapArgs → Record → Bool
-holds_stay args area = nat_le area.span.lo (page_of args.old)
-    && nat_le (page_of args.old + min (pages_of args.old_len) (pages_of args.new_len)) area.span.hi
+    of_area : (area : Record) → area_at areas (page_of args.old) ≡ Some area → NoneHolds (area_rows args area)
+    of_area area found =
+        subst (λ o. NoneHolds (option_map_or (area_rows args) o ((true, Efault) ∷ []))) found h.1.1.1.1.1.1.1.1.1
 
 -- the area that is remapped, and its old pages
 pub record IsOld (end : ℕ) (areas : List Record) (args : MremapArgs) (area : Record) : Type 0 where
@@ -89,22 +76,13 @@ pub stay_within : (config : Config) (end : ℕ) (areas : List Record) (args : Mr
     → IsCanonical end areas → IsRemappable config areas args → area_at areas (page_of args.old) ≡ Some area
     → (moves_to args || grows args) ≡ true
     → page_of args.old + min (pages_of args.old_len) (pages_of args.new_len) ≤ area.span.hi
-unfolding crosses_areas
+unfolding leaves_area
 stay_within config end areas args area c r found changes =
-    let holder = any_passes (Finds areas) (holds_stay args) areas (each_found areas (pairs_from_canonical end areas c))
-    (passes (moves_to args || grows args) (list_any (holds_stay args) areas) changes r.whole) in
-    let low = page_of args.old in
-    let stay = min (pages_of args.old_len) (pages_of args.new_len) in
-    let parts = and_parts (nat_le holder.0.span.lo low) (nat_le (low + stay) holder.0.span.hi) holder.2 in
-    let some_old : 0 < pages_of args.old_len = pages_some args.old_len r.some_old in
-    let some_new : 0 < pages_of args.new_len = pages_some args.new_len r.some_new in
-    let first : low < holder.0.span.hi = omega (arith, leb-true (low + stay) holder.0.span.hi parts.1) in
-    let here = inside holder.0.span low (leb-true holder.0.span.lo low parts.0) first in
-    let same = same_Some holder.0 area (sym (holder.1 low here) ∙ found) in
-    subst (λ a. low + stay ≤ a.span.hi) same (leb-true (low + stay) holder.0.span.hi parts.1)
+    tests (moves_to args || grows args) area.span.hi (page_of args.old + min (pages_of args.old_len) (pages_of args.new_len))
+    changes (r.whole area found)
   where
-    passes : (b any : Bool) → b ≡ true → (b && not any) ≡ false → any ≡ true
-    passes b any is h = grind arith
+    tests : (changes : Bool) (hi stay : ℕ) → changes ≡ true → (changes && nat_lt hi stay) ≡ false → stay ≤ hi
+    tests changes hi stay is h = grind (arith, nat_tests)
 
 -- the indices of a moved range stay within those of an object
 pub moved_index : (config : Config) (end : ℕ) (areas : List Record) (args : MremapArgs) (area : Record)
@@ -118,9 +96,7 @@ moved_index config end areas args area c r found changes backed =
     let stay = stay_within config end areas args area c r found changes in
     by_short area.object area.offset area.span.lo area.span.hi (page_of args.old) (pages_of args.old_len)
     (pages_of args.new_len) backed fits old.begins stay
-    (subst (λ o. (grows args && option_map_or (λ a. not (nat_eq a.object 0)
-    && nat_lt (2 ^ 51 - 1) (index_of a (page_of args.old) + pages_of args.new_len)) o false) ≡ false) found
-    (unfold overflows_object in r.short))
+    (unfold overflows_object in r.short area found)
   where
     by_short : (object offset lo hi low old new : ℕ) → object ≢ 0 → offset + (hi - lo) ≤ 2 ^ 51 - 1 → lo ≤ low
         → low + min old new ≤ hi
@@ -243,7 +219,7 @@ index_on area low old new begins longer backed short =
         → (if nat_eq object 0 then 0 else offset + ((low + old) - lo)) + ((low + new) - (low + old)) ≤ 2 ^ 51 - 1
     tests object offset lo low old new begins longer backed short = grind (arith, nat_tests)
 
--- the area that runs on behind the old range
+-- the area that runs on after the old range
 pub grown_good : (config : Config) (areas : List Record) (args : MremapArgs) (area : Record) → IsValidConfig config
     → IsCanonical (page_of config.limit) areas → IsRemappable config areas args
     → area_at areas (page_of args.old) ≡ Some area → grows args ≡ true → has_room config areas args ≡ true
@@ -301,16 +277,6 @@ change_both Q config areas area args change moves shrinks runs_on =
     placed (Some start) free more none is e =
         at (moved areas area args start) e (moves start (inr (free, more, none, is)))
 
--- where no test of the change holds, there is a change, and not too many areas
-no_change : (config : Config) → NoneHolds (mremap_change_rows config None) → ⊥
-unfolding mremap_change_rows
-no_change config h = cc (h.0)
-
-change_few : (config : Config) (change : Moved) → NoneHolds (mremap_change_rows config (Some change))
-    → length change.areas ≤ config.areas
-unfolding mremap_change_rows
-change_few config change h = ltb-false config.areas (length change.areas) h.1.0
-
 -- what holds of an address space, and of the one with the list after the change that the tests let pass, holds after
 -- mremap
 pub mremap_both : (P : AddressSpace → Type 0) (config : Config) (space : AddressSpace) (args : MremapArgs) → P space
@@ -318,25 +284,25 @@ pub mremap_both : (P : AddressSpace → Type 0) (config : Config) (space : Addre
     → IsRemappable config space.areas args → mremap_change config space.areas area args ≡ Some change
     → length change.areas ≤ config.areas → P (record space { areas = change.areas }))
     → P (mremap config space args).space
-unfolding mremap mremap_done
+unfolding mremap mremap_changed mremap_done
 mremap_both P config space args kept done =
     unless_refused_both P space (first_row (mremap_rows config space.areas args)) _ kept
-    (λ none. let r : IsRemappable config space.areas args = remappable_from_rows config space.areas args
-    (rows_false (mremap_rows config space.areas args) none) in
-    unless_refused_both P space (first_row (mremap_change_rows config change)) _ kept
-    (λ through. at change refl r (rows_false (mremap_change_rows config change) through)))
+    (λ none. at change refl (remappable_from_rows config space.areas args
+    (rows_false (mremap_rows config space.areas args) none)))
   where
     change : Option Moved
     change = option_and_then (λ area. mremap_change config space.areas area args)
         (area_at space.areas (page_of args.old))
 
     at : (found : Option Moved) → change ≡ found → IsRemappable config space.areas args
-        → NoneHolds (mremap_change_rows config found) → P (mremap_done space found).space
-    at None is r tests = absurd (no_change config tests)
-    at (Some moved) is r tests =
-        option_and_then_some (λ area. mremap_change config space.areas area args)
+        → P (mremap_changed config space found).space
+    at None is r = kept
+    at (Some moved) is r =
+        unless_refused_both P space (first_row (mremap_list_rows config moved)) (mremap_done space moved) kept
+        (λ through. option_and_then_some (λ area. mremap_change config space.areas area args)
         (area_at space.areas (page_of args.old)) moved is
-        (λ area found e. done area moved found r e (change_few config moved tests))
+        (λ area found e. done area moved found r e (ltb-false config.areas (length moved.areas)
+        (rows_false (mremap_list_rows config moved) through).0)))
 
 -- the objects of a list stay those of the areas that it had
 pub change_each : (P : Record → Type 0) → ((area : Record) (lo hi : ℕ) → P area → P (part area lo hi))

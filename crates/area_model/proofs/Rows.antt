@@ -1,10 +1,11 @@
--- Tables of tests: what it means that none holds.
+-- For the laws of the step: what it means that no row of a table holds.
 use Rattle.std.proofs.Common.{◌≡◌, Bool, true, false, if◌then◌else◌, List, [], ◌∷◌, ◌++◌, Option, Some, None, refl}
 use Rattle.std.specs.List.{AllByRecursion as Each}
 use Rattle.mm_types.specs.declared.call.Errno.{Errno}
 use Rattle.mm_types.specs.declared.call.Reply.TheVariants.{Refused}
-use Rattle.area_model.specs.Tables.{AddressSpace, Outcome, first_row, unless_refused}
-use Rattle.area_model.proofs.Elements.{Each-left, Each-right}
+use Rattle.area_model.specs.Tables.{AddressSpace, Outcome, unless_refused}
+use Rattle.mm_types.specs.Rows.{first_row}
+use Rattle.area_list.proofs.Elements.{Each-left, Each-right}
 
 row_false : {A : Type 0} (test : Bool) (answer : A) (rest : Option A) → (if test then Some answer else rest) ≡ None
     → (test ≡ false) × (rest ≡ None)

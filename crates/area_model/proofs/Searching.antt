@@ -1,7 +1,8 @@
--- The searches for the greatest and the least number that passes.
+-- For the laws of the two searches: they find the greatest and the least number that passes.
 use Rattle.std.proofs.Common.{◌≡◌, ℕ, zero, suc, ◌<◌, ◌≤◌, inl, inr, Bool, true, false, cond, Option, Some, None, refl, ap, subst, arith}
 use Rattle.std.proofs.lemmas.Bool.{cases_lt}
-use Rattle.area_model.specs.Placement.{greatest_below, least_below, or_else, IsGreatest, IsLeast, NonePasses}
+use Rattle.area_model.specs.Placement.{greatest_below, least_below, IsGreatest, IsLeast, NonePasses}
+use Rattle.std.specs.Option.{option_or}
 
 pub greatest_none : (passes : ℕ → Bool) (bound : ℕ) → NonePasses passes bound → greatest_below passes bound ≡ None
 unfolding greatest_below
@@ -90,7 +91,7 @@ least_is passes (suc bound) n is = elim (cases_lt n bound) [
 
 -- the other way round, by what the search below the last number found and whether that passes
 least_back : (passes : ℕ → Bool) (bound n : ℕ) (before : Option ℕ) (last : Bool) → least_below passes bound ≡ before → passes bound ≡ last
-    → or_else before (cond last (Some bound) None) ≡ Some n
+    → option_or before (cond last (Some bound) None) ≡ Some n
     → (least_below passes bound ≡ Some n → IsLeast passes bound n) → (least_below passes bound ≡ None → NonePasses passes bound) → IsLeast passes (suc bound) n
 least_back passes bound n (Some m) last search passing found is none = let found_before = is cc in record {
   below = omega (arith, found_before.below);
@@ -106,7 +107,7 @@ least_back passes bound n None false search passing found is none = cc
 
 -- nothing found below one more number
 least_none_back : (passes : ℕ → Bool) (bound : ℕ) (before : Option ℕ) (last : Bool) → least_below passes bound ≡ before → passes bound ≡ last
-    → or_else before (cond last (Some bound) None) ≡ None
+    → option_or before (cond last (Some bound) None) ≡ None
     → (least_below passes bound ≡ None → NonePasses passes bound) → NonePasses passes (suc bound)
 least_none_back passes bound (Some m) last search passing found none = cc
 least_none_back passes bound None true search passing found none = cc

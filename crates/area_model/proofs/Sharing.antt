@@ -1,4 +1,4 @@
--- The object of a mapping of shared anonymous memory is new.
+-- For the law `new_object_is_fresh`: the object of a mapping of shared anonymous memory is new.
 use Rattle.std.proofs.Common.{◌≡◌, ◌≢◌, ◌+◌, ◌-◌, ◌*◌, ℕ, Bool, true, ◌&&◌, if◌then◌else◌, nat_eq, Some, All, ◌∙◌, sym, subst, arith}
 use Rattle.std.specs.Option.{IsSomeAnd}
 use Rattle.std.proofs.lemmas.Bool.{cond-true}
@@ -9,16 +9,16 @@ use Rattle.mm_types.specs.declared.call.Call.TheVariants.{Mmap}
 use Rattle.mm_types.specs.declared.call.MmapArgs.{MmapArgs}
 use Rattle.mm_types.specs.declared.call.Reply.TheVariants.{Addr}
 use Rattle.mm_types.specs.declared.config.Config.{Config}
-use Rattle.area_model.specs.Areas.{MappedPage, page_of, has_page, index_of, mapped_page, page_map}
+use Rattle.area_list.specs.Areas.{MappedPage, page_of, has_page, index_of, mapped_page, page_map}
 use Rattle.area_model.specs.Tables.{AddressSpace, Outcome, pages_of}
 use Rattle.area_model.specs.Munmap.{range_of}
 use Rattle.area_model.specs.Mmap.{is_anonymous, is_shared, start_of, object_mapped, objects_after, new_area, mapped_list, mmap_done}
 use Rattle.area_model.specs.Steps.{step, IsReady}
 use Rattle.area_model.specs.Laws.{MapsShared}
-use Rattle.area_model.proofs.Elements.{Each-weaker}
-use Rattle.area_model.proofs.Order.{good_from_canonical}
-use Rattle.area_model.proofs.Pages.{lies}
-use Rattle.area_model.proofs.Putting.{page_map-put}
+use Rattle.area_list.proofs.Elements.{Each-weaker}
+use Rattle.area_list.proofs.Order.{good_from_canonical}
+use Rattle.area_list.proofs.Pages.{lies}
+use Rattle.area_list.proofs.Putting.{page_map-put}
 use Rattle.area_model.proofs.NewArea.{IsAccepted, new_area_good}
 use Rattle.area_model.proofs.Stepping.{IsCounted, mmap_cases}
 

@@ -1,6 +1,5 @@
--- A step keeps the list sound and its objects counted.
-use Rattle.std.proofs.Common.{◌≡◌, ◌<◌, ◌≤◌, ◌+◌, ℕ, Bool, List, ◌++◌, length, Option, Some, None, refl, arith}
-use Rattle.std.specs.Option.{option_map_or}
+-- For the law `step_keeps_soundness`: a step keeps the list sound and its objects counted.
+use Rattle.std.proofs.Common.{◌≡◌, ◌<◌, ◌≤◌, ◌+◌, ℕ, List, length, Option, Some, None, refl, arith}
 use Rattle.std.specs.List.{AllByRecursion as Each}
 use Rattle.std.proofs.lemmas.Bool.{ltb-false}
 use Rattle.mm_types.specs.declared.area.Span.{Span}
@@ -9,26 +8,29 @@ use Rattle.mm_types.specs.declared.area.Record.{Record}
 use Rattle.mm_types.specs.declared.call.Call.{Call}
 use Rattle.mm_types.specs.declared.call.Call.TheVariants.{Mmap, Munmap, Mprotect, Mremap}
 use Rattle.mm_types.specs.declared.call.Errno.{Errno}
+use Rattle.mm_types.specs.declared.call.Errno.TheVariants.{Enomem}
 use Rattle.mm_types.specs.declared.call.MmapArgs.{MmapArgs}
 use Rattle.mm_types.specs.declared.call.Reply.{Reply}
 use Rattle.mm_types.specs.declared.call.Reply.TheVariants.{Refused}
 use Rattle.mm_types.specs.declared.config.Config.{Config}
-use Rattle.area_model.specs.Areas.{page_of, IsCanonical, IsSound}
-use Rattle.area_model.specs.Changes.{cut}
-use Rattle.area_model.specs.Tables.{AddressSpace, Outcome, first_row, pages_of}
-use Rattle.area_model.specs.Mmap.{start_of, mapped_list, mmap_rows, mmap_place_rows, mmap_done, mmap, new_area, objects_after}
+use Rattle.area_list.specs.Areas.{page_of, IsCanonical, IsSound}
+use Rattle.area_list.specs.Changes.{cut}
+use Rattle.area_model.specs.Tables.{AddressSpace, Outcome, pages_of}
+use Rattle.mm_types.specs.Rows.{first_row}
+use Rattle.area_model.specs.Mmap.{start_of, mapped_list, mmap_rows, mmap_list_rows, mmap_placed, mmap_done, mmap, new_area, objects_after}
 use Rattle.area_model.specs.Munmap.{range_of, munmap_rows, munmap}
 use Rattle.area_model.specs.Steps.{step, IsReady}
 use Rattle.area_model.specs.Mprotect.{mprotect_rows, protected_prefix, mprotect}
-use Rattle.area_model.specs.declared.remapping.MremapArgs.{MremapArgs}
+use Rattle.area_model.specs.declared.mremap_request.MremapArgs.{MremapArgs}
 use Rattle.area_model.specs.Mremap.{carried_area, mremap}
 use Rattle.area_model.specs.Laws.{prefix_of}
-use Rattle.area_model.proofs.Elements.{Each-weaker}
-use Rattle.area_model.proofs.Cutting.{cut_canonical, cut_each}
-use Rattle.area_model.proofs.Putting.{put_canonical, put_each}
-use Rattle.area_model.proofs.Rows.{NoneHolds, NoneHolds-left, NoneHolds-right, rows_false, unless_refused_cases, unless_refused_both}
-use Rattle.area_model.proofs.Holding.{found_keeps}
-use Rattle.area_model.proofs.ProtectLaws.{prefix_canonical, protected_each}
+use Rattle.area_list.proofs.Elements.{Each-weaker}
+use Rattle.area_list.proofs.Cutting.{cut_canonical, cut_each}
+use Rattle.area_list.proofs.Putting.{put_canonical, put_each}
+use Rattle.area_model.proofs.Rows.{NoneHolds, rows_false, unless_refused_cases, unless_refused_both}
+use Rattle.area_list.proofs.Holding.{found_keeps}
+use Rattle.area_model.proofs.ProtectLaws.{prefix_canonical}
+use Rattle.area_list.proofs.Protecting.{protected_each}
 use Rattle.area_model.proofs.RemapLaws.{mremap_both, change_both, change_each, moved_canonical, shrunk_canonical, grown_canonical}
 use Rattle.area_model.proofs.NewArea.{IsAccepted, accepted_from_rows, pages_some, new_area_good, new_area_counted, objects_kept}
 
@@ -43,19 +45,6 @@ AllCounted space = Each (IsCounted space.objects) space.areas
 -- at most one object was numbered since
 abbrev pub CountsOn : AddressSpace → AddressSpace → Type 0
 CountsOn old new = (old.objects ≤ new.objects) × (new.objects ≤ old.objects + 1)
-
--- where no test of the place holds, there is a place
-no_place : (config : Config) (space : AddressSpace) (args : MmapArgs)
-    → NoneHolds (mmap_place_rows config space args None) → ⊥
-unfolding mmap_place_rows
-no_place config space args h = cc (h.0)
-
--- and not too many areas
-place_few : (config : Config) (space : AddressSpace) (args : MmapArgs) (page : ℕ)
-    → NoneHolds (mmap_place_rows config space args (Some page))
-    → length (mapped_list config space args page) ≤ config.areas
-unfolding mmap_place_rows
-place_few config space args page h = ltb-false config.areas (length (mapped_list config space args page)) h.1.0
 
 mapped_canonical : (config : Config) (space : AddressSpace) (args : MmapArgs) (page : ℕ) → IsReady config space
     → IsAccepted config args
@@ -84,23 +73,17 @@ pub mmap_cases : (P : Outcome → Type 0) (config : Config) (space : AddressSpac
     → ((page : ℕ) → start_of config space.areas args ≡ Some page → IsAccepted config args
     → length (mapped_list config space args page) ≤ config.areas → P (mmap_done config space args page))
     → P (mmap config space args)
-unfolding mmap
+unfolding mmap mmap_placed
 mmap_cases P config space args refused done =
-    unless_refused_cases P space (first_row (rows ++ mmap_place_rows config space args start)) _ refused
-    (λ none. let fails = rows_false (rows ++ mmap_place_rows config space args start) none in
-    at start refl (NoneHolds-left rows _ fails) (NoneHolds-right rows _ fails))
+    unless_refused_cases P space (first_row (mmap_rows config space.areas args)) _ refused
+    (λ none. at (start_of config space.areas args) refl
+    (accepted_from_rows config space.areas args (rows_false (mmap_rows config space.areas args) none)))
   where
-    start : Option ℕ
-    start = start_of config space.areas args
-
-    rows : List (Bool × Errno)
-    rows = mmap_rows config space.areas args
-
-    at : (found : Option ℕ) → start ≡ found → NoneHolds rows → NoneHolds (mmap_place_rows config space args found)
-        → P (mmap_done config space args (option_map_or (λ page. page) found 0))
-    at None is tests ends = absurd (no_place config space args ends)
-    at (Some page) is tests ends =
-        done page is (accepted_from_rows config space.areas args tests) (place_few config space args page ends)
+    at : (found : Option ℕ) → start_of config space.areas args ≡ found → IsAccepted config args → P (mmap_placed config space args found)
+    at None is accepted = refused Enomem
+    at (Some page) is accepted = unless_refused_cases P space (first_row (mmap_list_rows config space args page)) _ refused
+        (λ none. done page is accepted (ltb-false config.areas (length (mapped_list config space args page))
+        (rows_false (mmap_list_rows config space args page) none).0))
 
 -- what holds of an address space, and of the one with the new area at each place that the tests accept, holds after mmap
 mmap_both : (P : AddressSpace → Type 0) (config : Config) (space : AddressSpace) (args : MmapArgs) → P space

@@ -9,18 +9,14 @@ use Rattle.mm_types.specs.declared.call.MmapArgs.{MmapArgs}
 use Rattle.mm_types.specs.declared.call.Reply.TheVariants.{Addr}
 use Rattle.mm_types.specs.declared.config.Config.{Config}
 use Rattle.mm_types.specs.Config.{IsValidConfig}
-use Rattle.area_model.specs.Areas.{page_of, has_page, area_at, IsCanonical}
-use Rattle.area_model.specs.Tables.{AddressSpace, pages_of, first_row}
+use Rattle.area_list.specs.Areas.{page_of, has_page, area_at, IsCanonical}
+use Rattle.area_model.specs.Tables.{AddressSpace, pages_of}
+use Rattle.mm_types.specs.Rows.{first_row}
 use Rattle.area_model.specs.Mmap.{is_anonymous, is_shared}
 use Rattle.area_model.specs.Mprotect.{may_have, stop_of}
-use Rattle.area_model.specs.declared.remapping.MremapArgs.{MremapArgs}
+use Rattle.area_model.specs.declared.mremap_request.MremapArgs.{MremapArgs}
 use Rattle.area_model.specs.Mremap.{moves_to, grows, has_room, new_place, mremap_rows}
 use Rattle.area_model.specs.Steps.{step}
-
--- each mapped page of the span may have the protection
-abbrev pub AllMayHave : Prot → Span → List Record → Type 0
-AllMayHave prot span areas = (page : ℕ) → has_page span page ≡ true
-    → IfSome (area_at areas page) (λ area. holds_all area.attr.most prot ≡ true)
 
 -- A page is where mprotect(2) stops in a range where each page of the range before it is mapped and may have the
 -- protection, and it is the range's end, or not mapped, or may not have the protection.

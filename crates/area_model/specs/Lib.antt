@@ -1,13 +1,11 @@
-pub mod Areas
-pub mod Changes
-pub mod Placement
 pub mod Tables
+pub mod Placement
+pub mod Blockers
 pub mod Mmap
 pub mod Munmap
 pub mod Mprotect
 pub mod Mremap
 pub mod Verdicts
 pub mod Steps
-pub mod Histories
 pub mod Stepped
 pub mod Laws

@@ -1,5 +1,5 @@
 -- mmap(2), row by row.
-use Rattle.std.specs.Prelude.{ℕ, ℤ, ◌+◌, ◌-◌, ◌*◌, ◌^◌, Bool, true, false, not, ◌&&◌, ◌||◌, if◌then◌else◌, nat_eq, nat_lt, List, [], ◌∷◌, ◌++◌, find, position, Option, Some, option_map, is_none}
+use Rattle.std.specs.Prelude.{ℕ, ℤ, ◌+◌, ◌-◌, ◌*◌, ◌^◌, Bool, true, false, not, ◌&&◌, ◌||◌, if◌then◌else◌, nat_eq, nat_lt, List, [], ◌∷◌, find, position, Option, Some, option_map, is_none, None}
 use Rattle.std.specs.Option.{option_map_or}
 use Rattle.std.specs.Ordering.{int_eq}
 use Rattle.mm_types.specs.declared.area.Prot.{Prot}
@@ -7,15 +7,17 @@ use Rattle.mm_types.specs.declared.area.Record.{Record}
 use Rattle.mm_types.specs.declared.call.Errno.{Errno}
 use Rattle.mm_types.specs.declared.call.Errno.TheVariants.{Eperm, Ebadf, Enomem, Eacces, Eexist, Einval, Eoverflow}
 use Rattle.mm_types.specs.declared.call.MmapArgs.{MmapArgs}
-use Rattle.mm_types.specs.declared.call.Reply.TheVariants.{Addr}
+use Rattle.mm_types.specs.declared.call.Reply.TheVariants.{Addr, Refused}
 use Rattle.mm_types.specs.declared.config.Config.{Config}
 use Rattle.mm_types.specs.declared.config.TheConstants.{PAGE_SIZE}
 use Rattle.mm_types.specs.declared.files.FileRow.{FileRow}
 use Rattle.mm_types.specs.declared.flags.TheConstants.{MAP_SHARED, MAP_PRIVATE, MAP_FIXED, MAP_ANONYMOUS, MAP_FIXED_NOREPLACE}
-use Rattle.area_model.specs.Areas.{page_of}
-use Rattle.area_model.specs.Changes.{put}
+use Rattle.area_list.specs.Areas.{page_of}
+use Rattle.area_list.specs.Changes.{put}
 use Rattle.area_model.specs.Placement.{bounds_of, place, is_free}
-use Rattle.area_model.specs.Tables.{AddressSpace, Outcome, first_row, unless_refused, is_aligned, pages_of, has_flag, has_too_many_areas}
+use Rattle.area_model.specs.Tables.{AddressSpace, Outcome, unless_refused, is_aligned, pages_of, has_too_many_areas}
+use Rattle.mm_types.specs.Rows.{first_row}
+use Rattle.mm_types.specs.Flags.{has_flag}
 
 -- MAP_ANONYMOUS: no file is mapped
 abbrev pub is_anonymous : MmapArgs → Bool
@@ -121,12 +123,9 @@ mmap_rows config areas args =
     ∷ (is_taken areas args, Eexist)
     ∷ []
 
--- the tests of its place: no place, too many areas
-unfoldable pub mmap_place_rows : Config → AddressSpace → MmapArgs → Option ℕ → List (Bool × Errno)
-mmap_place_rows config space args start =
-    (is_none start, Enomem)
-    ∷ (has_too_many_areas config (option_map_or (mapped_list config space args) start []), Enomem)
-    ∷ []
+-- the last test, at its place: too many areas
+abbrev pub mmap_list_rows : Config → AddressSpace → MmapArgs → ℕ → List (Bool × Errno)
+mmap_list_rows config space args start = (has_too_many_areas config (mapped_list config space args start), Enomem) ∷ []
 
 -- the mapping at its place, and the address as reply
 unfoldable pub mmap_done : Config → AddressSpace → MmapArgs → ℕ → Outcome
@@ -135,8 +134,13 @@ mmap_done config space args start = record {
   reply = Addr (PAGE_SIZE * start);
 }
 
+-- the mapping as far as there is a place: none refuses, and so do too many areas
+unfoldable pub mmap_placed : Config → AddressSpace → MmapArgs → Option ℕ → Outcome
+mmap_placed config space args None = record { space = space; reply = Refused Enomem }
+mmap_placed config space args (Some start) =
+    unless_refused space (first_row (mmap_list_rows config space args start)) (mmap_done config space args start)
+
 -- mmap(2): the first test that holds refuses, and else the new area is put over what was there
 unfoldable pub mmap : Config → AddressSpace → MmapArgs → Outcome
-mmap config space args = let start = start_of config space.areas args in
-    unless_refused space (first_row (mmap_rows config space.areas args ++ mmap_place_rows config space args start))
-    (mmap_done config space args (option_map_or (λ page. page) start 0))
+mmap config space args = unless_refused space (first_row (mmap_rows config space.areas args))
+    (mmap_placed config space args (start_of config space.areas args))

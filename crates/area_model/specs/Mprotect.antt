@@ -1,18 +1,21 @@
 -- mprotect(2), row by row.
 use Rattle.std.specs.Prelude.{ℕ, ◌+◌, ◌*◌, ◌^◌, Bool, false, not, ◌&&◌, if◌then◌else◌, nat_eq, nat_le, List, [], ◌∷◌, Option, Some, None, unwrap_or}
+use Rattle.std.specs.Option.{option_map_or}
 use Rattle.mm_types.specs.declared.area.Span.{Span}
 use Rattle.mm_types.specs.declared.area.Prot.{Prot}
 use Rattle.mm_types.specs.declared.area.Record.{Record}
+use Rattle.mm_types.specs.declared.call.Errno.{Errno}
 use Rattle.mm_types.specs.declared.call.Errno.TheVariants.{Enomem, Eacces, Einval}
 use Rattle.mm_types.specs.declared.call.Reply.{Reply}
 use Rattle.mm_types.specs.declared.call.Reply.TheVariants.{Zero, Refused}
 use Rattle.mm_types.specs.declared.config.Config.{Config}
-use Rattle.mm_types.specs.declared.config.TheConstants.{PAGE_SIZE}
+use Rattle.mm_types.specs.declared.config.TheConstants.{PAGE_SIZE, ADDRESSES_END}
 use Rattle.mm_types.specs.Records.{holds_all}
-use Rattle.area_model.specs.Areas.{area_at}
-use Rattle.area_model.specs.Changes.{protected_list}
+use Rattle.area_list.specs.Areas.{area_at}
+use Rattle.area_list.specs.Changes.{protected_list}
 use Rattle.area_model.specs.Placement.{least_below}
-use Rattle.area_model.specs.Tables.{AddressSpace, Outcome, first_row, is_aligned, pages_of, has_too_many_areas}
+use Rattle.area_model.specs.Tables.{AddressSpace, Outcome, is_aligned, pages_of, has_too_many_areas}
+use Rattle.mm_types.specs.Rows.{first_row}
 use Rattle.area_model.specs.Munmap.{range_of}
 
 -- whether a page is mapped by an area that may have this protection
@@ -33,17 +36,21 @@ unfoldable pub mprotect_rows : Config → List Record → ℕ → ℕ → Prot �
 mprotect_rows config areas addr len prot =
     (not (is_aligned addr), Refused Einval)
     ∷ (nat_eq len 0, Zero)
-    ∷ (nat_le (2 ^ 64) (addr + PAGE_SIZE * pages_of len), Refused Enomem)
+    ∷ (nat_le ADDRESSES_END (addr + PAGE_SIZE * pages_of len), Refused Enomem)
     ∷ (has_too_many_areas config (protected_prefix prot (range_of addr len) areas), Refused Enomem)
     ∷ []
 
--- the reply by what the stop is: the range's end, a page that is not mapped, or one that may not have the protection
-unfoldable pub stopped_reply : Span → ℕ → Option Record → Reply
-stopped_reply range stop area = if nat_le range.hi stop then Zero else denied_reply area
+-- why the call stops before the range's end, if it does: the page there is not mapped, or may not have the protection
+unfoldable pub stop_error : Span → ℕ → Option Record → Option Errno
+stop_error range stop area = if nat_le range.hi stop then None else Some (denied_errno area)
   where
-    denied_reply : Option Record → Reply
-    denied_reply None = Refused Enomem
-    denied_reply (Some area) = Refused Eacces
+    denied_errno : Option Record → Errno
+    denied_errno None = Enomem
+    denied_errno (Some area) = Eacces
+
+-- the reply of a call that stops for this reason, or at the range's end
+abbrev pub stopped_reply : Option Errno → Reply
+stopped_reply error = option_map_or Refused error Zero
 
 -- mprotect(2): the first test that holds answers and changes nothing; else the pages before the stop have the protection
 unfoldable pub mprotect : Config → AddressSpace → ℕ → ℕ → Prot → Outcome
@@ -53,5 +60,5 @@ mprotect config space addr len prot = answered (first_row (mprotect_rows config 
     answered (Some reply) = record { space = space; reply = reply }
     answered None = let range = range_of addr len in let stop = stop_of prot range space.areas in record {
       space = record space { areas = protected_prefix prot range space.areas };
-      reply = stopped_reply range stop (area_at space.areas stop);
+      reply = stopped_reply (stop_error range stop (area_at space.areas stop));
     }

@@ -1,22 +1,27 @@
 -- mremap(2), row by row.
-use Rattle.std.specs.Prelude.{ℕ, ◌+◌, ◌-◌, ◌*◌, ◌^◌, min, Bool, false, not, ◌&&◌, ◌||◌, if◌then◌else◌, nat_eq, nat_lt, nat_le, List, [], ◌∷◌, Option, Some, None, is_none, option_map, option_and_then}
-use Rattle.std.specs.List.{list_any}
+use Rattle.std.specs.Prelude.{ℕ, ◌+◌, ◌-◌, ◌*◌, ◌^◌, min, Bool, true, not, ◌&&◌, ◌||◌, if◌then◌else◌, nat_eq, nat_lt, nat_le, List, [], ◌∷◌, Option, Some, None, option_map, option_and_then}
 use Rattle.std.specs.Option.{option_map_or}
 use Rattle.mm_types.specs.declared.area.Span.{Span}
 use Rattle.mm_types.specs.declared.area.Record.{Record}
 use Rattle.mm_types.specs.declared.call.Errno.{Errno}
 use Rattle.mm_types.specs.declared.call.Errno.TheVariants.{Eperm, Enomem, Efault, Einval}
-use Rattle.mm_types.specs.declared.call.Reply.TheVariants.{Addr}
+use Rattle.mm_types.specs.declared.call.Reply.TheVariants.{Addr, Refused}
 use Rattle.mm_types.specs.declared.config.Config.{Config}
-use Rattle.mm_types.specs.declared.config.TheConstants.{PAGE_SIZE}
+use Rattle.mm_types.specs.declared.config.TheConstants.{PAGE_SIZE, MOST_OBJECT_PAGES}
 use Rattle.mm_types.specs.declared.flags.TheConstants.{MREMAP_MAYMOVE, MREMAP_FIXED}
-use Rattle.area_model.specs.declared.remapped.Moved.{Moved}
-use Rattle.area_model.specs.declared.remapping.MremapArgs.{MremapArgs}
-use Rattle.area_model.specs.Areas.{page_of, index_of, area_at}
-use Rattle.area_model.specs.Changes.{cut, put}
+use Rattle.area_model.specs.declared.mremap_table.Moved.{Moved}
+use Rattle.area_model.specs.declared.mremap_request.MremapArgs.{MremapArgs}
+use Rattle.area_list.specs.Areas.{page_of, index_of, area_at}
+use Rattle.area_list.specs.Changes.{cut, put}
 use Rattle.area_model.specs.Placement.{bounds_of, place, is_free}
-use Rattle.area_model.specs.Tables.{AddressSpace, Outcome, first_row, unless_refused, is_aligned, pages_of, has_flag, has_too_many_areas}
+use Rattle.area_model.specs.Tables.{AddressSpace, Outcome, unless_refused, is_aligned, pages_of, has_too_many_areas}
+use Rattle.mm_types.specs.Rows.{first_row}
+use Rattle.mm_types.specs.Flags.{has_flag}
 use Rattle.area_model.specs.Munmap.{range_of}
+
+-- the arguments of mremap(2) as one
+abbrev pub mremap_args : (old old_len new_len flags new : ℕ) → MremapArgs
+mremap_args old old_len new_len flags new = record { old = old; old_len = old_len; new_len = new_len; flags = flags; new = new }
 
 -- MREMAP_FIXED: the area moves to a fixed place
 abbrev pub moves_to : MremapArgs → Bool
@@ -50,24 +55,26 @@ has_other_flag args = nat_lt (MREMAP_MAYMOVE + MREMAP_FIXED) args.flags
 unfoldable pub is_new_misplaced : Config → MremapArgs → Bool
 is_new_misplaced config args = moves_to args && (not (is_aligned args.new) || nat_lt config.limit (args.new + PAGE_SIZE * pages_of args.new_len))
 
--- the call moves to a fixed place or grows, and the pages that stay do not lie in one area
-unfoldable pub crosses_areas : List Record → MremapArgs → Bool
-crosses_areas areas args = (moves_to args || grows args) && not (list_any (λ area. nat_le area.span.lo (page_of args.old)
-    && nat_le (page_of args.old + min (pages_of args.old_len) (pages_of args.new_len)) area.span.hi) areas)
+-- the call moves to a fixed place or grows, and the pages that stay go past the end of the area that has the first of them
+unfoldable pub leaves_area : MremapArgs → Record → Bool
+leaves_area args area = (moves_to args || grows args)
+    && nat_lt area.span.hi (page_of args.old + min (pages_of args.old_len) (pages_of args.new_len))
 
 -- the grown range would go past the greatest index of its object
-unfoldable pub overflows_object : List Record → MremapArgs → Bool
-overflows_object areas args = grows args && option_map_or
-    (λ area. not (nat_eq area.object 0) && nat_lt (2 ^ 51 - 1) (index_of area (page_of args.old) + pages_of args.new_len))
-    (area_at areas (page_of args.old)) false
+unfoldable pub overflows_object : MremapArgs → Record → Bool
+overflows_object args area = grows args
+    && (not (nat_eq area.object 0) && nat_lt MOST_OBJECT_PAGES (index_of area (page_of args.old) + pages_of args.new_len))
 
--- the tests of the old range, in their order: not mapped, spread over areas, object overflow
-abbrev pub range_rows : List Record → MremapArgs → List (Bool × Errno)
-range_rows areas args =
-    (is_none (area_at areas (page_of args.old)), Efault)
-    ∷ (crosses_areas areas args, Efault)
-    ∷ (overflows_object areas args, Einval)
+-- the tests of the area that has the first page of the old range, in their order: spread over areas, object overflow
+abbrev pub area_rows : MremapArgs → Record → List (Bool × Errno)
+area_rows args area =
+    (leaves_area args area, Efault)
+    ∷ (overflows_object args area, Einval)
     ∷ []
+
+-- the tests of the old range: its first page is not mapped, and those of the area that has it
+abbrev pub range_rows : List Record → MremapArgs → List (Bool × Errno)
+range_rows areas args = option_map_or (area_rows args) (area_at areas (page_of args.old)) ((true, Efault) ∷ [])
 
 -- the tests, in their order: other flag, fixed without MREMAP_MAYMOVE, old not aligned, empty new length, empty old length,
 -- old past the limit; of a fixed place: misplaced, below the minimum, overlap; and those of the old range
@@ -127,26 +134,23 @@ mremap_change config areas area args = if moves_to args then Some (moved areas a
     else (if has_room config areas args then Some (record { areas = grown_list areas area args; page = page_of args.old })
     else option_map (moved areas area args) (new_place config areas args)))
 
--- the last tests: no place or no MREMAP_MAYMOVE, too many areas
-unfoldable pub mremap_change_rows : Config → Option Moved → List (Bool × Errno)
-mremap_change_rows config change =
-    (is_none change, Enomem)
-    ∷ (has_too_many_areas config (option_map_or (λ moved. moved.areas) change []), Enomem)
-    ∷ []
+-- the last test: too many areas
+abbrev pub mremap_list_rows : Config → Moved → List (Bool × Errno)
+mremap_list_rows config change = (has_too_many_areas config change.areas, Enomem) ∷ []
 
--- the outcome of a change
-unfoldable pub mremap_done : AddressSpace → Option Moved → Outcome
+-- the outcome of a change: the list after it, and the address of its page as reply
+unfoldable pub mremap_done : AddressSpace → Moved → Outcome
 mremap_done space change = record {
-  space = record space { areas = option_map_or (λ moved. moved.areas) change space.areas };
-  reply = Addr (PAGE_SIZE * option_map_or (λ moved. moved.page) change 0);
+  space = record space { areas = change.areas };
+  reply = Addr (PAGE_SIZE * change.page);
 }
+
+-- the change as far as there is one: no place or no MREMAP_MAYMOVE refuses, and so do too many areas
+unfoldable pub mremap_changed : Config → AddressSpace → Option Moved → Outcome
+mremap_changed config space None = record { space = space; reply = Refused Enomem }
+mremap_changed config space (Some change) = unless_refused space (first_row (mremap_list_rows config change)) (mremap_done space change)
 
 -- mremap(2): the first test that holds refuses, and else the area is moved, shrunk or grown
 unfoldable pub mremap : Config → AddressSpace → MremapArgs → Outcome
-mremap config space args = unless_refused space (first_row (mremap_rows config space.areas args)) (changed change)
-  where
-    change : Option Moved
-    change = option_and_then (λ area. mremap_change config space.areas area args) (area_at space.areas (page_of args.old))
-
-    changed : Option Moved → Outcome
-    changed found = unless_refused space (first_row (mremap_change_rows config found)) (mremap_done space found)
+mremap config space args = unless_refused space (first_row (mremap_rows config space.areas args)) (mremap_changed config space
+    (option_and_then (λ area. mremap_change config space.areas area args) (area_at space.areas (page_of args.old))))

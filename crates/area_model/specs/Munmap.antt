@@ -7,9 +7,10 @@ use Rattle.mm_types.specs.declared.call.Errno.TheVariants.{Enomem, Einval}
 use Rattle.mm_types.specs.declared.call.Reply.TheVariants.{Zero}
 use Rattle.mm_types.specs.declared.config.Config.{Config}
 use Rattle.mm_types.specs.declared.config.TheConstants.{PAGE_SIZE}
-use Rattle.area_model.specs.Areas.{page_of}
-use Rattle.area_model.specs.Changes.{cut}
-use Rattle.area_model.specs.Tables.{AddressSpace, Outcome, first_row, unless_refused, is_aligned, pages_of, has_too_many_areas}
+use Rattle.area_list.specs.Areas.{page_of}
+use Rattle.area_list.specs.Changes.{cut}
+use Rattle.area_model.specs.Tables.{AddressSpace, Outcome, unless_refused, is_aligned, pages_of, has_too_many_areas}
+use Rattle.mm_types.specs.Rows.{first_row}
 
 -- the pages from an address on that a length takes
 unfoldable pub range_of : ℕ → ℕ → Span

@@ -1,16 +1,12 @@
 -- Where a new area goes that names no fixed place.
-use Rattle.std.specs.Prelude.{ℕ, zero, suc, ◌+◌, ◌≡◌, ◌<◌, max, Bool, true, false, ◌&&◌, ◌||◌, if◌then◌else◌, nat_eq, nat_lt, nat_le, List, find, Option, Some, None}
+use Rattle.std.specs.Prelude.{ℕ, zero, suc, ◌+◌, ◌≡◌, ◌<◌, max, Bool, true, false, ◌&&◌, ◌||◌, if◌then◌else◌, nat_eq, nat_lt, nat_le, List, Option, Some, None}
 use Rattle.std.specs.List.{list_all}
+use Rattle.std.specs.Option.{option_or}
 use Rattle.mm_types.specs.declared.area.Record.{Record}
 use Rattle.mm_types.specs.declared.config.Config.{Config}
 use Rattle.area_model.specs.declared.placement.Bounds.{Bounds}
 use Rattle.area_model.specs.declared.placement.TheConstants.{FLOOR}
-use Rattle.area_model.specs.Areas.{page_of}
-
--- the first of the two that is there
-abbrev pub or_else : {A : Type 0} → Option A → Option A → Option A
-or_else (Some x) other = Some x
-or_else None other = other
+use Rattle.area_list.specs.Areas.{page_of}
 
 -- the greatest number below the bound that passes the test
 unfoldable pub greatest_below : (ℕ → Bool) → ℕ → Option ℕ
@@ -20,7 +16,7 @@ greatest_below passes (suc n) = if passes n then Some n else greatest_below pass
 -- the least number below the bound that passes the test
 unfoldable pub least_below : (ℕ → Bool) → ℕ → Option ℕ
 least_below passes zero = None
-least_below passes (suc n) = or_else (least_below passes n) (if passes n then Some n else None)
+least_below passes (suc n) = option_or (least_below passes n) (if passes n then Some n else None)
 
 -- a number is the greatest below the bound that passes where it is below the bound and passes, and no greater one does
 pub record IsGreatest (passes : ℕ → Bool) (bound : ℕ) (n : ℕ) : Type 0 where
@@ -46,10 +42,6 @@ bounds_of config = record { low = page_of config.min; top = page_of config.top; 
 unfoldable pub is_free : List Record → ℕ → ℕ → Bool
 is_free areas pages start = list_all (λ area. nat_le (start + pages) area.span.lo || nat_le area.span.hi start) areas
 
--- the first area that has one of so many pages from this start on
-unfoldable pub blocker : List Record → ℕ → ℕ → Option Record
-blocker areas pages start = find (λ area. nat_lt area.span.lo (start + pages) && nat_lt start area.span.hi) areas
-
 -- The hint's page, where so many pages from it on are free and end at or below the limit. A hint below one page is none,
 -- and another is raised to the lowest page.
 unfoldable pub hinted_place : Bounds → List Record → ℕ → ℕ → Option ℕ
@@ -67,4 +59,4 @@ low_place bounds areas pages = least_below (λ start. nat_le (max FLOOR bounds.l
 
 -- where so many pages go: at the hint, else as high as there is room below the top, else as low as there is room from the floor on
 unfoldable pub place : Bounds → List Record → ℕ → ℕ → Option ℕ
-place bounds areas pages hint = or_else (hinted_place bounds areas pages hint) (or_else (high_place bounds areas pages) (low_place bounds areas pages))
+place bounds areas pages hint = option_or (hinted_place bounds areas pages hint) (option_or (high_place bounds areas pages) (low_place bounds areas pages))

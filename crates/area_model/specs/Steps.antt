@@ -5,19 +5,19 @@ use Rattle.mm_types.specs.declared.call.Call.TheVariants.{Mmap, Munmap, Mprotect
 use Rattle.mm_types.specs.declared.call.Entry.{Entry}
 use Rattle.mm_types.specs.declared.config.Config.{Config}
 use Rattle.mm_types.specs.Config.{IsValidConfig}
-use Rattle.area_model.specs.Areas.{IsSound}
+use Rattle.area_list.specs.Areas.{IsSound}
 use Rattle.area_model.specs.Tables.{AddressSpace, Outcome}
 use Rattle.area_model.specs.Mmap.{mmap}
 use Rattle.area_model.specs.Munmap.{munmap}
 use Rattle.area_model.specs.Mprotect.{mprotect}
-use Rattle.area_model.specs.Mremap.{mremap}
+use Rattle.area_model.specs.Mremap.{mremap_args, mremap}
 
 -- one call
 unfoldable pub step : Config → AddressSpace → Call → Outcome
 step config space (Mmap args) = mmap config space args
 step config space (Munmap addr len) = munmap config space addr len
 step config space (Mprotect addr len prot) = mprotect config space addr len prot
-step config space (Mremap old old_len new_len flags new) = mremap config space (record { old = old; old_len = old_len; new_len = new_len; flags = flags; new = new })
+step config space (Mremap old old_len new_len flags new) = mremap config space (mremap_args old old_len new_len flags new)
 
 -- where a step may be taken: a valid configuration, a sound list, no object above the counter, and room to count one more
 pub record IsReady (config : Config) (space : AddressSpace) : Type 0 where

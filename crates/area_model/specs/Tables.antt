@@ -1,5 +1,5 @@
 -- What the tables of the calls have in common.
-use Rattle.std.specs.Prelude.{ℕ, ◌+◌, ◌-◌, ◌/◌, ◌%◌, Bool, not, if◌then◌else◌, nat_eq, nat_lt, bit_and, List, [], ◌∷◌, length, Option, Some, None}
+use Rattle.std.specs.Prelude.{ℕ, ◌+◌, ◌-◌, ◌/◌, ◌%◌, Bool, nat_eq, nat_lt, List, length, Option, Some, None}
 use Rattle.mm_types.specs.declared.area.Record.{Record}
 use Rattle.mm_types.specs.declared.call.Errno.{Errno}
 use Rattle.mm_types.specs.declared.call.Reply.{Reply}
@@ -12,15 +12,10 @@ pub record AddressSpace : Type 0 where
   pub areas : List Record
   pub objects : ℕ
 
--- what a call comes to: the address space after it, and its reply
+-- the outcome of a call: the address space after it, and its reply
 pub record Outcome : Type 0 where
   pub space : AddressSpace
   pub reply : Reply
-
--- the answer of the first row whose test holds
-abbrev pub first_row : {A : Type 0} → List (Bool × A) → Option A
-first_row [] = None
-first_row (row ∷ rows) = if row.0 then Some row.1 else first_row rows
 
 -- a refusal changes nothing, and without one the call goes through
 abbrev pub unless_refused : AddressSpace → Option Errno → Outcome → Outcome
@@ -34,10 +29,6 @@ is_aligned address = nat_eq (address % PAGE_SIZE) 0
 -- how many pages a length takes
 unfoldable pub pages_of : ℕ → ℕ
 pages_of len = (len + (PAGE_SIZE - 1)) / PAGE_SIZE
-
--- whether a flag is set
-unfoldable pub has_flag : ℕ → ℕ → Bool
-has_flag flags flag = not (nat_eq (bit_and flags flag) 0)
 
 -- whether a list has more areas than are allowed
 abbrev pub has_too_many_areas : Config → List Record → Bool

@@ -1,4 +1,4 @@
--- What a page fault comes to.
+-- The verdict on a page fault.
 use Rattle.std.specs.Prelude.{ℕ, ◌-◌, Bool, false, not, ◌&&◌, ◌||◌, if◌then◌else◌, nat_eq, nat_le, List, slice_get}
 use Rattle.std.specs.Option.{option_map_or}
 use Rattle.mm_types.specs.declared.area.Access.{Access}
@@ -8,7 +8,7 @@ use Rattle.mm_types.specs.declared.area.Record.{Record}
 use Rattle.mm_types.specs.declared.area.Verdict.{Verdict}
 use Rattle.mm_types.specs.declared.area.Verdict.TheVariants.{Served, MapErr, AccErr, BusErr}
 use Rattle.mm_types.specs.declared.files.FileRow.{FileRow}
-use Rattle.area_model.specs.Areas.{index_of, area_at}
+use Rattle.area_list.specs.Areas.{index_of, area_at}
 use Rattle.area_model.specs.Tables.{pages_of}
 
 -- whether a protection allows an access: to read takes any of the three
@@ -22,12 +22,12 @@ unfoldable pub is_past_end : List FileRow → Record → ℕ → Bool
 is_past_end files area page = not (nat_eq area.object 0)
     && option_map_or (λ file. nat_le (pages_of file.size) (index_of area page)) (slice_get files (area.object - 1)) false
 
--- what a fault comes to at a page that an area has
+-- the verdict on a fault at a page that an area has
 unfoldable pub area_verdict : List FileRow → ℕ → Access → Record → Verdict
 area_verdict files page access area = if not (permits area.attr.prot access) then AccErr
     else (if is_past_end files area page then BusErr else Served area (index_of area page))
 
--- what a fault comes to: no area has the page, its protection does not allow the access, the page lies past the end of the
+-- the verdict on a fault: no area has the page, its protection does not allow the access, the page lies past the end of the
 -- file, or it is served
 unfoldable pub verdict : List FileRow → List Record → ℕ → Access → Verdict
 verdict files areas page access = option_map_or (area_verdict files page access) (area_at areas page) MapErr

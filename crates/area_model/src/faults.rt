@@ -1,21 +1,12 @@
-//! What a page fault comes to.
+//! The verdict on a page fault.
 ghost use Rattle.std.specs.Prelude.{◌≡◌, All, option_copied, true};
 ghost use Rattle.mm_types.specs.Records.{IsValid};
-ghost use Rattle.area_model.specs.Areas.{area_at, has_page};
+ghost use Rattle.area_list.specs.Areas.{area_at, has_page};
 ghost use Rattle.area_model.specs.Verdicts.{permits, is_past_end, area_verdict, verdict};
 
-use crate::areas::index_of;
 use crate::tables::pages_of;
+use area_list::{area_at, index_of};
 use mm_types::{Access, AreaList, FileRow, Files, Page, Prot, Record, Verdict};
-
-/// The area that has this page.
-pub(crate) fn area_at(areas: &[Record], page: u64) -> Option<&Record>
-    ensures { option_copied result ≡ area_at areas.now page }
-{
-    areas
-        .iter()
-        .find(|area| area.span.lo <= page && page < area.span.hi)
-}
 
 /// Whether a protection allows an access. To read takes any of the three.
 #[tactic(auto, unfolding(crate::specs::Verdicts::permits))]
@@ -45,7 +36,7 @@ fn is_past_end(files: &[FileRow], area: &Record, page: u64) -> bool
     }
 }
 
-/// What a fault at a page of this area comes to: its protection does not allow the access, the page lies past the end of
+/// The verdict on a fault at a page of this area: its protection does not allow the access, the page lies past the end of
 /// its file, or the area serves it.
 #[tactic(auto, unfolding(crate::specs::Verdicts::area_verdict))]
 pub fn area_verdict(files: &[FileRow], page: u64, access: Access, area: &Record) -> Verdict
@@ -65,7 +56,7 @@ pub fn area_verdict(files: &[FileRow], page: u64, access: Access, area: &Record)
     }
 }
 
-/// What a fault comes to on a list of areas: no area has the page; its protection does not allow the access; the
+/// The verdict on a fault over a list of areas: no area has the page; its protection does not allow the access; the
 /// page lies past the end of the file; or it is served.
 #[tactic(auto, unfolding(crate::specs::Verdicts::verdict))]
 pub fn model_verdict(files: &Files, list: &AreaList, page: Page, access: Access) -> Verdict

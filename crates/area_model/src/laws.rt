@@ -13,59 +13,20 @@ ghost use Rattle.mm_types.specs.declared.config.Config.{Config};
 ghost use Rattle.mm_types.specs.declared.config.TheConstants.{PAGE_SIZE};
 ghost use Rattle.mm_types.specs.Config.{IsValidConfig};
 ghost use Rattle.mm_types.specs.Records.{IsValid};
-ghost use Rattle.area_model.specs.Areas.{Neighbours, IsCanonical, IsSound, page_of, has_page, index_of, mapped_page, protected_page, page_map};
-ghost use Rattle.area_model.specs.Changes.{cut, merge, put, protected_list};
+ghost use Rattle.area_list.specs.Areas.{Neighbours, IsCanonical, IsSound, page_of, has_page, index_of, mapped_page, protected_page, page_map};
+ghost use Rattle.area_list.specs.Changes.{cut, merge, put, protected_list};
 ghost use Rattle.area_model.specs.Tables.{AddressSpace, pages_of};
 ghost use Rattle.area_model.specs.Munmap.{range_of};
 ghost use Rattle.area_model.specs.Mprotect.{stop_of, protected_prefix};
-ghost use Rattle.area_model.specs.declared.remapping.MremapArgs.{MremapArgs};
+ghost use Rattle.area_model.specs.declared.mremap_request.MremapArgs.{MremapArgs};
 ghost use Rattle.area_model.specs.Mremap.{old_range, overlap, moved_list, mremap};
-ghost use Rattle.area_model.specs.Laws.{AllMayHave, IsStop, prefix_of, moved_range, IsMove, MapsShared};
+ghost use Rattle.area_list.specs.Laws.{AllMayHave};
+ghost use Rattle.area_model.specs.Laws.{IsStop, prefix_of, moved_range, IsMove, MapsShared};
 ghost use Rattle.area_model.specs.Steps.{step, IsReady, opening, after, IsLegalJournal};
-ghost use Rattle.mm_types.specs.declared.history.TraceLine.{TraceLine};
-ghost use Rattle.area_model.specs.Histories.{IsLegalHistory, serial_history};
 
-/// A cut keeps a list canonical, and unmaps exactly the pages of the span.
-pub fn cut_unmaps_the_span()
-    ensures canonical { (end : ℕ) (span : Span) (areas : List Record) → span.lo < span.hi → IsCanonical end areas
-        → IsCanonical end (cut span areas) }
-    ensures pages { (end : ℕ) (span : Span) (areas : List Record) (page : ℕ) → span.lo < span.hi → IsCanonical end areas
-        → page_map (cut span areas) page ≡ (if has_page span page then None else page_map areas page) }
-{}
-
-/// Merging makes a list in order canonical, and keeps what each page is mapped to.
-pub fn merge_keeps_pages()
-    ensures canonical { (end : ℕ) (areas : List Record) → All IsValid areas → All (λ area. area.span.hi ≤ end) areas
-        → Neighbours (λ a b. a.span.hi ≤ b.span.lo) areas → IsCanonical end (merge areas) }
-    ensures pages { (areas : List Record) (page : ℕ) → All IsValid areas → Neighbours (λ a b. a.span.hi ≤ b.span.lo) areas
-        → page_map (merge areas) page ≡ page_map areas page }
-{}
-
-/// A put keeps a list canonical, and maps exactly the pages of the new area anew.
-pub fn put_maps_the_span()
-    ensures canonical { (end : ℕ) (area : Record) (areas : List Record) → IsValid area → area.span.hi ≤ end
-        → IsCanonical end areas → IsCanonical end (put area areas) }
-    ensures pages { (end : ℕ) (area : Record) (areas : List Record) (page : ℕ) → IsValid area → area.span.hi ≤ end
-        → IsCanonical end areas
-        → page_map (put area areas) page ≡ (if has_page area.span page then Some (mapped_page page area) else page_map areas page) }
-{}
-
-/// There is at most one canonical list for each map of pages.
-pub fn page_map_determines_list()
-    ensures { (end : ℕ) (areas : List Record) (others : List Record) → IsCanonical end areas → IsCanonical end others
-        → ((page : ℕ) → page_map areas page ≡ page_map others page) → areas ≡ others }
-{}
-
-/// A new protection keeps a list canonical where the mapped pages of the span may have it, and changes the protection of
-/// exactly these pages. mprotect(2) changes the pages of its range before the first that is not mapped or may not have
-/// the protection, and leaves the only canonical list with that map of pages.
+/// mprotect(2) changes the pages of its range before the first that is not mapped or may not have the protection, and
+/// leaves the only canonical list with that map of pages.
 pub fn protect_changes_the_prefix()
-    ensures canonical { (end : ℕ) (prot : Prot) (span : Span) (areas : List Record) → span.lo ≤ span.hi
-        → IsCanonical end areas → AllMayHave prot span areas → IsCanonical end (protected_list prot span areas) }
-    ensures pages { (end : ℕ) (prot : Prot) (span : Span) (areas : List Record) (page : ℕ) → span.lo ≤ span.hi
-        → IsCanonical end areas → AllMayHave prot span areas
-        → page_map (protected_list prot span areas) page
-        ≡ (if has_page span page then option_map (protected_page prot) (page_map areas page) else page_map areas page) }
     ensures stop { (prot : Prot) (range : Span) (areas : List Record) → range.lo ≤ range.hi
         → IsStop prot range areas (stop_of prot range areas) }
     ensures prefix_canonical { (end : ℕ) (prot : Prot) (range : Span) (areas : List Record) → range.lo ≤ range.hi
@@ -155,7 +116,7 @@ pub fn legal_journal_is_sound()
         → length config.files ≤ (after config journal).objects }
 {}
 
-/// What a journal comes to, and whether it is legal, entry by entry.
+/// The address space after a journal, and whether it is legal, entry by entry.
 pub fn journal_laws()
     ensures none { (config : Config) → after config [] ≡ opening config }
     ensures more { (config : Config) (journal : List Entry) (entry : Entry)
@@ -165,9 +126,4 @@ pub fn journal_laws()
         ↔ (IsLegalJournal config journal × (entry.reply ≡ (step config (after config journal) entry.call).reply)) }
     ensures legal_prefix { (config : Config) (journal : List Entry) (count : ℕ) → IsLegalJournal config journal
         → IsLegalJournal config (take count journal) }
-{}
-
-/// The lines of a trace, run in their order, make a legal history of the trace.
-pub fn serial_history_is_legal()
-    ensures { (config : Config) (lines : List TraceLine) → IsLegalHistory config lines (serial_history config lines) }
 {}

@@ -1,8 +1,9 @@
 //! Where a new area goes that names no fixed place. Everything is counted in pages, but the hint is an address.
 ghost use Rattle.std.specs.Prelude.{◌≡◌, ◌<◌, ◌≤◌, ◌+◌, ◌^◌, IfSome, max, nat_le};
-ghost use Rattle.area_model.specs.Placement.{bounds_of, is_free, blocker, hinted_place, high_place, low_place, place};
+ghost use Rattle.area_model.specs.Placement.{bounds_of, is_free, hinted_place, high_place, low_place, place};
+ghost use Rattle.area_model.specs.Blockers.{blocker};
 
-use crate::areas::page_of;
+use area_list::page_of;
 use mm_types::{Config, Record};
 
 /// The lowest page of the second search: a third of user memory, rounded up to a page.
@@ -47,7 +48,7 @@ pub(crate) fn is_free(areas: &[Record], pages: u64, start: u64) -> bool
 }
 
 /// The first area that has one of so many pages from this start on.
-#[tactic(auto, unfolding(crate::specs::Placement::blocker))]
+#[tactic(auto, unfolding(crate::specs::Blockers::blocker))]
 fn blocker(areas: &[Record], pages: u64, start: u64) -> Option<Record>
     requires { start + pages < 2 ^ 64 }
     ensures { result ≡ blocker areas.now pages start }

@@ -2,15 +2,15 @@ ghost use Rattle.std.specs.Prelude.{◌≡◌, IfOk};
 ghost use Rattle.area_model.specs.Steps.{step, IsReady};
 ghost use Rattle.area_model.specs.Stepped.{space_of, outcome_of};
 
-use crate::mapping::mmap;
-use crate::protecting::mprotect;
-use crate::remapped::mremap;
-use crate::remapping::MremapArgs;
-use crate::unmapping::munmap;
+use crate::mmap_table::mmap;
+use crate::mprotect_table::mprotect;
+use crate::mremap_request::MremapArgs;
+use crate::mremap_table::mremap;
+use crate::munmap_table::munmap;
 use mm_types::{AreaList, Call, Config, NoMemory, Reply};
 use std::alloc::Global;
 
-/// What a call comes to: the list of areas after it, the counter of objects after it, and its reply.
+/// The outcome of a call: the list of areas after it, the counter of objects after it, and its reply.
 #[derive(Debug, Drop)]
 pub struct Stepped {
     /// The areas after the call.
@@ -50,13 +50,7 @@ pub fn model_step(
             flags,
             new,
         } => {
-            let args = MremapArgs {
-                old: *old,
-                old_len: *old_len,
-                new_len: *new_len,
-                flags: *flags,
-                new: *new,
-            };
+            let args = MremapArgs::of(*old, *old_len, *new_len, *flags, *new);
             mremap(alloc, config, objects, areas, &args)
         }
     }

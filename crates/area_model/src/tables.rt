@@ -2,7 +2,7 @@
 ghost use Rattle.std.specs.Prelude.{◌≡◌, ◌≤◌, ◌+◌, ◌*◌, ◌^◌, IfOk};
 ghost use Rattle.mm_types.specs.declared.config.TheConstants.{PAGE_SIZE};
 ghost use Rattle.area_model.specs.Stepped.{space_of, outcome_of};
-ghost use Rattle.area_model.specs.Tables.{is_aligned, pages_of, has_flag, has_too_many_areas};
+ghost use Rattle.area_model.specs.Tables.{is_aligned, pages_of, has_too_many_areas};
 
 use crate::step::Stepped;
 use mm_types::{AreaList, Config, Errno, NoMemory, PAGE_SIZE, Record, Reply};
@@ -29,14 +29,6 @@ pub fn end_of(addr: u64, len: u64) -> u128
     ensures { result ≡ addr + PAGE_SIZE * pages_of len }
 {
     u128::from(addr) + u128::from(PAGE_SIZE) * u128::from(pages_of(len))
-}
-
-/// Whether a flag is set.
-#[tactic(auto, unfolding(crate::specs::Tables::has_flag))]
-pub fn has_flag(flags: u32, flag: u32) -> bool
-    ensures { result ≡ has_flag flags flag }
-{
-    flags & flag != 0
 }
 
 /// Whether a list has more areas than are allowed.

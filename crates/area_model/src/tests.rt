@@ -1,10 +1,10 @@
 //! Calls and faults whose outcome is worked by hand, one for each row of a table.
 
-mod faulting;
-mod mapping;
-mod protecting;
-mod remapping;
-mod unmapping;
+mod fault_rows;
+mod mmap_rows;
+mod mprotect_rows;
+mod mremap_rows;
+mod munmap_rows;
 
 use crate::{Stepped, is_ready, model_step};
 use mm_types::{

@@ -1,4 +1,4 @@
--- The bits of rows together, where each row has one bit.
+-- For `read_words` and `print_bits`: the bits of rows together, where each row has one bit.
 use Rattle.std.proofs.Common.{ℕ, ◌*◌, ◌^◌, ◌<◌, ◌≡◌, ◌∙◌, sym, ap, refl, subst, suc, zero, Bool, true, false, not, cond, ◌||◌, List, [], ◌∷◌, ◌++◌, nat_eq, bit_and, bit_or, All, Contains, ⊎_elim, arith}
 use Rattle.std.specs.List.{list_any}
 use Rattle.std.specs.Int.{bit_at}
@@ -9,7 +9,8 @@ use Rattle.std.proofs.lemmas.List.Elements.{All-head, All-tail}
 use Rattle.std.proofs.lemmas.Nat.{and_comm, or_comm, pow_apart}
 use Rattle.std.proofs.lemmas.Nat.Bits.{bit_at_and, bit_at_or, bit_at-lt, and_pow, same_from_bits}
 use Rattle.flag_table.specs.Tables.{Row, bits_of}
-use Rattle.flag_table.specs.Printing.{has_bit, rows_with}
+use Rattle.mm_types.specs.Flags.{has_flag}
+use Rattle.flag_table.specs.Printing.{rows_with}
 use Rattle.flag_table.specs.Laws.{IsOneBit}
 
 -- `&` over `|`, on either side
@@ -102,8 +103,8 @@ bits_of-filter bits [] single = and_comm 0 bits
 bits_of-filter bits (row ∷ rows) single =
     let here = and-one_bit bits row.bit (All-head (λ (r : Row). IsOneBit r.bit) row rows single) in
     let there = bits_of-filter bits rows (All-tail (λ (r : Row). IsOneBit r.bit) row rows single) in
-    bits_of-cond (has_bit bits row.bit) row (rows_with bits rows)
-    ∙ ap (bit_or (cond (has_bit bits row.bit) row.bit 0)) there
+    bits_of-cond (has_flag bits row.bit) row (rows_with bits rows)
+    ∙ ap (bit_or (cond (has_flag bits row.bit) row.bit 0)) there
     ∙ ap (λ n. bit_or n (bit_and bits (bits_of rows))) (sym here) ∙ sym (and-or row.bit (bits_of rows) bits)
 
 -- the bit of a row is among those of a list that has the row

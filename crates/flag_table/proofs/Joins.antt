@@ -1,4 +1,4 @@
--- Texts joined by bars, and cut at them.
+-- For the laws on texts: texts joined by bars, and cut at them.
 use Rattle.std.proofs.Common.{ℕ, ◌≡◌, ◌∙◌, sym, ap, refl, false, ◌==◌, List, [], ◌∷◌, ◌++◌, All}
 use Rattle.std.proofs.lemmas.Bool.{or_parts}
 use Rattle.std.proofs.lemmas.List.{append_assoc}

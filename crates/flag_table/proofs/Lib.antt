@@ -1,9 +1,9 @@
+pub mod Pairs
 pub mod Bits
 pub mod Joins
 pub mod Names
-pub mod Pairs
+pub mod Words
 pub mod Prints
+pub mod Texts
 pub mod Refusals
 pub mod Sound
-pub mod Texts
-pub mod Words

@@ -1,4 +1,4 @@
--- In a sound table a name, and a bit, tells the row.
+-- For `read_words`, `print_bits` and the laws of a sound table: a name, and a bit, tells the row.
 use Rattle.std.proofs.Common.{ℕ, ◌≡◌, ◌≢◌, ◌∙◌, sym, ap, refl, suc, zero, Bool, true, List, [], ◌∷◌, get_or, nat_eq, bytes_eq, find, AllPairs, Contains, Option, Some, None, option_map, ⊎_elim, arith}
 use Rattle.std.proofs.lemmas.Bool.{cases_order, cond_both, cond-true}
 use Rattle.std.proofs.lemmas.Bool.Decides.{same_from_decides, Decides-eqb, Decides-like}

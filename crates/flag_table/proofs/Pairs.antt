@@ -1,4 +1,4 @@
--- Facts about each two elements of a list, and tests that show them.
+-- For the law `tables_are_sound`: facts about each two elements of a list, and tests that show them.
 use Rattle.std.proofs.Common.{ℕ, ◌<◌, ◌≡◌, suc, zero, Bool, true, ◌&&◌, List, [], ◌∷◌, length, get_or, arith, All, AllPairs}
 use Rattle.std.specs.List.{list_all}
 use Rattle.std.proofs.lemmas.Bool.{and_parts}

@@ -1,4 +1,4 @@
--- Which texts a table refuses, and why.
+-- For the law `bad_words_are_refused`: which texts a table refuses, and why.
 use Rattle.std.proofs.Common.{ℕ, ◌<◌, ◌≡◌, ◌≢◌, ◌↔◌, ◌⊎◌, ◌∙◌, sym, ap, refl, Bool, true, false, cond, List, [], ◌∷◌, ◌++◌, map, length, get_or, bytes_eq, All, Contains, Option, Some, None, is_none, Result, Ok, Err, inl, inr, ⊎_elim, arith}
 use Rattle.std.specs.Option.{option_or}
 use Rattle.std.proofs.lemmas.Bool.{cond_both}
@@ -16,7 +16,7 @@ use Rattle.flag_table.proofs.Names.{find-Contains, row_named-name, row_named-Som
 use Rattle.flag_table.proofs.Texts.{AreRows-AreGood, first_fault-names}
 use Rattle.flag_table.proofs.Words.{named_rows, first_fault-append, AreGood-first_fault, fault_of-named}
 
--- a first fault, with the words before the bad one and behind it
+-- a first fault, with the words before the bad one and after it
 record BadWord (rows : List Row) (before words : List (List ℕ)) (fault : NameFault) : Type 0 where
   good : List (List ℕ)
   word : List ℕ
@@ -94,7 +94,7 @@ unless_fault-Err : (first : Option NameFault) (bits : ℕ) (fault : NameFault) �
 unless_fault-Err None bits fault is = cc
 unless_fault-Err (Some first) bits fault is = ap Some cc
 
--- the fault of a word behind names
+-- the fault of a word after names
 fault_of-IsFault : (table : Table) → IsSound table → (named : List Row) → AreRows table named
     → (word : List ℕ) (fault : NameFault)
     → IsFault table named word fault → fault_of table.rows (names_of named) word ≡ Some fault

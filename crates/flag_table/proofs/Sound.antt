@@ -1,4 +1,4 @@
--- The three tables are sound.
+-- For the law `tables_are_sound`: the three tables are sound.
 use Rattle.std.proofs.Common.{◌<◌, ◌^◌, ◌≡◌, ◌≢◌, Bool, true, false, not, length, refl, nat_eq, nat_lt, bytes_eq}
 use Rattle.std.specs.List.{list_all, list_any, range_with_len}
 use Rattle.std.proofs.lemmas.Bool.{not-true, eqb-true, eqb-false, ltb-true}

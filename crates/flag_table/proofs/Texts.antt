@@ -1,4 +1,4 @@
--- Which texts a sound table reads, and that it reads what it prints.
+-- For the laws `flag_texts_are_read` and `printed_reads_back`: which texts a sound table reads, and that it reads what it prints.
 use Rattle.std.proofs.Common.{ℕ, ◌<◌, ◌≡◌, ◌≢◌, ◌↔◌, ◌∙◌, sym, ap, refl, subst, true, false, cond, ◌==◌, List, [], ◌∷◌, ◌++◌, map, length, get_or, bit_and, bytes_eq, codes, All, AllPairs, Contains, Option, Some, None, Result, Ok, Err, IfOk, inl, inr, ⊎_elim, arith}
 use Rattle.std.specs.List.{cons_option}
 use Rattle.std.specs.Option.{option_or}
@@ -11,7 +11,8 @@ use Rattle.std.proofs.lemmas.List.Splits.{join_with_byte-slice_split, length-sli
 use Rattle.std.proofs.lemmas.Slice.Eq.{bytes_eq-Decides}
 use Rattle.flag_table.specs.Tables.{Row, Table, bits_of, HasRows, names_of, text_of, words_of, bar}
 use Rattle.flag_table.specs.Reading.{is_among, is_zero, fault_of, first_fault, unless_fault, read_words, reading, Gives}
-use Rattle.flag_table.specs.Printing.{has_bit, rows_with, printed}
+use Rattle.mm_types.specs.Flags.{has_flag}
+use Rattle.flag_table.specs.Printing.{rows_with, printed}
 use Rattle.flag_table.specs.Laws.{IsSound, AreRows, IsNamed, IsFlagText, has_bar}
 use Rattle.flag_table.specs.declared.fault.NameFault.{NameFault}
 use Rattle.flag_table.proofs.Bits.{bits_of-filter, bits_of-within}
@@ -166,9 +167,9 @@ IsFlagText-printed table bits sound has = ⊎_elim
       named = rows_with bits table.rows;
       some = some_row (rows_with bits table.rows) (λ none. some (sym kept ∙ none));
       rows = record {
-        of_table = All-filter (λ (r : Row). has_bit bits r.bit) (Contains table.rows) table.rows
+        of_table = All-filter (λ (r : Row). has_flag bits r.bit) (Contains table.rows) table.rows
             (All-contains_itself table.rows);
-        distinct = AllPairs-filter (λ a b. a ≢ b) (λ (r : Row). has_bit bits r.bit) table.rows
+        distinct = AllPairs-filter (λ a b. a ≢ b) (λ (r : Row). has_flag bits r.bit) table.rows
             (λ i j d below within. λ same. sound.names i j d below within (ap (λ (r : Row). r.name) same));
       };
       text_is = ap (λ b. cond b table.zero (text_of (names_of (rows_with bits table.rows))))

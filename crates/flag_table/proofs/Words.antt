@@ -1,4 +1,4 @@
--- What the words of a text read as.
+-- For `read_words`: what the words of a text read as.
 use Rattle.std.proofs.Common.{ℕ, ◌+◌, ◌<◌, ◌≡◌, ◌≢◌, ◌∙◌, sym, ap, refl, subst, Bool, true, false, cond, ◌||◌, List, [], ◌∷◌, ◌++◌, map, length, get_or, take, drop, nat_eq, bit_and, bit_or, bytes_eq, filter_map, All, AllPairs, Contains, Option, Some, None, is_none, Result, Ok, Err, is_err, IsErrAnd, option_map, ⊎_elim, arith}
 use Rattle.std.specs.List.{list_any, cons_option}
 use Rattle.std.specs.Option.{option_or}
@@ -12,7 +12,7 @@ use Rattle.std.proofs.lemmas.Option.{none-some, same_Some}
 use Rattle.std.proofs.lemmas.Slice.Eq.{bytes_eq-Decides}
 use Rattle.flag_table.specs.Tables.{Row, Table, row_named, bits_of, bit_with_name, names_of}
 use Rattle.flag_table.specs.Reading.{Gives, is_among, fault_of, first_fault, unless_fault, read_words}
-use Rattle.flag_table.specs.Printing.{has_bit}
+use Rattle.mm_types.specs.Flags.{has_flag}
 use Rattle.flag_table.specs.Laws.{IsSound, IsOneBit}
 use Rattle.flag_table.specs.declared.fault.NameFault.{NameFault}
 use Rattle.flag_table.specs.declared.fault.NameFault.TheVariants.{Unknown, Twice, NoMemory}
@@ -28,7 +28,7 @@ option_or-None : {X : Type 0} (o p : Option X) → option_or o p ≡ None → (o
 option_or-None None p is = (refl, is)
 option_or-None (Some x) p is = absurd (none-some x (sym is))
 
--- behind words that are good the first fault is that of the others
+-- after words that are good the first fault is that of the others
 pub first_fault-append : (rows : List Row) (before words more : List (List ℕ)) → first_fault rows before words ≡ None
     → first_fault rows before (words ++ more) ≡ first_fault rows (before ++ words) more
 first_fault-append rows before [] more good = ap (λ (b : List (List ℕ)). first_fault rows b more)
@@ -163,11 +163,11 @@ fault_of-named rows before word row twice named among = ap
     ∙ ap (λ b. cond b (Some (Twice word)) None) among
 
 -- what the test of a bit says
-pub has_bit-true : (bits bit : ℕ) → has_bit bits bit ≡ true → bit_and bits bit ≢ 0
-has_bit-true bits bit there = eqb-false (bit_and bits bit) 0 (not-true (nat_eq (bit_and bits bit) 0) there)
+pub has_flag-true : (bits bit : ℕ) → has_flag bits bit ≡ true → bit_and bits bit ≢ 0
+has_flag-true bits bit there = eqb-false (bit_and bits bit) 0 (not-true (nat_eq (bit_and bits bit) 0) there)
 
-pub has_bit-false : (bits bit : ℕ) → has_bit bits bit ≡ false → bit_and bits bit ≡ 0
-has_bit-false bits bit absent = eqb-true (bit_and bits bit) 0 (not-false (nat_eq (bit_and bits bit) 0) absent)
+pub has_flag-false : (bits bit : ℕ) → has_flag bits bit ≡ false → bit_and bits bit ≡ 0
+has_flag-false bits bit absent = eqb-true (bit_and bits bit) 0 (not-false (nat_eq (bit_and bits bit) 0) absent)
 
 -- where the words so far are good and have these bits together
 pub record AreRead (rows : List Row) (words : List (List ℕ)) (bits : ℕ) : Type 0 where
@@ -176,7 +176,7 @@ pub record AreRead (rows : List Row) (words : List (List ℕ)) (bits : ℕ) : Ty
 
 pub fault_of-Twice : (table : Table) → IsSound table → (words : List (List ℕ)) (word : List ℕ) (bits bit : ℕ)
     → AreRead table.rows words bits
-    → bit_with_name table.rows word ≡ Some bit → has_bit bits bit ≡ true → fault_of table.rows words word
+    → bit_with_name table.rows word ≡ Some bit → has_flag bits bit ≡ true → fault_of table.rows words word
     ≡ Some (Twice word)
 fault_of-Twice table sound words word bits bit read is there =
     let row = row_of table.rows word bit is in
@@ -184,19 +184,19 @@ fault_of-Twice table sound words word bits bit read is there =
     ∙ ap (bit_and (bits_of (named_rows table.rows words))) (sym row.2)
     ∙ seen table sound words word row.0 read.good row.1 in
     ⊎_elim (λ twice. fault_of-named table.rows words word row.0 true row.1 twice)
-    (λ new. absurd (has_bit-true bits bit there (both ∙ ap (λ b. cond b row.0.bit 0) new)))
+    (λ new. absurd (has_flag-true bits bit there (both ∙ ap (λ b. cond b row.0.bit 0) new)))
     (cases_Bool (is_among words word))
 
 pub AreRead-push : (table : Table) → IsSound table → (words : List (List ℕ)) (word : List ℕ) (bits bit : ℕ)
     → AreRead table.rows words bits
-    → bit_with_name table.rows word ≡ Some bit → has_bit bits bit ≡ false
+    → bit_with_name table.rows word ≡ Some bit → has_flag bits bit ≡ false
     → AreRead table.rows (words ++ word ∷ []) (bit_or bits bit)
 AreRead-push table sound words word bits bit read is absent =
     let rows = table.rows in
     let row = row_of rows word bit is in
     let both : cond (is_among words word) row.0.bit 0 ≡ 0 = sym (seen table sound words word row.0 read.good row.1)
     ∙ ap (bit_and (bits_of (named_rows rows words))) row.2 ∙ ap (λ n. bit_and n bit) (sym read.together)
-    ∙ has_bit-false bits bit absent in
+    ∙ has_flag-false bits bit absent in
     let one = All-contains (λ (r : Row). IsOneBit r.bit) rows row.0 sound.single
     (row_named-Some rows word row.0 row.1).0 in
     let new : is_among words word ≡ false = false_from_ne_true (is_among words word)
@@ -239,7 +239,7 @@ read_words-good rows all words bits read whole = ap (read_words rows) (sym whole
     ∙ ap (λ (o : Option NameFault). unless_fault o (bits_of (named_rows rows words))) read.good
     ∙ ap Ok (sym read.together)
 
--- want of memory, in place of a fault
+-- out of memory, in place of a fault
 pub Gives-NoMemory : (result read : Result ℕ NameFault) (fault : NameFault) → IsErrAnd result (λ e. e ≡ NoMemory)
     → read ≡ Err fault → Gives result read
 Gives-NoMemory (Ok bits) read fault no_memory is = absurd no_memory

@@ -42,12 +42,12 @@ pub record IsNamed (table : Table) (text : List ℕ) (bits : ℕ) : Type 0 where
 abbrev pub IsFlagText : Table → List ℕ → ℕ → Type 0
 IsFlagText table text bits = ((is_zero table text ≡ true) × (bits ≡ 0)) ⊎ IsNamed table text bits
 
--- the fault of a word behind the names of these rows
+-- the fault of a word after the names of these rows
 abbrev pub IsFault : Table → List Row → List ℕ → NameFault → Type 0
 IsFault table named word fault = (All (λ row. row.name ≢ word) table.rows × (fault ≡ Unknown word))
     ⊎ (Contains (names_of named) word × (fault ≡ Twice word))
 
--- The text has a bad word, behind the names of rows alone: the first bad one. This is its fault.
+-- The text has a bad word, after the names of rows alone: the first bad one. This is its fault.
 pub record IsRefused (table : Table) (text : List ℕ) (fault : NameFault) : Type 0 where
   pub flags : is_zero table text ≡ false
   pub named : List Row

@@ -1,5 +1,5 @@
-pub mod Kinds
-pub mod Laws
-pub mod Printing
-pub mod Reading
 pub mod Tables
+pub mod Kinds
+pub mod Reading
+pub mod Printing
+pub mod Laws

@@ -10,12 +10,12 @@ use Rattle.flag_table.specs.declared.fault.NameFault.TheVariants.{Unknown, Twice
 abbrev pub is_among : List (List ℕ) → List ℕ → Bool
 is_among words word = list_any (λ other. bytes_eq other word) words
 
--- what is wrong with a word behind these: it names no row, or it is one of them
+-- what is wrong with a word after these: it names no row, or it is one of them
 abbrev pub fault_of : List Row → List (List ℕ) → List ℕ → Option NameFault
 fault_of rows before word = if is_none (row_named rows word) then Some (Unknown word)
     else (if is_among before word then Some (Twice word) else None)
 
--- the fault of the first bad one of these words, behind the words before
+-- the fault of the first bad one of these words, after the words before
 abbrev pub first_fault : List Row → List (List ℕ) → List (List ℕ) → Option NameFault
 first_fault rows before [] = None
 first_fault rows before (word ∷ words) =
@@ -38,7 +38,7 @@ is_zero table text = bytes_eq text (codes "0") || bytes_eq text table.zero
 unfoldable pub reading : Table → List ℕ → Result ℕ NameFault
 reading table text = if is_zero table text then Ok 0 else read_words table.rows (words_of text)
 
--- An answer gives what was to be read, except that it may be want of memory in place of a fault.
+-- An answer gives what was to be read, except that it may be out of memory in place of a fault.
 abbrev pub Gives : Result ℕ NameFault → Result ℕ NameFault → Type 0
 Gives (Ok bits) read = read ≡ Ok bits
 Gives (Err NoMemory) read = IsErr read

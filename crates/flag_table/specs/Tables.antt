@@ -1,9 +1,10 @@
--- The names of the flags of mmap(2), mprotect(2) and mremap(2), with their bits as Linux numbers them.
+-- The names of the flags of mmap(2), mprotect(2) and mremap(2), each with its bit.
 use Prim.Native.String.{String}
 use Rattle.std.specs.List.{join_with_byte, slice_split}
 use Rattle.std.specs.Option.{option_map_or}
 use Rattle.std.specs.Prelude.{ℕ, ◌≡◌, ◌==◌, List, [], ◌∷◌, Option, map, option_map, codes, bytes_eq, find, bit_and, bit_or}
 use Rattle.std.specs.Str.{byte}
+use Rattle.mm_types.specs.declared.flags.TheConstants.{PROT_READ, PROT_WRITE, PROT_EXEC, MAP_SHARED, MAP_PRIVATE, MAP_FIXED, MAP_ANONYMOUS, MAP_DENYWRITE, MAP_EXECUTABLE, MAP_NORESERVE, MAP_POPULATE, MAP_STACK, MAP_FIXED_NOREPLACE, MREMAP_MAYMOVE, MREMAP_FIXED, MREMAP_DONTUNMAP}
 
 -- a flag: its name and its bit
 pub record Row : Type 0 where
@@ -22,23 +23,23 @@ flag name bit = record { name = codes name; bit = bit }
 -- the accesses that mmap(2) and mprotect(2) are asked for
 unfoldable pub prot_flags : Table
 prot_flags = record {
-  rows = flag "PROT_READ" 1 ∷ flag "PROT_WRITE" 2 ∷ flag "PROT_EXEC" 4 ∷ [];
+  rows = flag "PROT_READ" PROT_READ ∷ flag "PROT_WRITE" PROT_WRITE ∷ flag "PROT_EXEC" PROT_EXEC ∷ [];
   zero = codes "PROT_NONE";
 }
 
 -- the flags of mmap(2)
 unfoldable pub map_flags : Table
 map_flags = record {
-  rows = flag "MAP_SHARED" 0x1 ∷ flag "MAP_PRIVATE" 0x2 ∷ flag "MAP_FIXED" 0x10 ∷ flag "MAP_ANONYMOUS" 0x20
-      ∷ flag "MAP_DENYWRITE" 0x800 ∷ flag "MAP_EXECUTABLE" 0x1000 ∷ flag "MAP_NORESERVE" 0x4000
-      ∷ flag "MAP_POPULATE" 0x8000 ∷ flag "MAP_STACK" 0x2_0000 ∷ flag "MAP_FIXED_NOREPLACE" 0x10_0000 ∷ [];
+  rows = flag "MAP_SHARED" MAP_SHARED ∷ flag "MAP_PRIVATE" MAP_PRIVATE ∷ flag "MAP_FIXED" MAP_FIXED ∷ flag "MAP_ANONYMOUS" MAP_ANONYMOUS
+      ∷ flag "MAP_DENYWRITE" MAP_DENYWRITE ∷ flag "MAP_EXECUTABLE" MAP_EXECUTABLE ∷ flag "MAP_NORESERVE" MAP_NORESERVE
+      ∷ flag "MAP_POPULATE" MAP_POPULATE ∷ flag "MAP_STACK" MAP_STACK ∷ flag "MAP_FIXED_NOREPLACE" MAP_FIXED_NOREPLACE ∷ [];
   zero = codes "0";
 }
 
 -- the flags of mremap(2)
 unfoldable pub mremap_flags : Table
 mremap_flags = record {
-  rows = flag "MREMAP_MAYMOVE" 1 ∷ flag "MREMAP_FIXED" 2 ∷ flag "MREMAP_DONTUNMAP" 4 ∷ [];
+  rows = flag "MREMAP_MAYMOVE" MREMAP_MAYMOVE ∷ flag "MREMAP_FIXED" MREMAP_FIXED ∷ flag "MREMAP_DONTUNMAP" MREMAP_DONTUNMAP ∷ [];
   zero = codes "0";
 }
 

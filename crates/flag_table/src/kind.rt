@@ -1,40 +1,46 @@
 //! The rows of the three tables.
 
+use mm_types::{
+    MAP_ANONYMOUS, MAP_DENYWRITE, MAP_EXECUTABLE, MAP_FIXED, MAP_FIXED_NOREPLACE, MAP_NORESERVE,
+    MAP_POPULATE, MAP_PRIVATE, MAP_SHARED, MAP_STACK, MREMAP_DONTUNMAP, MREMAP_FIXED,
+    MREMAP_MAYMOVE, PROT_EXEC, PROT_READ, PROT_WRITE,
+};
+
 /// Calls a macro on the rows of a table, each a name and its bit, in the order in which they are printed.
 macro_rules! rows {
     (Prot, $with:ident, $given:tt) => {
-        $with!($given, "PROT_READ" = 1, "PROT_WRITE" = 2, "PROT_EXEC" = 4)
+        $with!($given, "PROT_READ" = PROT_READ, "PROT_WRITE" = PROT_WRITE, "PROT_EXEC" = PROT_EXEC)
     };
     (Map, $with:ident, $given:tt) => {
         $with!(
             $given,
-            "MAP_SHARED" = 0x1,
-            "MAP_PRIVATE" = 0x2,
-            "MAP_FIXED" = 0x10,
-            "MAP_ANONYMOUS" = 0x20,
-            "MAP_DENYWRITE" = 0x800,
-            "MAP_EXECUTABLE" = 0x1000,
-            "MAP_NORESERVE" = 0x4000,
-            "MAP_POPULATE" = 0x8000,
-            "MAP_STACK" = 0x2_0000,
-            "MAP_FIXED_NOREPLACE" = 0x10_0000
+            "MAP_SHARED" = MAP_SHARED,
+            "MAP_PRIVATE" = MAP_PRIVATE,
+            "MAP_FIXED" = MAP_FIXED,
+            "MAP_ANONYMOUS" = MAP_ANONYMOUS,
+            "MAP_DENYWRITE" = MAP_DENYWRITE,
+            "MAP_EXECUTABLE" = MAP_EXECUTABLE,
+            "MAP_NORESERVE" = MAP_NORESERVE,
+            "MAP_POPULATE" = MAP_POPULATE,
+            "MAP_STACK" = MAP_STACK,
+            "MAP_FIXED_NOREPLACE" = MAP_FIXED_NOREPLACE
         )
     };
     (Mremap, $with:ident, $given:tt) => {
-        $with!($given, "MREMAP_MAYMOVE" = 1, "MREMAP_FIXED" = 2, "MREMAP_DONTUNMAP" = 4)
+        $with!($given, "MREMAP_MAYMOVE" = MREMAP_MAYMOVE, "MREMAP_FIXED" = MREMAP_FIXED, "MREMAP_DONTUNMAP" = MREMAP_DONTUNMAP)
     };
 }
 
 /// The bits of the rows.
 macro_rules! bits {
-    ($given:tt, $($name:literal = $bit:literal),*) => {
+    ($given:tt, $($name:literal = $bit:ident),*) => {
         [$($bit),*]
     };
 }
 
 /// The bit of the row with this name.
 macro_rules! bit_named {
-    ($word:ident, $($name:literal = $bit:literal),*) => {
+    ($word:ident, $($name:literal = $bit:ident),*) => {
         match $word {
             $($name => Some($bit),)*
             _ => None,
@@ -44,7 +50,7 @@ macro_rules! bit_named {
 
 /// The name of the row with this bit, or the empty text.
 macro_rules! name_with {
-    ($wanted:ident, $($name:literal = $bit:literal),*) => {
+    ($wanted:ident, $($name:literal = $bit:ident),*) => {
         match $wanted {
             $($bit => $name,)*
             _ => "",

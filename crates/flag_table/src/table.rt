@@ -2,11 +2,11 @@ ghost use Rattle.std.specs.Prelude.{◌≡◌, IfOk, OnOk, map, string_bytes};
 ghost use Rattle.flag_table.specs.Tables.{prot_flags, map_flags, mremap_flags, words_of};
 ghost use Rattle.flag_table.specs.Kinds.{table_of};
 ghost use Rattle.flag_table.specs.Reading.{read_words, Gives};
-ghost use Rattle.flag_table.specs.Printing.{has_bit, printed, with_name};
+ghost use Rattle.flag_table.specs.Printing.{printed, with_name};
 
 use crate::fault::NameFault;
 use crate::kind::{Kind, MAP_BITS, MREMAP_BITS, PROT_BITS};
-use mm_types::{NoMemory, Text};
+use mm_types::{NoMemory, Text, has_flag};
 use std::alloc::{AllocError, Global};
 use std::marker::Model;
 
@@ -32,7 +32,8 @@ impl<const N: usize> Model for FlagTable<N> {
     ghost invariant = { λ t. t.bits ≡ map (λ row. row.bit) (table_of t.kind).rows };
 }
 
-/// The accesses that mmap(2) and mprotect(2) are asked for. `PROT_NONE` stands for none of them.
+/// The accesses that mmap(2) and mprotect(2) are asked for. `PROT_NONE` and `0` are read as none of them, which is
+/// printed as `PROT_NONE`.
 #[tactic(auto, unfolding(crate::specs::Tables::prot_flags))]
 pub fn prot_table() -> FlagTable<3>
     ensures { result ≡ prot_flags }
@@ -104,7 +105,7 @@ fn read_words(alloc: Global, kind: Kind, text: &str) -> Result<u32, NameFault>
         match kind.bit_named(word) {
             None => return Err(NameFault::Unknown(copy_of(alloc, word)?)),
             // Each row has a bit of its own, so a bit that is there says that its name came before.
-            Some(bit) if has_bit(bits, bit) => return Err(NameFault::Twice(copy_of(alloc, word)?)),
+            Some(bit) if has_flag(bits, bit) => return Err(NameFault::Twice(copy_of(alloc, word)?)),
             Some(bit) => bits |= bit,
         }
     }
@@ -128,14 +129,14 @@ fn print_bits(alloc: Global, kind: Kind, rows: &[u32], bits: u32) -> Result<Text
     }
     let mut text = String::new(alloc);
     for bit in rows {
-        if has_bit(bits, *bit) {
+        if has_flag(bits, *bit) {
             push_name(&mut text, kind.name_with(*bit))?;
         }
     }
     Ok(Text::of(text))
 }
 
-/// Adds one more name, behind a bar unless it is the first.
+/// Adds one more name, after a bar unless it is the first.
 #[tactic(auto, unfolding(crate::specs::Printing::with_name))]
 fn push_name(text: &mut String, name: &str) -> Result<(), AllocError>
     ensures { OnOk result (string_bytes text.new ≡ with_name (string_bytes text.old) name.now) }
@@ -145,13 +146,6 @@ fn push_name(text: &mut String, name: &str) -> Result<(), AllocError>
     }
     text.push_str(name)?;
     Ok(())
-}
-
-/// Whether a bit is one of these.
-fn has_bit(bits: u32, bit: u32) -> bool
-    ensures { result ≡ has_bit bits bit }
-{
-    bits & bit != 0
 }
 
 #[cfg(test)]

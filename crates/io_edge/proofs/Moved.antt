@@ -1,4 +1,4 @@
--- What a copy out of the middle of some bytes moves, and when nothing is left.
+-- For `fill_piece`: what a copy out of the middle of some bytes moves, and when nothing is left.
 use Rattle.std.proofs.Common.{◌≡◌, ◌<◌, ℕ, ◌+◌, List, [], ◌++◌, length, take, drop, min, sym, ap, ◌∙◌, arith, take-append-drop, length-drop}
 use Rattle.std.proofs.lemmas.List.{drop-drop, drop_all}
 

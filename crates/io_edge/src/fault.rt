@@ -14,7 +14,7 @@ pub struct Failed;
 pub enum GiveFault {
     /// The outside refused the bytes.
     Failed,
-    /// A sink that keeps its bytes in memory found no room for them.
+    /// A sink that keeps its bytes in memory ran out of it.
     NoMemory,
 }
 

@@ -1,13 +1,14 @@
 //! The edge to the outside: where bytes come from and where they go, each with a count of its faults,
-//! and what is called round each operation of a thread. The forms over memory serve callers that hold
-//! their input, and tests that want a fault at a chosen call.
+//! and what is called round each operation of a thread. The sources and sinks over memory serve callers that
+//! hold their input, and tests that want a fault at a chosen call.
 #![tactic(auto)]
 
 mod fault;
 mod gate;
+mod laws;
 mod memory;
 mod piece;
-mod plan;
+mod schedule;
 mod sink;
 mod source;
 mod standard;
@@ -15,6 +16,7 @@ mod sure;
 
 pub use fault::{Failed, GiveFault};
 pub use gate::{Gate, PlainGate};
+pub use laws::piece_size;
 pub use memory::{MOST_AT_A_CALL, MemSink, MemSource};
 pub use sink::Sink;
 pub use source::Source;

@@ -8,7 +8,7 @@ ghost use Rattle.io_edge.specs.Memory.{Failing, CountsCall};
 ghost use Rattle.io_edge.specs.declared.fault.GiveFault.TheVariants.{Failed as failed};
 
 use crate::piece::fill_piece;
-use crate::plan::Plan;
+use crate::schedule::FaultSchedule;
 use crate::{Failed, GiveFault, Sink, Source};
 use std::alloc::Global;
 use std::marker::Model;
@@ -23,7 +23,7 @@ pub const MOST_AT_A_CALL: usize = 64;
 pub struct MemSource {
     bytes: Vec<u8>,
     at: usize,
-    plan: Plan,
+    schedule: FaultSchedule,
 }
 
 impl Model for MemSource {
@@ -31,9 +31,9 @@ impl Model for MemSource {
 
     ghost view = { λ source. record {
       bytes = drop source.at source.bytes.items;
-      fail = source.plan.fail.items;
-      calls = source.plan.calls;
-      faults = source.plan.faults;
+      fail = source.schedule.fail.items;
+      calls = source.schedule.calls;
+      faults = source.schedule.faults;
     } };
 
     ghost invariant = { λ source. source.at ≤ length source.bytes.items };
@@ -47,7 +47,7 @@ impl MemSource {
         MemSource {
             bytes,
             at: 0,
-            plan: Plan::new(fail),
+            schedule: FaultSchedule::new(fail),
         }
     }
 }
@@ -71,7 +71,7 @@ impl Source for MemSource {
         ensures faults { OnErr result (self.new.faults ≡ counted self.old.faults) }
         ensures error { OnErr result (into.new ≡ into.old) }
     {
-        if self.plan.is_fault() {
+        if self.schedule.is_fault() {
             return Err(Failed);
         }
         let count = fill_piece(self.bytes.as_slice(), self.at, MOST_AT_A_CALL, into);
@@ -82,11 +82,11 @@ impl Source for MemSource {
 
 /// A sink that keeps its bytes in memory, fails at the calls whose numbers, counted from 0, are in a list, and
 /// takes at most `MOST_AT_A_CALL` bytes at any other. Each call counts, one with an empty piece and one that
-/// finds no memory too. The call after number 2^64 - 1 has that number again.
+/// runs out of memory too. The call after number 2^64 - 1 has that number again.
 #[derive(Debug, Drop)]
 pub struct MemSink {
     bytes: Vec<u8>,
-    plan: Plan,
+    schedule: FaultSchedule,
 }
 
 impl Model for MemSink {
@@ -94,9 +94,9 @@ impl Model for MemSink {
 
     ghost view = { λ sink. record {
       bytes = sink.bytes.items;
-      fail = sink.plan.fail.items;
-      calls = sink.plan.calls;
-      faults = sink.plan.faults;
+      fail = sink.schedule.fail.items;
+      calls = sink.schedule.calls;
+      faults = sink.schedule.faults;
     } };
 }
 
@@ -108,7 +108,7 @@ impl MemSink {
     {
         MemSink {
             bytes: Vec::new(alloc),
-            plan: Plan::new(fail),
+            schedule: FaultSchedule::new(fail),
         }
     }
 
@@ -126,7 +126,7 @@ impl Sink for MemSink {
     ghost faults = { λ sink. sink.faults };
 
     /// Fails at a call in the list. Else takes the piece, or of a longer one its first `MOST_AT_A_CALL` bytes, or
-    /// answers that there is no memory and takes nothing.
+    /// answers that it is out of memory and takes nothing.
     fn give(&mut self, piece: &[u8]) -> Result<usize, GiveFault>
         ensures bound { WritesAtMost result piece.now }
         ensures some { IfOk result (λ count. 0 < length piece.now → 0 < count) }
@@ -138,7 +138,7 @@ impl Sink for MemSink {
         ensures calls { CountsCall self.old self.new }
         ensures faults { IsErrOf result failed → self.new.faults ≡ counted self.old.faults }
     {
-        if self.plan.is_fault() {
+        if self.schedule.is_fault() {
             return Err(GiveFault::Failed);
         }
         let count = piece.len().min(MOST_AT_A_CALL);

@@ -1,5 +1,5 @@
 //! Standard input and output, each with a count of its failures. A clause sees of their bytes what the reader and
-//! the writer of the runtime tell: the system's own tell nothing.
+//! the writer below them tell: the system's own tell nothing.
 ghost use Rattle.std.specs.Prelude.{◌≡◌, ◌<◌, length, IfOk, IfErr, OnErr};
 ghost use Rattle.std.specs.Io.{ReadsAtMost, WritesAtMost};
 ghost use Rattle.std.specs.Io.KnownBytes.{ReadConsumes, WriteAppends};
@@ -7,11 +7,11 @@ ghost use Rattle.io_edge.specs.Edge.{HasCause, HasGiveCause, counted};
 ghost use Rattle.io_edge.specs.declared.fault.GiveFault.TheVariants.{Failed as failed};
 
 use crate::{Failed, GiveFault, Sink, Source};
-use std::io::{self, Printer, Read, Write};
+use std::io::{Read, Write};
 use std::marker::Model;
 
-/// Standard input as a source. It reads as read(2) does, and keeps no buffer. A clause sees its reader and the count of
-/// its faults.
+/// A reader as a source, as that of standard input. It reads as read(2) does, and keeps no buffer. A clause sees the
+/// reader and the count of its faults.
 #[derive(Drop)]
 pub struct StdSource<I> {
     input: I,
@@ -27,14 +27,11 @@ impl<I> Model for StdSource<I> {
 }
 
 impl<I: Read + Drop> StdSource<I> {
-    /// The runtime's standard input, with no fault so far.
-    pub fn new<R: Input<Reader = I>>(rt: &R) -> StdSource<I>
-        ensures { result.faults ≡ 0 }
+    /// This reader as it is, with no fault so far.
+    pub fn new(input: I) -> StdSource<I>
+        ensures { result ≡ record { end = input; faults = 0 } }
     {
-        StdSource {
-            input: rt.reader(),
-            faults: 0,
-        }
+        StdSource { input, faults: 0 }
     }
 }
 
@@ -61,8 +58,8 @@ impl<I: Read + Drop> Source for StdSource<I> {
     }
 }
 
-/// Standard output as a sink. It writes as write(2) does, and keeps no buffer: what it took has left the program.
-/// A clause sees its writer and the count of its faults.
+/// A writer as a sink, as that of standard output. It writes as write(2) does, and keeps no buffer: what it took has
+/// left the program. A clause sees the writer and the count of its faults.
 #[derive(Drop)]
 pub struct StdSink<W> {
     output: W,
@@ -77,15 +74,12 @@ impl<W> Model for StdSink<W> {
     ghost view = { λ sink. record { end = sink.output; faults = sink.faults } };
 }
 
-impl<'a, P: Print> StdSink<Printer<'a, P>> {
-    /// The runtime's standard output, with no fault so far.
-    pub fn new(rt: &'a P) -> StdSink<Printer<'a, P>>
-        ensures { result.faults ≡ 0 }
+impl<W: Write + Drop> StdSink<W> {
+    /// This writer as it is, with no fault so far.
+    pub fn new(output: W) -> StdSink<W>
+        ensures { result ≡ record { end = output; faults = 0 } }
     {
-        StdSink {
-            output: io::writer(rt),
-            faults: 0,
-        }
+        StdSink { output, faults: 0 }
     }
 }
 
@@ -118,40 +112,34 @@ impl<W: Write + Drop> Sink for StdSink<W> {
 #[cfg(test)]
 mod tests {
     use super::*;
-    use std::alloc::Allocator;
     use std::io;
-    use std::io::{BufRead, Lines};
-
-    // A runtime with these bytes as its standard input.
-    struct Given(&'static [u8]);
-
-    impl Input for Given {
-        type Reader = &'static [u8];
-
-        fn read_line<A: Allocator + Clone>(&self, buf: &mut String<A>) -> io::Result<usize> {
-            self.reader().read_line(buf)
-        }
-
-        fn lines<A: Allocator>(&self, alloc: A) -> Lines<&'static [u8], A> {
-            self.reader().lines(alloc)
-        }
-
-        fn reader(&self) -> &'static [u8] {
-            self.0
-        }
-    }
+    use std::test::Fail;
 
     #[test]
-    fn reads_the_input(rt: HostRuntime) {
-        let mut source = StdSource::new(&Given(b"trace"));
+    fn reads_a_pipe(rt: HostRuntime) -> Result<(), Fail> {
+        let (reader, mut writer) = io::pipe(&rt)?;
+        writer.write_all(b"vmatrace 1\n")?;
+        drop(writer);
+        let mut source = StdSource::new(reader);
         let mut piece = [0u8; 8];
-        assert_eq!(rt; source.take(&mut piece), Ok(5));
-        assert_eq!(rt; piece, *b"trace\0\0\0");
+        assert_eq!(rt; source.take(&mut piece), Ok(8));
+        assert_eq!(rt; piece, *b"vmatrace");
+        assert_eq!(rt; source.take(&mut piece), Ok(3));
+        assert_eq!(rt; piece, *b" 1\ntrace");
         assert_eq!(rt; source.take(&mut piece), Ok(0));
+        Ok(())
     }
 
     #[test]
-    fn writes_the_output(rt: HostRuntime) {
-        assert_eq!(rt; StdSink::new(&rt).give(b"given\n"), Ok(6));
+    fn writes_a_pipe(rt: HostRuntime) -> Result<(), Fail> {
+        let (mut reader, writer) = io::pipe(&rt)?;
+        let mut sink = StdSink::new(writer);
+        assert_eq!(rt; sink.give(b"0 munmap"), Ok(8));
+        assert_eq!(rt; sink.give(b" -> 0\n"), Ok(6));
+        drop(sink);
+        let mut bytes = [0u8; 16];
+        assert_eq!(rt; reader.read(&mut bytes)?, 14);
+        assert_eq!(rt; bytes, *b"0 munmap -> 0\n\0\0");
+        Ok(())
     }
 }

@@ -88,7 +88,7 @@ impl Sink for SureSink {
 
     ghost faults = { λ _. 0 };
 
-    /// Takes the whole piece, or answers that there is no memory and takes nothing.
+    /// Takes the whole piece, or answers that it is out of memory and takes nothing.
     fn give(&mut self, piece: &[u8]) -> Result<usize, GiveFault>
         ensures bound { WritesAtMost result piece.now }
         ensures some { IfOk result (λ count. 0 < length piece.now → 0 < count) }

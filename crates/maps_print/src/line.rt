@@ -1,19 +1,24 @@
-ghost use Rattle.std.specs.Prelude.{◌≡◌, ◌++◌, replicate, flat_map, IfOk, OnOk};
-ghost use Rattle.mm_types.specs.MapsText.{letter, perms, range_text, front_text, shown_byte, name_text, area_text};
-ghost use Rattle.maps_print.specs.Parts.{addresses_text, place_text};
-ghost use Rattle.maps_print.specs.Printable.{IsPrintable};
+ghost use Rattle.std.specs.Prelude.{◌≡◌, ◌≤◌, ◌++◌, codes, IfOk, OnOk, OnErr, flat_map};
+ghost use Rattle.mm_types.specs.MapsText.{letter, perms, span_text, range_text, place_text, front_text, shown_byte, spaces_before, name_text, area_text};
+ghost use Rattle.maps_print.specs.Appends.{AppendsFront};
 
 use crate::mapped::Mapped;
-use mm_types::{Files, NoMemory, PAGE_SIZE, Record};
+use arrayvec::ArrayString;
+use mm_types::{Files, NoMemory, Record};
 use std::alloc::Global;
-use std::io::Write;
+use std::fmt::Write;
 
 /// The column at which a name starts, counted from 0, unless what stands before it is as long.
 const NAME_COLUMN: usize = 73;
 
+/// Room for the longest addresses and the longest place that numbers of 64 bits make, of 40 and 60 characters.
+const MOST_CHARACTERS: usize = 64;
+
+/// A part of a line, before it is appended.
+type Part = ArrayString<MOST_CHARACTERS>;
+
 /// Prints the line of one area as proc_pid_maps(5) has it, with the newline that ends it.
 pub fn print_line(alloc: Global, area: &Record, files: &Files) -> Result<Vec<u8>, NoMemory>
-    requires { IsPrintable area.now }
     ensures { IfOk result (λ line. line.items ≡ area_text files.now area.now) }
 {
     let mut text = Vec::new(alloc);
@@ -21,12 +26,11 @@ pub fn print_line(alloc: Global, area: &Record, files: &Files) -> Result<Vec<u8>
     Ok(text)
 }
 
-/// Appends the line of one area, with the newline that ends it. Where memory runs out, a part of the
-/// line may have been appended.
+/// Appends the line of one area, with the newline that ends it.
 #[tactic(auto, unfolding(mm_types::specs::MapsText::area_text))]
 pub(crate) fn push_line(text: &mut Vec<u8>, area: &Record, files: &Files) -> Result<(), NoMemory>
-    requires { IsPrintable area.now }
-    ensures { OnOk result (text.new.items ≡ text.old.items ++ area_text files.now area.now) }
+    ensures ok { OnOk result (text.new.items ≡ text.old.items ++ area_text files.now area.now) }
+    ensures no_memory { OnErr result (AppendsFront text.old.items text.new.items (area_text files.now area.now)) }
 {
     let mapped = Mapped::of(files, area.object);
     let start = text.len();
@@ -40,31 +44,37 @@ pub(crate) fn push_line(text: &mut Vec<u8>, area: &Record, files: &Files) -> Res
 /// Appends what stands before the name.
 #[tactic(auto, unfolding(mm_types::specs::MapsText::front_text))]
 fn push_front(text: &mut Vec<u8>, area: &Record, mapped: &Mapped) -> Result<(), NoMemory>
-    requires { IsPrintable area.now }
-    ensures { OnOk result (text.new.items ≡ text.old.items ++ front_text area.now mapped.now) }
+    ensures ok { OnOk result (text.new.items ≡ text.old.items ++ front_text area.now mapped.now) }
+    ensures no_memory { OnErr result (AppendsFront text.old.items text.new.items (front_text area.now mapped.now)) }
 {
     push_range(text, area)?;
-    push_place(text, PAGE_SIZE * area.offset, mapped)
+    let place = place_part(area.offset, mapped)?;
+    text.extend_from_slice(place.as_str().as_bytes())?;
+    Ok(())
 }
 
 /// Appends the addresses of an area, in bytes, and what is allowed there, as `<lo>-<hi> <perms>`.
-/// Where memory runs out, a part of it may have been appended.
 #[tactic(auto, unfolding(mm_types::specs::MapsText::range_text))]
 pub fn push_range(text: &mut Vec<u8>, area: &Record) -> Result<(), NoMemory>
-    requires { IsPrintable area.now }
-    ensures { OnOk result (text.new.items ≡ text.old.items ++ range_text area.now) }
+    ensures ok { OnOk result (text.new.items ≡ text.old.items ++ range_text area.now) }
+    ensures no_memory { OnErr result (AppendsFront text.old.items text.new.items (range_text area.now)) }
 {
-    push_addresses(text, PAGE_SIZE * area.span.lo, PAGE_SIZE * area.span.hi)?;
+    let addresses = span_part(area.span.lo, area.span.hi)?;
+    text.extend_from_slice(addresses.as_str().as_bytes())?;
     text.extend_from_slice(&perms(area))?;
     Ok(())
 }
 
-/// Appends two addresses, in bytes, with a dash between them and a space after them.
-#[tactic(auto, using(crate::proofs::Hex::padded_hex))]
-fn push_addresses(text: &mut Vec<u8>, lo: u64, hi: u64) -> Result<(), NoMemory>
-    ensures { OnOk result (text.new.items ≡ text.old.items ++ addresses_text lo hi) }
+/// The addresses of a span, in bytes, and a space. In hexadecimal an address is its page with three zeros after it.
+#[tactic(auto, unfolding(mm_types::specs::MapsText::span_text))]
+fn span_part(lo: u64, hi: u64) -> Result<Part, NoMemory>
+    ensures { IfOk result (λ part. part.bytes ≡ span_text (record { lo = lo; hi = hi }) ++ codes " ") }
 {
-    write!(text, "{lo:08x}-{hi:08x} ").map_err(|_| NoMemory)
+    let mut part = Part::new();
+    match write!(part, "{lo:05x}000-{hi:05x}000 ") {
+        Ok(()) => Ok(part),
+        Err(_) => Err(NoMemory),
+    }
 }
 
 /// Four letters: what is allowed, with a dash for what is not, and whether the area is shared.
@@ -89,46 +99,49 @@ fn letter(allowed: bool, access: u8) -> u8
     if allowed { access } else { b'-' }
 }
 
-/// Appends the offset within what is mapped, in bytes, and the device and the inode of that.
-#[tactic(auto, using(crate::proofs::Hex::padded_hex))]
-fn push_place(text: &mut Vec<u8>, offset: u64, mapped: &Mapped) -> Result<(), NoMemory>
-    ensures { OnOk result (text.new.items ≡ text.old.items ++ place_text offset mapped.now) }
+/// A space, the offset within what is mapped, in bytes, the device and the inode of that, and a space.
+#[tactic(auto, unfolding(mm_types::specs::MapsText::place_text))]
+fn place_part(offset: u64, mapped: &Mapped) -> Result<Part, NoMemory>
+    ensures { IfOk result (λ part. part.bytes ≡ codes " " ++ place_text offset mapped.now ++ codes " ") }
 {
     let (major, minor, inode) = (mapped.major, mapped.minor, mapped.inode);
-    write!(text, " {offset:08x} {major:02x}:{minor:02x} {inode} ").map_err(|_| NoMemory)
+    let mut part = Part::new();
+    match write!(part, " {offset:05x}000 {major:02x}:{minor:02x} {inode} ") {
+        Ok(()) => Ok(part),
+        Err(_) => Err(NoMemory),
+    }
 }
 
-/// Appends the name behind so many characters of the line, and nothing where there is no name.
+/// Appends the name after so many characters of the line, and nothing where there is no name.
 #[tactic(auto, unfolding(mm_types::specs::MapsText::name_text))]
 fn push_name(text: &mut Vec<u8>, column: usize, name: &[u8]) -> Result<(), NoMemory>
-    ensures { OnOk result (text.new.items ≡ text.old.items ++ name_text column name.now) }
+    ensures ok { OnOk result (text.new.items ≡ text.old.items ++ name_text column name.now) }
+    ensures no_memory { OnErr result (AppendsFront text.old.items text.new.items (name_text column name.now)) }
 {
     if name.is_empty() {
         return Ok(());
     }
-    let spaces = if column < NAME_COLUMN {
-        NAME_COLUMN - column
-    } else {
-        1
-    };
-    push_spaces(text, spaces)?;
+    text.extend_from_slice(&[b' '; NAME_COLUMN][..spaces_before(column)])?;
     push_shown(text, name)
 }
 
-/// Appends so many spaces.
-fn push_spaces(text: &mut Vec<u8>, count: usize) -> Result<(), NoMemory>
-    ensures { OnOk result (text.new.items ≡ text.old.items ++ replicate count 32) }
+/// How many spaces set a name off after so many characters.
+fn spaces_before(column: usize) -> usize
+    ensures spaces { result ≡ spaces_before column }
+    ensures few { result ≤ NAME_COLUMN }
 {
-    for _ in 0..count {
-        text.push(b' ')?;
+    if column < NAME_COLUMN {
+        NAME_COLUMN - column
+    } else {
+        1
     }
-    Ok(())
 }
 
 /// Appends the bytes of a name, with a newline shown as the four characters `\012`: a name never ends
 /// the line.
 fn push_shown(text: &mut Vec<u8>, name: &[u8]) -> Result<(), NoMemory>
-    ensures { OnOk result (text.new.items ≡ text.old.items ++ flat_map shown_byte name.now) }
+    ensures ok { OnOk result (text.new.items ≡ text.old.items ++ flat_map shown_byte name.now) }
+    ensures no_memory { OnErr result (AppendsFront text.old.items text.new.items (flat_map shown_byte name.now)) }
 {
     for byte in name {
         if *byte == b'\n' {

@@ -1,15 +1,15 @@
-ghost use Rattle.std.specs.Prelude.{◌≡◌, ◌++◌, All, IfOk, OnOk};
+ghost use Rattle.std.specs.Prelude.{◌≡◌, ◌++◌, IfOk, OnOk, OnErr};
 ghost use Rattle.mm_types.specs.MapsText.{list_text};
-ghost use Rattle.maps_print.specs.Printable.{IsPrintable};
+ghost use Rattle.maps_print.specs.Appends.{AppendsFront};
 
 use crate::line::push_line;
 use mm_types::{AreaList, Files, NoMemory, Record};
 use std::alloc::Global;
 
-/// Appends a line for each area, in their order. Where memory runs out, a part of the lines may have been appended.
+/// Appends a line for each area, in their order.
 pub fn push_list(text: &mut Vec<u8>, areas: &[Record], files: &Files) -> Result<(), NoMemory>
-    requires { All IsPrintable areas.now }
-    ensures { OnOk result (text.new.items ≡ text.old.items ++ list_text files.now areas.now) }
+    ensures ok { OnOk result (text.new.items ≡ text.old.items ++ list_text files.now areas.now) }
+    ensures no_memory { OnErr result (AppendsFront text.old.items text.new.items (list_text files.now areas.now)) }
 {
     for area in areas {
         push_line(text, area, files)?;
@@ -19,7 +19,6 @@ pub fn push_list(text: &mut Vec<u8>, areas: &[Record], files: &Files) -> Result<
 
 /// Prints a line for each area, in the order of the list.
 pub fn print_list(alloc: Global, list: &AreaList, files: &Files) -> Result<Vec<u8>, NoMemory>
-    requires { All IsPrintable list.now }
     ensures { IfOk result (λ text. text.items ≡ list_text files.now list.now) }
 {
     let mut text = Vec::new(alloc);

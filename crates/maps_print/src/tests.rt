@@ -1,6 +1,3 @@
-ghost use Rattle.std.specs.Prelude.{◌^◌, ◌<◌};
-ghost use Rattle.maps_print.specs.Printable.{IsPrintable};
-
 use crate::{print_line, print_list, push_range};
 use mm_types::{AreaList, Attr, FileRow, Files, NoMemory, Prot, Record, Span, Text};
 use std::alloc::Global;
@@ -13,12 +10,7 @@ const READ_WRITE: Prot = Prot {
 };
 
 /// Readable and writable memory that maps this object from this page of it on.
-fn area(lo: u64, hi: u64, object: u32, offset: u64) -> Record
-    requires lo { lo < 2 ^ 52 }
-    requires hi { hi < 2 ^ 52 }
-    requires offset { offset < 2 ^ 52 }
-    ensures { IsPrintable result }
-{
+fn area(lo: u64, hi: u64, object: u32, offset: u64) -> Record {
     Record {
         span: Span { lo, hi },
         attr: Attr {
@@ -34,10 +26,7 @@ fn area(lo: u64, hi: u64, object: u32, offset: u64) -> Record
     }
 }
 
-fn shared(area: Record) -> Record
-    requires { IsPrintable area }
-    ensures { IsPrintable result }
-{
+fn shared(area: Record) -> Record {
     let mut area = area;
     area.attr.shared = true;
     area
@@ -89,13 +78,10 @@ fn prints_rare_names(rt: HostRuntime) -> Result<(), Fail> {
     assert_eq!(rt; escaped.as_slice(), want.as_slice());
 
     let files = one_file(alloc, u32::MAX, u64::MAX, "/lib/a")?;
-    let far = print_line(
-        alloc,
-        &area(0xfffffffffffff - 1, 0xfffffffffffff, 1, 0xfffffffffffff),
-        &files,
-    )?;
+    let far = area(u64::MAX - 1, u64::MAX, 1, u64::MAX);
+    let far = print_line(alloc, &far, &files)?;
     let want =
-        b"ffffffffffffe000-fffffffffffff000 rw-p fffffffffffff000 ffffffff:01 18446744073709551615  /lib/a\n";
+        b"fffffffffffffffe000-ffffffffffffffff000 rw-p ffffffffffffffff000 ffffffff:01 18446744073709551615  /lib/a\n";
     assert_eq!(rt; far.as_slice(), want.as_slice());
     Ok(())
 }

@@ -1,3 +1,4 @@
+-- For `has_distinct_fds`: whether two files of a list share a descriptor, by the files before each.
 use Rattle.std.proofs.Common.{ℕ, ◌+◌, ◌≤◌, ◌≡◌, ◌≢◌, ◌<◌, ◌∙◌, sym, ap, subst, Bool, false, IsTrue, List, [], ◌∷◌, ◌++◌, length, get_or, take, AllPairs, Any, arith}
 use Rattle.std.proofs.lemmas.Bool.{false≢true}
 use Rattle.std.proofs.lemmas.List.{get_or-take, get_or_default, length-take-le, take_all, take_more}

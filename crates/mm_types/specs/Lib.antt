@@ -1,3 +1,7 @@
 pub mod Config
-pub mod MapsText
 pub mod Records
+pub mod Packed
+pub mod Rows
+pub mod Sorts
+pub mod Flags
+pub mod MapsText

@@ -1,25 +1,36 @@
 -- The text of /proc/PID/maps, as proc_pid_maps(5) has it.
-use Rattle.std.specs.Prelude.{ℕ, ◌+◌, ◌*◌, ◌-◌, Bool, false, List, [], ◌∷◌, ◌++◌, length, Option, Some, None, if◌then◌else◌, nat_eq, nat_lt, codes, decimal, replicate, flat_map, slice_get}
+use Rattle.std.specs.Prelude.{ℕ, ◌*◌, ◌-◌, Bool, false, List, [], ◌∷◌, ◌++◌, length, Option, Some, None, if◌then◌else◌, nat_eq, nat_lt, codes, decimal, replicate, flat_map, slice_get}
 use Rattle.std.specs.Fmt.{digits}
+use Rattle.std.specs.Str.{byte}
 use Rattle.mm_types.specs.declared.area.Record.{Record}
+use Rattle.mm_types.specs.declared.area.Span.{Span}
+use Rattle.mm_types.specs.declared.config.TheConstants.{PAGE_SIZE}
 use Rattle.mm_types.specs.declared.files.FileRow.{FileRow}
 
 -- a number in lower-case hexadecimal, filled with zeros in front up to this width
 unfoldable pub hex : ℕ → ℕ → List ℕ
-hex width n = let text = digits 16 false n in replicate (width - length text) 48 ++ text
+hex width n = let text = digits 16 false n in replicate (width - length text) (byte "0") ++ text
 
--- a flag's letter, or a dash
+-- where a page begins, in bytes
+unfoldable pub start_text : ℕ → List ℕ
+start_text page = hex 8 (PAGE_SIZE * page)
+
+-- the addresses of a span, as `<lo>-<hi>`
+unfoldable pub span_text : Span → List ℕ
+span_text span = start_text span.lo ++ codes "-" ++ start_text span.hi
+
+-- the letter of an access that is allowed, and else a dash
 abbrev pub letter : Bool → ℕ → ℕ
-letter flag c = if flag then c else 45
+letter allowed access = if allowed then access else byte "-"
 
--- the access that is allowed, and whether the area is shared or private
+-- the accesses that are allowed, and whether the area is shared or private
 unfoldable pub perms : Record → List ℕ
-perms area = letter area.attr.prot.read 114 ∷ letter area.attr.prot.write 119 ∷ letter area.attr.prot.exec 120
-    ∷ (if area.attr.shared then 115 else 112) ∷ []
+perms area = letter area.attr.prot.read (byte "r") ∷ letter area.attr.prot.write (byte "w") ∷ letter area.attr.prot.exec (byte "x")
+    ∷ (if area.attr.shared then byte "s" else byte "p") ∷ []
 
 -- the addresses of an area and what is allowed there, as `<lo>-<hi> <perms>`
 unfoldable pub range_text : Record → List ℕ
-range_text area = hex 8 (4096 * area.span.lo) ++ (45 ∷ (hex 8 (4096 * area.span.hi) ++ (32 ∷ perms area)))
+range_text area = span_text area.span ++ codes " " ++ perms area
 
 -- what an area maps: a device, an inode and a name
 pub record Backing : Type 0 where
@@ -38,23 +49,32 @@ backing files object = if nat_eq object 0 then record { major = 0; minor = 0; in
     file_backing (Some file) object = record { major = file.major; minor = file.minor; inode = file.inode; name = file.path }
     file_backing None object = record { major = 0; minor = 1; inode = object; name = codes "/dev/zero (deleted)" }
 
--- a newline is shown as the four characters \012
-abbrev pub shown_byte : ℕ → List ℕ
-shown_byte c = if nat_eq c 10 then codes "\\012" else c ∷ []
-
--- the name after so many characters: set off by spaces up to column 73, or by one space where there are 73 or more already
-unfoldable pub name_text : ℕ → List ℕ → List ℕ
-name_text column [] = []
-name_text column (c ∷ name) = replicate (if nat_lt column 73 then 73 - column else 1) 32 ++ flat_map shown_byte (c ∷ name)
+-- where in what it maps an area begins, and which that is, as `<offset> <major>:<minor> <inode>`
+unfoldable pub place_text : ℕ → Backing → List ℕ
+place_text offset backing = start_text offset ++ codes " " ++ hex 2 backing.major ++ codes ":" ++ hex 2 backing.minor ++ codes " "
+    ++ decimal backing.inode
 
 -- what stands before the name: `<lo>-<hi> <perms> <offset> <major>:<minor> <inode> `
 unfoldable pub front_text : Record → Backing → List ℕ
-front_text area backing = range_text area ++ (32 ∷ (hex 8 (4096 * area.offset) ++ (32 ∷ (hex 2 backing.major ++ (58 ∷ (hex 2 backing.minor ++ (32 ∷ (decimal backing.inode ++ 32 ∷ []))))))))
+front_text area backing = range_text area ++ codes " " ++ place_text area.offset backing ++ codes " "
+
+-- a newline is shown as the four characters \012
+abbrev pub shown_byte : ℕ → List ℕ
+shown_byte c = if nat_eq c (byte "\n") then codes "\\012" else c ∷ []
+
+-- how many spaces set a name off after so many characters: up to column 73, or one where there are as many already
+abbrev pub spaces_before : ℕ → ℕ
+spaces_before column = if nat_lt column 73 then 73 - column else 1
+
+-- the name after so many characters
+unfoldable pub name_text : ℕ → List ℕ → List ℕ
+name_text column [] = []
+name_text column (c ∷ name) = replicate (spaces_before column) (byte " ") ++ flat_map shown_byte (c ∷ name)
 
 -- the line of one area, which ends with a newline
 unfoldable pub area_text : List FileRow → Record → List ℕ
 area_text files area = let object = backing files area.object in let front = front_text area object in
-    front ++ (name_text (length front) object.name ++ 10 ∷ [])
+    front ++ name_text (length front) object.name ++ codes "\n"
 
 -- a line for each area, in the order of the list
 abbrev pub list_text : List FileRow → List Record → List ℕ

@@ -89,7 +89,7 @@ pub enum Access {
     Exec,
 }
 
-/// What a page fault comes to, with the signal codes of sigaction(2).
+/// The outcome of a page fault, with the signal codes of sigaction(2).
 #[derive(Clone, Copy, Debug, PartialEq, Eq)]
 pub enum Verdict {
     /// The area serves it, and the page is this one of its object, in pages; 0 for private anonymous memory.

@@ -6,8 +6,17 @@ use crate::files::{FileRow, Files};
 /// The bytes of a page.
 pub const PAGE_SIZE: u64 = 4096;
 
+/// The end of all addresses, 2^64.
+pub const ADDRESSES_END: u128 = 1 << 64;
+
+/// The most pages that an object may have, 2^51 - 1.
+pub const MOST_OBJECT_PAGES: u64 = (1 << 51) - 1;
+
 /// The address at which user memory ends, in bytes: one page below 2^47.
 pub const ADDRESS_LIMIT: u64 = 0x7fff_ffff_f000;
+
+/// The page at or below which each area ends, 2^45.
+pub const MOST_AREA_END: u64 = 1 << 45;
 
 /// The lowest address that may be mapped, where a trace names no other: the kernel's default `mmap_min_addr`.
 pub const DEFAULT_MIN: u64 = 0x1_0000;

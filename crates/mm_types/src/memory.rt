@@ -1,4 +1,4 @@
-/// Want of memory, the one answer that no clause ties to its cause.
+/// Out of memory, the one answer that no clause ties to its cause.
 #[derive(Clone, Copy, Debug, PartialEq, Eq)]
 pub struct NoMemory;
 

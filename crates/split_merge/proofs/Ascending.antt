@@ -1,15 +1,13 @@
--- Areas by ascending lowest page, and areas that are put among them.
-use Rattle.std.proofs.Common.{ℕ, ◌≡◌, ◌≢◌, ◌<◌, Bool, nat_lt, List, [], ◌∷◌, ◌++◌, refl, ap, ◌∙◌, AllPairs, arith}
+-- For `is_too_long`: areas by ascending lowest page, and areas that are put among them.
+use Rattle.std.proofs.Common.{ℕ, ◌≡◌, ◌<◌, Bool, nat_lt, List, [], ◌∷◌, ◌++◌, refl, ap, ◌∙◌, arith}
 use Rattle.std.specs.List.{filter, AllByRecursion as Each}
 use Rattle.std.proofs.lemmas.Bool.{cond_both, cond-true, cond-false, lt-ltb, le-ltb}
-use Rattle.std.proofs.lemmas.List.Elements.{All-from_recursion}
-use Rattle.std.proofs.lemmas.List.Kept.{AllPairs-cons}
 use Rattle.mm_types.specs.declared.area.Record.{Record}
 use Rattle.mm_types.specs.Records.{IsValid}
-use Rattle.area_model.specs.Areas.{IsCanonical}
-use Rattle.area_model.specs.Changes.{insert_area}
-use Rattle.area_model.proofs.Elements.{Pairs, Each-append, Each-weaker, Each-left, Each-right}
-use Rattle.area_model.proofs.Order.{Before}
+use Rattle.area_list.specs.Areas.{IsCanonical}
+use Rattle.area_list.specs.Changes.{insert_area}
+use Rattle.area_list.proofs.Elements.{Pairs, Each-append, Each-weaker, Each-left, Each-right}
+use Rattle.area_list.proofs.Order.{Before}
 use Rattle.split_merge.specs.Plans.{with_all}
 use Rattle.split_merge.proofs.Lists.{Each-filter}
 use Rattle.split_merge.proofs.Walking.{in_order}
@@ -34,16 +32,8 @@ Pairs-filter R passes (x ∷ xs) pairs =
     cond_both (passes x) (x ∷ filter passes xs) (filter passes xs) (Pairs R)
     (λ h. (Each-filter (R x) passes xs pairs.0, Pairs-filter R passes xs pairs.1)) (λ h. Pairs-filter R passes xs pairs.1)
 
--- areas in ascending order are distinct
-pub ascending_distinct : (areas : List Record) → Pairs Below areas → AllPairs (λ a b. a ≢ b) areas
-ascending_distinct [] pairs = λ i j d before within. absurd (omega arith)
-ascending_distinct (area ∷ areas) pairs = AllPairs-cons (λ a b. a ≢ b) area areas
-    (All-from_recursion (λ b. area ≢ b) areas
-    (Each-weaker (Below area) (λ b. area ≢ b) (λ b below same. omega (arith, ap (λ (r : Record). r.span.lo) same)) areas pairs.0))
-    (ascending_distinct areas pairs.1)
-
 -- an area below each of a list stands in front of it
-insert_front : (area : Record) (areas : List Record) → Each (Below area) areas → insert_area area areas ≡ area ∷ areas
+pub insert_front : (area : Record) (areas : List Record) → Each (Below area) areas → insert_area area areas ≡ area ∷ areas
 insert_front area [] below = refl
 insert_front area (first ∷ areas) below = cond-false (nat_lt first.span.lo area.span.lo) (first ∷ insert_area area areas) (area ∷ (first ∷ areas))
     (le-ltb first.span.lo area.span.lo (omega (arith, below.0)))

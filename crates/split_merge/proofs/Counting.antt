@@ -1,11 +1,11 @@
--- How long a list is after a plan.
-use Rattle.std.proofs.Common.{◌≡◌, ◌≢◌, ◌≤◌, ◌+◌, ◌⊎◌, inl, inr, zero, suc, Bool, true, false, not, if◌then◌else◌, nat_le, nat_lt, List, [], ◌∷◌, length, refl, ap, ◌∙◌, sym, subst, AllPairs, arith}
+-- For `is_too_long`: how long a list is after a plan.
+use Rattle.std.proofs.Common.{◌≡◌, ◌≢◌, ◌≤◌, ◌+◌, ◌⊎◌, inl, inr, zero, suc, Bool, true, false, not, if◌then◌else◌, nat_lt, List, [], ◌∷◌, length, refl, ap, ◌∙◌, sym, subst, AllPairs, arith}
 use Rattle.std.specs.List.{filter, Contains, AllByRecursion as Each}
-use Rattle.std.proofs.lemmas.Bool.{and_parts, both_ways, cond-true, false_from_ne_true, leb-true, not_from_false}
+use Rattle.std.proofs.lemmas.Bool.{both_ways, cond-true, eqb-true, false_from_ne_true, not_from_false}
 use Rattle.std.proofs.lemmas.List.Elements.{All-contains, All-from_recursion, recursion_from_All}
 use Rattle.mm_types.specs.declared.area.Record.{Record}
-use Rattle.area_model.specs.Changes.{insert_area}
-use Rattle.area_model.proofs.Elements.{Pairs, Each-also}
+use Rattle.area_list.specs.Changes.{insert_area}
+use Rattle.area_list.proofs.Elements.{Pairs, Each-also}
 use Rattle.split_merge.specs.declared.plan.Change.{Change}
 use Rattle.split_merge.specs.Plans.{olds_of, news_of, starts_alike, without, with_all, applied, IsPlanOf}
 use Rattle.split_merge.proofs.Ascending.{Below, Pairs-filter}
@@ -56,9 +56,7 @@ same_begin (area ∷ areas) a b pairs first second same =
 -- distinct areas of such a list begin at different pages
 pub unlike : (areas : List Record) (a b : Record) → Pairs Below areas → Contains areas a → Contains areas b → a ≢ b → starts_alike a b ≡ false
 unlike areas a b pairs first second distinct = false_from_ne_true (starts_alike a b)
-    (λ alike. let parts = and_parts (nat_le a.span.lo b.span.lo) (nat_le b.span.lo a.span.lo) alike in
-    distinct (same_begin areas a b pairs first second
-    (omega (arith, leb-true a.span.lo b.span.lo parts.0, leb-true b.span.lo a.span.lo parts.1))))
+    (λ alike. distinct (same_begin areas a b pairs first second (eqb-true a.span.lo b.span.lo alike)))
 
 -- the areas that stay where one goes out
 abbrev others : Record → List Record → List Record

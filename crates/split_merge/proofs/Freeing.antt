@@ -1,4 +1,4 @@
--- Free ranges by the first area that ends above their begin.
+-- For `is_free`: free ranges by the first area that ends above their begin.
 use Rattle.std.proofs.Common.{◌≡◌, ◌≤◌, ◌<◌, ◌+◌, ℕ, Bool, true, ◌&&◌, ◌||◌, nat_le, nat_lt, List, [], ◌∷◌, Some, None, refl, subst, arith}
 use Rattle.std.specs.List.{AllByRecursion as Each}
 use Rattle.std.proofs.lemmas.Bool.{cond_both, ltb-true, ltb-false}
@@ -6,8 +6,8 @@ use Rattle.std.proofs.lemmas.Bool.Decides.{nat_tests}
 use Rattle.std.proofs.lemmas.Option.{same_Some}
 use Rattle.mm_types.specs.declared.area.Record.{Record}
 use Rattle.area_model.specs.Placement.{is_free}
-use Rattle.area_model.proofs.Elements.{Each-weaker}
-use Rattle.area_model.proofs.Order.{Before}
+use Rattle.area_list.proofs.Elements.{Each-weaker}
+use Rattle.area_list.proofs.Order.{Before}
 use Rattle.split_merge.specs.Finding.{first_from}
 use Rattle.split_merge.proofs.Walking.{InOrder}
 

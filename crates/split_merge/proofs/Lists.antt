@@ -1,8 +1,8 @@
--- Lists that are filtered and mapped.
+-- For `area_at`, `is_free`, `is_too_long` and others: lists that are filtered and mapped.
 use Rattle.std.proofs.Common.{◌≡◌, ◌≤◌, Bool, true, false, List, [], ◌∷◌, ◌++◌, length, if◌then◌else◌, refl, ap, sym, arith}
 use Rattle.std.specs.List.{filter, flat_map, AllByRecursion as Each}
 use Rattle.std.proofs.lemmas.Bool.{cond_both, true≢false}
-use Rattle.area_model.proofs.Elements.{Pairs, Each-left, Each-right}
+use Rattle.area_list.proofs.Elements.{Pairs, Each-right, Each-always, Each-also, Each-append, Pairs-append}
 
 -- a filter that each element passes changes nothing
 pub filter_all : {A : Type 0} (passes : A → Bool) (xs : List A) → Each (λ x. passes x ≡ true) xs → filter passes xs ≡ xs
@@ -40,16 +40,7 @@ length-filter_wider passes wider (x ∷ xs) each = by (passes x) (wider x) each.
     by false true implies rest = omega (arith, rest)
     by false false implies rest = rest
 
--- elements that map to nothing add nothing
-pub flat_map-nothing : {A B : Type 0} (f : A → List B) (xs : List A) → Each (λ x. f x ≡ []) xs → flat_map f xs ≡ []
-flat_map-nothing f [] each = refl
-flat_map-nothing f (x ∷ xs) each = rw (each.0) (flat_map-nothing f xs each.1)
-
--- in a list of which each element is related to each later one, those of the front, those of the back, and the ones to the others
-pub Pairs-left : {A : Type 0} (R : A → A → Type 0) (xs ys : List A) → Pairs R (xs ++ ys) → Pairs R xs
-Pairs-left R [] ys pairs = tt
-Pairs-left R (x ∷ xs) ys pairs = (Each-left (R x) xs ys pairs.0, Pairs-left R xs ys pairs.1)
-
+-- in a list of which each element is related to each later one, those of the back, and the ones of the front to the others
 pub Pairs-right : {A : Type 0} (R : A → A → Type 0) (xs ys : List A) → Pairs R (xs ++ ys) → Pairs R ys
 Pairs-right R [] ys pairs = pairs
 Pairs-right R (x ∷ xs) ys pairs = Pairs-right R xs ys pairs.1
@@ -57,3 +48,21 @@ Pairs-right R (x ∷ xs) ys pairs = Pairs-right R xs ys pairs.1
 pub Pairs-across : {A : Type 0} (R : A → A → Type 0) (xs ys : List A) → Pairs R (xs ++ ys) → Each (λ x. Each (R x) ys) xs
 Pairs-across R [] ys pairs = tt
 Pairs-across R (x ∷ xs) ys pairs = (Each-right (R x) xs ys pairs.0, Pairs-across R xs ys pairs.1)
+
+-- what holds between the images of x and those of each element of a list
+images_across : {A B : Type 0} (P : A → Type 0) (R : A → A → Type 0) (S : B → B → Type 0) (f : A → List B) (x : A)
+    → ((y : A) → P y → R x y → Each (λ u. Each (S u) (f y)) (f x)) → (ys : List A) → Each P ys → Each (R x) ys
+    → Each (λ u. Each (S u) (flat_map f ys)) (f x)
+images_across P R S f x cross [] each related = Each-always (λ u. Each (S u) []) (λ u. tt) (f x)
+images_across P R S f x cross (y ∷ ys) each related =
+    Each-also (λ u. Each (S u) (f y)) (λ u. Each (S u) (flat_map f ys)) (λ u. Each (S u) (f y ++ flat_map f ys))
+    (λ u. Each-append (S u) (f y) (flat_map f ys)) (f x) (cross y each.0 related.0) (images_across P R S f x cross ys each.1 related.1)
+
+-- the images of a list keep a relation that holds within one element's images, and between those of two
+pub Pairs-images : {A B : Type 0} (P : A → Type 0) (R : A → A → Type 0) (S : B → B → Type 0) (f : A → List B) → ((x : A) → P x → Pairs S (f x))
+    → ((x y : A) → P x → P y → R x y → Each (λ u. Each (S u) (f y)) (f x))
+    → (xs : List A) → Each P xs → Pairs R xs → Pairs S (flat_map f xs)
+Pairs-images P R S f within cross [] each pairs = tt
+Pairs-images P R S f within cross (x ∷ xs) each pairs =
+    Pairs-append S (f x) (flat_map f xs) (within x each.0) (Pairs-images P R S f within cross xs each.1 pairs.1)
+    (images_across P R S f x (λ y. cross x y each.0) xs each.1 pairs.0)

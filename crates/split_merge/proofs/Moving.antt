@@ -1,145 +1,82 @@
--- Walks along two spans.
-use Rattle.std.proofs.Common.{◌≡◌, ◌≤◌, ◌<◌, ◌+◌, ◌⊎◌, inl, inr, ℕ, Bool, false, ◌&&◌, ◌||◌, if◌then◌else◌, max, nat_lt, List, [], ◌∷◌, ◌++◌, length, map, Option, Some, None, refl, ap, ◌∙◌, sym, arith}
-use Rattle.std.specs.List.{flat_map, AllByRecursion as Each}
-use Rattle.std.proofs.lemmas.Bool.{cond_both, cond-true, cond-false, lt-ltb, ltb-true, ltb-false}
-use Rattle.std.proofs.lemmas.Bool.Decides.{nat_tests}
-use Rattle.std.proofs.lemmas.List.{length-append}
+-- For `plan_move`: the plan of a move.
+use Rattle.std.proofs.Common.{◌≡◌, ◌<◌, ◌⊎◌, inl, inr, ℕ, Bool, true, false, ◌||◌, List, Some, refl, ap, ◌∙◌, sym, subst, arith}
+use Rattle.std.proofs.lemmas.List.Elements.{All-from_recursion, recursion_from_All}
 use Rattle.mm_types.specs.declared.area.Span.{Span}
 use Rattle.mm_types.specs.declared.area.Record.{Record}
-use Rattle.area_model.specs.Areas.{IsCanonical}
-use Rattle.area_model.proofs.Elements.{Each-always, Each-weaker}
+use Rattle.area_list.specs.Areas.{IsCanonical}
+use Rattle.area_list.specs.Changes.{cut, put, merge, insert_area}
+use Rattle.area_model.specs.Mremap.{overlap}
+use Rattle.area_list.proofs.Elements.{Each-weaker, Each-always}
+use Rattle.area_list.proofs.Order.{IsGood}
+use Rattle.area_list.proofs.Cutting.{cut_canonical}
+use Rattle.area_list.proofs.Putting.{put_canonical}
 use Rattle.split_merge.specs.declared.plan.Change.{Change}
-use Rattle.split_merge.specs.declared.plan.Change.TheVariants.{Add}
-use Rattle.split_merge.specs.Finding.{first_from}
-use Rattle.split_merge.specs.Walks.{meets, replaced}
-use Rattle.split_merge.specs.Moves.{parts_outside_both, changes_at_both, walked_both}
-use Rattle.split_merge.proofs.Walking.{ending_above, Spares, IsNext, in_order, next_is, none_above}
+use Rattle.split_merge.specs.declared.becoming.Becoming.TheVariants.{Outside}
+use Rattle.split_merge.specs.Plans.{olds_of, Makes, IsLocalToEither, is_near, is_near_either}
+use Rattle.split_merge.specs.Becoming.{BeginsOne}
+use Rattle.split_merge.specs.Planner.{all_planned}
+use Rattle.split_merge.proofs.Lists.{length-filter_wider}
+use Rattle.split_merge.proofs.Walking.{in_order}
+use Rattle.split_merge.proofs.Results.{plan_makes, plan_local_either, fits_in}
+use Rattle.split_merge.proofs.Spans.{AreApart, apart_in_order, cut_apart, cut_put}
 
--- what a look finds is the next area of a walk
-pub next_found : (end : ℕ) (areas : List Record) (page : ℕ) (area : Record) (found : Option Record) → IsCanonical end areas
-    → found ≡ first_from areas page → found ≡ Some area → IsNext areas page area
-next_found end areas page area found c look is = next_is areas page area (in_order end areas c) (sym look ∙ is)
+-- the place is one of the two spans
+place_is : (hole place low high : Span) → AreApart hole place low high → (place ≡ low) ⊎ (place ≡ high)
+place_is hole place low high o = by o.either
+  where
+    by : ((low ≡ hole) × (high ≡ place)) ⊎ ((low ≡ place) × (high ≡ hole)) → (place ≡ low) ⊎ (place ≡ high)
+    by (inl same) = inr (sym same.1)
+    by (inr same) = inl (sym same.0)
 
--- the parts of an area that are left to plan: with it, as long as nothing took its place
-abbrev pub still_replaced : Option Record → List Record → List Change
-still_replaced None parts = map Add parts
-still_replaced (Some old) parts = replaced old parts
+pub move_begins : (hole : Span) (area : Record) (low high : Span) → AreApart hole area.span low high → BeginsOne (Outside low high) (Some area)
+move_begins hole area low high o = by (place_is hole area.span low high o)
+  where
+    by : (area.span ≡ low) ⊎ (area.span ≡ high) → (area.span.lo ≡ low.lo) ⊎ (area.span.lo ≡ high.lo)
+    by (inl same) = inl (ap (λ (s : Span). s.lo) same)
+    by (inr same) = inr (ap (λ (s : Span). s.lo) same)
 
--- areas that end above a page, where nothing is planned for each of them
-planned_none : (changes : Record → List Change) (page : ℕ) (areas : List Record)
-    → Each (λ area. page < area.span.hi → changes area ≡ []) areas → flat_map changes (ending_above page areas) ≡ []
-planned_none changes page [] none = refl
-planned_none changes page (area ∷ areas) none =
-    cond_both (nat_lt page area.span.hi) (area ∷ ending_above page areas) (ending_above page areas) (λ list. flat_map changes list ≡ [])
-    (λ h. ap (λ first. first ++ flat_map changes (ending_above page areas)) (none.0 (ltb-true page area.span.hi h))
-    ∙ planned_none changes page areas none.1)
-    (λ h. planned_none changes page areas none.1)
+pub move_makes : (end : ℕ) (hole : Span) (area : Record) (low high : Span) (areas : List Record) (plan : List Change) → IsCanonical end areas → IsGood end area
+    → hole.lo < hole.hi → overlap hole area.span ≡ false → AreApart hole area.span low high → plan ≡ all_planned (Outside low high) (Some area) areas
+    → Makes plan areas (cut hole (put area areas))
+move_makes end hole area low high areas plan c good some beside o is =
+    let valid = (in_order end areas c).valid in
+    let order = apart_in_order hole area.span low high o in
+    subst (λ changes. Makes changes areas (cut hole (put area areas))) (sym is)
+    (plan_makes end (Outside low high) (Some area) areas (cut hole (put area areas)) c order
+    (fits_in low high areas area order valid good.valid.some_pages (place_is hole area.span low high o))
+    (cut_put end hole area areas c good some beside
+    ∙ ap (λ rest. merge (insert_area area rest)) (sym (cut_apart end hole area.span low high areas c valid o)))
+    (cut_canonical end hole (put area areas) some (put_canonical end area areas good c)))
 
--- where nothing is planned for those that end at or below a page
-planned_above : (changes : Record → List Change) (page : ℕ) (areas : List Record)
-    → Each (λ area. area.span.hi ≤ page → changes area ≡ []) areas → flat_map changes (ending_above page areas) ≡ flat_map changes areas
-planned_above changes page [] none = refl
-planned_above changes page (area ∷ areas) none =
-    cond_both (nat_lt page area.span.hi) (area ∷ ending_above page areas) (ending_above page areas)
-    (λ list. flat_map changes list ≡ flat_map changes (area ∷ areas))
-    (λ h. ap (λ rest. changes area ++ rest) (planned_above changes page areas none.1))
-    (λ h. planned_above changes page areas none.1
-    ∙ ap (λ first. first ++ flat_map changes areas) (sym (none.0 (ltb-false page area.span.hi h))))
+either_way : (a b : Bool) → (a || b) ≡ true → (b || a) ≡ true
+either_way true true h = refl
+either_way true false h = refl
+either_way false b h = ap (λ x. x || false) h
 
--- and where nothing is planned for those that end between two pages
-planned_between : (changes : Record → List Change) (page from : ℕ) (areas : List Record) → page ≤ from
-    → Each (λ area. page < area.span.hi → area.span.hi ≤ from → changes area ≡ []) areas
-    → flat_map changes (ending_above from areas) ≡ flat_map changes (ending_above page areas)
-planned_between changes page from [] later none = refl
-planned_between changes page from (area ∷ areas) later none =
-    cond_both (nat_lt from area.span.hi) (area ∷ ending_above from areas) (ending_above from areas)
-    (λ list. flat_map changes list ≡ flat_map changes (ending_above page (area ∷ areas)))
-    (λ h. ap (λ rest. changes area ++ rest) (planned_between changes page from areas later none.1)
-    ∙ ap (flat_map changes) (sym (cond-true (nat_lt page area.span.hi) (area ∷ ending_above page areas) (ending_above page areas)
-    (lt-ltb page area.span.hi (omega (arith, ltb-true from area.span.hi h))))))
-    (λ h. planned_between changes page from areas later none.1
-    ∙ cond_both (nat_lt page area.span.hi) (area ∷ ending_above page areas) (ending_above page areas)
-    (λ list. flat_map changes (ending_above page areas) ≡ flat_map changes list)
-    (λ k. ap (λ first. first ++ flat_map changes (ending_above page areas))
-    (sym (none.0 (ltb-true page area.span.hi k) (ltb-false from area.span.hi h))))
-    (λ k. refl))
+-- a plan that is local to two spans is local to them in the other order
+local_swap : (a b : Span) (areas : List Record) (plan : List Change) → IsLocalToEither a b areas plan → IsLocalToEither b a areas plan
+local_swap a b areas plan l = record {
+  near = All-from_recursion (λ old. is_near_either b a old ≡ true) (olds_of plan)
+      (Each-weaker (λ old. is_near_either a b old ≡ true) (λ old. is_near_either b a old ≡ true) swap (olds_of plan)
+      (recursion_from_All (λ old. is_near_either a b old ≡ true) (olds_of plan) l.near));
+  short = omega (
+    arith,
+    l.short,
+    length-filter_wider (is_near_either a b) (is_near_either b a) areas
+        (Each-always (λ area. is_near_either a b area ≡ true → is_near_either b a area ≡ true) swap areas),
+  );
+}
+  where
+    swap : (area : Record) → is_near_either a b area ≡ true → is_near_either b a area ≡ true
+    swap area close = either_way (is_near a area) (is_near b area) close
 
-pub outside_tests : (lo hi from to : ℕ) → (hi ≤ from) ⊎ (to ≤ lo) → (nat_lt lo to && nat_lt from hi) ≡ false
-outside_tests lo hi from to out = grind (arith, nat_tests)
+pub move_local : (end : ℕ) (hole place low high : Span) (area : Record) (areas : List Record) (plan : List Change) → IsCanonical end areas → AreApart hole place low high
+    → plan ≡ all_planned (Outside low high) (Some area) areas → IsLocalToEither hole place areas plan
+move_local end hole place low high area areas plan c o is = by o.either
+  where
+    local : IsLocalToEither low high areas plan
+    local = subst (IsLocalToEither low high areas) (sym is) (plan_local_either end (Outside low high) (Some area) areas c (apart_in_order hole place low high o))
 
-neither : (a b : Bool) → a ≡ false → b ≡ false → (a || b) ≡ false
-neither a b first second = grind arith
-
--- nothing is planned for an area without a page of either
-pub nothing_at : (low high : Span) (area : Record) → (area.span.hi ≤ low.lo) ⊎ (low.hi ≤ area.span.lo)
-    → (area.span.hi ≤ high.lo) ⊎ (high.hi ≤ area.span.lo) → changes_at_both low high area ≡ []
-unfolding changes_at_both
-nothing_at low high area first second =
-    cond-false (meets low area || meets high area) (replaced area (parts_outside_both low high area)) []
-    (neither (meets low area) (meets high area) (outside_tests area.span.lo area.span.hi low.lo low.hi first)
-    (outside_tests area.span.lo area.span.hi high.lo high.hi second))
-
-module _ (low high : Span) (areas : List Record) (some_low : low.lo < low.hi) (between : low.hi ≤ high.lo) (some_high : high.lo < high.hi) where
-  -- the areas that end at or below the lower span are not walked
-  pub both_from_low : walked_both low high (ending_above low.lo areas) ≡ walked_both low high areas
-  both_from_low = planned_above (changes_at_both low high) low.lo areas
-      (Each-always (λ area. area.span.hi ≤ low.lo → changes_at_both low high area ≡ [])
-      (λ area below. nothing_at low high area (inl below) (inl (omega arith))) areas)
-
-  -- nor are those between the two
-  pub both_go_on : (page from : ℕ) → (low.lo < page → Each (Spares page) areas) → from ≡ (if nat_lt page low.hi then page else max page high.lo)
-      → walked_both low high (ending_above from areas) ≡ walked_both low high (ending_above page areas)
-  both_go_on page from spared is = ap (λ start. walked_both low high (ending_above start areas)) is
-      ∙ cond_both (nat_lt page low.hi) page (max page high.lo)
-      (λ start. walked_both low high (ending_above start areas) ≡ walked_both low high (ending_above page areas))
-      (λ here. refl)
-      (λ past. let later : low.hi ≤ page = ltb-false page low.hi past in
-      planned_between (changes_at_both low high) page (max page high.lo) areas (omega arith)
-      (Each-weaker (Spares page) (λ area. page < area.span.hi → area.span.hi ≤ max page high.lo → changes_at_both low high area ≡ [])
-      (λ area spares above below. let begins : page ≤ area.span.lo = spares above in
-      nothing_at low high area (inr (omega arith)) (inl (omega arith))) areas (spared (omega arith))))
-
-  -- the walk ends where its page is past the upper span
-  pub both_past : (page : ℕ) → high.hi ≤ page → Each (Spares page) areas → walked_both low high (ending_above page areas) ≡ []
-  both_past page past spared = planned_none (changes_at_both low high) page areas
-      (Each-weaker (Spares page) (λ area. page < area.span.hi → changes_at_both low high area ≡ [])
-      (λ area spares above. let begins : page ≤ area.span.lo = spares above in
-      nothing_at low high area (inr (omega arith)) (inr (omega arith))) areas spared)
-
-  -- where no area ends above its page
-  pub both_to_end : (page from : ℕ) (found : Option Record) → (low.lo < page → Each (Spares page) areas)
-      → from ≡ (if nat_lt page low.hi then page else max page high.lo) → found ≡ first_from areas from → found ≡ None
-      → walked_both low high (ending_above page areas) ≡ []
-  both_to_end page from found spared is look none = sym (both_go_on page from spared is)
-      ∙ ap (walked_both low high) (none_above areas from (sym look ∙ none))
-
-  -- and where the next area begins above the upper span
-  pub both_to_next : (page from : ℕ) (area : Record) → (low.lo < page → Each (Spares page) areas)
-      → from ≡ (if nat_lt page low.hi then page else max page high.lo) → IsNext areas from area → high.hi ≤ area.span.lo
-      → walked_both low high (ending_above page areas) ≡ []
-  both_to_next page from area spared is n above =
-      sym (both_go_on page from spared is)
-      ∙ ap (walked_both low high) n.rest
-      ∙ ap (λ changes. changes ++ walked_both low high (ending_above area.span.hi areas))
-      (nothing_at low high area (inr (omega arith)) (inr above))
-      ∙ both_past area.span.hi (omega (arith, n.valid.some_pages)) n.spares
-
-  -- one step of the walk
-  pub both_next : (page from : ℕ) (area : Record) → (low.lo < page → Each (Spares page) areas)
-      → from ≡ (if nat_lt page low.hi then page else max page high.lo) → IsNext areas from area
-      → walked_both low high (ending_above page areas) ≡ changes_at_both low high area ++ walked_both low high (ending_above area.span.hi areas)
-  both_next page from area spared is n = sym (both_go_on page from spared is) ∙ ap (walked_both low high) n.rest
-
-pub goes_on : (page end low from : ℕ) → from ≡ (if nat_lt page end then page else max page low) → page ≤ from
-goes_on page end low from is = grind (arith, nat_tests)
-
--- there is room for the changes of one step, where there is for those of the walk
-pub room_for_step : (changes step rest before whole : List Change) (room : ℕ) → changes ++ (step ++ rest) ≡ before ++ whole
-    → length before + length whole ≤ room → length changes + length step ≤ room
-room_for_step changes step rest before whole room is fits = omega (
-  arith,
-  ap length is,
-  length-append changes (step ++ rest),
-  length-append step rest,
-  length-append before whole,
-)
+    by : ((low ≡ hole) × (high ≡ place)) ⊎ ((low ≡ place) × (high ≡ hole)) → IsLocalToEither hole place areas plan
+    by (inl same) = subst (λ s. IsLocalToEither s place areas plan) same.0 (subst (λ s. IsLocalToEither low s areas plan) same.1 local)
+    by (inr same) = local_swap place hole areas plan (subst (λ s. IsLocalToEither s hole areas plan) same.0 (subst (λ s. IsLocalToEither low s areas plan) same.1 local))

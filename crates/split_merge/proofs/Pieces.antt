@@ -1,14 +1,12 @@
--- Pieces of areas.
-use Rattle.std.proofs.Common.{◌≡◌, ◌≤◌, ◌<◌, ◌+◌, ◌-◌, ◌⊎◌, inl, inr, ℕ, false, ◌&&◌, if◌then◌else◌, min, max, nat_lt, nat_eq, List, [], ◌∷◌, ◌++◌, refl, ap, ◌∙◌, arith}
+-- For `plan_changes`, `plan_cut`, `plan_move` and others: pieces of areas, for the parts that take the place of an area.
+use Rattle.std.proofs.Common.{◌≡◌, ◌≤◌, ◌<◌, ◌+◌, ◌-◌, ℕ, if◌then◌else◌, nat_lt, nat_eq, [], ◌∷◌, arith}
 use Rattle.std.proofs.lemmas.Bool.{cond-true, cond-false, lt-ltb, le-ltb}
 use Rattle.std.proofs.lemmas.Bool.Decides.{nat_tests}
-use Rattle.mm_types.specs.declared.area.Span.{Span}
 use Rattle.mm_types.specs.declared.area.Record.{Record}
 use Rattle.mm_types.specs.Records.{IsValid}
-use Rattle.area_model.specs.Areas.{index_of}
-use Rattle.area_model.specs.Changes.{piece, parts_outside}
-use Rattle.area_model.proofs.Parts.{part}
-use Rattle.split_merge.specs.Walks.{meets}
+use Rattle.area_list.specs.Areas.{index_of}
+use Rattle.area_list.specs.Changes.{piece}
+use Rattle.area_list.proofs.Parts.{part}
 
 pub piece_some : (area : Record) (lo hi : ℕ) → lo < hi → piece area lo hi ≡ part area lo hi ∷ []
 unfolding piece
@@ -34,32 +32,3 @@ part_whole area hi valid same = λ i. record {
   object = area.object;
   offset = first_index area valid i;
 }
-
-beside : (lo hi from to : ℕ) → from < to → (nat_lt lo to && nat_lt from hi) ≡ false → lo < hi → (hi ≤ from) ⊎ (to ≤ lo)
-beside lo hi from to some apart valid = grind (arith, nat_tests)
-
--- an area without a page of the span lies outside as it is
-pub outside_whole : (span : Span) (area : Record) → span.lo < span.hi → IsValid area → meets span area ≡ false
-    → parts_outside span area ≡ area ∷ []
-unfolding parts_outside
-outside_whole span area some valid apart = by (beside area.span.lo area.span.hi span.lo span.hi some apart valid.some_pages)
-  where
-    below : List Record
-    below = piece area area.span.lo (min area.span.hi span.lo)
-
-    above : List Record
-    above = piece area (max area.span.lo span.hi) area.span.hi
-
-    by : (area.span.hi ≤ span.lo) ⊎ (span.hi ≤ area.span.lo) → below ++ above ≡ area ∷ []
-    by (inl lower) =
-        ap (λ parts. parts ++ above) (piece_some area area.span.lo (min area.span.hi span.lo) (omega (arith, valid.some_pages)))
-        ∙ ap (λ parts. part area area.span.lo (min area.span.hi span.lo) ∷ parts) (piece_none area (max area.span.lo span.hi) area.span.hi (omega arith))
-        ∙ ap (λ first. first ∷ []) (part_whole area (min area.span.hi span.lo) valid (omega arith))
-    by (inr higher) =
-        ap (λ parts. parts ++ above) (piece_none area area.span.lo (min area.span.hi span.lo) (omega arith))
-        ∙ piece_some area (max area.span.lo span.hi) area.span.hi (omega (arith, valid.some_pages))
-        ∙ ap (λ lo. part area lo area.span.hi ∷ []) lowest
-        ∙ ap (λ first. first ∷ []) (part_whole area area.span.hi valid refl)
-      where
-        lowest : max area.span.lo span.hi ≡ area.span.lo
-        lowest = omega arith

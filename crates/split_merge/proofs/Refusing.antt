@@ -1,4 +1,4 @@
--- What the calls have in common: plans of calls that are refused, ranges, and sound lists.
+-- For the plan calls of the crates above: what the calls have in common: plans of calls that are refused, ranges, and sound lists.
 use Rattle.std.proofs.Common.{◌≡◌, ◌≤◌, ◌<◌, ◌+◌, ◌*◌, ◌/◌, ◌%◌, ◌∙◌, ℕ, true, nat_eq, List, [], refl, ap, sym, subst, arith}
 use Rattle.std.proofs.lemmas.Bool.Decides.{nat_tests}
 use Rattle.mm_types.specs.declared.area.Span.{Span}
@@ -6,7 +6,7 @@ use Rattle.mm_types.specs.declared.area.Record.{Record}
 use Rattle.mm_types.specs.declared.config.Config.{Config}
 use Rattle.mm_types.specs.declared.config.TheConstants.{PAGE_SIZE}
 use Rattle.area_model.specs.declared.placement.Bounds.{Bounds}
-use Rattle.area_model.specs.Areas.{IsCanonical, IsSound}
+use Rattle.area_list.specs.Areas.{IsCanonical, IsSound}
 use Rattle.area_model.specs.Munmap.{range_of}
 use Rattle.area_model.specs.Placement.{bounds_of}
 use Rattle.area_model.specs.Tables.{pages_of, is_aligned}
@@ -23,6 +23,7 @@ nothing_made plan areas list none same =
     subst (λ changes. Makes changes areas list) (sym none) (record {
       plan_of = record { members = λ k d within. absurd (omega arith); distinct = λ i j d before within. absurd (omega arith) };
       result = applied_none areas ∙ sym same;
+      real = λ k d within. absurd (omega arith);
     })
 
 -- an empty plan is local to any span

@@ -1,7 +1,6 @@
--- Where a new protection stops.
-use Rattle.std.proofs.Common.{◌≡◌, ◌<◌, ℕ, Bool, true, false, ◌&&◌, if◌then◌else◌, nat_le, nat_lt, List, [], ◌∷◌, Option, Some, None, refl, ◌∙◌, sym, subst, arith}
+-- For `area_at` and `stop_of`: where a new protection stops.
+use Rattle.std.proofs.Common.{◌≡◌, ◌<◌, ℕ, Bool, true, false, ◌&&◌, nat_le, nat_lt, List, [], ◌∷◌, Option, Some, None, refl, ◌∙◌, sym, subst, arith}
 use Rattle.std.specs.Bool.{then_some}
-use Rattle.std.specs.Option.{option_map_or}
 use Rattle.std.specs.List.{AllByRecursion as Each}
 use Rattle.std.proofs.lemmas.Bool.{cond_both, cond-true, cond-false, and_right, leb-false, lt-leb, le-leb, ltb-true}
 use Rattle.std.proofs.lemmas.Bool.Decides.{nat_tests}
@@ -9,14 +8,12 @@ use Rattle.std.proofs.lemmas.Option.{same_Some}
 use Rattle.mm_types.specs.declared.area.Span.{Span}
 use Rattle.mm_types.specs.declared.area.Record.{Record}
 use Rattle.mm_types.specs.declared.call.Errno.TheVariants.{Enomem, Eacces}
-use Rattle.mm_types.specs.declared.call.Reply.TheVariants.{Zero, Refused}
-use Rattle.area_model.specs.Areas.{has_page, area_at}
-use Rattle.area_model.specs.Mprotect.{stopped_reply}
-use Rattle.area_model.proofs.Elements.{Each-also}
-use Rattle.area_model.proofs.Order.{Before}
+use Rattle.area_list.specs.Areas.{has_page, area_at}
+use Rattle.area_model.specs.Mprotect.{stop_error}
+use Rattle.area_list.proofs.Elements.{Each-also}
+use Rattle.area_list.proofs.Order.{Before}
 use Rattle.mm_types.specs.Records.{IsValid}
 use Rattle.split_merge.specs.Finding.{first_from}
-use Rattle.split_merge.specs.Stops.{stop_error}
 use Rattle.split_merge.proofs.Walking.{InOrder, rest_in_order}
 
 above_page : (lo hi page : ℕ) → page < lo → (nat_le lo page && nat_lt page hi) ≡ false
@@ -80,17 +77,3 @@ error_denied span stop found area below is = rw is (sym (cond-false (nat_le span
 pub error_none : (span : Span) (found : Option Record) → None ≡ stop_error span span.hi found
 unfolding stop_error
 error_none span found = sym (cond-true (nat_le span.hi span.hi) None _ (le-leb span.hi span.hi (omega arith)))
-
--- the reply of mprotect(2) is the error, if there is one
-pub stopped_reply-error : (range : Span) (stop : ℕ) (area : Option Record) → stopped_reply range stop area ≡ option_map_or Refused (stop_error range stop area) Zero
-unfolding stopped_reply stop_error
-stopped_reply-error range stop None = by (nat_le range.hi stop)
-  where
-    by : (test : Bool) → (if test then Zero else Refused Enomem) ≡ option_map_or Refused (if test then None else Some Enomem) Zero
-    by true = refl
-    by false = refl
-stopped_reply-error range stop (Some area) = by (nat_le range.hi stop)
-  where
-    by : (test : Bool) → (if test then Zero else Refused Eacces) ≡ option_map_or Refused (if test then None else Some Eacces) Zero
-    by true = refl
-    by false = refl

@@ -1,26 +1,27 @@
--- Walks from one area to the next.
-use Rattle.std.proofs.Common.{◌≡◌, ◌≤◌, ◌<◌, ℕ, true, false, ◌&&◌, suc, min, max, nat_eq, nat_lt, List, [], ◌∷◌, ◌++◌, length, map, Option, Some, None, IfSome, refl, ap, ◌∙◌, sym, subst, arith}
+-- For `area_at`, `is_free`, `plan_changes` and others: walks from one area to the next: what is found above a page.
+use Rattle.std.proofs.Common.{◌≡◌, ◌≤◌, ◌<◌, ℕ, true, nat_lt, List, [], ◌∷◌, Some, None, refl, ap, ◌∙◌, sym, subst, arith}
 use Rattle.std.specs.List.{filter, AllByRecursion as Each}
 use Rattle.std.proofs.lemmas.Bool.{cond_both, cond-true, cond-false, lt-ltb, le-ltb, ltb-true, ltb-false}
-use Rattle.std.proofs.lemmas.Bool.Decides.{nat_tests}
 use Rattle.std.proofs.lemmas.Option.{same_Some}
-use Rattle.mm_types.specs.declared.area.Span.{Span}
 use Rattle.mm_types.specs.declared.area.Record.{Record}
 use Rattle.mm_types.specs.Records.{IsValid}
-use Rattle.area_model.specs.Areas.{IsCanonical}
-use Rattle.area_model.specs.Changes.{piece, parts_outside}
-use Rattle.std.proofs.lemmas.List.{length-append}
-use Rattle.split_merge.specs.declared.plan.Change.TheVariants.{Add}
-use Rattle.area_model.proofs.Elements.{Pairs, Each-weaker, Each-also, Pairs-weaker}
-use Rattle.area_model.proofs.Parts.{Apart, part}
-use Rattle.area_model.proofs.Order.{IsGood, Before, good_from_canonical, pairs_from_canonical}
+use Rattle.area_list.specs.Areas.{IsCanonical}
+use Rattle.area_list.proofs.Elements.{Pairs, Each-weaker, Each-also, Pairs-weaker}
+use Rattle.area_list.proofs.Parts.{Apart}
+use Rattle.area_list.proofs.Order.{IsGood, Before, good_from_canonical, pairs_from_canonical}
 use Rattle.split_merge.specs.Finding.{first_from}
-use Rattle.split_merge.specs.Walks.{meets, parts_left, replaced, changes_at, walked}
 use Rattle.split_merge.proofs.Lists.{filter_all}
 
 -- the areas that end above the page
 abbrev pub ending_above : ℕ → List Record → List Record
 ending_above page areas = filter (λ area. nat_lt page area.span.hi) areas
+
+-- what holds of each area that ends above the page holds of these
+pub each_ending_above : (P : Record → Type 0) (page : ℕ) (areas : List Record) → Each (λ area. page < area.span.hi → P area) areas → Each P (ending_above page areas)
+each_ending_above P page [] each = tt
+each_ending_above P page (area ∷ areas) each =
+    cond_both (nat_lt page area.span.hi) (area ∷ ending_above page areas) (ending_above page areas) (Each P)
+    (λ above. (each.0 (ltb-true page area.span.hi above), each_ending_above P page areas each.1)) (λ below. each_ending_above P page areas each.1)
 
 -- the page cuts no area, where it is one at which an area ends
 abbrev pub Spares : ℕ → Record → Type 0
@@ -97,16 +98,6 @@ next_is (first ∷ areas) page area o found =
     (next_is areas page area (rest_in_order first areas o) later))
     found
 
--- what is found above a page, if anything is, is valid and ends above it
-pub found_valid : (areas : List Record) (page : ℕ) (found : Option Record) → InOrder areas → found ≡ first_from areas page → IfSome found IsValid
-found_valid areas page None o is = tt
-found_valid areas page (Some area) o is = (next_is areas page area o (sym is)).valid
-
-pub found_above : (areas : List Record) (page : ℕ) (found : Option Record) → InOrder areas → found ≡ first_from areas page
-    → IfSome found (λ area. page < area.span.hi)
-found_above areas page None o is = tt
-found_above areas page (Some area) o is = (next_is areas page area o (sym is)).above
-
 -- without a first area that ends above a page there is none
 pub none_above : (areas : List Record) (page : ℕ) → first_from areas page ≡ None → ending_above page areas ≡ []
 none_above [] page none = refl
@@ -117,108 +108,11 @@ none_above (first ∷ areas) page none =
     ∙ none_above areas page later)
     none
 
--- nothing is planned for an area without a page of the span
-pub changes_at-beside : (span : Span) (joined : Option (Record × Record)) (area : Record) → meets span area ≡ false
-    → changes_at span joined area ≡ []
-unfolding changes_at
-changes_at-beside span joined area beside = cond-false (meets span area) (replaced area (parts_left span joined area)) [] beside
-
-pub changes_at-meeting : (span : Span) (joined : Option (Record × Record)) (area : Record) → meets span area ≡ true
-    → changes_at span joined area ≡ replaced area (parts_left span joined area)
-unfolding changes_at
-changes_at-meeting span joined area meeting = cond-true (meets span area) (replaced area (parts_left span joined area)) [] meeting
-
-meets_true : (lo hi from to : ℕ) → from < hi → lo < to → (nat_lt from hi && nat_lt lo to) ≡ true
-meets_true lo hi from to begins ends = grind (arith, nat_tests)
-
-above_span : (lo hi from to : ℕ) → hi ≤ from → (nat_lt from hi && nat_lt lo to) ≡ false
-above_span lo hi from to above = grind (arith, nat_tests)
-
-below_span : (lo hi from to : ℕ) → to ≤ lo → (nat_lt from hi && nat_lt lo to) ≡ false
-below_span lo hi from to below = grind (arith, nat_tests)
-
--- the areas that end at or below the span's begin are not walked
-pub walked_from_low : (span : Span) (joined : Option (Record × Record)) (areas : List Record)
-    → walked span joined (ending_above span.lo areas) ≡ walked span joined areas
-walked_from_low span joined [] = refl
-walked_from_low span joined (area ∷ areas) =
-    cond_both (nat_lt span.lo area.span.hi) (area ∷ ending_above span.lo areas) (ending_above span.lo areas)
-    (λ list. walked span joined list ≡ walked span joined (area ∷ areas))
-    (λ h. ap (λ rest. changes_at span joined area ++ rest) (walked_from_low span joined areas))
-    (λ h. walked_from_low span joined areas
-    ∙ ap (λ changes. changes ++ walked span joined areas) (sym (changes_at-beside span joined area
-    (below_span span.lo span.hi area.span.lo area.span.hi (ltb-false span.lo area.span.hi h)))))
-
--- nothing is walked from a page on at which each area begins above the span
-walked_above : (span : Span) (joined : Option (Record × Record)) (page : ℕ) (areas : List Record)
-    → Each (λ area. page < area.span.hi → span.hi ≤ area.span.lo) areas
-    → walked span joined (ending_above page areas) ≡ []
-walked_above span joined page [] above = refl
-walked_above span joined page (area ∷ areas) above =
-    cond_both (nat_lt page area.span.hi) (area ∷ ending_above page areas) (ending_above page areas)
-    (λ list. walked span joined list ≡ [])
-    (λ h. ap (λ changes. changes ++ walked span joined (ending_above page areas)) (changes_at-beside span joined area
-    (above_span span.lo span.hi area.span.lo area.span.hi (above.0 (ltb-true page area.span.hi h))))
-    ∙ walked_above span joined page areas above.1)
-    (λ h. walked_above span joined page areas above.1)
-
--- the walk ends where its page is past the span
-pub walked_past : (span : Span) (joined : Option (Record × Record)) (page : ℕ) (areas : List Record) → span.hi ≤ page
-    → Each (Spares page) areas → walked span joined (ending_above page areas) ≡ []
-walked_past span joined page areas past spared = walked_above span joined page areas
-    (Each-weaker (Spares page) (λ area. page < area.span.hi → span.hi ≤ area.span.lo)
-    (λ area spares above. omega (arith, spares above)) areas spared)
-
--- and where the next area begins above it
-pub walked_to_next : (span : Span) (joined : Option (Record × Record)) (page : ℕ) (areas : List Record) (area : Record) → InOrder areas
-    → IsNext areas page area → span.hi ≤ area.span.lo → walked span joined (ending_above page areas) ≡ []
-walked_to_next span joined page areas area o n above =
-    ap (walked span joined) n.rest
-    ∙ ap (λ changes. changes ++ walked span joined (ending_above area.span.hi areas)) (changes_at-beside span joined area
-    (above_span span.lo span.hi area.span.lo area.span.hi above))
-    ∙ walked_above span joined area.span.hi areas
-    (Each-weaker (Spares area.span.hi) (λ next. area.span.hi < next.span.hi → span.hi ≤ next.span.lo)
-    (λ next spares higher. omega (arith, spares higher, n.valid.some_pages)) areas n.spares)
-
--- one step of a walk
-pub walked_next : (span : Span) (joined : Option (Record × Record)) (page : ℕ) (areas : List Record) (area : Record) → IsNext areas page area
-    → span.lo ≤ page → area.span.lo < span.hi
-    → walked span joined (ending_above page areas)
-    ≡ replaced area (parts_left span joined area) ++ walked span joined (ending_above area.span.hi areas)
-walked_next span joined page areas area n low below =
-    ap (walked span joined) n.rest
-    ∙ ap (λ changes. changes ++ walked span joined (ending_above area.span.hi areas)) (changes_at-meeting span joined area
-    (meets_true span.lo span.hi area.span.lo area.span.hi below (omega (arith, n.above))))
-
-pub length-map : {A B : Type 0} (f : A → B) (xs : List A) → length (map f xs) ≡ length xs
-length-map f [] = refl
-length-map f (x ∷ xs) = ap (λ n. suc n) (length-map f xs)
-
-pub length-piece : (area : Record) (lo hi : ℕ) → length (piece area lo hi) ≤ 1
-unfolding piece
-length-piece area lo hi =
-    cond_both (nat_lt lo hi) (part area lo hi ∷ []) [] (λ parts. length parts ≤ 1) (λ h. omega arith) (λ h. omega arith)
-
-length-outside : (span : Span) (area : Record) → length (parts_outside span area) ≤ 2
-unfolding parts_outside
-length-outside span area = simp length-append (omega (
-  arith,
-  length-piece area area.span.lo (min area.span.hi span.lo),
-  length-piece area (max area.span.lo span.hi) area.span.hi,
-))
-
-length-parts_left : (span : Span) (joined : Option (Record × Record)) (area : Record) → length (parts_left span joined area) ≤ 2
-unfolding parts_left
-length-parts_left span None area = length-outside span area
-length-parts_left span (Some joined) area =
-    cond_both (nat_eq area.span.lo joined.0.span.lo) (joined.1 ∷ []) (parts_outside span area) (λ parts. length parts ≤ 2)
-    (λ h. omega arith) (λ h. length-outside span area)
-
-length-replaced : (old : Record) (parts : List Record) → length parts ≤ 2 → length (replaced old parts) ≤ 2
-length-replaced old [] short = omega arith
-length-replaced old (new ∷ parts) short = omega (arith, length-map Add parts)
-
--- at most two changes are planned for an area
-pub replaced_short : (span : Span) (joined : Option (Record × Record)) (area : Record)
-    → length (replaced area (parts_left span joined area)) ≤ 2
-replaced_short span joined area = length-replaced area (parts_left span joined area) (length-parts_left span joined area)
+-- no area below a page, where none begins below it
+pub filter_none : (page : ℕ) (areas : List Record) → Each (λ area. page ≤ area.span.lo) areas
+    → filter (λ area. nat_lt area.span.lo page) areas ≡ []
+filter_none page [] above = refl
+filter_none page (area ∷ areas) above =
+    cond-false (nat_lt area.span.lo page) (area ∷ filter (λ other. nat_lt other.span.lo page) areas) (filter (λ other. nat_lt other.span.lo page) areas)
+    (le-ltb area.span.lo page above.0)
+    ∙ filter_none page areas above.1

@@ -1,8 +1,6 @@
 pub mod Plans
+pub mod Calls
 pub mod Finding
 pub mod Places
-pub mod Walks
-pub mod Joins
-pub mod Moves
-pub mod Stops
-pub mod Runs
+pub mod Becoming
+pub mod Planner

@@ -1,10 +1,10 @@
 -- Plans: a few changes that turn one list of areas into another.
-use Rattle.std.specs.Prelude.{ℕ, ◌≡◌, ◌≢◌, ◌≤◌, ◌+◌, ◌*◌, Bool, true, not, ◌&&◌, ◌||◌, nat_le, List, [], ◌∷◌, length, filter, All, AllPairs, Contains, Option, Some, None}
+use Rattle.std.specs.Prelude.{ℕ, ◌≡◌, ◌≢◌, ◌≤◌, ◌+◌, ◌*◌, Bool, true, not, ◌&&◌, ◌||◌, nat_eq, nat_le, List, [], ◌∷◌, length, filter, All, AllPairs, Contains, Option, Some, None}
 use Rattle.mm_types.specs.declared.area.Span.{Span}
 use Rattle.mm_types.specs.declared.area.Record.{Record}
 use Rattle.area_model.specs.declared.placement.Bounds.{Bounds}
-use Rattle.area_model.specs.Areas.{IsCanonical}
-use Rattle.area_model.specs.Changes.{insert_area}
+use Rattle.area_list.specs.Areas.{IsCanonical}
+use Rattle.area_list.specs.Changes.{insert_area}
 use Rattle.split_merge.specs.declared.plan.Change.{Change}
 use Rattle.split_merge.specs.declared.plan.Change.TheVariants.{Detach, Alter, Add}
 
@@ -41,7 +41,7 @@ news_of (Add new ∷ plan) = new ∷ news_of plan
 
 -- whether two areas begin at one page
 abbrev pub starts_alike : Record → Record → Bool
-starts_alike a b = nat_le a.span.lo b.span.lo && nat_le b.span.lo a.span.lo
+starts_alike a b = nat_eq a.span.lo b.span.lo
 
 -- the list without the areas that begin where one of these does
 abbrev pub without : List Record → List Record → List Record
@@ -62,10 +62,15 @@ pub record IsPlanOf (areas : List Record) (plan : List Change) : Type 0 where
   pub members : All (Contains areas) (olds_of plan)
   pub distinct : AllPairs (λ a b. a ≢ b) (olds_of plan)
 
--- a plan of the one list makes the other where it turns the one into the other
+-- a plan has only real changes where no area that it brings is one that it takes away
+abbrev pub IsReal : List Change → Type 0
+IsReal plan = All (λ new. ¬ (Contains (olds_of plan) new)) (news_of plan)
+
+-- a plan of the one list makes the other where it turns the one into the other, by real changes alone
 pub record Makes (plan : List Change) (old new : List Record) : Type 0 where
   pub plan_of : IsPlanOf old plan
   pub result : applied plan old ≡ new
+  pub real : IsReal plan
 
 -- an area that a span touches, or that ends where it begins or begins where it ends
 abbrev pub is_near : Span → Record → Bool

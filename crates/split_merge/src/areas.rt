@@ -32,12 +32,8 @@ pub trait Areas {
     fn before(&self, page: Page) -> Option<Record>
         ensures { result ≡ last_before (list self.now) page.0 };
 
-    /// Where so many pages go that name no place, as `place` has it without a hint. What is kept of the list
-    /// may change, and the list does not.
-    fn place(&mut self, len: u64) -> Option<Page>
+    /// Where so many pages go that name no place, as `place` has it without a hint.
+    fn place(&self, len: u64) -> Option<Page>
         requires { 1 ≤ len }
-        ensures place { page_number result ≡ place (bounds self.old) (list self.old) len 0 }
-        ensures list { list self.new ≡ list self.old }
-        ensures bounds { bounds self.new ≡ bounds self.old }
-        ensures most { most self.new ≡ most self.old };
+        ensures { page_number result ≡ place (bounds self.now) (list self.now) len 0 };
 }

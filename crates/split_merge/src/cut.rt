@@ -1,10 +1,11 @@
 ghost use Rattle.std.specs.Prelude.{◌≡◌, ◌<◌, ◌≤◌, ◌+◌, ◌*◌};
-ghost use Rattle.area_model.specs.Changes.{cut};
+ghost use Rattle.area_list.specs.Changes.{cut};
 ghost use Rattle.split_merge.specs.Plans.{Makes, IsLocal, IsKept, IsFresh};
 
 use crate::areas::Areas;
+use crate::becoming::Becoming;
 use crate::plan::Plan;
-use crate::walk::walk;
+use crate::walk::plan_changes;
 use mm_types::Span;
 
 /// Plans that no area keeps a page of the span.
@@ -17,5 +18,9 @@ pub fn plan_cut<A: Areas>(areas: &A, span: Span, plan: &mut Plan)
     ensures local { IsLocal span (A.list areas.now) plan.new.changes }
     ensures room { plan.new.room ≡ plan.old.room }
 {
-    walk(areas, span, None, plan);
+    let becoming = Becoming::Outside {
+        low: span,
+        high: span,
+    };
+    plan_changes(areas, &becoming, None, plan);
 }

@@ -2,22 +2,22 @@
 #![tactic(auto)]
 
 mod areas;
+mod becoming;
 mod cut;
-mod outside;
+mod lookups;
 mod parts;
 mod plan;
+mod planner;
 mod protect;
 mod put;
-mod questions;
 mod relocate;
-mod runs;
 mod stops;
 mod walk;
 
 pub use areas::Areas;
 pub use cut::plan_cut;
+pub use lookups::{area_at, is_free, is_too_long};
 pub use plan::{Change, Plan};
 pub use protect::plan_protect;
 pub use put::plan_put;
-pub use questions::{area_at, is_free, is_too_long};
 pub use relocate::plan_move;

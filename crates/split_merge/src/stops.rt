@@ -1,13 +1,11 @@
 //! Where a new protection stops.
 ghost use Rattle.std.specs.Prelude.{◌≡◌};
-ghost use Rattle.area_model.specs.Areas.{IsCanonical, area_at};
-ghost use Rattle.area_model.specs.Mprotect.{stop_of};
-ghost use Rattle.split_merge.specs.Stops.{stop_error};
+ghost use Rattle.area_list.specs.Areas.{IsCanonical, area_at};
+ghost use Rattle.area_model.specs.Mprotect.{stop_of, stop_error};
 
 use crate::areas::Areas;
-use crate::questions::area_at;
-use area_model::holds_all;
-use mm_types::{Errno, Prot, Span};
+use crate::lookups::area_at;
+use mm_types::{Errno, Prot, Span, holds_all};
 
 /// The page at which a new protection stops, and why where that is before the span's end.
 #[derive(Clone, Copy)]

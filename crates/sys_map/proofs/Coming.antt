@@ -1,11 +1,11 @@
--- An area comes in at its place.
+-- For `insert_new`: an area comes in at its place.
 use Rattle.std.proofs.Common.{nat_lt, List, get_or, arith}
 use Rattle.std.specs.List.{insert}
 use Rattle.std.proofs.lemmas.Bool.{ltb-true, ltb-false}
 use Rattle.std.proofs.lemmas.List.Sums.{prefix_len_passes, prefix_len_stops, prefix_len-le-length}
 use Rattle.std.proofs.lemmas.List.Sorted.{IsNonDecreasingBy-insert}
 use Rattle.mm_types.specs.declared.area.Record.{Record}
-use Rattle.sys_map.specs.Fronts.{begins_below, BeginsRise}
+use Rattle.sys_map.specs.BinarySearch.{begins_below, BeginsRise}
 
 -- the list stays in order
 pub insert_rises : (areas : List Record) (new : Record) → BeginsRise areas → BeginsRise (insert areas (begins_below new.span.lo areas) new)

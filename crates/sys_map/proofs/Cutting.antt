@@ -1,25 +1,35 @@
--- Cuts of sound lists.
-use Rattle.std.proofs.Common.{◌≡◌, ◌≤◌, ◌<◌, ℕ, false, nat_lt, List, length, subst}
-use Rattle.std.proofs.lemmas.Bool.{ltb-false}
+-- For `plan_munmap`: cuts of sound lists.
+use Rattle.std.proofs.Common.{◌≡◌, ◌≤◌, ◌+◌, ◌*◌, ◌∙◌, ℕ, true, false, nat_lt, List, length, refl, ap, sym, subst}
+use Rattle.std.proofs.lemmas.Bool.{ltb-false, le-ltb, ne_eqb}
 use Rattle.mm_types.specs.declared.area.Span.{Span}
 use Rattle.mm_types.specs.declared.area.Record.{Record}
+use Rattle.mm_types.specs.declared.call.Reply.TheVariants.{Zero}
 use Rattle.mm_types.specs.declared.config.Config.{Config}
+use Rattle.mm_types.specs.declared.config.TheConstants.{PAGE_SIZE}
 use Rattle.area_model.specs.declared.placement.Bounds.{Bounds}
-use Rattle.area_model.specs.Areas.{page_of, IsSound}
-use Rattle.area_model.specs.Changes.{cut}
-use Rattle.area_model.specs.Munmap.{range_of}
-use Rattle.area_model.specs.Placement.{bounds_of}
-use Rattle.area_model.proofs.Cutting.{cut_canonical}
-use Rattle.split_merge.specs.declared.plan.Change.{Change}
-use Rattle.split_merge.specs.Plans.{applied, Makes, IsKept}
-use Rattle.split_merge.proofs.Refusing.{kept_if_sound}
+use Rattle.area_list.specs.Areas.{page_of, IsSound}
+use Rattle.area_list.specs.Changes.{cut}
+use Rattle.area_model.specs.Munmap.{range_of, munmap_rows, munmap}
+use Rattle.area_model.specs.Stepped.{space_of}
+use Rattle.area_model.specs.Tables.{is_aligned, pages_of}
+use Rattle.area_list.proofs.Cutting.{cut_canonical}
+use Rattle.split_merge.specs.Calls.{IsPrepared, IsPlannedCall}
+use Rattle.split_merge.specs.Plans.{Planned, applied, Makes}
+use Rattle.split_merge.proofs.Calling.{done}
+use Rattle.split_merge.proofs.Refusing.{range_some}
 
 -- munmap(2) cuts where its tests pass
-pub cut_kept : (config : Config) (bounds : Bounds) (most addr len : ℕ) (range : Span) (plan : List Change) (areas : List Record) → bounds ≡ bounds_of config
-    → most ≡ config.areas → IsSound config areas → range ≡ range_of addr len → range.lo < range.hi → Makes plan areas (cut range areas)
-    → nat_lt config.areas (length (applied plan areas)) ≡ false → IsKept bounds most (applied plan areas)
-cut_kept config bounds most addr len range plan areas numbers allowed sound is some made fits =
-    kept_if_sound config bounds most plan areas (cut range areas) numbers allowed made.result (record {
-      canonical = cut_canonical (page_of config.limit) range areas some sound.canonical;
-      few = subst (λ (list : List Record). length list ≤ config.areas) made.result (ltb-false config.areas (length (applied plan areas)) fits);
+pub cut_call : {config : Config} {bounds : Bounds} {most : ℕ} {old : Planned} (addr len : ℕ) (range : Span) (areas : List Record) (new : Planned) (objects : ℕ)
+    → IsPrepared config bounds most old → new.room ≡ old.room → IsSound config areas → is_aligned addr ≡ true → (len ≡ 0 → ⊥)
+    → addr + PAGE_SIZE * pages_of len ≤ config.limit → range ≡ range_of addr len → Makes new.changes areas (cut range areas)
+    → nat_lt config.areas (length (applied new.changes areas)) ≡ false
+    → IsPlannedCall bounds most areas (munmap config (space_of areas objects) addr len) Zero old new
+unfolding munmap munmap_rows
+cut_call {config} addr len range areas new objects prepared room sound aligned some within is made fits =
+    let made_range = subst (λ span. Makes new.changes areas (cut span areas)) is made in
+    let short = ap (λ (list : List Record). nat_lt config.areas (length list)) (sym made_range.result) ∙ fits in
+    done prepared new room areas (cut (range_of addr len) areas) objects (munmap config (space_of areas objects) addr len) Zero
+    (rw (aligned, ne_eqb len 0 some, le-ltb config.limit (addr + PAGE_SIZE * pages_of len) within, short) refl) made_range (record {
+      canonical = cut_canonical (page_of config.limit) (range_of addr len) areas (range_some addr len (range_of addr len) some refl) sound.canonical;
+      few = ltb-false config.areas (length (cut (range_of addr len) areas)) short;
     })

@@ -1,4 +1,4 @@
--- Lists in which areas go out and come in one by one.
+-- For `insert_new`, `remove_old`, `touched` and others: lists in which areas go out and come in one by one.
 use Rattle.std.proofs.Common.{◌≡◌, ◌≤◌, ◌<◌, ◌+◌, ◌⊎◌, inl, inr, ℕ, min, max, nat_lt, List, [], ◌∷◌, ◌++◌, length, take, drop, get_or, Some, refl, ap, ◌∙◌, sym, subst, All, arith}
 use Rattle.std.specs.Option.{option_to_list}
 use Rattle.std.specs.List.{Contains}
@@ -8,13 +8,13 @@ use Rattle.std.proofs.lemmas.List.Sums.{prefix_len_passes}
 use Rattle.std.proofs.lemmas.Option.{same_Some}
 use Rattle.std.proofs.lemmas.List.{drop_more, take_more, take-append-drop}
 use Rattle.mm_types.specs.declared.area.Record.{Record}
-use Rattle.area_model.proofs.Elements.{Each-left, Each-right}
+use Rattle.area_list.proofs.Elements.{Each-left, Each-right}
 use Rattle.split_merge.specs.declared.plan.Change.{Change}
 use Rattle.split_merge.specs.declared.plan.Change.TheVariants.{Detach, Alter, Add}
 use Rattle.split_merge.specs.Plans.{old_of, new_of, olds_of, news_of}
 use Rattle.split_merge.proofs.Replacing.{olds_of-append, news_of-append}
-use Rattle.sys_map.specs.Fronts.{begins_below}
-use Rattle.sys_map.specs.Ranges.{HoldsOld, HoldsNew, IsTouched}
+use Rattle.sys_map.specs.BinarySearch.{begins_below}
+use Rattle.sys_map.specs.Touched.{HoldsOld, HoldsNew, IsTouched}
 
 -- an area of a list has its place within it
 pub begins_member : (areas : List Record) (old : Record) → Contains areas old → begins_below old.span.lo areas < length areas

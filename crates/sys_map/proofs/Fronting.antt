@@ -1,4 +1,4 @@
--- The front of a list that passes a test.
+-- For `begins_below`, `ends_by` and `last_of`: the front of a list that passes a test.
 use Rattle.std.proofs.Common.{◌≡◌, ◌≤◌, ℕ, Bool, true, false, ◌-◌, Some, None, slice_get, List, [], ◌∷◌, length, refl, ap, ◌∙◌, sym, arith}
 use Rattle.std.specs.List.{prefix_len, last_or}
 use Rattle.std.specs.List.Sorted.{IsPartitionPoint}

@@ -1,5 +1,5 @@
--- Areas that go out of a list, and that come in.
-use Rattle.std.proofs.Common.{◌≡◌, ◌<◌, ◌+◌, ◌⊎◌, inl, inr, ℕ, suc, Bool, true, false, not, ◌&&◌, if◌then◌else◌, nat_le, nat_lt, List, [], ◌∷◌, ◌++◌, refl, ap, ◌∙◌, sym, subst, arith}
+-- For `change_each`, `insert_new`, `remove_old` and others: areas that go out of a list, and that come in.
+use Rattle.std.proofs.Common.{◌≡◌, ◌<◌, ◌+◌, ◌⊎◌, inl, inr, ℕ, suc, Bool, true, false, not, if◌then◌else◌, nat_eq, nat_lt, List, [], ◌∷◌, ◌++◌, refl, ap, ◌∙◌, sym, subst, arith}
 use Rattle.std.specs.List.{filter, remove, insert, Contains, AllByRecursion as Each}
 use Rattle.std.proofs.lemmas.Bool.{cond-true, cond-false, ltb-true, ltb-false, not_from_false}
 use Rattle.std.proofs.lemmas.Bool.Decides.{nat_tests}
@@ -7,13 +7,13 @@ use Rattle.std.proofs.lemmas.List.Kept.{AllPairs-filter}
 use Rattle.std.proofs.lemmas.List.Elements.{All-contains, All-from_recursion, recursion_from_All}
 use Rattle.std.proofs.Math.Numerals.{one-add}
 use Rattle.mm_types.specs.declared.area.Record.{Record}
-use Rattle.area_model.specs.Changes.{insert_area}
-use Rattle.area_model.proofs.Elements.{Pairs, Each-weaker}
+use Rattle.area_list.specs.Changes.{insert_area}
+use Rattle.area_list.proofs.Elements.{Pairs, Each-weaker}
 use Rattle.split_merge.proofs.Ascending.{Below}
 use Rattle.split_merge.specs.Plans.{starts_alike, without, with_all}
 use Rattle.split_merge.proofs.Counting.{contains_cases, contains_filter}
 use Rattle.split_merge.proofs.Lists.{filter_all}
-use Rattle.sys_map.specs.Fronts.{begins_below, BeginsAscend}
+use Rattle.sys_map.specs.BinarySearch.{begins_below, BeginsAscend}
 
 filter_swap : {A : Type 0} (p q : A → Bool) (xs : List A) → filter p (filter q xs) ≡ filter q (filter p xs)
 filter_swap p q [] = refl
@@ -57,7 +57,7 @@ contains_without (old ∷ olds) areas area member apart =
     contains_without olds (filter (λ other. not (starts_alike other old)) areas) area
     (contains_filter (λ other. not (starts_alike other old)) areas area member (not_from_false (starts_alike area old) apart.0)) apart.1
 
--- the areas behind the first begin above it
+-- the areas after the first begin above it
 pub ascending_pairs : (areas : List Record) → BeginsAscend areas → Pairs Below areas
 ascending_pairs [] ascend = tt
 ascending_pairs (area ∷ areas) ascend = (
@@ -65,13 +65,13 @@ ascending_pairs (area ∷ areas) ascend = (
   ascending_pairs areas (λ i j d before within. ascend (suc i) (suc j) d (omega arith) (omega arith)),
 )
 
-alike_self : (a : ℕ) → not (nat_le a a && nat_le a a) ≡ false
+alike_self : (a : ℕ) → not (nat_eq a a) ≡ false
 alike_self a = grind (arith, nat_tests)
 
-unlike_above : (a b : ℕ) → a < b → not (nat_le b a && nat_le a b) ≡ true
+unlike_above : (a b : ℕ) → a < b → not (nat_eq b a) ≡ true
 unlike_above a b below = grind (arith, nat_tests)
 
-unlike_below : (a b : ℕ) → a < b → not (nat_le a b && nat_le b a) ≡ true
+unlike_below : (a b : ℕ) → a < b → not (nat_eq a b) ≡ true
 unlike_below a b below = grind (arith, nat_tests)
 
 removed : (areas : List Record) (old : Record) → Pairs Below areas → Contains areas old

@@ -1,4 +1,4 @@
--- Canonical lists lie in ascending order, by index.
+-- For `VecAreas::apply`, `VecAreasAreas::before`, `VecAreasAreas::from` and others: canonical lists lie in ascending order, by index.
 use Rattle.std.proofs.Common.{◌≡◌, ◌≤◌, ◌<◌, ◌+◌, ℕ, Bool, true, false, if◌then◌else◌, nat_le, nat_lt, ◌⊎◌, inl, inr, subst, List, [], ◌∷◌, take, get_or, slice_get, Some, None, refl, ap, ◌∙◌, sym, AllPairs, arith}
 use Rattle.std.specs.List.{filter, last_or, AllByRecursion as Each}
 use Rattle.std.proofs.lemmas.Bool.{cases_eq, cond-true, cond-false, ltb-false, leb-true, leb-false, lt-ltb, le-ltb}
@@ -7,14 +7,13 @@ use Rattle.std.proofs.lemmas.List.Kept.{AllPairs-cons}
 use Rattle.std.proofs.Math.Numerals.{one-add}
 use Rattle.mm_types.specs.declared.area.Record.{Record}
 use Rattle.mm_types.specs.Records.{IsValid}
-use Rattle.area_model.specs.Areas.{IsCanonical}
-use Rattle.area_model.proofs.Elements.{Pairs, Each-weaker, Each-also}
-use Rattle.area_model.proofs.Order.{Before}
+use Rattle.area_list.specs.Areas.{IsCanonical}
+use Rattle.area_list.proofs.Elements.{Pairs, Each-weaker, Each-also}
+use Rattle.area_list.proofs.Order.{Before}
 use Rattle.split_merge.specs.Finding.{first_from, last_before}
 use Rattle.split_merge.proofs.Ascending.{Below, ascending}
-use Rattle.split_merge.proofs.Splits.{filter_none}
-use Rattle.split_merge.proofs.Walking.{in_order}
-use Rattle.sys_map.specs.Fronts.{begins_below, ends_by, EndsRise, BeginsAscend}
+use Rattle.split_merge.proofs.Walking.{in_order, filter_none}
+use Rattle.sys_map.specs.BinarySearch.{begins_below, ends_by, EndsRise, BeginsAscend}
 
 AllPairs-from_Pairs : {A : Type 0} (R : A → A → Type 0) (xs : List A) → Pairs R xs → AllPairs R xs
 AllPairs-from_Pairs R [] pairs = λ i j d before within. absurd (omega arith)
@@ -48,7 +47,7 @@ ends_rise end areas c i j d order within = by (cases_eq i j)
     by (inl same) = subst (λ k. (get_or areas i d).span.hi ≤ (get_or areas k d).span.hi) same (omega arith)
     by (inr apart) = omega (arith, ends_ascend end areas c i j d (omega arith) within)
 
--- the first area that ends above a page stands behind those that do not
+-- the first area that ends above a page stands after those that do not
 pub from_is : (areas : List Record) (page : ℕ) → slice_get areas (ends_by page areas) ≡ first_from areas page
 from_is [] page = refl
 from_is (area ∷ areas) page = by (nat_le area.span.hi page) refl (from_is areas page)

@@ -1,14 +1,14 @@
--- The areas of a plan go out one after the other.
+-- For `remove_olds`: the areas of a plan go out one after the other.
 use Rattle.std.proofs.Common.{◌≡◌, ◌≢◌, ◌<◌, ◌+◌, ℕ, false, List, [], ◌∷◌, ◌++◌, length, take, drop, get_or, ap, ◌∙◌, sym, subst, All, AllPairs}
 use Rattle.std.specs.List.{Contains, AllByRecursion as Each}
 use Rattle.std.proofs.lemmas.List.Elements.{All-from_recursion, recursion_from_All}
 use Rattle.mm_types.specs.declared.area.Record.{Record}
-use Rattle.area_model.proofs.Elements.{Pairs, Each-also, Each-left, Each-right}
+use Rattle.area_list.proofs.Elements.{Pairs, Each-also, Each-left, Each-right}
 use Rattle.split_merge.specs.declared.plan.Change.{Change}
 use Rattle.split_merge.specs.Plans.{olds_of, starts_alike, without}
 use Rattle.split_merge.proofs.Counting.{Pairs-from_AllPairs, unlike}
 use Rattle.split_merge.proofs.Lists.{Pairs-right, Pairs-across}
-use Rattle.sys_map.specs.Fronts.{BeginsAscend}
+use Rattle.sys_map.specs.BinarySearch.{BeginsAscend}
 use Rattle.sys_map.proofs.Editing.{olds_around, olds_from}
 use Rattle.sys_map.proofs.Going.{ascending_pairs, contains_without, without-append, without_swap}
 

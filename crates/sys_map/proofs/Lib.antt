@@ -9,4 +9,4 @@ pub mod InOrder
 pub mod Scanning
 pub mod Cutting
 pub mod Hinting
-pub mod Mapped
+pub mod MmapCases

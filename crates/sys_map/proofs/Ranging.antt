@@ -1,5 +1,5 @@
--- A plan changes only the part of a list that it touches.
-use Rattle.std.proofs.Common.{◌≡◌, ◌≤◌, ◌<◌, ◌+◌, ◌-◌, inl, inr, ℕ, Bool, true, false, not, ◌&&◌, if◌then◌else◌, nat_le, nat_lt, List, [], ◌∷◌, ◌++◌, length, take, drop, get_or, refl, ap, ◌∙◌, sym, subst, All, arith}
+-- For `VecAreasAreas::before`, `carry_out`, `change_each` and others: a plan changes only the part of a list that it touches.
+use Rattle.std.proofs.Common.{◌≡◌, ◌≤◌, ◌<◌, ◌+◌, ◌-◌, inl, inr, ℕ, Bool, true, false, not, if◌then◌else◌, nat_eq, nat_lt, List, [], ◌∷◌, ◌++◌, length, take, drop, get_or, refl, ap, ◌∙◌, sym, subst, All, arith}
 use Rattle.std.specs.List.{filter, between, Contains, AllByRecursion as Each}
 use Rattle.std.proofs.lemmas.Bool.{cases_eq, cond-true, cond-false, ltb-true, ltb-false, lt-ltb, le-ltb}
 use Rattle.std.proofs.lemmas.Bool.Decides.{nat_tests}
@@ -8,13 +8,13 @@ use Rattle.std.proofs.lemmas.List.Edits.{split_between, length-between, get_or-b
 use Rattle.std.proofs.lemmas.List.Elements.{All-contains, All-from_recursion, recursion_from_All, Contains-append_cases, filter-append}
 use Rattle.std.proofs.lemmas.List.Sums.{prefix_len_passes, prefix_len_stops}
 use Rattle.mm_types.specs.declared.area.Record.{Record}
-use Rattle.area_model.specs.Changes.{insert_area}
-use Rattle.area_model.proofs.Elements.{Each-weaker, Each-also}
+use Rattle.area_list.specs.Changes.{insert_area}
+use Rattle.area_list.proofs.Elements.{Each-weaker, Each-also}
 use Rattle.split_merge.specs.declared.plan.Change.{Change}
 use Rattle.split_merge.specs.Plans.{olds_of, news_of, starts_alike, without, with_all, applied}
 use Rattle.split_merge.proofs.Lists.{filter_all}
-use Rattle.sys_map.specs.Fronts.{begins_below, BeginsRise, BeginsAscend}
-use Rattle.sys_map.specs.Ranges.{HoldsOld, HoldsNew, IsTouched}
+use Rattle.sys_map.specs.BinarySearch.{begins_below, BeginsRise, BeginsAscend}
+use Rattle.sys_map.specs.Touched.{HoldsOld, HoldsNew, IsTouched}
 
 pub rise_from_ascend : (areas : List Record) → BeginsAscend areas → BeginsRise areas
 rise_from_ascend areas ascend i j d order within = elim (cases_eq i j) [
@@ -27,15 +27,15 @@ record IsAmong (front back : List Record) (old : Record) : Type 0 where
   above : Each (λ area. area.span.lo < old.span.lo) front
   below : Each (λ area. old.span.lo < area.span.lo) back
 
--- an area comes in behind the front, and not behind the back
+-- an area comes in after the front, and not after the back
 record ComesAmong (front back : List Record) (new : Record) : Type 0 where
   above : Each (λ area. area.span.lo < new.span.lo) front
   below : Each (λ area. new.span.lo ≤ area.span.lo) back
 
-unlike_below : (a b : ℕ) → a < b → not (nat_le a b && nat_le b a) ≡ true
+unlike_below : (a b : ℕ) → a < b → not (nat_eq a b) ≡ true
 unlike_below a b below = grind (arith, nat_tests)
 
-unlike_above : (a b : ℕ) → b < a → not (nat_le a b && nat_le b a) ≡ true
+unlike_above : (a b : ℕ) → b < a → not (nat_eq a b) ≡ true
 unlike_above a b above = grind (arith, nat_tests)
 
 without_among : (olds front middle back : List Record) → Each (IsAmong front back) olds
@@ -125,7 +125,7 @@ module _ (areas : List Record) (changes : List Change) (start end : ℕ) (ascend
       (λ new h. record { above = front_below new h.0; below = back_from new h.1 }) (news_of changes)
       (recursion_from_All (HoldsNew areas start end) (news_of changes) t.news)
 
-  -- the list after a plan is that of the part that it touches, between what stands before and behind
+  -- the list after a plan is that of the part that it touches, between what stands before and after
   pub applied_within : IsTouched areas changes start end
       → applied changes areas ≡ take start areas ++ (applied changes (between start end areas) ++ drop end areas)
   unfolding applied

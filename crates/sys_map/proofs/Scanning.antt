@@ -1,6 +1,7 @@
--- Areas in order, looked at one after the other for room.
-use Rattle.std.proofs.Common.{◌≡◌, ◌≤◌, ◌<◌, ◌+◌, ◌-◌, ◌⊎◌, inl, inr, ℕ, true, false, ◌||◌, nat_le, nat_lt, List, [], ◌∷◌, length, take, get_or, slice_get, Some, None, ap, ◌∙◌, sym, arith}
-use Rattle.std.specs.List.{last_or}
+-- For `high_place` and `low_place`: areas in order, looked at one after the other for room.
+use Rattle.std.proofs.Common.{Bool, AllPairs, ◌≡◌, ◌≤◌, ◌<◌, ◌+◌, ◌-◌, ◌⊎◌, inl, inr, ℕ, true, false, ◌||◌, nat_le, nat_lt, List, [], ◌∷◌, length, take, get_or, slice_get, Some, None, ap, ◌∙◌, sym, arith}
+use Rattle.std.specs.List.{last_or, prefix_len}
+use Rattle.std.specs.List.Sorted.{IsNonDecreasingBy}
 use Rattle.std.proofs.lemmas.Bool.Decides.{nat_tests}
 use Rattle.std.proofs.lemmas.List.{length-take-le, get_or-take}
 use Rattle.std.proofs.lemmas.List.Folds.{list_all_at}
@@ -9,10 +10,8 @@ use Rattle.std.proofs.lemmas.Option.{slice_get-get_or, slice_get_within, get_or_
 use Rattle.std.proofs.lemmas.Bool.{cases_lt, cases_eq, ltb-true, ltb-false, leb-true, leb-false}
 use Rattle.mm_types.specs.declared.area.Record.{Record}
 use Rattle.area_model.specs.Placement.{is_free}
-use Rattle.sys_map.specs.Fronts.{begins_below, ends_by, BeginsRise, EndsRise, BeginsAscend}
+use Rattle.sys_map.specs.BinarySearch.{begins_below, ends_by, BeginsRise, EndsRise}
 use Rattle.sys_map.proofs.Fronting.{last_is}
-use Rattle.sys_map.proofs.InOrder.{EndsAscend}
-use Rattle.sys_map.proofs.Ranging.{rise_from_ascend}
 
 -- an area that is found at a place
 pub record IsAt (areas : List Record) (place : ℕ) (area : Record) : Type 0 where
@@ -69,72 +68,69 @@ free_tests : (lo hi start pages : ℕ) → (start + pages ≤ lo) ⊎ (hi ≤ st
 free_tests lo hi start pages (inl below) = grind (arith, nat_tests)
 free_tests lo hi start pages (inr above) = grind (arith, nat_tests)
 
--- and where each lies beside them they are
-pub free : (areas : List Record) (pages start : ℕ)
-    → ((k : ℕ) (d : Record) → k < length areas → (start + pages ≤ (get_or areas k d).span.lo) ⊎ ((get_or areas k d).span.hi ≤ start))
+-- and where the areas before a place end at or below their start, and those from there on begin at or above their end, they are
+pub free_between : (areas : List Record) (pages start place : ℕ)
+    → ((k : ℕ) (d : Record) → k < place → k < length areas → (get_or areas k d).span.hi ≤ start)
+    → ((k : ℕ) (d : Record) → place ≤ k → k < length areas → start + pages ≤ (get_or areas k d).span.lo)
     → is_free areas pages start ≡ true
 unfolding is_free
-free areas pages start beside =
+free_between areas pages start place before after =
     list_all-from_AllPass (λ (a : Record). nat_le (start + pages) a.span.lo || nat_le a.span.hi start) areas
-    (λ k d within. free_tests (get_or areas k d).span.lo (get_or areas k d).span.hi start pages (beside k d within))
+    (λ k d within. free_tests (get_or areas k d).span.lo (get_or areas k d).span.hi start pages (elim (cases_lt k place) [
+      | inl front ↦ inr (before k d front within)
+      | inr back ↦ inl (after k d back within)
+    ]))
 
--- the areas before a place begin below a page, and those from there on do not
-pub record BeginsAround (areas : List Record) (place page : ℕ) : Type 0 where
+-- the areas before a place have a number below a bound, and those from there on have not
+pub record IsParted (number : Record → ℕ) (areas : List Record) (place bound : ℕ) : Type 0 where
   pub within : place ≤ length areas
-  pub below : (k : ℕ) (d : Record) → k < place → (get_or areas k d).span.lo < page
-  pub above : (k : ℕ) (d : Record) → place ≤ k → k < length areas → page ≤ (get_or areas k d).span.lo
+  pub below : (k : ℕ) (d : Record) → k < place → number (get_or areas k d) < bound
+  pub above : (k : ℕ) (d : Record) → place ≤ k → k < length areas → bound ≤ number (get_or areas k d)
 
-pub begins_around : (areas : List Record) (page place : ℕ) → BeginsRise areas → place ≡ begins_below page areas → place ≤ length areas
-    → BeginsAround areas place page
-begins_around areas page place rise is within = record {
+-- so they are by the test of a binary search
+parted : (number : Record → ℕ) (test : Record → Bool) (areas : List Record) (place bound : ℕ) → ((area : Record) → test area ≡ true → number area < bound)
+    → ((area : Record) → test area ≡ false → bound ≤ number area) → IsNonDecreasingBy number areas → place ≡ prefix_len test areas → place ≤ length areas
+    → IsParted number areas place bound
+parted number test areas place bound passes stops rise is within = record {
   within = within;
-  below = λ k d before. ltb-true (get_or areas k d).span.lo page
-      (prefix_len_passes (λ (area : Record). nat_lt area.span.lo page) areas k d (omega arith));
+  below = λ k d before. passes (get_or areas k d) (prefix_len_passes test areas k d (omega arith));
   above = λ k d behind inside. omega (
     arith,
-    rise (begins_below page areas) k d (omega arith) inside,
-    ltb-false (get_or areas (begins_below page areas) d).span.lo page
-        (prefix_len_stops (λ (area : Record). nat_lt area.span.lo page) areas d (omega arith)),
+    rise (prefix_len test areas) k d (omega arith) inside,
+    stops (get_or areas (prefix_len test areas) d) (prefix_len_stops test areas d (omega arith)),
   );
 }
 
--- the areas before a place end at or below a page, and those from there on do not
-pub record EndsAround (areas : List Record) (place page : ℕ) : Type 0 where
-  pub within : place ≤ length areas
-  pub below : (k : ℕ) (d : Record) → k < place → (get_or areas k d).span.hi ≤ page
-  pub above : (k : ℕ) (d : Record) → place ≤ k → k < length areas → page < (get_or areas k d).span.hi
+pub parted_by_begins : (areas : List Record) (page place : ℕ) → BeginsRise areas → place ≡ begins_below page areas → place ≤ length areas
+    → IsParted (λ area. area.span.lo) areas place page
+parted_by_begins areas page place = parted (λ area. area.span.lo) (λ area. nat_lt area.span.lo page) areas place page
+    (λ area. ltb-true area.span.lo page) (λ area. ltb-false area.span.lo page)
 
-pub ends_around : (areas : List Record) (page place : ℕ) → EndsRise areas → place ≡ ends_by page areas → place ≤ length areas
-    → EndsAround areas place page
-ends_around areas page place rise is within = record {
-  within = within;
-  below = λ k d before. leb-true (get_or areas k d).span.hi page
-      (prefix_len_passes (λ (area : Record). nat_le area.span.hi page) areas k d (omega arith));
-  above = λ k d behind inside. omega (
-    arith,
-    rise (ends_by page areas) k d (omega arith) inside,
-    leb-false (get_or areas (ends_by page areas) d).span.hi page
-        (prefix_len_stops (λ (area : Record). nat_le area.span.hi page) areas d (omega arith)),
-  );
-}
+pub parted_by_ends : (areas : List Record) (page place : ℕ) → EndsRise areas → place ≡ ends_by page areas → place ≤ length areas
+    → IsParted (λ area. area.span.hi) areas place (page + 1)
+parted_by_ends areas page place = parted (λ area. area.span.hi) (λ area. nat_le area.span.hi page) areas place (page + 1)
+    (λ area passes. omega (arith, leb-true area.span.hi page passes)) (λ area stops. omega (arith, leb-false area.span.hi page stops))
 
--- one area further down
-pub begins_down : (areas : List Record) (place end : ℕ) (area : Record) → BeginsAscend areas → BeginsAround areas place end → 0 < place
-    → IsAt areas (place - 1) area → BeginsAround areas (place - 1) area.span.lo
-begins_down areas place end area ascend around some at = record {
-  within = omega (arith, around.within);
-  below = λ k d before. omega (arith, ascend k (place - 1) d before at.within, ap (λ (a : Record). a.span.lo) (at.there d));
-  above = λ k d behind inside. omega (arith, rise_from_ascend areas ascend (place - 1) k d behind inside, ap (λ (a : Record). a.span.lo) (at.there d));
-}
+-- where the numbers ascend, an area parts the list at its own place and at the next
+pub parted_at : (number : Record → ℕ) (areas : List Record) (place : ℕ) (area : Record) → AllPairs (λ a b. number a < number b) areas
+    → IsAt areas place area → IsParted number areas place (number area) × IsParted number areas (place + 1) (number area + 1)
+parted_at number areas place area ascend at = (
+  record { within = omega (arith, at.within); below = lower; above = λ k d behind inside. from_here k d behind inside },
+  record {
+    within = omega (arith, at.within);
+    below = λ k d before. elim (cases_eq k place) [
+      | inl same ↦ omega (arith, ap number (ap (λ n. get_or areas n d) same ∙ at.there d))
+      | inr apart ↦ omega (arith, lower k d (omega arith))
+    ];
+    above = λ k d behind inside. omega (arith, ascend place k d (omega arith) inside, ap number (at.there d));
+  },
+)
+  where
+    lower : (k : ℕ) (d : Record) → k < place → number (get_or areas k d) < number area
+    lower k d before = omega (arith, ascend k place d before at.within, ap number (at.there d))
 
--- one area further up
-pub ends_up : (areas : List Record) (place start : ℕ) (area : Record) → EndsAscend areas → EndsAround areas place start
-    → IsAt areas place area → EndsAround areas (place + 1) area.span.hi
-ends_up areas place start area ascend around at = record {
-  within = omega (arith, at.within);
-  below = λ k d before. elim (cases_eq k place) [
-    | inl same ↦ omega (arith, ap (λ (a : Record). a.span.hi) (ap (λ n. get_or areas n d) same ∙ at.there d))
-    | inr apart ↦ omega (arith, ascend k place d (omega arith) at.within, ap (λ (a : Record). a.span.hi) (at.there d))
-  ];
-  above = λ k d behind inside. omega (arith, ascend place k d (omega arith) inside, ap (λ (a : Record). a.span.hi) (at.there d));
-}
+    from_here : (k : ℕ) (d : Record) → place ≤ k → k < length areas → number area ≤ number (get_or areas k d)
+    from_here k d behind inside = elim (cases_eq k place) [
+      | inl same ↦ omega (arith, ap number (ap (λ n. get_or areas n d) same ∙ at.there d))
+      | inr apart ↦ omega (arith, ascend place k d (omega arith) inside, ap number (at.there d))
+    ]

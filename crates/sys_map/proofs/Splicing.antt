@@ -1,4 +1,4 @@
--- A part of a list, replaced.
+-- For `splice_down` and `splice_up`: a part of a list, replaced.
 use Rattle.std.proofs.Common.{◌≡◌, ◌≤◌, ◌+◌, ◌-◌, ℕ, List, ◌++◌, length, take, drop, ap, ◌∙◌, sym, arith}
 use Rattle.std.proofs.lemmas.List.{append_assoc, length-take-le, length-drop, length-append, take_at, drop_at, drop-drop}
 
@@ -43,7 +43,7 @@ module _ {A : Type 0} (old parts : List A) (start end : ℕ) where
       both : length front + length (drop end old) ≡ length old - spare
       both = omega (arith, long, length-drop end old)
 
-  -- where more come in, the rest moves up behind those that came to the end
+  -- where more come in, the rest moves up after those that came to the end
   pub spliced_up : (first rest one two three : List A) → start ≤ end → end ≤ length old → length first ≡ end - start → first ++ rest ≡ parts
       → one ≡ take start old ++ (first ++ drop (start + length first) old)
       → two ≡ one ++ rest

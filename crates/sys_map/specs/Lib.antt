@@ -1,3 +1,3 @@
 pub mod Stored
-pub mod Fronts
-pub mod Ranges
+pub mod BinarySearch
+pub mod Touched

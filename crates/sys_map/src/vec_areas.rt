@@ -3,9 +3,9 @@ ghost use Rattle.std.specs.Prelude.{◌≡◌, [], IfOk};
 ghost use Rattle.area_model.specs.Placement.{bounds_of};
 ghost use Rattle.split_merge.specs.Plans.{applied, IsPlanOf, IsKept};
 
-use crate::edits::carry_out;
-use crate::fronts::{area_at, begins_below, ends_by, last_of};
-use crate::places::place;
+use crate::apply::carry_out;
+use crate::binary_search::{area_at, begins_below, ends_by, last_of};
+use crate::placement::place;
 use area_model::{Bounds, bounds_of};
 use mm_types::{Config, NoMemory, Page, Record};
 use split_merge::{Areas, Plan};
@@ -13,7 +13,7 @@ use std::alloc::Global;
 use std::marker::Model;
 
 /// A list of areas in a sorted vector with room for as many as are allowed, so that it never grows. Contracts see it as
-/// the list and the numbers of its configuration, for which the list is sound.
+/// the list, the numbers of its configuration, for which the list is sound, and the room.
 #[derive(Debug, Drop)]
 pub struct VecAreas {
     items: Vec<Record>,
@@ -29,16 +29,17 @@ impl Model for VecAreas {
 
     ghost Value = { Stored };
 
-    ghost view = { λ v. record { list = v.items.items; bounds = v.bounds; most = v.most } };
+    ghost view = { λ v. record { list = v.items.items; bounds = v.bounds; most = v.most; room = vec_capacity v.items } };
 
     ghost invariant = { λ v. HasRoom v.bounds v.most v.items.items (vec_capacity v.items) (vec_capacity v.middle) };
 }
 
 impl VecAreas {
-    /// An empty list with the numbers of a configuration.
+    /// An empty list with the numbers of a configuration, and room for exactly the areas that are allowed.
     #[tactic(auto, unfolding(area_model::specs::Placement::bounds_of))]
     pub fn with_room(alloc: Global, config: &Config) -> Result<VecAreas, NoMemory>
-        ensures { IfOk result (λ areas. areas ≡ record { list = []; bounds = bounds_of config.now; most = config.now.areas }) }
+        ensures { IfOk result (λ areas. areas
+            ≡ record { list = []; bounds = bounds_of config.now; most = config.now.areas; room = config.now.areas }) }
     {
         let most = config.areas as usize;
         Ok(VecAreas {
@@ -57,7 +58,7 @@ impl VecAreas {
         self.items.as_slice()
     }
 
-    /// Changes the list by a plan. The areas behind those that change move at most once.
+    /// Changes the list by a plan, within its room. The areas after those that change move at most once.
     pub fn apply(&mut self, plan: &Plan)
         requires plan { IsPlanOf self.old.list plan.now.changes }
         requires kept { IsKept self.old.bounds self.old.most (applied plan.now.changes self.old.list) }
@@ -88,7 +89,7 @@ impl Areas for VecAreas {
         last_of(self.items.as_slice(), place)
     }
 
-    fn place(&mut self, len: u64) -> Option<Page> {
+    fn place(&self, len: u64) -> Option<Page> {
         place(self.bounds, self.items.as_slice(), len).map(Page)
     }
 }

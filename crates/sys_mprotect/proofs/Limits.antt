@@ -1,4 +1,4 @@
--- Ranges that go past the limit, from whose page on no page is mapped.
+-- For `plan_mprotect`: ranges that go past the limit, from whose page on no page is mapped.
 use Rattle.std.proofs.Common.{◌≡◌, ◌≤◌, ◌<◌, ℕ, true, false, ◌&&◌, min, nat_le, nat_lt, List, [], ◌∷◌, length, inl, inr, ◌⊎◌, Option, Some, None, refl, ap, ◌∙◌, sym, subst, arith}
 use Rattle.std.specs.Option.{option_or, option_map}
 use Rattle.std.specs.List.{filter, AllByRecursion as Each}
@@ -10,17 +10,16 @@ use Rattle.mm_types.specs.declared.area.Prot.{Prot}
 use Rattle.mm_types.specs.declared.area.Record.{Record}
 use Rattle.mm_types.specs.declared.call.Errno.{Errno}
 use Rattle.mm_types.specs.declared.call.Errno.TheVariants.{Enomem}
-use Rattle.area_model.specs.Areas.{IsCanonical, area_at, has_page, page_map, protected_page}
-use Rattle.area_model.specs.Changes.{protected_list}
+use Rattle.area_list.specs.Areas.{IsCanonical, area_at, has_page, page_map, protected_page}
+use Rattle.area_list.specs.Changes.{protected_list}
 use Rattle.area_model.specs.Laws.{IsStop, prefix_of}
-use Rattle.area_model.specs.Mprotect.{may_have, stop_of, protected_prefix}
-use Rattle.area_model.proofs.Elements.{Each-always}
-use Rattle.area_model.proofs.NewProtection.{stop_before, may_not_unmapped}
-use Rattle.area_model.proofs.Order.{IsGood, good_from_canonical}
+use Rattle.area_model.specs.Mprotect.{may_have, stop_of, stop_error, protected_prefix}
+use Rattle.area_list.proofs.Elements.{Each-always}
+use Rattle.area_model.proofs.Stopping.{stop_before, may_not_unmapped}
+use Rattle.area_list.proofs.Order.{IsGood, good_from_canonical}
 use Rattle.area_model.proofs.ProtectLaws.{stop_is, prefix_unique}
 use Rattle.split_merge.specs.declared.plan.Change.{Change}
 use Rattle.split_merge.specs.Plans.{olds_of, IsLocal, Makes, is_near}
-use Rattle.split_merge.specs.Stops.{stop_error}
 use Rattle.split_merge.proofs.Lists.{length-filter_wider}
 use Rattle.split_merge.proofs.Refusing.{nothing_made}
 use Rattle.split_merge.proofs.Stopping.{error_unmapped}
@@ -36,7 +35,7 @@ unmapped limit (area ∷ areas) page good past =
     (not_within area.span.lo area.span.hi page (omega (arith, good.0.below_end)))
     ∙ unmapped limit areas page good.1 past
 
--- the error of a range that goes on behind the one that was protected
+-- the error of a range that goes on after the one that was protected
 error_before : (lo hi end stop : ℕ) (area : Option Record) → end < hi → stop < end
     → option_or (stop_error (record { lo = lo; hi = end }) stop area) (Some Enomem) ≡ stop_error (record { lo = lo; hi = hi }) stop area
 unfolding stop_error

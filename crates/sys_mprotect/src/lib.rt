@@ -2,25 +2,20 @@
 #![tactic(auto)]
 
 ghost use Rattle.std.specs.Prelude.{◌≡◌, ◌<◌, ◌≤◌, ◌+◌, ◌*◌, ℕ, [], Some};
-ghost use Rattle.std.specs.Option.{option_map_or};
 ghost use Rattle.mm_types.specs.declared.call.Reply.{Reply};
-ghost use Rattle.mm_types.specs.declared.call.Reply.TheVariants.{Zero, Refused};
 ghost use Rattle.mm_types.specs.Config.{IsValidConfig};
-ghost use Rattle.area_model.specs.Areas.{IsSound, area_at};
-ghost use Rattle.area_model.specs.Mprotect.{stop_of, protected_prefix, mprotect_rows, mprotect};
+ghost use Rattle.area_list.specs.Areas.{IsSound, area_at};
+ghost use Rattle.area_model.specs.Mprotect.{stop_of, stop_error, protected_prefix, mprotect_rows, mprotect};
 ghost use Rattle.area_model.specs.Munmap.{range_of};
-ghost use Rattle.area_model.specs.Placement.{bounds_of};
 ghost use Rattle.area_model.specs.Stepped.{space_of};
-ghost use Rattle.area_model.specs.Tables.{first_row};
-ghost use Rattle.split_merge.specs.Plans.{IsLocal, applied, Makes, IsKept, IsFresh};
-ghost use Rattle.split_merge.specs.Stops.{stop_error};
+ghost use Rattle.mm_types.specs.Rows.{first_row};
+ghost use Rattle.split_merge.specs.Calls.{IsPrepared, IsPlannedCall};
+ghost use Rattle.split_merge.specs.Plans.{IsLocal, Makes, IsKept, IsFresh};
 
-use area_model::{end_of, is_aligned, page_of, range_of};
-use mm_types::{Config, Errno, Prot, Reply, Span};
+use area_list::page_of;
+use area_model::{end_of, is_aligned, range_of, stopped_reply};
+use mm_types::{ADDRESSES_END, Config, Errno, Prot, Reply, Span};
 use split_merge::{Areas, Plan, is_too_long, plan_protect};
-
-/// The end of all addresses, 2^64.
-const ADDRESSES_END: u128 = 1 << 64;
 
 /// Plans the protection on the pages of the range before the first that is not mapped or may not have it, and gives the
 /// error there, if there is such a page. None is mapped from the page `limit` on.
@@ -55,42 +50,27 @@ fn plan_prefix<A: Areas>(
     error
 }
 
-/// The reply of a call that comes to this error, or to none.
-fn reply_of(error: Option<Errno>) -> Reply
-    ensures { result ≡ option_map_or Refused error Zero }
-{
-    error.map_or(Reply::Zero, Reply::Refused)
-}
-
 /// One call of mprotect(2), planned. `addr` and `len` are in bytes. The reply and the list that the plan makes are those
 /// of the model, and do not depend on the counter of objects. Where the call stops at a page that is not mapped (ENOMEM)
 /// or may not have the protection (EACCES), the plan has the new protection of the pages before it; after every other
-/// refusal it is empty.
-#[tactic(auto, using(split_merge::proofs::Refusing::nothing_made, split_merge::proofs::Refusing::nothing_local), unfolding(area_model::specs::Mprotect::mprotect, area_model::specs::Mprotect::mprotect_rows))]
+/// refusal it is empty. No memory is taken.
+#[tactic(auto, using(split_merge::proofs::Refusing::nothing_made, split_merge::proofs::Refusing::nothing_local, split_merge::proofs::Refusing::nothing_kept), unfolding(area_model::specs::Mprotect::mprotect, area_model::specs::Mprotect::mprotect_rows))]
 pub fn plan_mprotect<A: Areas>(
     config: &Config,
-    areas: &mut A,
+    areas: &A,
     addr: u64,
     len: u64,
     prot: Prot,
     plan: &mut Plan,
 ) -> Reply
     requires valid { IsValidConfig config.now }
-    requires sound { IsSound config.now (A.list areas.old) }
-    requires bounds { A.bounds areas.old ≡ bounds_of config.now }
-    requires most { A.most areas.old ≡ config.now.areas }
-    requires fresh { IsFresh config.now.areas plan.old }
-    ensures reply { (objects : ℕ) → result ≡ (mprotect config.now (space_of (A.list areas.old) objects) addr len prot).reply }
-    ensures makes { (objects : ℕ) → Makes plan.new.changes (A.list areas.old)
-        (mprotect config.now (space_of (A.list areas.old) objects) addr len prot).space.areas }
-    ensures kept { IsKept (A.bounds areas.old) (A.most areas.old) (applied plan.new.changes (A.list areas.old)) }
-    ensures local { IsLocal (range_of addr len) (A.list areas.old) plan.new.changes }
-    ensures early { (reply : Reply) → first_row (mprotect_rows config.now (A.list areas.old) addr len prot) ≡ Some reply
+    requires sound { IsSound config.now (A.list areas.now) }
+    requires prepared { IsPrepared config.now (A.bounds areas.now) (A.most areas.now) plan.old }
+    ensures planned { (objects : ℕ) → IsPlannedCall (A.bounds areas.now) (A.most areas.now) (A.list areas.now)
+        (mprotect config.now (space_of (A.list areas.now) objects) addr len prot) result plan.old plan.new }
+    ensures local { IsLocal (range_of addr len) (A.list areas.now) plan.new.changes }
+    ensures early { (reply : Reply) → first_row (mprotect_rows config.now (A.list areas.now) addr len prot) ≡ Some reply
         → plan.new.changes ≡ [] }
-    ensures room { plan.new.room ≡ plan.old.room }
-    ensures list { A.list areas.new ≡ A.list areas.old }
-    ensures bounds { A.bounds areas.new ≡ A.bounds areas.old }
-    ensures most { A.most areas.new ≡ A.most areas.old }
 {
     if !is_aligned(addr) {
         return Reply::Refused(Errno::Einval);
@@ -107,5 +87,5 @@ pub fn plan_mprotect<A: Areas>(
         plan.clear();
         return Reply::Refused(Errno::Enomem);
     }
-    reply_of(error)
+    stopped_reply(error)
 }

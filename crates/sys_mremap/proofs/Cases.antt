@@ -1,26 +1,26 @@
--- The cases of mremap(2), and what its tests leave for each.
+-- For `plan_change`, `plan_elsewhere` and `plan_growth`: the cases of mremap(2), and what its tests leave for each.
 use Rattle.std.proofs.Common.{◌≡◌, ◌≤◌, ◌<◌, ◌+◌, ◌*◌, ◌^◌, ◌⊎◌, inl, inr, ℕ, Bool, true, false, not, ◌&&◌, ◌||◌, List, Some, option_map, refl, ◌∙◌, sym, subst, arith}
 use Rattle.std.proofs.lemmas.Bool.{cond-true, cond-false, ltb-false}
 use Rattle.std.proofs.lemmas.Option.{same_Some}
 use Rattle.mm_types.specs.declared.area.Record.{Record}
 use Rattle.mm_types.specs.declared.config.Config.{Config}
-use Rattle.area_model.specs.declared.remapping.MremapArgs.{MremapArgs}
-use Rattle.area_model.specs.Areas.{page_of, IsCanonical}
+use Rattle.area_model.specs.declared.mremap_request.MremapArgs.{MremapArgs}
+use Rattle.area_list.specs.Areas.{page_of, IsCanonical}
 use Rattle.mm_types.specs.declared.config.TheConstants.{PAGE_SIZE}
 use Rattle.area_model.specs.Placement.{bounds_of}
 use Rattle.area_model.specs.Tables.{pages_of, is_aligned}
 use Rattle.area_model.specs.declared.placement.Bounds.{Bounds}
-use Rattle.area_model.specs.Changes.{IsSmall}
+use Rattle.area_list.specs.Changes.{IsSmall}
 use Rattle.area_model.specs.Mremap.{carried_area, added_range, overlap, moves_to, grows, old_range, has_room, mremap_rows, moved, grown_list, shrunk_list, mremap_change}
 use Rattle.area_model.specs.Laws.{MovesTo, moved_range}
-use Rattle.area_model.proofs.Order.{IsGood}
-use Rattle.area_model.proofs.SmallNumbers.{small_valid}
+use Rattle.area_list.proofs.Order.{IsGood}
+use Rattle.area_list.proofs.SmallNumbers.{small_valid}
 use Rattle.area_model.proofs.Moving.{move_beside}
 use Rattle.area_model.proofs.NewArea.{pages_some}
 use Rattle.area_model.proofs.Rows.{NoneHolds, rows_false}
 use Rattle.area_model.proofs.RemapLaws.{IsRemappable, some_range, remappable_from_rows, IsOld, old_area, grown_good, moved_good, moved_fits}
 use Rattle.split_merge.proofs.Refusing.{range_within}
-use Rattle.sys_mremap.specs.Remapping.{IsAccepted, IsAdmitted, goes_elsewhere, other_place}
+use Rattle.sys_mremap.specs.Cases.{IsAccepted, IsAdmitted, goes_elsewhere, other_place}
 
 module _ (config : Config) (areas : List Record) (args : MremapArgs) (area : Record) where
   -- why a range goes elsewhere

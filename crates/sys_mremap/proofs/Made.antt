@@ -1,12 +1,12 @@
--- The lists that the plans of mremap(2)'s changes make, and that these plans are local to the old range and the new one.
+-- For `plan_change`, `plan_elsewhere`, `plan_growth` and others: the lists that the plans of mremap(2)'s changes make, and that these plans are local to the old range and the new one.
 use Rattle.std.proofs.Common.{◌≡◌, ◌≤◌, ◌<◌, ◌+◌, ℕ, false, nat_lt, List, [], Option, Some, refl, ap, ◌∙◌, sym, subst, arith}
 use Rattle.std.proofs.lemmas.Bool.{cond-true, cond-false, lt-ltb, le-ltb}
 use Rattle.mm_types.specs.declared.area.Span.{Span}
 use Rattle.mm_types.specs.declared.area.Record.{Record}
-use Rattle.area_model.specs.declared.remapped.Moved.{Moved}
-use Rattle.area_model.specs.declared.remapping.MremapArgs.{MremapArgs}
-use Rattle.area_model.specs.Areas.{page_of}
-use Rattle.area_model.specs.Changes.{cut, put}
+use Rattle.area_model.specs.declared.mremap_table.Moved.{Moved}
+use Rattle.area_model.specs.declared.mremap_request.MremapArgs.{MremapArgs}
+use Rattle.area_list.specs.Areas.{page_of}
+use Rattle.area_list.specs.Changes.{cut, put}
 use Rattle.area_model.specs.Tables.{pages_of}
 use Rattle.area_model.specs.Munmap.{range_of}
 use Rattle.area_model.specs.Mremap.{overlap, carried_area, added_range, old_range, moved_list, grown_list, shrunk_list}
@@ -14,7 +14,7 @@ use Rattle.area_model.specs.Laws.{moved_range}
 use Rattle.split_merge.specs.declared.plan.Change.{Change}
 use Rattle.split_merge.specs.Plans.{Planned, Makes, IsLocal, IsLocalToEither}
 use Rattle.split_merge.proofs.Refusing.{nothing_made}
-use Rattle.sys_mremap.specs.Remapping.{MakesAt, PlansChange}
+use Rattle.sys_mremap.specs.Cases.{MakesAt, PlansChange}
 use Rattle.sys_mremap.proofs.Nearness.{local_in_first, local_in_second, nothing_local}
 
 -- the pages of the old range past the new length

@@ -1,28 +1,23 @@
--- Plans that are local to a part of the old range or the new one are local to these two.
-use Rattle.std.proofs.Common.{◌≡◌, ◌≤◌, ℕ, Bool, true, ◌&&◌, ◌||◌, nat_le, List, [], ◌∷◌, length, get_or, subst, sym, arith}
-use Rattle.std.specs.List.{filter}
-use Rattle.std.proofs.lemmas.Bool.{cond_both}
+-- For `plan_change`, `plan_elsewhere`, `plan_growth` and others: plans that are local to a part of the old range or the new one are local to these two.
+use Rattle.std.proofs.Common.{◌≡◌, ◌≤◌, ℕ, Bool, true, ◌&&◌, ◌||◌, nat_le, List, [], get_or, subst, sym, arith}
 use Rattle.std.proofs.lemmas.Bool.Decides.{nat_tests}
 use Rattle.mm_types.specs.declared.area.Span.{Span}
 use Rattle.mm_types.specs.declared.area.Record.{Record}
+use Rattle.area_list.proofs.Elements.{Each-always}
 use Rattle.split_merge.specs.declared.plan.Change.{Change}
 use Rattle.split_merge.specs.Plans.{olds_of, is_near, is_near_either, IsLocal, IsLocalToEither}
-
--- where what passes one test passes another, as many elements pass that, or more
-length-filter_wider : {A : Type 0} (passes wider : A → Bool) → ((x : A) → passes x ≡ true → wider x ≡ true) → (xs : List A)
-    → length (filter passes xs) ≤ length (filter wider xs)
-length-filter_wider passes wider step [] = omega arith
-length-filter_wider passes wider step (x ∷ xs) =
-    cond_both (passes x) (x ∷ filter passes xs) (filter passes xs) (λ ys. length ys ≤ length (filter wider (x ∷ xs)))
-    (λ passed. rw (step x passed) (omega (arith, length-filter_wider passes wider step xs)))
-    (λ fails. cond_both (wider x) (x ∷ filter wider xs) (filter wider xs) (λ ys. length (filter passes xs) ≤ length ys)
-    (λ also. omega (arith, length-filter_wider passes wider step xs)) (λ neither. length-filter_wider passes wider step xs))
+use Rattle.split_merge.proofs.Lists.{length-filter_wider}
 
 wider_local : (span a b : Span) (areas : List Record) (plan : List Change)
     → ((area : Record) → is_near span area ≡ true → is_near_either a b area ≡ true) → IsLocal span areas plan → IsLocalToEither a b areas plan
 wider_local span a b areas plan wider local = record {
   near = λ k d within. wider (get_or (olds_of plan) k d) (local.near k d within);
-  short = omega (arith, local.short, length-filter_wider (is_near span) (is_near_either a b) wider areas);
+  short = omega (
+    arith,
+    local.short,
+    length-filter_wider (is_near span) (is_near_either a b) areas
+        (Each-always (λ area. is_near span area ≡ true → is_near_either a b area ≡ true) wider areas),
+  );
 }
 
 -- a plan for a part of the one span is local to the two

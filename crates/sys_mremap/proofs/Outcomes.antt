@@ -1,4 +1,4 @@
--- mremap(2) by how far its tests come, for plans.
+-- For `plan_mremap`: mremap(2) by how far its tests come.
 use Rattle.std.proofs.Common.{◌≡◌, ◌*◌, ℕ, Bool, true, false, nat_lt, List, [], length, Option, Some, None, ap, ◌∙◌, sym, subst, arith}
 use Rattle.mm_types.specs.declared.area.Record.{Record}
 use Rattle.mm_types.specs.declared.call.Errno.{Errno}
@@ -8,21 +8,22 @@ use Rattle.mm_types.specs.declared.call.Reply.TheVariants.{Refused, Addr, Zero}
 use Rattle.mm_types.specs.declared.config.Config.{Config}
 use Rattle.mm_types.specs.Config.{IsValidConfig}
 use Rattle.area_model.specs.declared.placement.Bounds.{Bounds}
-use Rattle.area_model.specs.declared.remapped.Moved.{Moved}
-use Rattle.area_model.specs.declared.remapping.MremapArgs.{MremapArgs}
-use Rattle.area_model.specs.Areas.{page_of, IsCanonical, IsSound}
-use Rattle.area_model.specs.Tables.{Outcome, first_row, unless_refused}
+use Rattle.area_model.specs.declared.mremap_table.Moved.{Moved}
+use Rattle.area_model.specs.declared.mremap_request.MremapArgs.{MremapArgs}
+use Rattle.area_list.specs.Areas.{page_of, IsCanonical, IsSound}
+use Rattle.area_model.specs.Tables.{Outcome}
+use Rattle.mm_types.specs.Rows.{first_row}
 use Rattle.area_model.specs.Munmap.{range_of}
-use Rattle.area_model.specs.Mremap.{old_range, mremap_rows, mremap_change, mremap_change_rows, mremap_done, mremap}
+use Rattle.area_model.specs.Mremap.{old_range, mremap_rows, mremap_change, mremap_changed, mremap_done, mremap}
 use Rattle.area_model.specs.Laws.{moved_range}
-use Rattle.area_model.specs.Placement.{bounds_of}
 use Rattle.area_model.specs.Stepped.{space_of}
 use Rattle.area_model.proofs.MmapTable.{refusal}
 use Rattle.area_model.proofs.RemapLaws.{mremap_both, change_both, moved_canonical, shrunk_canonical, grown_canonical}
 use Rattle.split_merge.specs.declared.plan.Change.{Change}
-use Rattle.split_merge.specs.Plans.{applied, Makes, IsKept, IsLocalToEither}
-use Rattle.split_merge.proofs.Refusing.{nothing_made, kept_if_sound}
-use Rattle.sys_mremap.specs.Remapping.{IsAccepted}
+use Rattle.split_merge.specs.Plans.{Planned, applied, Makes, IsLocalToEither}
+use Rattle.split_merge.specs.Calls.{IsPrepared, IsPlannedCall}
+use Rattle.split_merge.proofs.Calling.{planned, unchanged}
+use Rattle.sys_mremap.specs.Cases.{IsAccepted}
 
 module _ (config : Config) (areas : List Record) (args : MremapArgs) where
   -- the call is refused, whatever the counter of objects is
@@ -32,20 +33,6 @@ module _ (config : Config) (areas : List Record) (args : MremapArgs) where
   -- the call leaves this list and answers this page, whatever the counter is
   abbrev pub IsDone : List Record → ℕ → Type 0
   IsDone after page = (objects : ℕ) → mremap config (space_of areas objects) args ≡ record { space = space_of after objects; reply = Addr (4096 * page) }
-
-  pub refused_reply : (errno : Errno) → IsRefused errno → (objects : ℕ) → Refused errno ≡ (mremap config (space_of areas objects) args).reply
-  refused_reply errno is objects = sym (ap (λ (o : Outcome). o.reply) (is objects))
-
-  pub refused_makes : (errno : Errno) (plan : List Change) → IsRefused errno → plan ≡ []
-      → (objects : ℕ) → Makes plan areas (mremap config (space_of areas objects) args).space.areas
-  refused_makes errno plan is none objects = nothing_made plan areas _ none (ap (λ (o : Outcome). o.space.areas) (is objects))
-
-  pub done_reply : (after : List Record) (page : ℕ) → IsDone after page → (objects : ℕ) → Addr (4096 * page) ≡ (mremap config (space_of areas objects) args).reply
-  done_reply after page is objects = sym (ap (λ (o : Outcome). o.reply) (is objects))
-
-  pub done_makes : (after : List Record) (page : ℕ) (plan : List Change) → IsDone after page → Makes plan areas after
-      → (objects : ℕ) → Makes plan areas (mremap config (space_of areas objects) args).space.areas
-  done_makes after page plan is made objects = subst (Makes plan areas) (sym (ap (λ (o : Outcome). o.space.areas) (is objects))) made
 
   -- a test of the request refuses
   pub refused_by_test : (errno : Errno) → first_row (mremap_rows config areas args) ≡ Some errno → IsRefused errno
@@ -63,46 +50,57 @@ module _ (config : Config) (areas : List Record) (args : MremapArgs) where
         few = few;
       })
 
-  pub mremap_kept : (bounds : Bounds) (most : ℕ) (plan : List Change) → IsValidConfig config → IsSound config areas → bounds ≡ bounds_of config
-      → most ≡ config.areas → ((objects : ℕ) → Makes plan areas (mremap config (space_of areas objects) args).space.areas)
-      → IsKept bounds most (applied plan areas)
-  mremap_kept bounds most plan valid sound numbers allowed made =
-      kept_if_sound config bounds most plan areas (mremap config (space_of areas 0) args).space.areas numbers allowed (made 0).result
-      (mremap_sound 0 valid sound)
+  module _ {bounds : Bounds} {most : ℕ} {old : Planned} (asked : MremapArgs) (same : args ≡ asked) (prepared : IsPrepared config bounds most old)
+      (sound : IsSound config areas) (new : Planned) (room : new.room ≡ old.room) where
+    -- the refusal is planned
+    pub refused_call : (errno : Errno) → IsRefused errno → new.changes ≡ []
+        → (objects : ℕ) → IsPlannedCall bounds most areas (mremap config (space_of areas objects) asked) (Refused errno) old new
+    refused_call errno is none objects =
+        subst (λ a. IsPlannedCall bounds most areas (mremap config (space_of areas objects) a) (Refused errno) old new) same
+        (unchanged prepared new room (space_of areas objects) (mremap config (space_of areas objects) args) (Refused errno) (is objects) none sound)
+
+    -- and so is the list that the call leaves
+    pub done_call : (after : List Record) (page : ℕ) → IsValidConfig config → IsDone after page → Makes new.changes areas after
+        → (objects : ℕ) → IsPlannedCall bounds most areas (mremap config (space_of areas objects) asked) (Addr (4096 * page)) old new
+    done_call after page valid is made objects =
+        subst (λ a. IsPlannedCall bounds most areas (mremap config (space_of areas objects) a) (Addr (4096 * page)) old new) same
+        (planned prepared new room areas (mremap config (space_of areas objects) args) (Addr (4096 * page))
+        (sym (ap (λ (o : Outcome). o.reply) (is objects)))
+        (subst (Makes new.changes areas) (sym (ap (λ (o : Outcome). o.space.areas) (is objects))) made) (mremap_sound objects valid sound))
 
 -- the test on the length of a list, by the plan that makes it
-pub length_test : (most : ℕ) (plan : List Change) (areas list after : List Record) (result test : Bool) → list ≡ areas → applied plan areas ≡ after
-    → result ≡ nat_lt most (length (applied plan list)) → result ≡ test → nat_lt most (length after) ≡ test
-length_test most plan areas list after result test same made tested outcome =
-    ap (λ items. nat_lt most (length items)) (sym (ap (applied plan) same ∙ made)) ∙ sym tested ∙ outcome
+pub length_test : (most : ℕ) (plan : List Change) (areas after : List Record) (result test : Bool) → applied plan areas ≡ after
+    → result ≡ nat_lt most (length (applied plan areas)) → result ≡ test → nat_lt most (length after) ≡ test
+length_test most plan areas after result test made tested outcome = ap (λ items. nat_lt most (length items)) (sym made) ∙ sym tested ∙ outcome
 
 module _ {config : Config} {areas : List Record} {args : MremapArgs} {area : Record} (accepted : IsAccepted config areas args area) where
   -- an accepted call is refused by the tests of its change, or makes that
   by_change : (objects : ℕ) (change : Option Moved) → mremap_change config areas area args ≡ change
       → mremap config (space_of areas objects) args
-      ≡ unless_refused (space_of areas objects) (first_row (mremap_change_rows config change)) (mremap_done (space_of areas objects) change)
+      ≡ mremap_changed config (space_of areas objects) change
   unfolding mremap
   by_change objects change is = rw (accepted.accepted, accepted.found, is)
 
   pub refused_without_change : mremap_change config areas area args ≡ None → IsRefused config areas args Enomem
-  unfolding mremap_change_rows
+  unfolding mremap_changed
   refused_without_change none objects = by_change objects None none
 
   module _ {after : List Record} {page : ℕ} (is : mremap_change config areas area args ≡ Some (record { areas = after; page = page })) where
     pub refused_too_long : nat_lt config.areas (length after) ≡ true → IsRefused config areas args Enomem
-    unfolding mremap_change_rows
+    unfolding mremap_changed
     refused_too_long long objects = by_change objects (Some (record { areas = after; page = page })) is ∙ rw long
 
     pub done_change : nat_lt config.areas (length after) ≡ false → IsDone config areas args after page
-    unfolding mremap_change_rows mremap_done
+    unfolding mremap_changed mremap_done
     done_change fits objects = by_change objects (Some (record { areas = after; page = page })) is ∙ rw fits
 
 -- a plan that is local to the new range at a page is so to the range from its address on
-pub local_from_address : (args : MremapArgs) (plan : List Change) (areas : List Record) (page addr : ℕ) → Addr (4096 * page) ≡ Addr addr
-    → IsLocalToEither (old_range args) (moved_range args page) areas plan → IsLocalToEither (old_range args) (range_of addr args.new_len) areas plan
+pub local_from_address : (args asked : MremapArgs) (plan : List Change) (areas : List Record) (page addr : ℕ) → args ≡ asked → Addr (4096 * page) ≡ Addr addr
+    → IsLocalToEither (old_range args) (moved_range args page) areas plan → IsLocalToEither (old_range asked) (range_of addr asked.new_len) areas plan
 unfolding range_of
-local_from_address args plan areas page addr is local =
-    subst (λ first. IsLocalToEither (old_range args) (moved_range args first) areas plan) begins local
+local_from_address args asked plan areas page addr same is local =
+    subst (λ (a : MremapArgs). IsLocalToEither (old_range a) (moved_range a (page_of addr)) areas plan) same
+    (subst (λ first. IsLocalToEither (old_range args) (moved_range args first) areas plan) begins local)
   where
     addr_of : Reply → ℕ
     addr_of (Refused errno) = 0

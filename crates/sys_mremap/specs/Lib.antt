@@ -1,1 +1,1 @@
-pub mod Remapping
+pub mod Cases

@@ -1,9 +1,9 @@
 //! The call of mremap(2) as a plan over a list of areas.
 #![tactic(auto)]
 
-mod changes;
-mod places;
+mod destination;
+mod plan_cases;
+mod refusal;
 mod remapping;
-mod requests;
 
 pub use remapping::plan_mremap;

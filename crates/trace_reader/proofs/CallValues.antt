@@ -1,4 +1,4 @@
--- The values of the calls and operations of a line fit their types.
+-- For `traces_fit`: the values of the calls and operations of a line fit their types.
 use Rattle.std.proofs.Common.{ℕ, ◌/◌, ◌^◌, ◌<◌, Bool, List, [], ◌∷◌, codes, bytes_eq, ℤ, Option, Some, None, Result, Ok, Err, IfOk, IfSome, if◌then◌else◌, arith}
 use Rattle.std.proofs.lemmas.Bool.{cond_both}
 use Rattle.mm_types.specs.declared.area.Access.{Access}
@@ -7,13 +7,14 @@ use Rattle.mm_types.specs.declared.call.Call.{Call}
 use Rattle.mm_types.specs.declared.call.Call.TheVariants.{Mmap, Munmap, Mprotect, Mremap}
 use Rattle.mm_types.specs.declared.config.TheConstants.{PAGE_SIZE}
 use Rattle.mm_types.specs.declared.flags.TheConstants.{MREMAP_FIXED}
-use Rattle.mm_types.specs.declared.history.Op.TheVariants as ops
+use Rattle.trace_reader.specs.declared.trace.Op.TheVariants as ops
 use Rattle.flag_table.specs.Tables.{map_flags, mremap_flags}
 use Rattle.trace_reader.specs.declared.fault.Cause.{Cause}
 use Rattle.trace_reader.specs.declared.fault.Cause.TheVariants.{Word, Arity}
 use Rattle.trace_reader.specs.Causes.{◌>>=◌}
-use Rattle.trace_reader.specs.Calls.{mmap, mmap_of, munmap_of, mprotect, mprotect_of, moved, number_if, mremap, mremap_of, call_of_words, fault_of, maps_of, op_of}
-use Rattle.trace_reader.specs.Fields.{number, mapped_descriptor, access, flags, has_flag, prot}
+use Rattle.trace_reader.specs.Calls.{mmap, mmap_of, munmap_of, mprotect, mprotect_of, moved, number_if, mremap, mremap_of, call_named, fault_of, maps_of, called, op_named, op_of}
+use Rattle.mm_types.specs.Flags.{has_flag}
+use Rattle.trace_reader.specs.Fields.{number, mapped_descriptor, access, flags, prot}
 use Rattle.trace_reader.specs.Values.{IsCallValue, IsOpValue}
 use Rattle.trace_reader.proofs.FieldValues.{IsWord, IsDescriptor, number-value, mapped_descriptor-value, map_flags-value, mremap_flags-value}
 
@@ -122,10 +123,9 @@ either : {A : Type 0} (P : A → Type 0) (test : Bool) (x y : Result A Cause) �
     → IfOk (if test then x else y) P
 either P test x y hx hy = cond_both test x y (λ r. IfOk r P) (λ _. hx) (λ _. hy)
 
-call_of_words-value : (words : List (List ℕ)) → IfOk (call_of_words words) IsCallValue
-unfolding call_of_words
-call_of_words-value [] = tt
-call_of_words-value (name ∷ words) =
+call_named-value : (name : List ℕ) (words : List (List ℕ)) → IfOk (call_named name words) IsCallValue
+unfolding call_named
+call_named-value name words =
     either IsCallValue (bytes_eq name (codes "mmap")) (mmap_of words) _ (mmap_of-value words)
     (either IsCallValue (bytes_eq name (codes "munmap")) (munmap_of words) _ (munmap_of-value words)
     (either IsCallValue (bytes_eq name (codes "mprotect")) (mprotect_of words) _ (mprotect_of-value words)
@@ -145,10 +145,17 @@ call_op : (r : Result Call Cause) → IfOk r IsCallValue → IfOk (r >>= λ call
 call_op (Ok call) h = h
 call_op (Err c) h = tt
 
+called-value : (name : List ℕ) (words : List (List ℕ)) → IfOk (called name words) IsOpValue
+unfolding called
+called-value name words = call_op (call_named name words) (call_named-value name words)
+
+op_named-value : (name : List ℕ) (words : List (List ℕ)) → IfOk (op_named name words) IsOpValue
+unfolding op_named
+op_named-value name words =
+    either IsOpValue (bytes_eq name (codes "fault")) (fault_of words) _ (fault_of-value words)
+    (either IsOpValue (bytes_eq name (codes "maps")) (maps_of words) _ (maps_of-value words) (called-value name words))
+
 pub op_of-value : (words : List (List ℕ)) → IfOk (op_of words) IsOpValue
 unfolding op_of
 op_of-value [] = tt
-op_of-value (name ∷ words) =
-    either IsOpValue (bytes_eq name (codes "fault")) (fault_of words) _ (fault_of-value words)
-    (either IsOpValue (bytes_eq name (codes "maps")) (maps_of words) _ (maps_of-value words)
-    (call_op (call_of_words (name ∷ words)) (call_of_words-value (name ∷ words))))
+op_of-value (name ∷ words) = op_named-value name words

@@ -1,4 +1,4 @@
--- The values of the fields of a line fit their types.
+-- For `traces_fit`: the values of the fields of a line fit their types.
 use Rattle.std.proofs.Common.{◌≡◌, ℕ, ◌-◌, ◌^◌, ◌<◌, ◌≤◌, ◌≤ℤ◌, ◌%◌, Bool, true, ◌&&◌, nat_eq, nat_le, List, drop, codes, bytes_eq, bit_and, ℤ, pos, negsuc, Option, Some, None, option_and_then, Result, Ok, Err, ok_or, IfOk, IfSome, if◌then◌else◌, refl, arith, lit<}
 use Rattle.std.proofs.lemmas.Bool.{cond_both, and_parts, leb-true, eqb-true}
 use Rattle.std.proofs.lemmas.Int.{ints}
@@ -14,6 +14,7 @@ use Rattle.trace_reader.specs.declared.fault.Cause.{Cause}
 use Rattle.trace_reader.specs.declared.fault.Cause.TheVariants.{Number}
 use Rattle.trace_reader.specs.Causes.{◌>>=◌}
 use Rattle.trace_reader.specs.Fields.{number, number_in, bound, descriptor, mapped_descriptor, or_flag, flags}
+use Rattle.trace_reader.specs.declared.limits.TheConstants.{GREATEST_THREAD}
 use Rattle.trace_reader.specs.Numbers.{digits_of, number_of, thread_of}
 use Rattle.trace_reader.proofs.Digits.{digits_of-Some}
 
@@ -27,7 +28,7 @@ pub ok_or-holds : {A : Type 0} (P : A → Type 0) (o : Option A) (cause : Cause)
 ok_or-holds P None cause h = tt
 ok_or-holds P (Some x) cause h = h
 
--- what holds behind a test
+-- what holds after a test
 tested : (P Q : ℕ → Type 0) (test : ℕ → Bool) (cause : Cause) → ((n : ℕ) → P n → test n ≡ true → Q n)
     → (r : Result ℕ Cause) → IfOk r P
     → IfOk (r >>= λ n. if test n then Ok n else Err cause) Q
@@ -135,7 +136,7 @@ pub thread_of-value : (word : List ℕ) → IfSome (thread_of word) (λ n. n < 6
 unfolding thread_of
 thread_of-value word = of_option (digits_of 10 20 word)
   where
-    of_option : (o : Option ℕ) → IfSome (option_and_then (λ n. if nat_le n 63 then Some n else None) o) (λ n. n < 64)
+    of_option : (o : Option ℕ) → IfSome (option_and_then (λ n. if nat_le n GREATEST_THREAD then Some n else None) o) (λ n. n < 64)
     of_option None = tt
-    of_option (Some n) = cond_both (nat_le n 63) (Some n) None (λ o. IfSome o (λ n. n < 64))
-        (λ e. omega (arith, leb-true n 63 e)) (λ _. tt)
+    of_option (Some n) = cond_both (nat_le n GREATEST_THREAD) (Some n) None (λ o. IfSome o (λ n. n < 64))
+        (λ e. omega (arith, leb-true n GREATEST_THREAD e)) (λ _. tt)

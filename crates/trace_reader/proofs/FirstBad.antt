@@ -1,4 +1,4 @@
--- The line that is named is the first bad one.
+-- For `first_bad_line`: the line that is named is the first bad one.
 use Rattle.std.proofs.Common.{◌≡◌, ◌⊎◌, ℕ, nat_eq, List, [], ◌∷◌, ◌++◌, length, Result, Ok, Err, inl, inr, refl, ap, ◌∙◌}
 use Rattle.std.proofs.lemmas.Bool.{cond_both, eqb-true}
 use Rattle.std.proofs.lemmas.List.{nil_from_length}

@@ -1,4 +1,4 @@
--- One byte more than the limit is enough to read a trace.
+-- For `front_is_enough` and `traces_fit`: one byte more than the limit is enough to read a trace.
 use Rattle.std.proofs.Common.{◌≡◌, ℕ, zero, suc, ◌+◌, ◌-◌, ◌<◌, ◌≤◌, Bool, true, false, nat_eq, nat_lt, List, [], ◌∷◌, length, take, drop, Result, Ok, Err, if◌then◌else◌, refl, sym, ap, ◌∙◌, inl, inr, arith}
 use Rattle.std.specs.List.{position_or_len, before_first, after_first}
 use Rattle.std.proofs.lemmas.Bool.{cases_lt, lt-ltb, or_right}
@@ -75,7 +75,7 @@ same_after : (number : ℕ) (r : Result SoFar Cause) (xs ys : List RawLine)
 same_after number (Ok next) xs ys same = same next
 same_after number (Err cause) xs ys same = refl
 
--- the lines from an offset on, up to one byte behind the limit
+-- the lines from an offset on, up to one byte after the limit
 IsSettled : ℕ → ℕ → ℕ → List ℕ → Type 0
 IsSettled m number start bytes = (before : SoFar) → after_lines before
     (lines_from number start (take m bytes)) ≡ after_lines before (lines_from number start bytes)
@@ -100,7 +100,7 @@ settled_line m number start bytes short within later = λ before.
     (drop (k + 1) front)) place
     ∙ ap (λ (text : List ℕ). raw_line number start text true ∷ lines_from (number + 1) (start + n + 1)
     (drop (n + 1) front)) (take-take n m bytes (omega arith))
-    ∙ ap (λ (behind : List ℕ). line ∷ lines_from (number + 1) (start + n + 1) behind) rest)
+    ∙ ap (λ (after : List ℕ). line ∷ lines_from (number + 1) (start + n + 1) after) rest)
     ∙ same_after number (after_line before line) (lines_from (number + 1) (start + n + 1)
     (take (m - (n + 1)) (drop (n + 1) bytes))) (lines_from (number + 1) (start + n + 1)
     (drop (n + 1) bytes)) later

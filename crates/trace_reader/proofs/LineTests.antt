@@ -1,4 +1,4 @@
--- The tests of a line's bytes.
+-- For `text_of`: the tests of a line's bytes.
 use Rattle.std.proofs.Common.{◌≡◌, true, false, Ok, Err, refl}
 use Rattle.std.specs.Str.{is_utf8}
 use Rattle.trace_reader.specs.declared.fault.Cause.TheVariants.{TooLong, Utf8}

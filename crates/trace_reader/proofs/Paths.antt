@@ -1,4 +1,4 @@
--- Newlines in paths, and the four characters that stand for them.
+-- For `unescaped`: newlines in paths, and the four characters that stand for them.
 use Rattle.std.proofs.Common.{◌≡◌, ℕ, suc, ◌<◌, ◌≤◌, List, [], ◌∷◌, ◌++◌, length, take, drop, codes, None, append_assoc, take-append-drop, bytes_eq, refl, sym, ap, ◌∙◌, subst, arith}
 use Rattle.std.specs.Str.Pattern.{LacksTextAt, FindsText, SplitsAroundMatch}
 use Rattle.std.proofs.lemmas.Bool.{cond-false, false_from_ne_true}
@@ -28,34 +28,34 @@ unescaped-none (a ∷ text) lacks = unescaped-cons a text (lacks 0 (omega arith)
     ∙ ap (λ (rest : List ℕ). a ∷ rest) (unescaped-none text (λ i within. lacks (suc i) (omega arith)))
 
 -- the bytes before they first stand stay
-pub unescaped-first : (before behind : List ℕ) → ((i : ℕ) → i < length before
-    → LacksTextAt escape (before ++ (escape ++ behind)) i) →
-    unescaped (before ++ (escape ++ behind)) ≡ before ++ (10 ∷ unescaped behind)
+pub unescaped-first : (before after : List ℕ) → ((i : ℕ) → i < length before
+    → LacksTextAt escape (before ++ (escape ++ after)) i) →
+    unescaped (before ++ (escape ++ after)) ≡ before ++ (10 ∷ unescaped after)
 unfolding unescaped
-unescaped-first [] behind lacks = refl
-unescaped-first (a ∷ before) behind lacks =
-    unescaped-cons a (before ++ (escape ++ behind)) (lacks 0 (omega arith))
-    ∙ ap (λ (rest : List ℕ). a ∷ rest) (unescaped-first before behind (λ i within. lacks (suc i) (omega arith)))
+unescaped-first [] after lacks = refl
+unescaped-first (a ∷ before) after lacks =
+    unescaped-cons a (before ++ (escape ++ after)) (lacks 0 (omega arith))
+    ∙ ap (λ (rest : List ℕ). a ∷ rest) (unescaped-first before after (λ i within. lacks (suc i) (omega arith)))
 
 -- a text that is cut where they first stand
-parts : (text before behind : List ℕ) (i j : ℕ) → before ≡ take i text → behind ≡ drop j text
-    → drop i text ≡ escape ++ drop j text → text ≡ before ++ (escape ++ behind)
-parts text before behind i j front back split =
+parts : (text before after : List ℕ) (i j : ℕ) → before ≡ take i text → after ≡ drop j text
+    → drop i text ≡ escape ++ drop j text → text ≡ before ++ (escape ++ after)
+parts text before after i j front back split =
     sym (take-append-drop i text) ∙ ap (λ (rest : List ℕ). take i text ++ rest) split
     ∙ ap (λ (rest : List ℕ). take i text ++ (escape ++ rest)) (sym back)
-    ∙ ap (λ (first : List ℕ). first ++ (escape ++ behind)) (sym front)
+    ∙ ap (λ (first : List ℕ). first ++ (escape ++ after)) (sym front)
 
 -- what is read in front of it, and the newline, go to the path
-pub unescaped-more : (path all text before behind : List ℕ) → SplitsAroundMatch (FindsText escape) text before behind
+pub unescaped-more : (path all text before after : List ℕ) → SplitsAroundMatch (FindsText escape) text before after
     → path ++ unescaped text ≡ all →
-    ((path ++ before) ++ 10 ∷ []) ++ unescaped behind ≡ all
-unescaped-more path all text before behind (i, j, found, front, back, order, len, rest) so_far =
-    let whole : text ≡ before ++ (escape ++ behind) = parts text before behind i j front back found.1.split in
-    let lacks : (k : ℕ) → k < length before → LacksTextAt escape (before ++ (escape ++ behind)) k =
+    ((path ++ before) ++ 10 ∷ []) ++ unescaped after ≡ all
+unescaped-more path all text before after (i, j, found, front, back, order, len, rest) so_far =
+    let whole : text ≡ before ++ (escape ++ after) = parts text before after i j front back found.1.split in
+    let lacks : (k : ℕ) → k < length before → LacksTextAt escape (before ++ (escape ++ after)) k =
     λ k within. subst (λ (t : List ℕ). LacksTextAt escape t k) whole (found.0 k (omega arith)) in
-    append_assoc (path ++ before) (10 ∷ []) (unescaped behind)
-    ∙ append_assoc path before (10 ∷ unescaped behind)
-    ∙ ap (λ (more : List ℕ). path ++ more) (sym (unescaped-first before behind lacks) ∙ ap unescaped (sym whole))
+    append_assoc (path ++ before) (10 ∷ []) (unescaped after)
+    ∙ append_assoc path before (10 ∷ unescaped after)
+    ∙ ap (λ (more : List ℕ). path ++ more) (sym (unescaped-first before after lacks) ∙ ap unescaped (sym whole))
     ∙ so_far
 
 -- and at last what holds none of them

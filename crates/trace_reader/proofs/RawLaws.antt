@@ -1,4 +1,4 @@
--- The lines of bytes are these bytes.
+-- For `first_bad_line`: the lines of bytes are these bytes.
 use Rattle.std.proofs.Common.{◌≡◌, ◌≢◌, ℕ, ◌+◌, Bool, true, false, nat_eq, List, [], ◌∷◌, ◌++◌, length, flat_map, All, refl, sym, ap, ◌∙◌, subst, append_assoc, arith}
 use Rattle.std.specs.List.{slice_split, onto_first, join_with_byte}
 use Rattle.std.proofs.lemmas.Bool.{cond_both, eqb-true, eqb-false}
@@ -46,12 +46,12 @@ follow_pieces number start [] = tt
 follow_pieces number start (text ∷ []) = cond_both (nat_eq (length text) 0) [] (raw_line number start text false ∷ [])
     (Follow number start) (λ _. tt) (λ _. (refl, refl, tt))
 follow_pieces number start (text ∷ next ∷ pieces) =
-    let behind : start + length text + 1 ≡ start + length (text ++ 10 ∷ []) =
+    let after : start + length text + 1 ≡ start + length (text ++ 10 ∷ []) =
     omega (arith, length-append text (10 ∷ [])) in (
       refl,
       refl,
       subst (λ (k : ℕ). Follow (number + 1) k (lines_of_pieces (number + 1) (start + length text + 1)
-          (next ∷ pieces))) behind
+          (next ∷ pieces))) after
           (follow_pieces (number + 1) (start + length text + 1) (next ∷ pieces)),
     )
 

@@ -1,4 +1,4 @@
--- The lines of bytes, read one after another.
+-- For `read_lines`: the lines of bytes, read one after another.
 use Rattle.std.proofs.Common.{◌≡◌, ℕ, List, [], ◌∷◌, length, Result, Ok, Err, sym, ap, ◌∙◌, arith}
 use Rattle.trace_reader.specs.declared.fault.CallError.{CallError}
 use Rattle.trace_reader.specs.declared.fault.CallError.TheVariants as calls

@@ -1,4 +1,4 @@
--- What holds of every trace that was read.
+-- For `traces_fit`: what holds of every trace that was read.
 use Rattle.std.proofs.Common.{◌≡◌, ◌≢◌, ℕ, ◌+◌, ◌^◌, ◌<◌, ◌≤◌, Bool, true, false, not, ◌&&◌, nat_eq, nat_lt, nat_le, List, [], ◌∷◌, ◌++◌, length, get_or, codes, bytes_eq, ℤ, Option, Some, None, unwrap_or, Result, Ok, Err, ok_or, IfOk, IfSome, All, AllPairs, if◌then◌else◌, refl, subst, arith, lit≤}
 use Rattle.std.specs.List.{list_any, slice_split}
 use Rattle.std.specs.Ordering.{int_eq}
@@ -11,8 +11,8 @@ use Rattle.std.proofs.lemmas.List.Folds.{list_any_at}
 use Rattle.std.proofs.lemmas.List.Quantifiers.{all_pairs_push}
 use Rattle.mm_types.specs.declared.config.TheConstants.{DEFAULT_MIN, DEFAULT_TOP, MOST_AREAS, MOST_FILES}
 use Rattle.mm_types.specs.declared.files.FileRow.{FileRow}
-use Rattle.mm_types.specs.declared.history.Op.{Op}
-use Rattle.mm_types.specs.declared.history.TraceLine.{TraceLine}
+use Rattle.trace_reader.specs.declared.trace.Op.{Op}
+use Rattle.trace_reader.specs.declared.trace.TraceLine.{TraceLine}
 use Rattle.mm_types.specs.Config.{IsValidConfig, default_config}
 use Rattle.trace_reader.specs.declared.fault.Cause.{Cause}
 use Rattle.trace_reader.specs.declared.fault.Cause.TheVariants.{Header, TooLong, Word, Thread, TooMany, FileTwice, Utf8, NoEnd}
@@ -20,14 +20,15 @@ use Rattle.trace_reader.specs.declared.fault.TraceFault.{TraceFault}
 use Rattle.trace_reader.specs.declared.limits.TheConstants.{LINE_LIMIT, MOST_LINES, MOST_MAPS}
 use Rattle.trace_reader.specs.declared.trace.Trace.{Trace}
 use Rattle.trace_reader.specs.Calls.{op_of}
-use Rattle.trace_reader.specs.Causes.{◌>>=◌, first_row, unless}
+use Rattle.mm_types.specs.Rows.{first_row}
+use Rattle.trace_reader.specs.Causes.{◌>>=◌, unless}
 use Rattle.trace_reader.specs.Grammar.{fault, nothing, at_line, after_lines, lines_read, config_of, trace_so_far, whole, trace_of}
 use Rattle.trace_reader.specs.Lines.{SoFar, trace_limit, is_too_long, text_of, is_header, is_maps, with_line, after_operation, once, with_limit, with_top, with_min, has_descriptor, with_file, after_setting, is_comment, begins_with_digit, after_first, after_words, after_text, after_line}
 use Rattle.trace_reader.specs.Numbers.{thread_of}
 use Rattle.trace_reader.specs.RawLines.{RawLine, raw_line, is_newline, lines_of_pieces, lines_from}
 use Rattle.trace_reader.specs.Settings.{areas_of, limit_of, bound_of, file_of}
 use Rattle.trace_reader.specs.Values.{IsLineValue, IsOpValue, IsTraceValue}
-use Rattle.trace_reader.specs.Words.{words_of, behind_words}
+use Rattle.trace_reader.specs.Words.{words_of, text_after_words}
 use Rattle.trace_reader.proofs.FieldValues.{IsLimit, ok_or-holds, number_in-value, bound-value, thread_of-value}
 use Rattle.trace_reader.proofs.CallValues.{op_of-value}
 
@@ -186,8 +187,8 @@ after_setting-value s text first words known =
     (either (bytes_eq first (codes "limit")) (with_limit s words) _ (with_limit-value s words known)
     (either (bytes_eq first (codes "top")) (with_top s words) _ (with_top-value s words known)
     (either (bytes_eq first (codes "min")) (with_min s words) _ (with_min-value s words known)
-    (either (bytes_eq first (codes "file")) (file_of words (behind_words 6 text) >>= λ file. with_file s file)
-    (Err Word) (file_fits s (file_of words (behind_words 6 text)) known) tt))))
+    (either (bytes_eq first (codes "file")) (file_of words (text_after_words 6 text) >>= λ file. with_file s file)
+    (Err Word) (file_fits s (file_of words (text_after_words 6 text)) known) tt))))
 
 -- ---- any line
 

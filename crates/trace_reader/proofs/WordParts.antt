@@ -1,4 +1,4 @@
--- Words and the blanks between them.
+-- For `words_of` and the functions that it calls: words and the blanks between them.
 use Rattle.std.proofs.Common.{◌≡◌, ℕ, zero, suc, ◌+◌, ◌<◌, ◌≤◌, Bool, true, false, not, cond, nat_lt, List, [], ◌∷◌, ◌++◌, length, get_or, take, drop, filter, Option, Some, None, unwrap_or, position, refl, sym, ap, ◌∙◌, subst, inl, inr, append_assoc, add-zero, arith}
 use Rattle.std.specs.List.{slice_split, position_or_len, before_first}
 use Rattle.std.specs.Str.{IsUtf8, IsCharBoundary}
@@ -25,7 +25,7 @@ place_is p xs found place e u =
 blank_is_ascii : (c : ℕ) → is_blank c ≡ true → c < 128
 blank_is_ascii c e = grind (arith, nat_tests)
 
--- a text may be cut behind its first blanks, and before a blank
+-- a text may be cut after its first blanks, and before a blank
 pub boundary_at_part : (text : List ℕ) → IsUtf8 text → IsCharBoundary text (position_or_len is_part text)
 boundary_at_part text utf8 = at_place (position_or_len is_part text) refl
   where

@@ -1,16 +1,17 @@
--- What the words behind the thread of a line ask for.
+-- What the words after the thread of a line ask for.
 use Rattle.std.specs.Prelude.{ℕ, ◌/◌, List, [], ◌∷◌, codes, bytes_eq, Option, Some, None, Result, Ok, Err, if◌then◌else◌}
 use Rattle.mm_types.specs.declared.call.Call.{Call}
 use Rattle.mm_types.specs.declared.call.Call.TheVariants.{Mmap, Munmap, Mprotect, Mremap}
 use Rattle.mm_types.specs.declared.config.TheConstants.{PAGE_SIZE}
 use Rattle.mm_types.specs.declared.flags.TheConstants.{MREMAP_FIXED}
-use Rattle.mm_types.specs.declared.history.Op.{Op}
-use Rattle.mm_types.specs.declared.history.Op.TheVariants as ops
+use Rattle.trace_reader.specs.declared.trace.Op.{Op}
+use Rattle.trace_reader.specs.declared.trace.Op.TheVariants as ops
+use Rattle.mm_types.specs.Flags.{has_flag}
 use Rattle.flag_table.specs.Tables.{map_flags, mremap_flags}
 use Rattle.trace_reader.specs.declared.fault.Cause.{Cause}
 use Rattle.trace_reader.specs.declared.fault.Cause.TheVariants.{Word, Arity}
 use Rattle.trace_reader.specs.Causes.{◌>>=◌}
-use Rattle.trace_reader.specs.Fields.{number, mapped_descriptor, access, flags, has_flag, prot}
+use Rattle.trace_reader.specs.Fields.{number, mapped_descriptor, access, flags, prot}
 use Rattle.trace_reader.specs.Words.{words_of}
 
 -- the mmap(2) of these words
@@ -24,7 +25,7 @@ mmap addr len allowed options fd offset = do
   o ← number offset
   Ok (Mmap (record { addr = a; len = l; prot = p; flags = f; fd = d; offset = o }))
 
--- `mmap ADDR LEN PROT FLAGS FD OFF`, from the words behind `mmap`
+-- `mmap ADDR LEN PROT FLAGS FD OFF`, from the words after `mmap`
 unfoldable pub mmap_of : List (List ℕ) → Result Call Cause
 mmap_of (addr ∷ len ∷ allowed ∷ options ∷ fd ∷ offset ∷ []) = mmap addr len allowed options fd offset
 mmap_of _ = Err Arity
@@ -80,15 +81,19 @@ mremap_of (old ∷ old_len ∷ new_len ∷ options ∷ []) = mremap old old_len 
 mremap_of (old ∷ old_len ∷ new_len ∷ options ∷ new ∷ []) = mremap old old_len new_len options (Some new)
 mremap_of _ = Err Arity
 
--- the words of a call: one of the four names, and the words of its form
-unfoldable pub call_of_words : List (List ℕ) → Result Call Cause
-call_of_words [] = Err Arity
-call_of_words (name ∷ words) = if bytes_eq name (codes "mmap") then mmap_of words
+-- the call of one of the four names, from the words after it
+unfoldable pub call_named : List ℕ → List (List ℕ) → Result Call Cause
+call_named name words = if bytes_eq name (codes "mmap") then mmap_of words
     else (if bytes_eq name (codes "munmap") then munmap_of words
     else (if bytes_eq name (codes "mprotect") then mprotect_of words
     else (if bytes_eq name (codes "mremap") then mremap_of words else Err Word)))
 
--- the text of a call, as it stands behind a thread
+-- the words of a call: its name, and the words of its form
+unfoldable pub call_of_words : List (List ℕ) → Result Call Cause
+call_of_words [] = Err Arity
+call_of_words (name ∷ words) = call_named name words
+
+-- the text of a call, as it stands after a thread
 unfoldable pub call_of : List ℕ → Result Call Cause
 call_of text = call_of_words (words_of text)
 
@@ -105,9 +110,19 @@ unfoldable pub maps_of : List (List ℕ) → Result Op Cause
 maps_of [] = Ok ops.Maps
 maps_of _ = Err Arity
 
--- the words behind a thread: those of a fault, of a read of the list of areas, or of a call
+-- the operation that a call is
+unfoldable pub called : List ℕ → List (List ℕ) → Result Op Cause
+called name words = do
+  call ← call_named name words
+  Ok (ops.Call call)
+
+-- the operation of this name, from the words after it: a fault, a read of the list of areas, or a call
+unfoldable pub op_named : List ℕ → List (List ℕ) → Result Op Cause
+op_named name words = if bytes_eq name (codes "fault") then fault_of words
+    else (if bytes_eq name (codes "maps") then maps_of words
+    else called name words)
+
+-- the words after a thread: the name of an operation, and the words of its form
 unfoldable pub op_of : List (List ℕ) → Result Op Cause
 op_of [] = Err Arity
-op_of (name ∷ words) = if bytes_eq name (codes "fault") then fault_of words
-    else (if bytes_eq name (codes "maps") then maps_of words
-    else (call_of_words (name ∷ words) >>= λ call. Ok (ops.Call call)))
+op_of (name ∷ words) = op_named name words

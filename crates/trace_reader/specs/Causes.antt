@@ -1,5 +1,5 @@
 -- The causes for which a line is bad, and how the first of them is found.
-use Rattle.std.specs.Prelude.{ℕ, Bool, List, [], ◌∷◌, codes, Option, Some, None, Result, Ok, Err, if◌then◌else◌}
+use Rattle.std.specs.Prelude.{ℕ, List, codes, Option, Some, None, Result, Ok, Err}
 use Rattle.trace_reader.specs.declared.fault.Cause.{Cause}
 use Rattle.trace_reader.specs.declared.fault.Cause.TheVariants.{Header, TooLong, Word, Number, Flag, Arity, Thread, TooMany, FileTwice, Utf8, NoEnd}
 
@@ -36,11 +36,6 @@ infixl 10 ◌>>=◌
 abbrev pub ◌>>=◌ : {A B : Type 0} → Result A Cause → (A → Result B Cause) → Result B Cause
 (Ok x) >>= f = f x
 (Err cause) >>= f = Err cause
-
--- the cause of the first row whose test holds
-abbrev pub first_row : List (Bool × Cause) → Option Cause
-first_row [] = None
-first_row (row ∷ rows) = if row.0 then Some row.1 else first_row rows
 
 -- what is read, unless there is a cause
 abbrev pub unless : {A : Type 0} → Option Cause → Result A Cause → Result A Cause

@@ -1,15 +1,19 @@
 -- The fields of a line, each a word.
-use Rattle.std.specs.Prelude.{ℕ, ◌-◌, ◌%◌, ◌^◌, Bool, true, false, not, ◌&&◌, List, codes, bytes_eq, bit_and, nat_eq, nat_le, ℤ, pos, negsuc, Result, Ok, Err, ok_or, if◌then◌else◌}
+use Rattle.std.specs.Prelude.{ℕ, ◌-◌, ◌%◌, ◌^◌, Bool, true, false, ◌&&◌, List, codes, bytes_eq, nat_eq, nat_le, ℤ, pos, negsuc, Result, Ok, Err, ok_or, if◌then◌else◌}
 use Rattle.std.specs.List.{before_first, after_first}
+use Rattle.std.specs.Str.{byte}
 use Rattle.mm_types.specs.declared.area.Access.{Access}
 use Rattle.mm_types.specs.declared.area.Access.TheVariants.{Read, Write, Exec}
 use Rattle.mm_types.specs.declared.area.Prot.{Prot}
 use Rattle.mm_types.specs.declared.config.TheConstants.{PAGE_SIZE, ADDRESS_LIMIT}
+use Rattle.mm_types.specs.declared.flags.TheConstants.{PROT_READ, PROT_WRITE, PROT_EXEC}
+use Rattle.mm_types.specs.Flags.{has_flag}
 use Rattle.flag_table.specs.Reading.{reading}
 use Rattle.flag_table.specs.Tables.{Table, prot_flags}
 use Rattle.flag_table.specs.declared.fault.NameFault.{NameFault}
 use Rattle.trace_reader.specs.declared.fault.Cause.{Cause}
 use Rattle.trace_reader.specs.declared.fault.Cause.TheVariants.{Word, Number, Flag}
+use Rattle.trace_reader.specs.declared.limits.TheConstants.{MAJOR_DIGITS, MINOR_DIGITS}
 use Rattle.trace_reader.specs.Causes.{◌>>=◌}
 use Rattle.trace_reader.specs.Numbers.{digits_of, number_of}
 
@@ -43,11 +47,11 @@ mapped_descriptor word = if bytes_eq word (codes "-1") then Ok (negsuc 0) else d
 unfoldable pub device_part : ℕ → List ℕ → Result ℕ Cause
 device_part most word = ok_or (digits_of 16 most word) Number
 
--- a device number: 1 to 3 digits before the first colon, and 1 to 5 digits behind it
+-- a device number: 1 to 3 digits before the first colon, and 1 to 5 digits after it
 unfoldable pub device : List ℕ → Result (ℕ × ℕ) Cause
 device word = do
-  major ← device_part 3 (before_first (λ c. nat_eq c 58) word)
-  minor ← device_part 5 (after_first (λ c. nat_eq c 58) word)
+  major ← device_part MAJOR_DIGITS (before_first (λ c. nat_eq c (byte ":")) word)
+  minor ← device_part MINOR_DIGITS (after_first (λ c. nat_eq c (byte ":")) word)
   Ok (major, minor)
 
 -- how a file is open: for reading, and for writing
@@ -71,13 +75,10 @@ or_flag (Err fault) = Err Flag
 unfoldable pub flags : Table → List ℕ → Result ℕ Cause
 flags table word = or_flag (reading table word)
 
--- whether one of these bits is there
-abbrev pub has_flag : ℕ → ℕ → Bool
-has_flag bits flag = not (nat_eq (bit_and bits flag) 0)
-
--- the accesses that bits allow: PROT_READ is 1, PROT_WRITE 2 and PROT_EXEC 4
+-- the accesses that bits allow
 unfoldable pub prot_of_bits : ℕ → Prot
-prot_of_bits bits = record { read = has_flag bits 1; write = has_flag bits 2; exec = has_flag bits 4 }
+prot_of_bits bits =
+    record { read = has_flag bits PROT_READ; write = has_flag bits PROT_WRITE; exec = has_flag bits PROT_EXEC }
 
 -- a protection of mmap(2) and mprotect(2)
 unfoldable pub prot : List ℕ → Result Prot Cause

@@ -1,5 +1,6 @@
 -- What the lines of bytes are, and which of them is the first bad one.
-use Rattle.std.specs.Prelude.{ℕ, ◌≡◌, ◌≢◌, ◌+◌, ◌<◌, true, false, List, [], ◌∷◌, ◌++◌, length, flat_map, All, Ok, Err, if◌then◌else◌}
+use Rattle.std.specs.Prelude.{ℕ, ◌≡◌, ◌≢◌, ◌+◌, ◌<◌, true, false, List, [], ◌∷◌, ◌++◌, length, flat_map, codes, All, Ok, Err, if◌then◌else◌}
+use Rattle.std.specs.Str.{byte}
 use Rattle.trace_reader.specs.declared.fault.TraceFault.{TraceFault}
 use Rattle.trace_reader.specs.Grammar.{nothing, after_lines}
 use Rattle.trace_reader.specs.Lines.{SoFar, after_line}
@@ -7,7 +8,7 @@ use Rattle.trace_reader.specs.RawLines.{RawLine, raw_lines}
 
 -- the bytes of a line: its text, and a newline where it ends
 abbrev pub line_bytes : RawLine → List ℕ
-line_bytes line = line.text ++ (if line.ended then 10 ∷ [] else [])
+line_bytes line = line.text ++ (if line.ended then codes "\n" else [])
 
 -- each line has the next number, and starts where the bytes of the one before it end
 abbrev pub Follow : ℕ → ℕ → List RawLine → Type 0
@@ -26,9 +27,9 @@ pub record AreLinesOf (bytes : List ℕ) (lines : List RawLine) : Type 0 where
   pub whole : flat_map line_bytes lines ≡ bytes
   pub follow : Follow 1 0 lines
   pub end : End lines
-  pub single : All (λ line. All (λ c. c ≢ 10) line.text) lines
+  pub single : All (λ line. All (λ c. c ≢ byte "\n") line.text) lines
 
--- a line of the bytes that is bad for this cause, behind lines that are all good
+-- a line of the bytes that is bad for this cause, after lines that are all good
 pub record IsFirstBad (bytes : List ℕ) (first : TraceFault) : Type 0 where
   pub above : List RawLine
   pub line : RawLine

@@ -3,21 +3,22 @@ use Rattle.std.specs.Prelude.{ℕ, ◌+◌, Bool, true, false, not, ◌&&◌, �
 use Rattle.std.specs.Char.{is_ascii_digit}
 use Rattle.std.specs.List.{list_any}
 use Rattle.std.specs.Ordering.{int_eq}
-use Rattle.std.specs.Str.{is_utf8}
+use Rattle.std.specs.Str.{byte, is_utf8}
 use Rattle.mm_types.specs.declared.config.TheConstants.{MOST_FILES}
 use Rattle.mm_types.specs.declared.files.FileRow.{FileRow}
-use Rattle.mm_types.specs.declared.history.Op.{Op}
-use Rattle.mm_types.specs.declared.history.Op.TheVariants.{Maps}
-use Rattle.mm_types.specs.declared.history.TraceLine.{TraceLine}
+use Rattle.mm_types.specs.Rows.{first_row}
+use Rattle.trace_reader.specs.declared.trace.Op.{Op}
+use Rattle.trace_reader.specs.declared.trace.Op.TheVariants.{Maps}
+use Rattle.trace_reader.specs.declared.trace.TraceLine.{TraceLine}
 use Rattle.trace_reader.specs.declared.fault.Cause.{Cause}
 use Rattle.trace_reader.specs.declared.fault.Cause.TheVariants.{Header, TooLong, Word, Thread, TooMany, FileTwice, Utf8, NoEnd}
 use Rattle.trace_reader.specs.declared.limits.TheConstants.{LINE_LIMIT, TRACE_LIMIT, MOST_LINES, MOST_MAPS}
 use Rattle.trace_reader.specs.Calls.{op_of}
-use Rattle.trace_reader.specs.Causes.{◌>>=◌, first_row, unless}
+use Rattle.trace_reader.specs.Causes.{◌>>=◌, unless}
 use Rattle.trace_reader.specs.Numbers.{thread_of}
 use Rattle.trace_reader.specs.RawLines.{RawLine}
 use Rattle.trace_reader.specs.Settings.{limit_of, bound_of, file_of}
-use Rattle.trace_reader.specs.Words.{words_of, behind_words}
+use Rattle.trace_reader.specs.Words.{words_of, text_after_words}
 
 -- What the lines so far say: what `limit`, `top` and `min` set, the files, the lines with a thread, and how many of these
 -- are `maps`.
@@ -107,13 +108,13 @@ after_setting so_far text first words = if nat_lt 0 (length so_far.lines) then E
     else (if bytes_eq first (codes "limit") then with_limit so_far words
     else (if bytes_eq first (codes "top") then with_top so_far words
     else (if bytes_eq first (codes "min") then with_min so_far words
-    else (if bytes_eq first (codes "file") then (file_of words (behind_words 6 text) >>= λ file. with_file so_far file)
+    else (if bytes_eq first (codes "file") then (file_of words (text_after_words 6 text) >>= λ file. with_file so_far file)
     else Err Word))))
 
 -- whether a word begins with `#`
 unfoldable pub is_comment : List ℕ → Bool
 is_comment [] = false
-is_comment (c ∷ word) = nat_eq c 35
+is_comment (c ∷ word) = nat_eq c (byte "#")
 
 -- whether a word begins with a decimal digit
 unfoldable pub begins_with_digit : List ℕ → Bool

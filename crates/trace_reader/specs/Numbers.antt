@@ -3,6 +3,7 @@ use Rattle.std.specs.Prelude.{ℕ, ◌^◌, ◌&&◌, List, length, drop, codes,
 use Rattle.std.specs.Char.{is_digit}
 use Rattle.std.specs.List.{list_all, starts_with}
 use Rattle.std.specs.Str.Parse.{digits_value}
+use Rattle.trace_reader.specs.declared.limits.TheConstants.{GREATEST_THREAD}
 
 -- the value below 2^64 that at least one and at most so many digits of a base spell
 unfoldable pub digits_of : ℕ → ℕ → List ℕ → Option ℕ
@@ -17,4 +18,4 @@ number_of word = if starts_with nat_eq word (codes "0x") then digits_of 16 16 (d
 
 -- the thread that a word is: 1 to 20 decimal digits with a value of at most 63
 unfoldable pub thread_of : List ℕ → Option ℕ
-thread_of word = option_and_then (λ n. if nat_le n 63 then Some n else None) (digits_of 10 20 word)
+thread_of word = option_and_then (λ n. if nat_le n GREATEST_THREAD then Some n else None) (digits_of 10 20 word)

@@ -1,6 +1,7 @@
 -- The lines of a trace as they stand in its bytes.
 use Rattle.std.specs.Prelude.{ℕ, ◌+◌, Bool, true, false, List, [], ◌∷◌, length, nat_eq, if◌then◌else◌}
 use Rattle.std.specs.List.{slice_split}
+use Rattle.std.specs.Str.{byte}
 
 -- A line: its number, counted from 1, its bytes without the newline, the offset of its first byte, and whether a newline
 -- ends it.
@@ -16,7 +17,7 @@ raw_line number start text ended = record { number = number; text = text; start 
 
 -- a newline
 abbrev pub is_newline : ℕ → Bool
-is_newline c = nat_eq c 10
+is_newline c = nat_eq c (byte "\n")
 
 -- The lines that pieces between newlines are, the first of this number and at this offset: a newline ends each piece but
 -- the last, which is a line only where it has bytes.

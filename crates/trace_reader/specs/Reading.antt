@@ -13,7 +13,7 @@ use Rattle.trace_reader.specs.Grammar.{fault}
 use Rattle.trace_reader.specs.RawLines.{RawLine}
 use Rattle.trace_reader.specs.Lines.{SoFar}
 
--- a cause is that of the definition; want of memory is free
+-- a cause is that of the definition; out of memory is free
 abbrev pub Fails : {Y : Type 0} → CallError → Result Y Cause → Type 0
 Fails (calls.Bad cause) read = read ≡ Err cause
 Fails calls.NoMemory read = Unit {0}

@@ -3,9 +3,9 @@ use Rattle.std.specs.Prelude.{◌-◌, ◌^◌, ◌<◌, ◌≤◌, ◌≤ℤ◌
 use Rattle.mm_types.specs.declared.call.Call.{Call}
 use Rattle.mm_types.specs.declared.call.Call.TheVariants.{Mmap, Munmap, Mprotect, Mremap}
 use Rattle.mm_types.specs.declared.call.MmapArgs.{MmapArgs}
-use Rattle.mm_types.specs.declared.history.Op.{Op}
-use Rattle.mm_types.specs.declared.history.Op.TheVariants as ops
-use Rattle.mm_types.specs.declared.history.TraceLine.{TraceLine}
+use Rattle.trace_reader.specs.declared.trace.Op.{Op}
+use Rattle.trace_reader.specs.declared.trace.Op.TheVariants as ops
+use Rattle.trace_reader.specs.declared.trace.TraceLine.{TraceLine}
 use Rattle.mm_types.specs.Config.{IsValidConfig}
 use Rattle.trace_reader.specs.declared.limits.TheConstants.{MOST_LINES}
 use Rattle.trace_reader.specs.declared.trace.Trace.{Trace}

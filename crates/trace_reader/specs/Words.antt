@@ -1,10 +1,11 @@
 -- The words of a line.
 use Rattle.std.specs.Prelude.{ℕ, zero, suc, Bool, not, ◌||◌, List, length, drop, filter, nat_eq}
 use Rattle.std.specs.List.{slice_split, position_or_len}
+use Rattle.std.specs.Str.{byte}
 
 -- spaces and tabs stand between words
 abbrev pub is_blank : ℕ → Bool
-is_blank c = nat_eq c 32 || nat_eq c 9
+is_blank c = nat_eq c (byte " ") || nat_eq c (byte "\t")
 
 -- what is no blank
 abbrev pub is_part : ℕ → Bool
@@ -26,7 +27,7 @@ after_blanks text = drop (position_or_len is_part text) text
 unfoldable pub after_word : List ℕ → List ℕ
 after_word text = drop (position_or_len is_blank text) text
 
--- what follows this many words and the blanks behind them
-unfoldable pub behind_words : ℕ → List ℕ → List ℕ
-behind_words zero text = after_blanks text
-behind_words (suc count) text = behind_words count (after_word (after_blanks text))
+-- what follows this many words and the blanks after them
+unfoldable pub text_after_words : ℕ → List ℕ → List ℕ
+text_after_words zero text = after_blanks text
+text_after_words (suc count) text = text_after_words count (after_word (after_blanks text))

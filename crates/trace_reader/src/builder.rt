@@ -11,9 +11,9 @@ use crate::limits::{MOST_LINES, MOST_MAPS};
 use crate::lines::{RawLine, text_of};
 use crate::numbers::thread_of;
 use crate::settings::{bound_of, file_of, limit_of};
-use crate::trace::{Lines, Trace};
-use crate::words::{behind_words, words_of};
-use mm_types::{Config, FileRow, Files, MOST_FILES, Op, TraceLine};
+use crate::trace::{Lines, Op, Trace, TraceLine};
+use crate::words::{text_after_words, words_of};
+use mm_types::{Config, FileRow, Files, MOST_FILES};
 use std::alloc::Global;
 
 /// The words of a `file` line before its path.
@@ -82,7 +82,7 @@ impl TraceBuilder {
         }
     }
 
-    /// Adds a line behind the header, unless it has no words.
+    /// Adds a line after the header, unless it has no words.
     #[tactic(auto, unfolding(crate::specs::Lines::after_words))]
     fn add_words(
         &mut self,
@@ -178,7 +178,7 @@ impl TraceBuilder {
             "top" => self.set_top(words),
             "min" => self.set_min(words),
             "file" => {
-                let path = behind_words(text, WORDS_BEFORE_PATH);
+                let path = text_after_words(text, WORDS_BEFORE_PATH);
                 self.add_file(file_of(alloc, words, path)?)
             }
             _ => Err(CallError::Bad(Cause::Word)),

@@ -1,14 +1,15 @@
-//! What the words behind the thread of a line ask for.
+//! What the words after the thread of a line ask for.
 
 ghost use Rattle.std.specs.Prelude.{map, option_copied};
-ghost use Rattle.trace_reader.specs.Calls.{mmap, mmap_of, munmap_of, mprotect, mprotect_of, number_if, mremap, mremap_of, moved, call_of_words, call_of, fault_of, maps_of, op_of};
+ghost use Rattle.trace_reader.specs.Calls.{mmap, mmap_of, munmap_of, mprotect, mprotect_of, number_if, mremap, mremap_of, moved, call_named, call_of_words, call_of, fault_of, maps_of, called, op_named, op_of};
 ghost use Rattle.trace_reader.specs.Reading.{Gives};
 
 use crate::fault::{CallError, Cause};
-use crate::fields::{access, flags, has_flag, mapped_descriptor, number, prot};
+use crate::fields::{access, flags, mapped_descriptor, number, prot};
+use crate::trace::Op;
 use crate::words::words_of;
 use flag_table::{map_table, mremap_table};
-use mm_types::{Call, MREMAP_FIXED, MmapArgs, Op, PAGE_SIZE, Page};
+use mm_types::{Call, MREMAP_FIXED, MmapArgs, PAGE_SIZE, Page, has_flag};
 use std::alloc::Global;
 
 /// The mmap(2) of these words.
@@ -34,7 +35,7 @@ fn mmap(
     }))
 }
 
-/// `mmap ADDR LEN PROT FLAGS FD OFF`, from the words behind the first.
+/// `mmap ADDR LEN PROT FLAGS FD OFF`, from the words after the first.
 #[tactic(auto, unfolding(crate::specs::Calls::mmap_of))]
 fn mmap_of(alloc: Global, words: &[&str]) -> Result<Call, CallError>
     ensures { Gives (λ call. call) result (mmap_of (map (λ word. word.now) words.now)) }
@@ -157,7 +158,21 @@ fn mremap_of(alloc: Global, words: &[&str]) -> Result<Call, CallError>
     }
 }
 
-/// The words of a call: one of the four names, and the words of its form.
+/// The call of one of the four names, from the words after it.
+#[tactic(auto, unfolding(crate::specs::Calls::call_named))]
+fn call_named(alloc: Global, name: &str, words: &[&str]) -> Result<Call, CallError>
+    ensures { Gives (λ call. call) result (call_named name.now (map (λ word. word.now) words.now)) }
+{
+    match name {
+        "mmap" => mmap_of(alloc, words),
+        "munmap" => munmap_of(words),
+        "mprotect" => mprotect_of(alloc, words),
+        "mremap" => mremap_of(alloc, words),
+        _ => Err(CallError::Bad(Cause::Word)),
+    }
+}
+
+/// The words of a call: its name, and the words of its form.
 #[tactic(auto, unfolding(crate::specs::Calls::call_of_words))]
 fn call_of_words(alloc: Global, words: &[&str]) -> Result<Call, CallError>
     ensures { Gives (λ call. call) result (call_of_words (map (λ word. word.now) words.now)) }
@@ -165,16 +180,10 @@ fn call_of_words(alloc: Global, words: &[&str]) -> Result<Call, CallError>
     let [name, rest @ ..] = words else {
         return Err(CallError::Bad(Cause::Arity));
     };
-    match *name {
-        "mmap" => mmap_of(alloc, rest),
-        "munmap" => munmap_of(rest),
-        "mprotect" => mprotect_of(alloc, rest),
-        "mremap" => mremap_of(alloc, rest),
-        _ => Err(CallError::Bad(Cause::Word)),
-    }
+    call_named(alloc, name, rest)
 }
 
-/// The call that a text asks for, as it stands behind the thread of a trace line: `munmap 0x1000 4096`.
+/// The call that a text asks for, as it stands after the thread of a trace line: `munmap 0x1000 4096`.
 #[tactic(auto, unfolding(crate::specs::Calls::call_of))]
 pub fn call_of(alloc: Global, text: &str) -> Result<Call, CallError>
     ensures { Gives (λ call. call) result (call_of text.now) }
@@ -209,7 +218,27 @@ fn maps_of(words: &[&str]) -> Result<Op, CallError>
     }
 }
 
-/// What the words behind a thread ask for.
+/// The operation that a call is.
+#[tactic(auto, unfolding(crate::specs::Calls::called))]
+fn called(alloc: Global, name: &str, words: &[&str]) -> Result<Op, CallError>
+    ensures { Gives (λ op. op) result (called name.now (map (λ word. word.now) words.now)) }
+{
+    Ok(Op::Call(call_named(alloc, name, words)?))
+}
+
+/// The operation of this name, from the words after it.
+#[tactic(auto, unfolding(crate::specs::Calls::op_named))]
+fn op_named(alloc: Global, name: &str, words: &[&str]) -> Result<Op, CallError>
+    ensures { Gives (λ op. op) result (op_named name.now (map (λ word. word.now) words.now)) }
+{
+    match name {
+        "fault" => fault_of(words),
+        "maps" => maps_of(words),
+        _ => called(alloc, name, words),
+    }
+}
+
+/// What the words after a thread ask for: the name of an operation, and the words of its form.
 #[tactic(auto, unfolding(crate::specs::Calls::op_of))]
 pub(crate) fn op_of(alloc: Global, words: &[&str]) -> Result<Op, CallError>
     ensures { Gives (λ op. op) result (op_of (map (λ word. word.now) words.now)) }
@@ -217,9 +246,5 @@ pub(crate) fn op_of(alloc: Global, words: &[&str]) -> Result<Op, CallError>
     let [name, rest @ ..] = words else {
         return Err(CallError::Bad(Cause::Arity));
     };
-    match *name {
-        "fault" => fault_of(rest),
-        "maps" => maps_of(rest),
-        _ => Ok(Op::Call(call_of_words(alloc, words)?)),
-    }
+    op_named(alloc, name, rest)
 }

@@ -79,7 +79,7 @@ pub enum CallError {
     /// The text is bad.
     #[error("{}", .0.name())]
     Bad(Cause),
-    /// There was no memory.
+    /// Out of memory.
     #[error("no memory")]
     NoMemory,
 }
@@ -90,7 +90,7 @@ pub enum ReadError {
     /// A line is bad.
     #[error("line {}: {}", .0.line, .0.cause.name())]
     Bad(TraceFault),
-    /// There was no memory.
+    /// Out of memory.
     #[error("no memory")]
     NoMemory,
 }

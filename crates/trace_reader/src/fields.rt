@@ -2,23 +2,17 @@
 
 ghost use Rattle.std.specs.Prelude.{◌≡◌, ◌≤◌, IfOk};
 ghost use Rattle.flag_table.specs.Tables.{prot_flags};
-ghost use Rattle.trace_reader.specs.Fields.{number, number_in, bound, descriptor, mapped_descriptor, device_part, device, mode, access, flags, has_flag, prot_of_bits, prot};
+ghost use Rattle.trace_reader.specs.Fields.{number, number_in, bound, descriptor, mapped_descriptor, device_part, device, mode, access, flags, prot_of_bits, prot};
 ghost use Rattle.trace_reader.specs.Reading.{Gives};
 
 use crate::fault::{CallError, Cause};
+use crate::limits::{MAJOR_DIGITS, MINOR_DIGITS};
 use crate::numbers::{digits_of, number_of};
 use flag_table::{FlagTable, NameFault, prot_table};
-use mm_types::{ADDRESS_LIMIT, Access, PAGE_SIZE, Prot};
+use mm_types::{
+    ADDRESS_LIMIT, Access, PAGE_SIZE, PROT_EXEC, PROT_READ, PROT_WRITE, Prot, has_flag,
+};
 use std::alloc::Global;
-
-/// `PROT_READ` of mmap(2), as Linux numbers it.
-const PROT_READ: u32 = 1;
-
-/// `PROT_WRITE` of mmap(2).
-const PROT_WRITE: u32 = 2;
-
-/// `PROT_EXEC` of mmap(2).
-const PROT_EXEC: u32 = 4;
 
 /// Any number.
 #[tactic(auto, unfolding(crate::specs::Fields::number))]
@@ -94,8 +88,8 @@ pub(crate) fn device(word: &str) -> Result<(u32, u32), CallError>
     ensures { Gives (λ pair. (pair.0, pair.1)) result (device word.now) }
 {
     let (major, minor) = word.split_once(':').unwrap_or((word, ""));
-    let major = device_part(major, 3)?;
-    let minor = device_part(minor, 5)?;
+    let major = device_part(major, MAJOR_DIGITS)?;
+    let minor = device_part(minor, MINOR_DIGITS)?;
     Ok((major, minor))
 }
 
@@ -139,13 +133,6 @@ pub(crate) fn flags<const N: usize>(
         Err(NameFault::NoMemory) => Err(CallError::NoMemory),
         Err(_) => Err(CallError::Bad(Cause::Flag)),
     }
-}
-
-/// Whether one of these bits is there.
-pub(crate) fn has_flag(bits: u32, flag: u32) -> bool
-    ensures { result ≡ has_flag bits flag }
-{
-    bits & flag != 0
 }
 
 /// The accesses that some bits allow.

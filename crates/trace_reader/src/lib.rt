@@ -38,7 +38,7 @@ pub use laws::{first_bad_line, front_is_enough, trace_limits, traces_fit};
 pub use limits::{LINE_LIMIT, MOST_LINES, MOST_MAPS, TRACE_LIMIT};
 pub use numbers::number_of;
 pub use reading::read;
-pub use trace::{Lines, Trace};
+pub use trace::{Lines, Op, Trace, TraceLine};
 
 #[cfg(test)]
 mod tests;

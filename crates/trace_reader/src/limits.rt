@@ -1,4 +1,4 @@
-//! How large a trace may be.
+//! How large a trace and its fields may be.
 
 /// The most bytes of a line, its newline not counted.
 pub const LINE_LIMIT: usize = 4096;
@@ -11,3 +11,15 @@ pub const MOST_LINES: usize = 1_000_000;
 
 /// The most lines that read the list of areas.
 pub const MOST_MAPS: usize = 64;
+
+/// The greatest thread.
+pub(crate) const GREATEST_THREAD: u64 = 63;
+
+/// The most bytes of a file.
+pub(crate) const MOST_FILE_BYTES: u64 = 0x7fff_ffff_ffff_ffff;
+
+/// The most hexadecimal digits of the major half of a device number.
+pub(crate) const MAJOR_DIGITS: usize = 3;
+
+/// The most hexadecimal digits of the minor half of a device number.
+pub(crate) const MINOR_DIGITS: usize = 5;

@@ -5,6 +5,8 @@ ghost use Rattle.std.specs.Char.{is_digit};
 ghost use Rattle.std.specs.List.{list_all};
 ghost use Rattle.trace_reader.specs.Numbers.{digits_of, number_of, thread_of};
 
+use crate::limits::GREATEST_THREAD;
+
 /// The number that a word is: 1 to 20 decimal digits, or `0x` and 1 to 16 hexadecimal digits of either case, with a
 /// value below 2^64. There is none where the word is no number.
 #[tactic(auto, unfolding(crate::specs::Numbers::number_of))]
@@ -23,7 +25,7 @@ pub(crate) fn thread_of(word: &str) -> Option<u32>
     ensures { result ≡ thread_of word.now }
 {
     match digits_of(word, 10, 20) {
-        Some(thread) if thread <= 63 => Some(thread as u32),
+        Some(thread) if thread <= GREATEST_THREAD => Some(thread as u32),
         _ => None,
     }
 }

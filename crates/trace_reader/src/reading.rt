@@ -34,11 +34,11 @@ fn read_lines(alloc: Global, bytes: &[u8]) -> Result<TraceBuilder, ReadError>
     let mut rest = bytes;
     let mut number = 1;
     while !rest.is_empty() {
-        let (line, behind) = first_line(rest, number, bytes.len() - rest.len());
+        let (line, after) = first_line(rest, number, bytes.len() - rest.len());
         if let Err(error) = builder.add(alloc, &line) {
             return Err(at_line(number, error));
         }
-        rest = behind;
+        rest = after;
         number += 1;
     }
     Ok(builder)

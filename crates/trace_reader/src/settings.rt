@@ -6,13 +6,11 @@ ghost use Rattle.trace_reader.specs.Reading.{Gives};
 
 use crate::fault::{CallError, Cause};
 use crate::fields::{bound, descriptor, device, mode, number, number_in};
+use crate::limits::MOST_FILE_BYTES;
 use mm_types::{FileRow, MOST_AREAS, Text};
 use std::alloc::{AllocError, Global};
 
-/// The largest file, in bytes.
-const MOST_BYTES: u64 = 0x7fff_ffff_ffff_ffff;
-
-/// The most areas, from the words behind `limit areas`.
+/// The most areas, from the words after `limit areas`.
 #[tactic(auto, unfolding(crate::specs::Settings::areas_of))]
 fn areas_of(words: &[&str]) -> Result<u32, CallError>
     ensures { Gives (λ areas. areas) result (areas_of (map (λ word. word.now) words.now)) }
@@ -24,7 +22,7 @@ fn areas_of(words: &[&str]) -> Result<u32, CallError>
     Ok(areas as u32)
 }
 
-/// `limit areas N`, from the words behind the first.
+/// `limit areas N`, from the words after the first.
 #[tactic(auto, unfolding(crate::specs::Settings::limit_of))]
 pub(crate) fn limit_of(words: &[&str]) -> Result<u32, CallError>
     ensures { Gives (λ areas. areas) result (limit_of (map (λ word. word.now) words.now)) }
@@ -38,7 +36,7 @@ pub(crate) fn limit_of(words: &[&str]) -> Result<u32, CallError>
     }
 }
 
-/// `top A` or `min A`, an address in bytes, from the words behind the first.
+/// `top A` or `min A`, an address in bytes, from the words after the first.
 #[tactic(auto, unfolding(crate::specs::Settings::bound_of))]
 pub(crate) fn bound_of(words: &[&str]) -> Result<u64, CallError>
     ensures { Gives (λ address. address) result (bound_of (map (λ word. word.now) words.now)) }
@@ -55,10 +53,10 @@ fn unescaped(alloc: Global, text: &str) -> Result<Text, AllocError>
 {
     let mut path = String::new(alloc);
     let mut rest = text;
-    while let Some((before, behind)) = rest.split_once("\\012") {
+    while let Some((before, after)) = rest.split_once("\\012") {
         path.push_str(before)?;
         path.push_str("\n")?;
-        rest = behind;
+        rest = after;
     }
     path.push_str(rest)?;
     Ok(Text::of(path))
@@ -79,7 +77,7 @@ fn file_row(
 {
     let fd = descriptor(fd)?;
     let (read, write) = mode(open_for)?;
-    let size = number_in(size, 0, MOST_BYTES)?;
+    let size = number_in(size, 0, MOST_FILE_BYTES)?;
     let (major, minor) = device(halves)?;
     let inode = number(inode)?;
     let path = unescaped(alloc, path)?;
@@ -95,7 +93,7 @@ fn file_row(
     })
 }
 
-/// `file FD MODE SIZE MAJ:MIN INODE PATH`, from the words behind the first and the text behind INODE.
+/// `file FD MODE SIZE MAJ:MIN INODE PATH`, from the words after the first and the text after INODE.
 #[tactic(auto, unfolding(crate::specs::Settings::file_of))]
 pub(crate) fn file_of(alloc: Global, words: &[&str], path: &str) -> Result<FileRow, CallError>
     ensures { Gives (λ file. file) result (file_of (map (λ word. word.now) words.now) path.now) }

@@ -1,7 +1,8 @@
 use super::*;
+use crate::trace::{Op, TraceLine};
 use mm_types::{
-    Access, Call, FileRow, MAP_FIXED, MAP_PRIVATE, MREMAP_FIXED, MREMAP_MAYMOVE, MmapArgs, Op,
-    Page, Prot, TraceLine,
+    Access, Call, FileRow, MAP_FIXED, MAP_PRIVATE, MREMAP_FIXED, MREMAP_MAYMOVE, MmapArgs, Page,
+    Prot,
 };
 use std::alloc::Global;
 use std::test::Fail;

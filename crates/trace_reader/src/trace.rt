@@ -1,7 +1,23 @@
 ghost use Rattle.std.specs.Prelude.{◌≡◌};
 
-use mm_types::{Config, TraceLine};
+use mm_types::{Access, Call, Config, Page};
 use std::marker::Model;
+
+/// What a line of a trace asks for.
+#[derive(Clone, Copy, Debug, PartialEq, Eq)]
+pub enum Op {
+    Call(Call),
+    Fault { page: Page, access: Access },
+    Maps,
+}
+
+/// A line of a trace: its number, counted from 1, its thread, and what it asks for.
+#[derive(Clone, Copy, Debug, PartialEq, Eq)]
+pub struct TraceLine {
+    pub number: u64,
+    pub thread: u32,
+    pub op: Op,
+}
 
 /// A trace: the configuration that it names, with its files, and its lines with a thread in their order.
 #[derive(Debug, Drop)]
@@ -18,7 +34,7 @@ pub struct Lines {
 
 impl Model for Lines {
     ghost use Rattle.std.specs.Prelude.{List};
-    ghost use Rattle.mm_types.specs.declared.history.TraceLine.{TraceLine};
+    ghost use Rattle.trace_reader.specs.declared.trace.TraceLine.{TraceLine};
 
     ghost Value = { List TraceLine };
 

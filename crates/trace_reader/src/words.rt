@@ -2,7 +2,7 @@
 
 ghost use Rattle.std.specs.Prelude.{◌≡◌, IfOk, map};
 ghost use Rattle.std.specs.List.{position_or_len, before_first};
-ghost use Rattle.trace_reader.specs.Words.{is_blank, is_part, words_of, after_blanks, after_word, behind_words};
+ghost use Rattle.trace_reader.specs.Words.{is_blank, is_part, words_of, after_blanks, after_word, text_after_words};
 
 use std::alloc::{AllocError, Global};
 
@@ -56,22 +56,22 @@ pub(crate) fn words_of(alloc: Global, text: &str) -> Result<Vec<&str>, AllocErro
     let mut words = Vec::new(alloc);
     let mut rest = after_blanks(text);
     while !rest.is_empty() {
-        let (word, behind) = split_word(rest);
+        let (word, after) = split_word(rest);
         words.push(word)?;
-        rest = after_blanks(behind);
+        rest = after_blanks(after);
     }
     Ok(words)
 }
 
-/// What follows so many words and the blanks behind them.
-#[tactic(auto, unfolding(crate::specs::Words::behind_words))]
-pub(crate) fn behind_words(text: &str, count: usize) -> &str
-    ensures { result.now ≡ behind_words count text.now }
+/// What follows so many words and the blanks after them.
+#[tactic(auto, unfolding(crate::specs::Words::text_after_words))]
+pub(crate) fn text_after_words(text: &str, count: usize) -> &str
+    ensures { result.now ≡ text_after_words count text.now }
 {
     let mut rest = text;
     for _ in 0..count {
-        let (_, behind) = split_word(after_blanks(rest));
-        rest = behind;
+        let (_, after) = split_word(after_blanks(rest));
+        rest = after;
     }
     after_blanks(rest)
 }

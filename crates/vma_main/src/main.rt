@@ -11,7 +11,7 @@ use std::thread::Threads;
 use std::{env, io};
 use vma_replay::{Status, replay, status_line, status_number};
 
-/// The words behind the program's name.
+/// The words after the program's name.
 fn words<R: Env + AllocGlobal>(rt: &R) -> io::Result<Vec<String>> {
     let words = env::args(rt)?.skip(1).collect(rt.alloc())?;
     Ok(words)
@@ -23,8 +23,8 @@ fn run<R: Threads + Wait + Sync + Env + Input + Print + AllocGlobal>(rt: &R) -> 
             rt,
             rt.alloc(),
             words.as_slice(),
-            &mut StdSource::new(rt),
-            &mut StdSink::new(rt),
+            &mut StdSource::new(rt.reader()),
+            &mut StdSink::new(io::writer(rt)),
             &PlainGate,
         ),
         Err(error) if error.kind() == io::ErrorKind::OutOfMemory => Status::NoMemory,

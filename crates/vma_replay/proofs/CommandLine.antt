@@ -1,4 +1,4 @@
--- What `clap` finds in words of which none begins with `-`.
+-- Serves `mode_of`: what `clap` finds in words of which none begins with `-`.
 use Rattle.std.proofs.Common.{ap, refl, codes, true, false, map, fold, List, Some, None, [], ◌∷◌, ◌++◌, ◌≡◌, ◌∙◌, ◌==◌, ◌||◌, Bool, slice_index, string_bytes, sym, append_assoc, append-nil, arith}
 use Rattle.std.specs.Prelude.{String}
 use Rattle.std.specs.declared.alloc.Global.{Global}
@@ -72,7 +72,7 @@ after_another : (t u : Text) (rest : List Text) → Plain u → walked rules [] 
 unfolding clap_on_literals rules after_rest
 after_another t u rest plain = rw (no_dashes u plain, no_long u plain, no_short u plain) refl
 
--- none of the words begins with `-`: neither the first, nor one behind it
+-- none of the words begins with `-`: neither the first, nor one after it
 neither : (a b : Bool) → (a || b) ≡ false → (a ≡ false) × (b ≡ false)
 neither true b none = cc
 neither false b none = (refl, none)
@@ -87,7 +87,7 @@ after_words t rest (w ∷ ws) none =
     ∙ after_words t (rest ++ string_bytes w ∷ []) ws plain.1
     ∙ ap (after_rest t) (append_assoc rest (string_bytes w ∷ []) (map string_bytes ws))
 
--- with no word behind the mode the values are those of `serial` where the mode is
+-- with no word after the mode the values are those of `serial` where the mode is
 one_serial : (t : Text) → is_serial (finished rules (after_mode t).held) ≡ bytes_eq t (codes "serial")
 unfolding clap_on_literals rules after_mode is_serial
 one_serial t = refl

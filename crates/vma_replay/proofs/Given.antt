@@ -1,9 +1,9 @@
--- That a text is given a piece at a time, and that what was given is the text of a legal history.
+-- Serves `give_all` and `replay`: a text is given a piece at a time, and what was given is the text of a legal history.
 use Rattle.std.proofs.Common.{◌≡◌, ℕ, ◌+◌, ◌-◌, List, ◌++◌, length, take, drop, Option, Some, None, Ok, IfSome, sym, ap, ◌∙◌, arith, append_assoc, length-drop}
 use Rattle.std.proofs.Math.Seq.{take-add}
 use Rattle.std.proofs.lemmas.List.{take_all}
 use Rattle.std.specs.Io.KnownBytes.{Appends}
-use Rattle.area_model.proofs.Gathering.{serial_is_history}
+use Rattle.history.proofs.Gathering.{serial_is_history}
 use Rattle.trace_reader.specs.declared.trace.Trace.{Trace}
 use Rattle.trace_reader.specs.Grammar.{trace_of}
 use Rattle.vma_replay.specs.Output.{serial_output}

@@ -1,5 +1,5 @@
--- What the loop over the lines of a trace keeps.
-use Rattle.std.proofs.Common.{ℕ, ◌≡◌, ◌+◌, ◌^◌, ◌<◌, ◌≤◌, ◌∙◌, refl, sym, ap, subst, true, false, List, [], ◌∷◌, ◌++◌, append_assoc, length, drop, get_or, map, flat_map, fold, All, IsSortedByKey, arith}
+-- Serves `serial_text`: what its loop over the lines of a trace keeps.
+use Rattle.std.proofs.Common.{ℕ, ◌≡◌, ◌+◌, ◌^◌, ◌<◌, ◌≤◌, ◌∙◌, refl, sym, ap, subst, true, false, List, [], ◌∷◌, ◌++◌, append_assoc, length, codes, drop, get_or, map, flat_map, fold, All, IsSortedByKey, arith}
 use Rattle.std.specs.List.Sorted.{IsStableByKey, IsPermutation}
 use Rattle.std.specs.Ordering.{nat_cmp}
 use Rattle.std.proofs.lemmas.Grind.{flat_map-append}
@@ -11,16 +11,16 @@ use Rattle.mm_types.specs.declared.area.Record.{Record}
 use Rattle.mm_types.specs.declared.call.Call.{Call}
 use Rattle.mm_types.specs.declared.config.Config.{Config}
 use Rattle.mm_types.specs.declared.files.FileRow.{FileRow}
-use Rattle.mm_types.specs.declared.history.Item.{Item}
-use Rattle.mm_types.specs.declared.history.Op.{Op}
-use Rattle.mm_types.specs.declared.history.Op.TheVariants as ops
-use Rattle.mm_types.specs.declared.history.TraceLine.{TraceLine}
+use Rattle.history.specs.declared.items.Item.{Item}
+use Rattle.trace_reader.specs.declared.trace.Op.{Op}
+use Rattle.trace_reader.specs.declared.trace.Op.TheVariants as ops
+use Rattle.trace_reader.specs.declared.trace.TraceLine.{TraceLine}
 use Rattle.area_model.specs.Stepped.{space_of}
 use Rattle.area_model.specs.Tables.{AddressSpace, Outcome}
 use Rattle.area_model.specs.Steps.{step, opening, IsReady}
-use Rattle.area_model.specs.Histories.{asks_call, occurs, answer_of, space_after, version_after, space_after_all, answered_by, answered, sort_by_caller}
-use Rattle.area_model.proofs.Gathering.{answered-read, answered-call, sort_by_caller-from_threads}
-use Rattle.area_model.proofs.Callers.{all_occur}
+use Rattle.history.specs.Histories.{asks_call, occurs, answer_of, space_after, version_after, space_after_all, answered_by, answered, sort_by_caller}
+use Rattle.history.proofs.Gathering.{answered-read, answered-call, sort_by_caller-from_threads}
+use Rattle.history.proofs.Callers.{all_occur}
 use Rattle.trace_reader.specs.declared.trace.Trace.{Trace}
 use Rattle.trace_reader.specs.Values.{IsTraceValue}
 use Rattle.vma_replay.specs.Output.{start_text, reply_text, content_text, maps_text, serial_output}
@@ -116,7 +116,7 @@ pub runs_call : (trace : Trace) (place : ℕ) (text : List ℕ) (space : Address
     → outcome ≡ step trace.config space call → (waiting : List ℕ)
     → waiting ≡ flat_map (pair_text trace.config) (map (answered_by trace.config trace.lines space version) (sort_by_caller trace.lines reads))
     → told ≡ []
-    → Runs trace (place + 1) ((text ++ waiting) ++ (start_text (get_or trace.lines place d) (version + 1) ++ (reply_text outcome.reply ++ 10 ∷ []))) outcome.space (version + 1) told
+    → Runs trace (place + 1) ((text ++ waiting) ++ (start_text (get_or trace.lines place d) (version + 1) ++ (reply_text outcome.reply ++ codes "\n"))) outcome.space (version + 1) told
 unfolding content_text
 runs_call trace place text space version reads told d call outcome value runs within asks stepped waiting is_waiting none_left =
     let config : Config = trace.config in
@@ -125,12 +125,12 @@ runs_call trace place text space version reads told d call outcome value runs wi
     let split : drop place trace.lines ≡ line ∷ rest = drop_more trace.lines place d within in
     let is_call : asks_call line.op ≡ true = ap asks_call asks in
     let pairs : List (TraceLine × Item) = map (answered_by config trace.lines space version) (sort_by_caller trace.lines reads) in
-    let here : List ℕ = start_text line (version + 1) ++ (reply_text outcome.reply ++ 10 ∷ []) in
+    let here : List ℕ = start_text line (version + 1) ++ (reply_text outcome.reply ++ codes "\n") in
     let later : List ℕ = rest_text trace outcome.space (version + 1) [] rest in
     let kept : IsReady config (step config space call).space × (length config.files ≤ (step config space call).space.objects) × ((step config space call).space.objects ≤ space.objects + 1)
     = step_ready config space call runs.ready runs.files (omega (arith, runs.objects, value.few, value.config.most_files)) in
     let text_here : here ++ later ≡ line_text trace line space version line.op ++ after_text trace rest space version line.op =
-    ap (λ (o : Outcome). (start_text line (version + 1) ++ (reply_text o.reply ++ 10 ∷ [])) ++ rest_text trace o.space (version + 1) [] rest) stepped
+    ap (λ (o : Outcome). (start_text line (version + 1) ++ (reply_text o.reply ++ codes "\n")) ++ rest_text trace o.space (version + 1) [] rest) stepped
     ∙ ap (λ (op : Op). line_text trace line space version op ++ after_text trace rest space version op) (sym asks) in
     let whole : rest_text trace space version reads (line ∷ rest) ≡ waiting ++ (here ++ later) =
     ap (flat_map (pair_text config)) (answered-call config trace.lines space version reads line rest is_call)
@@ -158,12 +158,12 @@ pub runs_call_at : (trace : Trace) (items : List TraceLine) (place : ℕ) (text 
     → outcome ≡ step trace.config space call
     → IsSortedByKey (λ line. line.thread) nat_cmp sorted → IsStableByKey (λ line. line.thread) nat_cmp reads sorted → IsPermutation reads sorted → told ≡ []
     → Runs trace (place + 1) ((text ++ flat_map (read_line trace.config space version) sorted)
-    ++ (start_text (get_or items place d) (version + 1) ++ (reply_text outcome.reply ++ 10 ∷ []))) outcome.space (version + 1) told
+    ++ (start_text (get_or items place d) (version + 1) ++ (reply_text outcome.reply ++ codes "\n"))) outcome.space (version + 1) told
 runs_call_at trace items place text space version reads told sorted d call outcome same value runs within asks stepped order stable moved none_left =
     let waiting : List ℕ = flat_map (read_line trace.config space version) sorted in
     let is_waiting : waiting ≡ flat_map (pair_text trace.config) (map (answered_by trace.config trace.lines space version) (sort_by_caller trace.lines reads))
     = reads_told trace space version reads sorted (All-permutation (λ (line : TraceLine). asks_call line.op ≡ false) reads sorted moved runs.reading) runs.occurring order stable in
-    subst (λ (l : List TraceLine). Runs trace (place + 1) ((text ++ waiting) ++ (start_text (get_or l place d) (version + 1) ++ (reply_text outcome.reply ++ 10 ∷ []))) outcome.space (version + 1) told) (sym same)
+    subst (λ (l : List TraceLine). Runs trace (place + 1) ((text ++ waiting) ++ (start_text (get_or l place d) (version + 1) ++ (reply_text outcome.reply ++ codes "\n"))) outcome.space (version + 1) told) (sym same)
     (runs_call trace place text space version reads told d call outcome value runs
     (subst (λ (l : List TraceLine). place < length l) same within)
     (subst (λ (l : List TraceLine). (get_or l place d).op ≡ ops.Call call) same asks) stepped waiting is_waiting none_left)

@@ -1,4 +1,4 @@
--- The bytes that were taken from a source, up to its end or past the limit, settle which trace it gives.
+-- Serves `read_source`: the bytes that were taken from a source, up to its end or past the limit, settle which trace it gives.
 use Rattle.std.proofs.Common.{◌≡◌, ◌≤◌, ◌<◌, ℕ, ◌+◌, Bool, true, false, List, [], ◌∷◌, ◌++◌, length, take, Option, Some, None, Result, Ok, Err, IfSome, bytes_eq, codes, refl, sym, ap, ◌∙◌, inl, inr, arith, append-nil}
 use Rattle.std.proofs.lemmas.Bool.{and_parts, leb-true, cond_both, cases_lt}
 use Rattle.std.proofs.lemmas.List.{take-append-le}
@@ -8,7 +8,8 @@ use Rattle.trace_reader.specs.declared.trace.Trace.{Trace}
 use Rattle.trace_reader.specs.Grammar.{trace_of}
 use Rattle.trace_reader.specs.Lines.{trace_limit}
 use Rattle.vma_replay.specs.declared.status.Status.TheVariants as statuses
-use Rattle.vma_replay.specs.Replaying.{Takes, IsReading, IsTaking}
+use Rattle.vma_replay.specs.Replaying.{Takes}
+use Rattle.vma_replay.specs.Reading.{IsReading, IsTaking}
 use Rattle.trace_reader.proofs.Fronts.{trace_of-front, trace_within}
 
 -- Of a function that the first `limit + 1` bytes settle: what follows more than `limit` bytes does not change it.
@@ -27,7 +28,7 @@ taken_settles read limit same None new bytes answer moved end e = tt
 taken_settles read limit same (Some input) None bytes answer moved end e = absurd moved
 taken_settles read limit same (Some input) (Some rest) bytes answer moved end e = elim (cases_lt limit (length bytes)) [
   | inl past ↦ ap read moved ∙ read-append read limit same bytes rest past ∙ e
-  | inr within ↦ ap read (moved ∙ ap (λ behind. bytes ++ behind) (end within) ∙ append-nil bytes) ∙ e
+  | inr within ↦ ap read (moved ∙ ap (λ later. bytes ++ later) (end within) ∙ append-nil bytes) ∙ e
 ]
 
 -- of the trace

@@ -1,5 +1,5 @@
--- The words behind the program's name, as `clap` reads them.
-use Rattle.std.specs.Prelude.{◌==◌, ◌&&◌, Bool, false, true, List, [], Some, codes, slice_index, string_bytes, String, unwrap_or}
+-- No public clause cites what stands here: the words after the program's name, as `clap` reads them.
+use Rattle.std.specs.Prelude.{ℕ, ◌==◌, ◌&&◌, Bool, false, true, List, [], Some, codes, slice_index, string_bytes, String, unwrap_or}
 use Rattle.std.specs.declared.alloc.Global.{Global}
 use Rattle.std.specs.Option.{option_map_or}
 use Rattle.std.specs.Str.{bytes_eq}
@@ -7,15 +7,19 @@ use Rattle.clap.specs.Lexer.{usize_max}
 use Rattle.clap.specs.Simple.{App, new_app, new_rule, on_top, with_rule}
 use Rattle.clap.specs.Walk.{Row, Rule, all_of, first_of, is_empty}
 
--- the word begins with `-`, which is the byte 45
+-- the character `-`
+abbrev pub dash : ℕ
+dash = 45
+
+-- the word begins with `-`
 abbrev pub begins_with_dash : String Global → Bool
-begins_with_dash word = slice_index (string_bytes word) 0 == 45
+begins_with_dash word = slice_index (string_bytes word) 0 == dash
 
 -- the word that names the mode
 abbrev pub mode_rule : Rule
 mode_rule = record (new_rule (codes "mode")) { required = true }
 
--- the words behind it, of which there may be any number
+-- the words after it, of which there may be any number
 abbrev pub rest_rule : Rule
 rest_rule = record (new_rule (codes "rest")) { range = Some (record { start_inclusive = 0; end_inclusive = usize_max }) }
 
@@ -24,7 +28,7 @@ unfoldable pub words_command : App
 words_command = with_rule (with_rule (on_top (λ top. record top { no_binary_name = true; disable_help_flag = true; disable_version_flag = true })
     (new_app (codes "replay"))) mode_rule) rest_rule
 
--- the values are those of the accepted list `serial`: it is the mode, and nothing is behind it
+-- the values are those of the accepted list `serial`: it is the mode, and nothing is after it
 unfoldable pub is_serial : List Row → Bool
 is_serial rows = is_empty (unwrap_or (all_of (codes "rest") rows) [])
     && option_map_or (λ mode. bytes_eq mode (codes "serial")) (first_of (codes "mode") rows) false

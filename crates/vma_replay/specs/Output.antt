@@ -11,18 +11,14 @@ use Rattle.mm_types.specs.declared.call.Reply.{Reply}
 use Rattle.mm_types.specs.declared.call.Reply.TheVariants as replies
 use Rattle.mm_types.specs.declared.config.Config.{Config}
 use Rattle.mm_types.specs.declared.files.FileRow.{FileRow}
-use Rattle.mm_types.specs.declared.history.Content.{Content}
-use Rattle.mm_types.specs.declared.history.Content.TheVariants as contents
-use Rattle.mm_types.specs.declared.history.Item.{Item}
-use Rattle.mm_types.specs.declared.history.Op.{Op}
-use Rattle.mm_types.specs.declared.history.Op.TheVariants as ops
-use Rattle.mm_types.specs.declared.history.TraceLine.{TraceLine}
-use Rattle.maps_print.specs.Printable.{IsPrintable}
+use Rattle.history.specs.declared.items.Content.{Content}
+use Rattle.history.specs.declared.items.Content.TheVariants as contents
+use Rattle.history.specs.declared.items.Item.{Item}
+use Rattle.trace_reader.specs.declared.trace.TraceLine.{TraceLine}
 use Rattle.mm_types.specs.MapsText.{range_text, list_text}
 use Rattle.trace_reader.specs.declared.trace.Trace.{Trace}
-use Rattle.area_model.specs.Verdicts.{verdict}
 use Rattle.area_model.specs.Steps.{after}
-use Rattle.area_model.specs.Histories.{line_of, journal_of, serial_history}
+use Rattle.history.specs.Histories.{line_of, journal_of, serial_history}
 
 -- the name of an error
 unfoldable pub errno_name : Errno → List ℕ
@@ -48,32 +44,19 @@ verdict_text verdicts.MapErr = codes "SIGSEGV SEGV_MAPERR"
 verdict_text verdicts.AccErr = codes "SIGSEGV SEGV_ACCERR"
 verdict_text verdicts.BusErr = codes "SIGBUS BUS_ADRERR"
 
--- a verdict whose area can be printed, if it has one
-abbrev pub IsServable : Verdict → Type 0
-IsServable (verdicts.Served area index) = IsPrintable area
-IsServable verdicts.MapErr = Unit {0}
-IsServable verdicts.AccErr = Unit {0}
-IsServable verdicts.BusErr = Unit {0}
-
 -- how many areas there are, and their lines
 unfoldable pub maps_text : List FileRow → List Record → List ℕ
-maps_text files areas = codes "maps " ++ (decimal (length areas) ++ (10 ∷ list_text files areas))
+maps_text files areas = codes "maps " ++ (decimal (length areas) ++ (codes "\n" ++ list_text files areas))
 
 -- what happened, up to the end of its last line
 unfoldable pub content_text : List FileRow → Content → List ℕ
-content_text files (contents.Called call reply) = reply_text reply ++ 10 ∷ []
-content_text files (contents.Fault page access verdict) = verdict_text verdict ++ 10 ∷ []
+content_text files (contents.Called call reply) = reply_text reply ++ codes "\n"
+content_text files (contents.Fault page access verdict) = verdict_text verdict ++ codes "\n"
 content_text files (contents.List areas) = maps_text files areas
-
--- what a line comes to that asks for no call: the verdict of its fault, or the list of areas
-unfoldable pub read_text : List FileRow → List Record → Op → List ℕ
-read_text files areas (ops.Fault page access) = verdict_text (verdict files areas page.0 access) ++ 10 ∷ []
-read_text files areas ops.Maps = maps_text files areas
-read_text files areas (ops.Call call) = []
 
 -- what stands before it: `L<line> t<thread> v<version> = `
 unfoldable pub start_text : TraceLine → ℕ → List ℕ
-start_text line version = 76 ∷ (decimal line.number ++ (codes " t" ++ (decimal line.thread ++ (codes " v" ++ (decimal version ++ codes " = ")))))
+start_text line version = codes "L" ++ (decimal line.number ++ (codes " t" ++ (decimal line.thread ++ (codes " v" ++ (decimal version ++ codes " = ")))))
 
 -- an item, with the line that it answers
 abbrev pub item_text : List FileRow → TraceLine → Item → List ℕ

@@ -1,8 +1,8 @@
--- What a run of `replay` takes, gives and answers.
-use Rattle.std.specs.Prelude.{ℕ, ◌≡◌, ◌<◌, ◌≤◌, ◌+◌, ◌⊎◌, Bool, false, List, [], ◌∷◌, length, take, codes, bytes_eq, string_bytes, String, Vec, Option, Result, Ok, Err, IfSome, IsOkAnd}
+-- What the promises of `replay` say of its words, what it takes, gives and answers.
+use Rattle.std.specs.Prelude.{ℕ, ◌≡◌, ◌<◌, ◌≤◌, ◌+◌, ◌⊎◌, Bool, false, List, [], ◌∷◌, length, take, codes, bytes_eq, string_bytes, String, Option, Result, Ok, Err, IsOkAnd}
 use Rattle.std.specs.declared.alloc.Global.{Global}
 use Rattle.std.specs.Io.KnownBytes.{Appends, Consumes, IsAtEnd}
-use Rattle.area_model.specs.Histories.{IsLegalHistory, serial_history}
+use Rattle.history.specs.Histories.{IsLegalHistory, serial_history}
 use Rattle.trace_reader.specs.declared.fault.Cause.{Cause}
 use Rattle.trace_reader.specs.declared.fault.TraceFault.{TraceFault}
 use Rattle.trace_reader.specs.declared.trace.Trace.{Trace}
@@ -29,8 +29,8 @@ abbrev pub GivesFront : List ℕ → Option (List ℕ) → Option (List ℕ) →
 GivesFront input old new = IsOkAnd (trace_of input) (λ trace. (count : ℕ) × Appends old new (take count (serial_output trace)))
 
 -- the input is a trace, and what was given is a front of its output that is not all of it
-abbrev pub GivesShort : List ℕ → Option (List ℕ) → Option (List ℕ) → Type 0
-GivesShort input old new = IsOkAnd (trace_of input) (λ trace. (count : ℕ) × (count < length (serial_output trace)) × Appends old new (take count (serial_output trace)))
+abbrev pub GivesProperFront : List ℕ → Option (List ℕ) → Option (List ℕ) → Type 0
+GivesProperFront input old new = IsOkAnd (trace_of input) (λ trace. (count : ℕ) × (count < length (serial_output trace)) × Appends old new (take count (serial_output trace)))
 
 -- the answer to accepted words and an input, where neither memory nor the outside fails
 abbrev pub status_of : Result Trace TraceFault → Status
@@ -47,43 +47,6 @@ pub record Takes (old new : Option (List ℕ)) (bytes : List ℕ) : Type 0 where
 abbrev pub ReadsEnough : Option (List ℕ) → Option (List ℕ) → Type 0
 ReadsEnough old new = (bytes : List ℕ) × Takes old new bytes
 
--- What reading a trace comes to, by what the source had left and its count of faults, before and after. Want of memory
--- is free; nothing else but these comes.
-abbrev pub IsReading : Option (List ℕ) → Option (List ℕ) → ℕ → ℕ → Result Trace Status → Type 0
-IsReading old new before now (Ok trace) = (now ≡ before) × ReadsEnough old new × IsAtEnd new × IfSome old (λ input. trace_of input ≡ Ok trace)
-IsReading old new before now (Err (statuses.Trace line cause)) = (now ≡ before) × ReadsEnough old new
-    × IfSome old (λ input. trace_of input ≡ Err (record { line = line; cause = cause }))
-IsReading old new before now (Err statuses.ReadFault) = before < now
-IsReading old new before now (Err statuses.NoMemory) = Unit {0}
-IsReading old new before now (Err statuses.Done) = ⊥
-IsReading old new before now (Err statuses.Words) = ⊥
-IsReading old new before now (Err statuses.WriteFault) = ⊥
-
--- what taking bytes comes to
-abbrev pub IsTaking : Option (List ℕ) → Option (List ℕ) → ℕ → ℕ → Result (List ℕ) Status → Type 0
-IsTaking old new before now (Ok bytes) = (now ≡ before) × Takes old new bytes
-IsTaking old new before now (Err statuses.ReadFault) = before < now
-IsTaking old new before now (Err statuses.NoMemory) = Unit {0}
-IsTaking old new before now (Err statuses.Done) = ⊥
-IsTaking old new before now (Err statuses.Words) = ⊥
-IsTaking old new before now (Err (statuses.Trace line cause)) = ⊥
-IsTaking old new before now (Err statuses.WriteFault) = ⊥
-
--- What giving a text comes to, by what was written and the sink's count of faults, before and after: all of it was
--- given, or a front of it.
-abbrev pub IsGiving : List ℕ → Option (List ℕ) → Option (List ℕ) → ℕ → ℕ → Status → Type 0
-IsGiving text old new before now statuses.Done = (now ≡ before) × Appends old new text
-IsGiving text old new before now statuses.WriteFault = (before < now) × (count : ℕ) × (count < length text) × Appends old new (take count text)
-IsGiving text old new before now statuses.NoMemory = (count : ℕ) × Appends old new (take count text)
-IsGiving text old new before now statuses.Words = ⊥
-IsGiving text old new before now (statuses.Trace line cause) = ⊥
-IsGiving text old new before now statuses.ReadFault = ⊥
-
 -- the answers on which nothing was given to the sink
 abbrev pub GivesNothing : Status → Type 0
 GivesNothing status = (status ≡ statuses.Words) ⊎ ((line : ℕ) × (cause : Cause) × (status ≡ statuses.Trace line cause)) ⊎ (status ≡ statuses.ReadFault)
-
--- the bytes that were taken, as a list
-abbrev pub taken_bytes : Result (Vec ℕ Global) Status → Result (List ℕ) Status
-taken_bytes (Ok bytes) = Ok bytes.items
-taken_bytes (Err status) = Err status

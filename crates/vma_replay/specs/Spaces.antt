@@ -1,4 +1,4 @@
--- Address spaces that plans change in place.
+-- No public clause cites what stands here: address spaces that plans change in place.
 use Rattle.std.specs.Prelude.{ℕ, ◌≡◌, List}
 use Rattle.mm_types.specs.declared.area.Record.{Record}
 use Rattle.mm_types.specs.declared.config.Config.{Config}

@@ -1,5 +1,5 @@
 -- What `replay` answers, as a number and as a line of text.
-use Rattle.std.specs.Prelude.{ℕ, List, [], ◌∷◌, ◌++◌, codes, decimal}
+use Rattle.std.specs.Prelude.{ℕ, List, [], ◌++◌, codes, decimal}
 use Rattle.trace_reader.specs.declared.fault.Cause.{Cause}
 use Rattle.trace_reader.specs.Causes.{cause_number, cause_name}
 use Rattle.vma_replay.specs.declared.status.Status.{Status}
@@ -7,7 +7,7 @@ use Rattle.vma_replay.specs.declared.status.Status.TheVariants as statuses
 
 -- the number of a cause and its name
 abbrev pub cause_text : Cause → List ℕ
-cause_text cause = decimal (cause_number cause) ++ (32 ∷ cause_name cause)
+cause_text cause = decimal (cause_number cause) ++ (codes " " ++ cause_name cause)
 
 -- the exit status of the program
 abbrev pub number_of_status : Status → ℕ

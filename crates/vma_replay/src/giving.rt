@@ -1,9 +1,9 @@
 ghost use Rattle.std.specs.Prelude.{◌<◌, ◌^◌, ◌-◌};
 ghost use Rattle.vma_replay.specs.Output.{serial_output};
 ghost use Rattle.trace_reader.specs.Values.{IsTraceValue};
-ghost use Rattle.vma_replay.specs.Replaying.{IsGiving};
+ghost use Rattle.vma_replay.specs.Giving.{IsGiving};
 
-use crate::output::serial_text;
+use crate::serial::serial_text;
 use crate::status::Status;
 use io_edge::{GiveFault, Sink};
 use mm_types::NoMemory;

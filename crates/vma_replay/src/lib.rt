@@ -8,6 +8,7 @@ mod output;
 mod plans;
 mod reading;
 mod run;
+mod serial;
 mod space;
 mod status;
 #[cfg(test)]

@@ -1,111 +1,17 @@
-ghost use Rattle.std.specs.Prelude.{◌≡◌, ◌++◌, ◌∷◌, [], List, All, IfOk, OnOk, codes, decimal, false, flat_map, IsPermutation, IsSortedByKey};
-ghost use Rattle.std.specs.List.Sorted.{IsStableByKey};
-ghost use Rattle.std.specs.Ordering.{nat_cmp};
-ghost use Rattle.mm_types.specs.declared.history.TraceLine.{TraceLine};
-ghost use Rattle.mm_types.specs.MapsText.{list_text, range_text};
-ghost use Rattle.mm_types.specs.Records.{IsValid};
-ghost use Rattle.maps_print.specs.Printable.{IsPrintable};
-ghost use Rattle.area_model.specs.Histories.{asks_call};
-ghost use Rattle.trace_reader.specs.Values.{IsTraceValue};
-ghost use Rattle.vma_replay.specs.Output.{IsServable, errno_name, reply_text, verdict_text, read_text, start_text, maps_text, serial_output};
+//! The text of what a line results in, and of the final list.
+ghost use Rattle.std.specs.Prelude.{◌≡◌, ◌++◌, OnOk, codes, decimal};
+ghost use Rattle.mm_types.specs.MapsText.{range_text};
+ghost use Rattle.vma_replay.specs.Output.{errno_name, reply_text, verdict_text, start_text, maps_text};
 
-use crate::space::Space;
 use maps_print::{push_list, push_range};
-use mm_types::{Errno, Files, NoMemory, Op, Record, Reply, TraceLine, Verdict};
-use std::alloc::Global;
+use mm_types::{Errno, Files, NoMemory, Record, Reply, Verdict};
 use std::io::Write;
-use trace_reader::Trace;
-
-/// The output of a trace that runs in the order of its lines: what each line comes to, in the order of a history,
-/// and then the final list. Reads of one version wait for the next call, and are told by caller.
-pub(crate) fn serial_text(alloc: Global, trace: &Trace) -> Result<Vec<u8>, NoMemory>
-    requires { IsTraceValue trace.now }
-    ensures { IfOk result (λ text. text.items ≡ serial_output trace.now) }
-{
-    let config = &trace.config;
-    let mut text = Vec::new(alloc);
-    let mut space = Space::open(alloc, config)?;
-    let mut version = 0;
-    let mut reads = Vec::new(alloc);
-    for line in trace.lines.items() {
-        let Op::Call(call) = line.op else {
-            reads.push(*line)?;
-            continue;
-        };
-        push_reads(&mut text, &config.files, &space, version, &mut reads)?;
-        let reply = space.call(config, &call);
-        version += 1;
-        push_called(&mut text, line, version, reply)?;
-    }
-    push_reads(&mut text, &config.files, &space, version, &mut reads)?;
-    push_maps(&mut text, &config.files, &space)?;
-    Ok(text)
-}
-
-/// Sorts lines by thread; those of one thread keep their order.
-fn sort_by_thread(reads: &mut Vec<TraceLine>) -> Result<(), NoMemory>
-    ensures sorted { OnOk result (IsSortedByKey (λ line. line.thread) nat_cmp reads.new.items) }
-    ensures stable { IsStableByKey (λ line. line.thread) nat_cmp reads.old.items reads.new.items }
-    ensures permutation { IsPermutation reads.old.items reads.new.items }
-{
-    reads.sort_by_key(|line| line.thread)?;
-    Ok(())
-}
-
-/// Appends what the reads of a version come to, by thread, and forgets them.
-fn push_reads(
-    text: &mut Vec<u8>,
-    files: &Files,
-    space: &Space,
-    version: u64,
-    reads: &mut Vec<TraceLine>,
-) -> Result<(), NoMemory>
-    requires { All (λ line. asks_call line.op ≡ false) reads.old.items }
-    ensures text { OnOk result ((sorted : List TraceLine) × IsSortedByKey (λ line. line.thread) nat_cmp sorted
-        × IsStableByKey (λ line. line.thread) nat_cmp reads.old.items sorted × IsPermutation reads.old.items sorted
-        × (text.new.items ≡ text.old.items ++ flat_map (λ line. start_text line version ++ read_text files.now space.now.space.areas line.op) sorted)) }
-    ensures reads { OnOk result (reads.new.items ≡ []) }
-{
-    sort_by_thread(reads)?;
-    for line in reads.iter() {
-        push_read(text, files, space, version, line)?;
-    }
-    reads.clear();
-    Ok(())
-}
-
-/// Appends what a fault or a read of the list comes to.
-fn push_read(
-    text: &mut Vec<u8>,
-    files: &Files,
-    space: &Space,
-    version: u64,
-    line: &TraceLine,
-) -> Result<(), NoMemory>
-    requires { asks_call line.now.op ≡ false }
-    ensures { OnOk result (text.new.items ≡ text.old.items ++ (start_text line.now version ++ read_text files.now space.now.space.areas line.now.op)) }
-{
-    push_start(text, line, version)?;
-    push_content(text, files, space, line.op)
-}
-
-#[tactic(auto, unfolding(crate::specs::Output::read_text))]
-fn push_content(text: &mut Vec<u8>, files: &Files, space: &Space, op: Op) -> Result<(), NoMemory>
-    requires { asks_call op ≡ false }
-    ensures { OnOk result (text.new.items ≡ text.old.items ++ read_text files.now space.now.space.areas op) }
-{
-    match op {
-        Op::Fault { page, access } => push_verdict(text, space.verdict(files, page, access)),
-        Op::Maps => push_maps(text, files, space),
-        Op::Call(_) => unreachable!(),
-    }
-}
+use trace_reader::TraceLine;
 
 /// Appends a fault's verdict, and ends its line.
 #[tactic(auto, unfolding(crate::specs::Output::verdict_text))]
-fn push_verdict(text: &mut Vec<u8>, verdict: Verdict) -> Result<(), NoMemory>
-    requires { IsServable verdict }
-    ensures { OnOk result (text.new.items ≡ text.old.items ++ (verdict_text verdict ++ 10 ∷ [])) }
+pub(crate) fn push_verdict(text: &mut Vec<u8>, verdict: Verdict) -> Result<(), NoMemory>
+    ensures { OnOk result (text.new.items ≡ text.old.items ++ (verdict_text verdict ++ codes "\n")) }
 {
     match verdict {
         Verdict::Served { area, index } => push_served(text, &area, index)?,
@@ -118,13 +24,13 @@ fn push_verdict(text: &mut Vec<u8>, verdict: Verdict) -> Result<(), NoMemory>
 }
 
 /// Appends the line of a call: `L<line> t<thread> v<version> = <reply>`.
-fn push_called(
+pub(crate) fn push_called(
     text: &mut Vec<u8>,
     line: &TraceLine,
     version: u64,
     reply: Reply,
 ) -> Result<(), NoMemory>
-    ensures { OnOk result (text.new.items ≡ text.old.items ++ (start_text line.now version ++ (reply_text reply ++ 10 ∷ []))) }
+    ensures { OnOk result (text.new.items ≡ text.old.items ++ (start_text line.now version ++ (reply_text reply ++ codes "\n"))) }
 {
     push_start(text, line, version)?;
     push_reply(text, reply)?;
@@ -134,7 +40,6 @@ fn push_called(
 
 /// Appends the area that serves a fault, and the page of its object.
 fn push_served(text: &mut Vec<u8>, area: &Record, index: u64) -> Result<(), NoMemory>
-    requires { IsPrintable area.now }
     ensures { OnOk result (text.new.items ≡ text.old.items ++ (codes "served " ++ (range_text area.now ++ (codes " page " ++ decimal index)))) }
 {
     text.extend_from_slice(b"served ")?;
@@ -142,20 +47,23 @@ fn push_served(text: &mut Vec<u8>, area: &Record, index: u64) -> Result<(), NoMe
     push_page(text, index)
 }
 
+/// Appends the page of an object.
 fn push_page(text: &mut Vec<u8>, index: u64) -> Result<(), NoMemory>
     ensures { OnOk result (text.new.items ≡ text.old.items ++ (codes " page " ++ decimal index)) }
 {
     write!(text, " page {index}").map_err(|_| NoMemory)
 }
 
+/// Appends what stands before what a line results in: `L<line> t<thread> v<version> = `.
 #[tactic(auto, unfolding(crate::specs::Output::start_text))]
-fn push_start(text: &mut Vec<u8>, line: &TraceLine, version: u64) -> Result<(), NoMemory>
+pub(crate) fn push_start(text: &mut Vec<u8>, line: &TraceLine, version: u64) -> Result<(), NoMemory>
     ensures { OnOk result (text.new.items ≡ text.old.items ++ start_text line.now version) }
 {
     let (number, thread) = (line.number, line.thread);
     write!(text, "L{number} t{thread} v{version} = ").map_err(|_| NoMemory)
 }
 
+/// Appends a reply: an address, 0, or -1 and the name of the error.
 #[tactic(auto, unfolding(crate::specs::Output::reply_text))]
 fn push_reply(text: &mut Vec<u8>, reply: Reply) -> Result<(), NoMemory>
     ensures { OnOk result (text.new.items ≡ text.old.items ++ reply_text reply) }
@@ -170,6 +78,7 @@ fn push_reply(text: &mut Vec<u8>, reply: Reply) -> Result<(), NoMemory>
     }
 }
 
+/// The name of an error.
 #[tactic(auto, unfolding(crate::specs::Output::errno_name))]
 fn errno_name(errno: Errno) -> &'static str
     ensures { result.now ≡ errno_name errno }
@@ -188,10 +97,9 @@ fn errno_name(errno: Errno) -> &'static str
 
 /// Appends how many areas there are, and their lines.
 #[tactic(auto, unfolding(crate::specs::Output::maps_text))]
-fn push_maps(text: &mut Vec<u8>, files: &Files, space: &Space) -> Result<(), NoMemory>
-    ensures { OnOk result (text.new.items ≡ text.old.items ++ maps_text files.now space.now.space.areas) }
+pub(crate) fn push_maps(text: &mut Vec<u8>, files: &Files, areas: &[Record]) -> Result<(), NoMemory>
+    ensures { OnOk result (text.new.items ≡ text.old.items ++ maps_text files.now areas.now) }
 {
-    let areas = space.areas();
     let count = areas.len();
     write!(text, "maps {count}\n").map_err(|_| NoMemory)?;
     push_list(text, areas, files)

@@ -1,6 +1,6 @@
 ghost use Rattle.std.specs.Prelude.{◌<◌, ◌^◌, ◌-◌, IfOk};
 ghost use Rattle.trace_reader.specs.Values.{IsTraceValue};
-ghost use Rattle.vma_replay.specs.Replaying.{IsReading, IsTaking, taken_bytes};
+ghost use Rattle.vma_replay.specs.Reading.{IsReading, IsTaking, taken_bytes};
 
 use crate::status::Status;
 use io_edge::{Failed, Source};

@@ -5,10 +5,9 @@ ghost use Rattle.area_model.specs.Placement.{bounds_of};
 ghost use Rattle.area_model.specs.Steps.{step, opening, IsReady};
 ghost use Rattle.area_model.specs.Verdicts.{verdict};
 ghost use Rattle.split_merge.specs.Plans.{IsKept};
-ghost use Rattle.vma_replay.specs.Output.{IsServable};
 ghost use Rattle.vma_replay.specs.Spaces.{HasNumbersOf};
 
-use crate::plans::{objects_after_call, plan_call};
+use crate::plans::plan_call;
 use area_model::area_verdict;
 use mm_types::{Access, Call, Config, Files, NoMemory, Page, Record, Reply, Verdict};
 use split_merge::{Plan, area_at};
@@ -73,18 +72,17 @@ impl Space {
         ensures outcome { record { space = self.new.space; reply = result } ≡ step config.now self.old.space call.now }
         ensures numbers { HasNumbersOf config.now self.new }
     {
-        let reply = plan_call(config, self.objects, &mut self.areas, call, &mut self.plan);
+        let called = plan_call(config, self.objects, &self.areas, call, &mut self.plan);
         self.areas.apply(&self.plan);
         self.plan.clear();
-        self.objects = objects_after_call(self.objects, call, &reply);
-        reply
+        self.objects = called.objects;
+        called.reply
     }
 
-    /// What a fault at a page comes to.
+    /// The verdict on a fault at a page.
     #[tactic(auto, unfolding(area_model::specs::Verdicts::verdict))]
     pub(crate) fn verdict(&self, files: &Files, page: Page, access: Access) -> Verdict
-        ensures value { result ≡ verdict files.now self.now.space.areas page.0 access }
-        ensures servable { IsServable result }
+        ensures { result ≡ verdict files.now self.now.space.areas page.0 access }
     {
         match area_at(&self.areas, page.0) {
             Some(area) => area_verdict(files.items(), page.0, access, &area),

@@ -1,11 +1,11 @@
-ghost use Rattle.std.specs.Prelude.{◌≡◌, ◌++◌, ◌∷◌, IfOk, codes, decimal, string_bytes};
+ghost use Rattle.std.specs.Prelude.{◌≡◌, ◌++◌, IfOk, codes, decimal, string_bytes};
 ghost use Rattle.vma_replay.specs.Statuses.{number_of_status, line_of_status};
 
 use mm_types::{NoMemory, Text};
 use std::alloc::Global;
 use trace_reader::Cause;
 
-/// What a run comes to.
+/// What a run results in.
 #[derive(Clone, Copy, Debug, PartialEq, Eq)]
 pub enum Status {
     /// The whole input was read, and the whole output given.
@@ -18,7 +18,7 @@ pub enum Status {
     ReadFault,
     /// The sink failed.
     WriteFault,
-    /// There was no memory.
+    /// Memory ran out.
     NoMemory,
 }
 
@@ -53,7 +53,7 @@ pub fn status_line(alloc: Global, status: &Status) -> Result<Text, NoMemory>
 }
 
 fn trace_line(alloc: Global, line: u64, number: u8, name: &str) -> Result<String, NoMemory>
-    ensures { IfOk result (λ text. string_bytes text ≡ codes "trace line " ++ (decimal line ++ (codes " cause " ++ (decimal number ++ (32 ∷ name.now))))) }
+    ensures { IfOk result (λ text. string_bytes text ≡ codes "trace line " ++ (decimal line ++ (codes " cause " ++ (decimal number ++ (codes " " ++ name.now))))) }
 {
     Ok(format!(in alloc; "trace line {line} cause {number} {name}")?)
 }

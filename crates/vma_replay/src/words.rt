@@ -11,7 +11,7 @@ use std::alloc::{AllocError, Global};
 /// The name of the argument that is the mode.
 const MODE: &str = "mode";
 
-/// The name of the argument for the words behind it.
+/// The name of the argument for the words after it.
 const REST: &str = "rest";
 
 /// How the lines of a trace are run.
@@ -26,7 +26,7 @@ pub(crate) enum Mode {
 pub(crate) enum WordsFault {
     /// They are none of the accepted lists.
     Words,
-    /// There was no memory.
+    /// Memory ran out.
     NoMemory,
 }
 
@@ -79,7 +79,7 @@ fn is_serial(matches: &ArgMatches<'_>) -> bool
     rest.is_empty() && matches.get_str(MODE) == Some("serial")
 }
 
-/// The command line: a mode, and any number of words behind it.
+/// The command line: a mode, and any number of words after it.
 fn command<'a>(alloc: Global) -> Result<Command<'a>, AllocError>
     ensures { IfOk result (λ command. app_of command ≡ words_command) }
 {

@@ -1,3 +1,4 @@
+-- For `plan_prefix` of lib.rt: its goals.
 use Rattle.std.proofs.Common.{List, arith}
 use Rattle.mm_types.specs.declared.area.Record.{Record}
 use Rattle.sys_mprotect.proofs.Limits.{error_past, makes_past, error_across, makes_across, local_longer}

@@ -1,8 +1,9 @@
+-- For `model_verdict`: its goals.
 use Rattle.std.proofs.Common.{sym}
 use Rattle.mm_types.specs.declared.area.Record.{Record}
 use Rattle.mm_types.specs.Records.{IsValid}
-use Rattle.area_model.specs.Areas.{has_page}
-use Rattle.area_model.proofs.Finding.{find_keeps, find_passes}
+use Rattle.area_list.specs.Areas.{has_page}
+use Rattle.area_list.proofs.Finding.{find_keeps, find_passes}
 use Rattle.area_model.proofs.faults.model_verdict.Goals as goal
 
 pub area_verdict-requires-clause-valid : goal.area_verdict-requires-clause-valid

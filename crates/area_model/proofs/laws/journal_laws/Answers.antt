@@ -1,3 +1,4 @@
+-- For `journal_laws`: its goals.
 use Rattle.area_model.proofs.Journals.{after-nil, after-push, legal-push, legal_take}
 use Rattle.area_model.proofs.laws.journal_laws.Goals as goal
 

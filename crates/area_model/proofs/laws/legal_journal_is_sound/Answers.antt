@@ -1,3 +1,4 @@
+-- For `legal_journal_is_sound`: its goals.
 use Rattle.area_model.proofs.Journals.{after_ready, after_take_ready, after_files}
 use Rattle.area_model.proofs.laws.legal_journal_is_sound.Goals as goal
 

@@ -1,3 +1,4 @@
+-- For `move_carries_the_pages`: its goals.
 use Rattle.area_model.proofs.Moving.{mremap_moves, move_canonical, move_beside, move_left, move_reached, move_carried, move_others}
 use Rattle.area_model.proofs.laws.move_carries_the_pages.Goals as goal
 

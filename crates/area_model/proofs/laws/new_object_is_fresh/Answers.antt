@@ -1,3 +1,4 @@
+-- For `new_object_is_fresh`: its goals.
 use Rattle.area_model.proofs.Sharing.{shared_counter, shared_fresh, shared_pages}
 use Rattle.area_model.proofs.laws.new_object_is_fresh.Goals as goal
 

@@ -1,11 +1,6 @@
-use Rattle.area_model.proofs.ProtectLaws.{protected_canonical, page_map-protected, stop_is, prefix_canonical, page_map-prefix, prefix_unique}
+-- For `protect_changes_the_prefix`: its goals.
+use Rattle.area_model.proofs.ProtectLaws.{stop_is, prefix_canonical, page_map-prefix, prefix_unique}
 use Rattle.area_model.proofs.laws.protect_changes_the_prefix.Goals as goal
-
-pub returns-clause-canonical : goal.returns-clause-canonical
-returns-clause-canonical c = protected_canonical
-
-pub returns-clause-pages : goal.returns-clause-pages
-returns-clause-pages c = page_map-protected
 
 pub returns-clause-stop : goal.returns-clause-stop
 returns-clause-stop c = stop_is

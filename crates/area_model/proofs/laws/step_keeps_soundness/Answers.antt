@@ -1,3 +1,4 @@
+-- For `step_keeps_soundness`: its goals.
 use Rattle.std.proofs.lemmas.List.Elements.{All-from_recursion, recursion_from_All}
 use Rattle.area_model.specs.Steps.{step}
 use Rattle.area_model.proofs.Stepping.{IsCounted, step_sound, step_counted, step_objects}

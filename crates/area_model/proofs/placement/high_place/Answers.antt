@@ -1,3 +1,4 @@
+-- For `high_place`: its goals.
 use Rattle.std.proofs.Common.{◌+◌, ◌-◌, ◌≤◌, sym, inl, inr, arith}
 use Rattle.std.proofs.lemmas.Bool.{cases_lt}
 use Rattle.area_model.proofs.Placing.{fits_true, fits_false, free_from_none, in_way, taken, high_found, high_none}

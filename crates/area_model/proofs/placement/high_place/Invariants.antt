@@ -1,3 +1,4 @@
+-- For `high_place`: what each loop keeps.
 use Rattle.std.proofs.Common.{◌≡◌, ℕ, ◌+◌, ◌<◌, ◌≤◌, false}
 use Rattle.area_model.specs.Placement.{is_free}
 use Rattle.area_model.proofs.placement.high_place.Given as goal

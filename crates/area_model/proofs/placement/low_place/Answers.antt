@@ -1,3 +1,4 @@
+-- For `low_place`: its goals.
 use Rattle.std.proofs.Common.{◌+◌, ◌≤◌, sym, inl, inr, arith}
 use Rattle.std.proofs.lemmas.Bool.{cases_lt}
 use Rattle.area_model.proofs.Placing.{fits_true, fits_false, free_from_none, in_way, taken, low_found, low_none}

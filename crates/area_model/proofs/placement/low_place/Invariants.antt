@@ -1,3 +1,4 @@
+-- For `low_place`: what each loop keeps.
 use Rattle.std.proofs.Common.{◌≡◌, ℕ, ◌+◌, ◌-◌, ◌<◌, ◌≤◌, max, false}
 use Rattle.area_model.specs.declared.placement.TheConstants.{FLOOR}
 use Rattle.area_model.specs.Placement.{is_free}

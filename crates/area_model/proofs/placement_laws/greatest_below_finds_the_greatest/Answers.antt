@@ -1,3 +1,4 @@
+-- For `greatest_below_finds_the_greatest`: its goals.
 use Rattle.area_model.proofs.Searching.{greatest_is, greatest_some, greatest_none, none_from_greatest}
 use Rattle.area_model.proofs.placement_laws.greatest_below_finds_the_greatest.Goals as goal
 

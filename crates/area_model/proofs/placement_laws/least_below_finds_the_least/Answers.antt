@@ -1,3 +1,4 @@
+-- For `least_below_finds_the_least`: its goals.
 use Rattle.area_model.proofs.Searching.{least_is, least_some, least_none, none_from_least}
 use Rattle.area_model.proofs.placement_laws.least_below_finds_the_least.Goals as goal
 

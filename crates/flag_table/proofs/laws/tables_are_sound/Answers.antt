@@ -1,3 +1,4 @@
+-- The law `tables_are_sound`.
 use Rattle.flag_table.proofs.Sound.{prot_is_sound, map_is_sound, mremap_is_sound}
 use Rattle.flag_table.proofs.laws.tables_are_sound.Goals as goal
 

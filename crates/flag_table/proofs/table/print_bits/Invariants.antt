@@ -1,3 +1,4 @@
+-- The loop of `print_bits`: the names of the rows so far are printed.
 use Rattle.std.proofs.Common.{◌≡◌, string_bytes}
 use Rattle.flag_table.specs.Kinds.{table_of}
 use Rattle.flag_table.specs.Tables.{text_of}

@@ -1,3 +1,4 @@
+-- `read_words`: the first bad word decides, and else the bits are together.
 use Rattle.std.proofs.Common.{ℕ, ◌≡◌, bit_or, ◌∙◌, lit<, List, map, Some, Err, Bor, refl, sym, ap, subst}
 use Rattle.std.proofs.lemmas.Iterator.Consumers.{YieldsList-at, YieldsList-so_far, YieldsList-turn, YieldsList-end}
 use Rattle.std.proofs.lemmas.Iterator.Splits.{YieldsList-from_str_split}
@@ -12,7 +13,7 @@ use Rattle.flag_table.proofs.Words.{AreRead, AreRead-push, fault_of-Unknown, fau
 use Rattle.flag_table.proofs.table.read_words.Goals as goal
 use Rattle.flag_table.proofs.table.read_words.Goals.{In-Some}
 
--- the fault of this word, behind good ones, is what is read
+-- the fault of this word, after good ones, is what is read
 bad_word : (c : In-Some) (fault : NameFault)
     → fault_of (table_of c.args.kind).rows (map (λ (w : Bor (List ℕ)). w.now) c.loop-word.yielded) c.in-Some.word.now
     ≡ Some fault
@@ -45,13 +46,13 @@ returns-in_err-copy_of-in-Some-bit_named c = Gives-NoMemory _ _ _
     c.from_residual-in_err-copy_of-in-Some-bit_named.ensures.1
     (bad_word (goal.at.returns-in_err-copy_of-in-Some-bit_named c).In-Some (Twice c.in-Some.word.now)
     (fault_of-Twice (table_of c.args.kind) (table_of-sound c.args.kind) _ _ c.loop-word.bits c.in-Some-bit_named.bit
-    c.loop-word.invariant (sym c.in-Some-bit_named.ensures) (sym c.has_bit.ensures ∙ c.if-has_bit.true)))
+    c.loop-word.invariant (sym c.in-Some-bit_named.ensures) (sym c.has_flag.ensures ∙ c.if-has_flag.true)))
 
 pub returns-in-Some-bit_named : goal.returns-in-Some-bit_named
 returns-in-Some-bit_named c =
     bad_word (goal.at.returns-in-Some-bit_named c).In-Some (Twice c.in-Some.word.now)
     (fault_of-Twice (table_of c.args.kind) (table_of-sound c.args.kind) _ _ c.loop-word.bits c.in-Some-bit_named.bit
-    c.loop-word.invariant (sym c.in-Some-bit_named.ensures) (sym c.has_bit.ensures ∙ c.if-has_bit.true))
+    c.loop-word.invariant (sym c.in-Some-bit_named.ensures) (sym c.has_flag.ensures ∙ c.if-has_flag.true))
     ∙ ap (λ (text : List ℕ). Err (Twice text)) (sym c.in_ok-copy_of-in-Some-bit_named.ensures)
 
 pub loop-word-preserved : goal.loop-word-preserved
@@ -61,7 +62,7 @@ loop-word-preserved c =
     subst P (sym (map_push (λ (w : Bor (List ℕ)). w.now) c.loop-word.yielded c.in-Some.word))
     (AreRead-push (table_of c.args.kind) (table_of-sound c.args.kind) _ c.in-Some.word.now c.loop-word.bits
     c.in-Some-bit_named.bit
-    c.loop-word.invariant (sym c.in-Some-bit_named.ensures) (sym c.has_bit.ensures ∙ c.if-has_bit.false))
+    c.loop-word.invariant (sym c.in-Some-bit_named.ensures) (sym c.has_flag.ensures ∙ c.if-has_flag.false))
 
 pub returns : goal.returns
 returns c =

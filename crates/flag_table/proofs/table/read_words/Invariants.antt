@@ -1,3 +1,4 @@
+-- The loop of `read_words`: the words so far are good, and their bits are together.
 use Rattle.std.proofs.Common.{map}
 use Rattle.flag_table.specs.Kinds.{table_of}
 use Rattle.flag_table.proofs.Words.{AreRead}

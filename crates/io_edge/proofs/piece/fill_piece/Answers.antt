@@ -1,3 +1,4 @@
+-- The clause `moved` of `fill_piece`: what was copied, and then the rest, are the bytes from `at` on.
 use Rattle.std.proofs.Common.{arith, drop, ◌++◌}
 use Rattle.std.proofs.lemmas.Grind.{common_steps}
 use Rattle.io_edge.proofs.Moved.{left_moved}

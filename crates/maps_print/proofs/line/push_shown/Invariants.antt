@@ -1,7 +1,9 @@
-use Rattle.std.proofs.Common.{◌≡◌, ◌++◌, drop, flat_map}
+-- The loop of `push_shown`: the bytes so far are shown, and those from here on are left.
+use Rattle.std.proofs.Common.{drop, flat_map}
 use Rattle.mm_types.specs.MapsText.{shown_byte}
+use Rattle.maps_print.proofs.Fronts.{IsAppending}
 use Rattle.maps_print.proofs.line.push_shown.Given as goal
 
 abbrev pub invariant-loop-byte : goal.invariant-loop-byte
 invariant-loop-byte l =
-    l.text.items ++ flat_map shown_byte (drop l.byte-index l.name) ≡ l.fn.text.items ++ flat_map shown_byte l.name
+    IsAppending l.fn.text.items l.text.items (flat_map shown_byte (drop l.byte-index l.name)) (flat_map shown_byte l.name)

@@ -1,3 +1,4 @@
+-- For `has_distinct_fds`: its goals.
 use Rattle.std.proofs.Common.{IsTrue, true, false, refl}
 use Rattle.std.proofs.lemmas.Bool.{false≢true}
 use Rattle.mm_types.proofs.Distinct.{found_twice, more_distinct, whole_distinct}

@@ -1,4 +1,5 @@
-use Rattle.std.proofs.Common.{◌≢◌, AllPairs, take, ℤ}
+-- For `has_distinct_fds`: what each loop keeps.
+use Rattle.std.proofs.Common.{◌≢◌, AllPairs, take}
 use Rattle.mm_types.proofs.config.has_distinct_fds.Given as goal
 
 -- no two of the files so far have one descriptor

@@ -1,136 +1,121 @@
-use Rattle.std.proofs.Common.{sym, ap, subst, ◌∙◌, arith}
+-- For `plan_mmap`: it is refused, or done, as far as its tests come.
+use Rattle.std.proofs.Common.{◌≡◌, refl, sym, ap, subst, ◌∙◌, arith}
 use Rattle.mm_types.specs.Records.{IsValid}
 use Rattle.mm_types.specs.declared.area.Record.{Record}
 use Rattle.mm_types.specs.declared.call.Errno.TheVariants.{Enomem}
 use Rattle.area_model.specs.declared.placement.Bounds.{Bounds}
 use Rattle.area_model.specs.Stepped.{space_of}
 use Rattle.area_model.proofs.MmapTable.{mmap_refused, mmap_no_place, mmap_too_long, mmap_maps}
-use Rattle.sys_map.proofs.Mapped.{refused_reply, refused_makes, done_reply, done_makes, too_many, accepted_area, accepted_low, accepted_some, mmap_kept, done_local}
+use Rattle.split_merge.specs.Plans.{Planned}
+use Rattle.sys_map.specs.declared.mapping.Mapped.{Mapped}
+use Rattle.sys_map.proofs.MmapCases.{refused_call, refused_counter, done_call, done_counter, too_many, accepted_area, accepted_low, accepted_some, done_local}
 use Rattle.sys_map.proofs.mapping.plan_mmap.Goals as goal
 
-pub returns-in-Some-clause-reply : goal.returns-in-Some-clause-reply
-returns-in-Some-clause-reply g c =
-    let config = c.args.config.now in
-    let space = space_of (g.A.Areas.list c.args.areas.now) c.args.objects in
-    refused_reply config space c.args.args.now c.in-Some.errno (mmap_refused config space c.args.args.now c.in-Some.errno (sym c.request_error.ensures ∙ c.in-Some.is))
+reply_is : {a b : Mapped} → a ≡ b → a.reply ≡ b.reply
+reply_is is = ap (λ (m : Mapped). m.reply) is
 
-pub returns-in-Some-clause-makes : goal.returns-in-Some-clause-makes
-returns-in-Some-clause-makes g c =
-    let config = c.args.config.now in
-    let space = space_of (g.A.Areas.list c.args.areas.now) c.args.objects in
-    refused_makes config space c.args.args.now c.in-Some.errno c.args.plan.now.changes
-    (mmap_refused config space c.args.args.now c.in-Some.errno (sym c.request_error.ensures ∙ c.in-Some.is)) c.requires.fresh.empty
+objects_are : {a b : Mapped} → a ≡ b → a.objects ≡ b.objects
+objects_are is = ap (λ (m : Mapped). m.objects) is
+
+pub returns-in-Some-clause-planned : goal.returns-in-Some-clause-planned
+returns-in-Some-clause-planned g c =
+    refused_call c.args.args.now c.requires.ready c.requires.prepared c.args.plan.now refl c.in-Some.errno c.refused.result.reply
+    (reply_is c.refused.ensures) (mmap_refused _ _ _ c.in-Some.errno (sym c.request_error.ensures ∙ c.in-Some.is)) c.requires.prepared.fresh.empty
+
+pub returns-in-Some-clause-counter : goal.returns-in-Some-clause-counter
+returns-in-Some-clause-counter g c =
+    refused_counter c.args.config.now (space_of (g.A.Areas.list c.args.areas.now) c.args.objects) c.args.args.now c.in-Some.errno c.refused.result.objects
+    (objects_are c.refused.ensures) (mmap_refused _ _ _ c.in-Some.errno (sym c.request_error.ensures ∙ c.in-Some.is))
 
 pub start_of-requires-clause-some_bytes : goal.start_of-requires-clause-some_bytes
 start_of-requires-clause-some_bytes g c =
     accepted_some c.args.config.now (g.A.Areas.list c.args.areas.now) c.args.args.now (sym c.request_error.ensures ∙ c.in_default.is)
 
-pub returns-in_default-start_of-clause-reply : goal.returns-in_default-start_of-clause-reply
-returns-in_default-start_of-clause-reply g c =
-    let config = c.args.config.now in
-    let space = space_of (g.A.Areas.list c.args.areas.now) c.args.objects in
-    refused_reply config space c.args.args.now Enomem (mmap_no_place config space c.args.args.now
-    (sym c.request_error.ensures ∙ c.in_default.is) (sym c.start_of.ensures.value ∙ c.in_default-start_of.is))
+pub returns-in_default-start_of-clause-planned : goal.returns-in_default-start_of-clause-planned
+returns-in_default-start_of-clause-planned g c =
+    refused_call c.args.args.now c.requires.ready c.requires.prepared c.args.plan.now refl Enomem c.refused-in_default-start_of.result.reply
+    (reply_is c.refused-in_default-start_of.ensures)
+    (mmap_no_place _ _ _ (sym c.request_error.ensures ∙ c.in_default.is) (sym c.start_of.ensures ∙ c.in_default-start_of.is)) c.requires.prepared.fresh.empty
 
-pub returns-in_default-start_of-clause-makes : goal.returns-in_default-start_of-clause-makes
-returns-in_default-start_of-clause-makes g c =
-    let config = c.args.config.now in
-    let space = space_of (g.A.Areas.list c.args.areas.now) c.args.objects in
-    refused_makes config space c.args.args.now Enomem c.args.plan.now.changes (mmap_no_place config space c.args.args.now
-    (sym c.request_error.ensures ∙ c.in_default.is) (sym c.start_of.ensures.value ∙ c.in_default-start_of.is)) c.requires.fresh.empty
+pub returns-in_default-start_of-clause-counter : goal.returns-in_default-start_of-clause-counter
+returns-in_default-start_of-clause-counter g c =
+    refused_counter c.args.config.now (space_of (g.A.Areas.list c.args.areas.now) c.args.objects) c.args.args.now Enomem c.refused-in_default-start_of.result.objects
+    (objects_are c.refused-in_default-start_of.ensures)
+    (mmap_no_place _ _ _ (sym c.request_error.ensures ∙ c.in_default.is) (sym c.start_of.ensures ∙ c.in_default-start_of.is))
 
 pub new_area-requires-clause-low : goal.new_area-requires-clause-low
-new_area-requires-clause-low g c =
-    omega (
-      arith,
-      accepted_low c.args.config.now (g.A.Areas.list c.args.areas.now) c.args.args.now c.in-Some-start_of.start c.requires.ready.valid
-          (sym c.request_error.ensures ∙ c.in_default.is) (sym c.start_of.ensures.value ∙ c.in-Some-start_of.is),
-    )
+new_area-requires-clause-low g c = omega (
+  arith,
+  accepted_low c.args.config.now (g.A.Areas.list c.args.areas.now) c.args.args.now c.in-Some-start_of.start c.requires.ready.valid
+      (sym c.request_error.ensures ∙ c.in_default.is) (sym c.start_of.ensures ∙ c.in-Some-start_of.is),
+)
 
 pub plan_put-requires-clause-valid : goal.plan_put-requires-clause-valid
 plan_put-requires-clause-valid g c =
     subst IsValid (sym c.new_area.ensures)
     (accepted_area c.args.config.now (g.A.Areas.list c.args.areas.now) c.args.objects c.args.args.now c.in-Some-start_of.start c.requires.ready.valid
-    (sym c.request_error.ensures ∙ c.in_default.is) (sym c.start_of.ensures.value ∙ c.in-Some-start_of.is)).valid
+    (sym c.request_error.ensures ∙ c.in_default.is) (sym c.start_of.ensures ∙ c.in-Some-start_of.is)).valid
 
 pub plan_put-requires-clause-within : goal.plan_put-requires-clause-within
 plan_put-requires-clause-within g c =
     let good = accepted_area c.args.config.now (g.A.Areas.list c.args.areas.now) c.args.objects c.args.args.now c.in-Some-start_of.start c.requires.ready.valid
-    (sym c.request_error.ensures ∙ c.in_default.is) (sym c.start_of.ensures.value ∙ c.in-Some-start_of.is) in
+    (sym c.request_error.ensures ∙ c.in_default.is) (sym c.start_of.ensures ∙ c.in-Some-start_of.is) in
     omega (
       arith,
       good.below_end,
       ap (λ (area : Record). area.span.hi) c.new_area.ensures,
-      ap (λ (bounds : Bounds). bounds.limit) (c.start_of.ensures.bounds ∙ c.requires.bounds),
+      ap (λ (bounds : Bounds). bounds.limit) c.requires.prepared.numbers,
     )
 
-pub returns-then-is_too_long-clause-reply : goal.returns-then-is_too_long-clause-reply
-returns-then-is_too_long-clause-reply g c =
+pub returns-then-is_too_long-clause-planned : goal.returns-then-is_too_long-clause-planned
+returns-then-is_too_long-clause-planned g c =
     let config = c.args.config.now in
     let space = space_of (g.A.Areas.list c.args.areas.now) c.args.objects in
-    let long = too_many config space c.args.args.now c.in-Some-start_of.start c.new_area.result (g.A.Areas.list c.start_of.new.areas) _ c.is_too_long.result _
-    c.new_area.ensures c.start_of.ensures.list c.plan_put.ensures.makes.result c.is_too_long.ensures c.if-is_too_long.true in
-    refused_reply config space c.args.args.now Enomem (mmap_too_long config space c.args.args.now c.in-Some-start_of.start
-    (sym c.request_error.ensures ∙ c.in_default.is) (sym c.start_of.ensures.value ∙ c.in-Some-start_of.is) long)
+    let long = too_many config space c.args.args.now c.in-Some-start_of.start c.new_area.result _ c.is_too_long.result _
+    c.new_area.ensures c.plan_put.ensures.makes.result c.is_too_long.ensures c.if-is_too_long.true in
+    refused_call c.args.args.now c.requires.ready c.requires.prepared c.clear.new.self
+    (ap (λ (plan : Planned). plan.room) c.clear.ensures ∙ c.plan_put.ensures.room) Enomem c.refused-then-is_too_long.result.reply
+    (reply_is c.refused-then-is_too_long.ensures)
+    (mmap_too_long config space c.args.args.now c.in-Some-start_of.start (sym c.request_error.ensures ∙ c.in_default.is)
+    (sym c.start_of.ensures ∙ c.in-Some-start_of.is) long) (ap (λ (plan : Planned). plan.changes) c.clear.ensures)
 
-pub returns-then-is_too_long-clause-makes : goal.returns-then-is_too_long-clause-makes
-returns-then-is_too_long-clause-makes g c =
+pub returns-then-is_too_long-clause-counter : goal.returns-then-is_too_long-clause-counter
+returns-then-is_too_long-clause-counter g c =
     let config = c.args.config.now in
     let space = space_of (g.A.Areas.list c.args.areas.now) c.args.objects in
-    let long = too_many config space c.args.args.now c.in-Some-start_of.start c.new_area.result (g.A.Areas.list c.start_of.new.areas) _ c.is_too_long.result _
-    c.new_area.ensures c.start_of.ensures.list c.plan_put.ensures.makes.result c.is_too_long.ensures c.if-is_too_long.true in
-    refused_makes config space c.args.args.now Enomem c.clear.new.self.changes (mmap_too_long config space c.args.args.now c.in-Some-start_of.start
-    (sym c.request_error.ensures ∙ c.in_default.is) (sym c.start_of.ensures.value ∙ c.in-Some-start_of.is) long) (ap (λ plan. plan.changes) c.clear.ensures)
+    let long = too_many config space c.args.args.now c.in-Some-start_of.start c.new_area.result _ c.is_too_long.result _
+    c.new_area.ensures c.plan_put.ensures.makes.result c.is_too_long.ensures c.if-is_too_long.true in
+    refused_counter config space c.args.args.now Enomem c.refused-then-is_too_long.result.objects (objects_are c.refused-then-is_too_long.ensures)
+    (mmap_too_long config space c.args.args.now c.in-Some-start_of.start (sym c.request_error.ensures ∙ c.in_default.is)
+    (sym c.start_of.ensures ∙ c.in-Some-start_of.is) long)
 
 pub overflow_mul-result : goal.overflow_mul-result
-overflow_mul-result g c =
-    omega (
-      arith,
-      accepted_low c.args.config.now (g.A.Areas.list c.args.areas.now) c.args.args.now c.in-Some-start_of.start c.requires.ready.valid
-          (sym c.request_error.ensures ∙ c.in_default.is) (sym c.start_of.ensures.value ∙ c.in-Some-start_of.is),
-    )
+overflow_mul-result g c = omega (
+  arith,
+  accepted_low c.args.config.now (g.A.Areas.list c.args.areas.now) c.args.args.now c.in-Some-start_of.start c.requires.ready.valid
+      (sym c.request_error.ensures ∙ c.in_default.is) (sym c.start_of.ensures ∙ c.in-Some-start_of.is),
+)
 
-pub returns-clause-reply : goal.returns-clause-reply
-returns-clause-reply g c =
+pub returns-clause-planned : goal.returns-clause-planned
+returns-clause-planned g c =
     let config = c.args.config.now in
     let space = space_of (g.A.Areas.list c.args.areas.now) c.args.objects in
-    let fits = too_many config space c.args.args.now c.in-Some-start_of.start c.new_area.result (g.A.Areas.list c.start_of.new.areas) _ c.is_too_long.result _
-    c.new_area.ensures c.start_of.ensures.list c.plan_put.ensures.makes.result c.is_too_long.ensures c.if-is_too_long.false in
-    done_reply config space c.args.args.now c.in-Some-start_of.start (mmap_maps config space c.args.args.now c.in-Some-start_of.start
-    (sym c.request_error.ensures ∙ c.in_default.is) (sym c.start_of.ensures.value ∙ c.in-Some-start_of.is) fits)
+    let fits = too_many config space c.args.args.now c.in-Some-start_of.start c.new_area.result _ c.is_too_long.result _
+    c.new_area.ensures c.plan_put.ensures.makes.result c.is_too_long.ensures c.if-is_too_long.false in
+    done_call c.args.args.now c.requires.ready c.requires.prepared c.plan_put.new.plan c.plan_put.ensures.room c.in-Some-start_of.start c.new_area.result
+    (mmap_maps config space c.args.args.now c.in-Some-start_of.start (sym c.request_error.ensures ∙ c.in_default.is)
+    (sym c.start_of.ensures ∙ c.in-Some-start_of.is) fits) c.new_area.ensures c.plan_put.ensures.makes
 
-pub returns-clause-makes : goal.returns-clause-makes
-returns-clause-makes g c =
+pub returns-clause-counter : goal.returns-clause-counter
+returns-clause-counter g c =
     let config = c.args.config.now in
     let space = space_of (g.A.Areas.list c.args.areas.now) c.args.objects in
-    let fits = too_many config space c.args.args.now c.in-Some-start_of.start c.new_area.result (g.A.Areas.list c.start_of.new.areas) _ c.is_too_long.result _
-    c.new_area.ensures c.start_of.ensures.list c.plan_put.ensures.makes.result c.is_too_long.ensures c.if-is_too_long.false in
-    done_makes config space c.args.args.now c.in-Some-start_of.start c.new_area.result c.plan_put.new.plan.changes (g.A.Areas.list c.start_of.new.areas)
-    (mmap_maps config space c.args.args.now c.in-Some-start_of.start
-    (sym c.request_error.ensures ∙ c.in_default.is) (sym c.start_of.ensures.value ∙ c.in-Some-start_of.is) fits)
-    c.new_area.ensures c.start_of.ensures.list c.plan_put.ensures.makes
-
-pub returns-in-Some-clause-kept : goal.returns-in-Some-clause-kept
-returns-in-Some-clause-kept g c = mmap_kept c.args.config.now (space_of (g.A.Areas.list c.args.areas.now) c.args.objects) c.args.args.now
-    (g.A.Areas.bounds c.args.areas.now) (g.A.Areas.most c.args.areas.now) c.args.plan.now.changes c.requires.ready c.requires.bounds c.requires.most
-    (returns-in-Some-clause-makes g c)
-
-pub returns-in_default-start_of-clause-kept : goal.returns-in_default-start_of-clause-kept
-returns-in_default-start_of-clause-kept g c = mmap_kept c.args.config.now (space_of (g.A.Areas.list c.args.areas.now) c.args.objects) c.args.args.now
-    (g.A.Areas.bounds c.args.areas.now) (g.A.Areas.most c.args.areas.now) c.args.plan.now.changes c.requires.ready c.requires.bounds c.requires.most
-    (returns-in_default-start_of-clause-makes g c)
-
-pub returns-then-is_too_long-clause-kept : goal.returns-then-is_too_long-clause-kept
-returns-then-is_too_long-clause-kept g c = mmap_kept c.args.config.now (space_of (g.A.Areas.list c.args.areas.now) c.args.objects) c.args.args.now
-    (g.A.Areas.bounds c.args.areas.now) (g.A.Areas.most c.args.areas.now) c.clear.new.self.changes c.requires.ready c.requires.bounds c.requires.most
-    (returns-then-is_too_long-clause-makes g c)
-
-pub returns-clause-kept : goal.returns-clause-kept
-returns-clause-kept g c = mmap_kept c.args.config.now (space_of (g.A.Areas.list c.args.areas.now) c.args.objects) c.args.args.now
-    (g.A.Areas.bounds c.args.areas.now) (g.A.Areas.most c.args.areas.now) c.plan_put.new.plan.changes c.requires.ready c.requires.bounds c.requires.most
-    (returns-clause-makes g c)
+    let fits = too_many config space c.args.args.now c.in-Some-start_of.start c.new_area.result _ c.is_too_long.result _
+    c.new_area.ensures c.plan_put.ensures.makes.result c.is_too_long.ensures c.if-is_too_long.false in
+    done_counter config space c.args.args.now c.in-Some-start_of.start c.objects_numbered.result c.objects_numbered.ensures
+    (mmap_maps config space c.args.args.now c.in-Some-start_of.start (sym c.request_error.ensures ∙ c.in_default.is)
+    (sym c.start_of.ensures ∙ c.in-Some-start_of.is) fits)
 
 pub returns-clause-local : goal.returns-clause-local
 returns-clause-local g c addr is = done_local c.args.config.now c.args.objects c.args.args.now c.in-Some-start_of.start addr c.new_area.result
-    c.plan_put.new.plan.changes (g.A.Areas.list c.start_of.new.areas) (g.A.Areas.list c.args.areas.now) c.new_area.ensures is c.start_of.ensures.list
-    c.plan_put.ensures.local
+    c.plan_put.new.plan.changes (g.A.Areas.list c.args.areas.now) c.new_area.ensures is c.plan_put.ensures.local

@@ -1,3 +1,4 @@
+-- For `start_of` of mapping.rt: its goals.
 use Rattle.std.proofs.Common.{arith}
 use Rattle.split_merge.proofs.Refusing.{some_pages}
 use Rattle.sys_map.proofs.mapping.start_of.Goals as goal

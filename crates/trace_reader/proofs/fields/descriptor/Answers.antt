@@ -1,3 +1,4 @@
+-- For `descriptor`: its goals.
 use Rattle.std.proofs.Common.{rules, arith}
 use Rattle.std.proofs.lemmas.Int.{ints, to_z_pos}
 use Rattle.trace_reader.specs.Fields.{descriptor}

@@ -1,3 +1,4 @@
+-- For `device_part`: its goals.
 use Rattle.std.proofs.Common.{◌<◌, ◌^◌, ◌∙◌, sym, arith}
 use Rattle.trace_reader.proofs.Digits.{part_fits}
 use Rattle.trace_reader.proofs.fields.device_part.Goals as goal

@@ -1,3 +1,4 @@
+-- For `first_bad_line`: its goals.
 use Rattle.trace_reader.proofs.FirstBad.{trace_of-Err}
 use Rattle.trace_reader.proofs.RawLaws.{raw_lines-AreLinesOf}
 use Rattle.trace_reader.proofs.laws.first_bad_line.Goals as goal

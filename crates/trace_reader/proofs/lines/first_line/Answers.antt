@@ -1,3 +1,4 @@
+-- For `first_line`: its goals.
 use Rattle.std.proofs.Common.{◌≡◌, ◌+◌, length, position, ◌∙◌, sym, rules, tests, arith}
 use Rattle.std.proofs.lemmas.Iterator.{YieldsList-from_slice}
 use Rattle.std.proofs.lemmas.Iterator.Search.{position_from_yields_List}

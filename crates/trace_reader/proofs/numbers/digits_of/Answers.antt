@@ -1,3 +1,4 @@
+-- For `digits_of`: its goals.
 use Rattle.std.proofs.Common.{◌∙◌, arith}
 use Rattle.trace_reader.proofs.Digits.{reads_digits}
 use Rattle.trace_reader.proofs.numbers.digits_of.Goals as goal

@@ -1,3 +1,4 @@
+-- For `read_lines`: its goals.
 use Rattle.std.proofs.Common.{◌≡◌, length, arith}
 use Rattle.std.proofs.lemmas.Bool.Decides.{nat_tests}
 use Rattle.trace_reader.proofs.RawReading.{first_fails, none_left}

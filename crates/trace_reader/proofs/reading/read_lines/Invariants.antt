@@ -1,3 +1,4 @@
+-- For `read_lines`: what each loop keeps.
 use Rattle.std.proofs.Common.{◌≡◌, ◌+◌, ◌-◌, ◌≤◌, length}
 use Rattle.trace_reader.specs.Grammar.{after_lines, lines_read}
 use Rattle.trace_reader.specs.RawLines.{lines_from}

@@ -1,3 +1,4 @@
+-- For `unescaped`: its goals.
 use Rattle.std.proofs.Common.{◌∙◌, rules}
 use Rattle.trace_reader.proofs.Paths.{unescaped-more, unescaped-end}
 use Rattle.trace_reader.proofs.settings.unescaped.Goals as goal
@@ -6,7 +7,7 @@ pub loop-before-preserved : goal.loop-before-preserved
 loop-before-preserved c = (
   search rules,
   rw (c.in_ok-push_str-2.ensures.bytes, c.in_ok-push_str.ensures.bytes)
-      (unescaped-more _ _ c.loop-before.rest.now c.in-Some.before.now c.in-Some.behind.now c.in-Some.ensures.cases
+      (unescaped-more _ _ c.loop-before.rest.now c.in-Some.before.now c.in-Some.after.now c.in-Some.ensures.cases
       c.loop-before.invariant.1),
 )
 

@@ -1,3 +1,4 @@
+-- For `unescaped`: what each loop keeps.
 use Rattle.std.proofs.Common.{◌≡◌, ◌++◌, length, string_bytes}
 use denote.Text.{Utf8}
 use denote.Shadow.{shadow}

@@ -1,3 +1,4 @@
+-- For `after_blanks`: its goals.
 use Rattle.trace_reader.proofs.WordParts.{boundary_at_part}
 use Rattle.trace_reader.proofs.words.after_blanks.Goals as goal
 

@@ -1,3 +1,4 @@
+-- For `split_word`: its goals.
 use Rattle.trace_reader.proofs.WordParts.{boundary_at_blank}
 use Rattle.trace_reader.proofs.words.split_word.Goals as goal
 

@@ -1,3 +1,4 @@
+-- For `words_of`: what each loop keeps.
 use Rattle.std.proofs.Common.{◌≡◌, ◌++◌, length, map}
 use denote.Text.{Utf8}
 use denote.Shadow.{shadow}

@@ -1,3 +1,4 @@
+-- The proof of the test `plans_do_as_the_model`: what its loop keeps.
 use Rattle.vma_replay.specs.Spaces.{HasNumbersOf}
 use Rattle.vma_replay.proofs.call_tests.plans_do_as_the_model.Given as goal
 

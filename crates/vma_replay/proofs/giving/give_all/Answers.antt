@@ -1,3 +1,4 @@
+-- The proof of `give_all`: one piece more of the text.
 use Rattle.std.proofs.Common.{ℕ, ◌∙◌, arith, length-take, length-drop}
 use Rattle.vma_replay.proofs.Given.{appends_more}
 use Rattle.vma_replay.proofs.giving.give_all.Goals as goal

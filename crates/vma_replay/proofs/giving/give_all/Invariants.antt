@@ -1,3 +1,4 @@
+-- The proof of `give_all`: what its loop keeps, and that it ends.
 use Rattle.std.proofs.Common.{◌≡◌, ◌-◌, ◌≤◌, length, take}
 use Rattle.std.specs.Io.KnownBytes.{Appends}
 use Rattle.vma_replay.proofs.giving.give_all.Given as goal

@@ -1,3 +1,4 @@
+-- The proof of `read_source`: what was taken settles which trace the source gives.
 use Rattle.vma_replay.proofs.Taken.{reads_lines, reads_fault}
 use Rattle.trace_reader.proofs.TraceValues.{trace_of-value}
 use Rattle.vma_replay.proofs.reading.read_source.Goals as goal

@@ -1,3 +1,4 @@
+-- The proof of `take_bytes`: what its loop keeps, and that it ends.
 use Rattle.std.proofs.Common.{◌≡◌, ◌≤◌, ◌+◌, ◌-◌, length, vec_len}
 use Rattle.trace_reader.specs.declared.limits.TheConstants.{TRACE_LIMIT}
 use Rattle.std.specs.Io.KnownBytes.{Consumes}

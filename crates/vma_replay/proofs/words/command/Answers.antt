@@ -1,3 +1,4 @@
+-- The proof of `command`: it has the two arguments and the settings.
 use Rattle.std.proofs.Common.{rules, ap, ap₂, true, codes, Option, Some, None, ◌≡◌, ◌∙◌}
 use Rattle.std.specs.Option.{IsSomeAnd}
 use Rattle.clap.specs.Simple.{App, app_of, new_app, new_rule, on_top, with_rule}

@@ -1,3 +1,4 @@
+-- The proof of `is_serial`: what the getters give is what was found.
 use Rattle.std.proofs.Common.{refl, ap, codes, false, length, map, List, Option, Some, None, [], Bor, sym, ◌≡◌, ◌∙◌, ◌==◌}
 use Rattle.std.specs.Prelude.{option_map, unwrap_or}
 use Rattle.std.specs.Option.{option_eq, option_map_or}

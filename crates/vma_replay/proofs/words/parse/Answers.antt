@@ -1,3 +1,4 @@
+-- The proof of `parse`: the command is one of those that `clap` speaks of.
 use Rattle.std.proofs.Common.{ap, map, refl, string_bytes, true, ◌≡◌, ◌∙◌}
 use Rattle.clap.specs.Words.{is_simple, matches_of}
 use Rattle.clap.proofs.OnLiterals.{clap_on_literals}

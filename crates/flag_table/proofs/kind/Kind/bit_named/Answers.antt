@@ -1,3 +1,4 @@
+-- `Kind::bit_named`: the arm of a name is the row that is found.
 use Rattle.std.proofs.Common.{◌∙◌, ap, sym}
 use Rattle.flag_table.specs.Kinds.{table_of}
 use Rattle.flag_table.specs.Tables.{bit_with_name, map_flags, mremap_flags}

@@ -1,3 +1,4 @@
+-- `FlagTable::print`: what is printed reads back.
 use Rattle.std.proofs.Common.{◌≡◌, ◌∙◌, ap, subst, List, ℕ, Ok}
 use Rattle.std.proofs.lemmas.Result.{IfOk-weaker}
 use Rattle.flag_table.specs.Printing.{printed}

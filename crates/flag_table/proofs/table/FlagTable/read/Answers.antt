@@ -1,3 +1,4 @@
+-- `FlagTable::read`: what is read has rows.
 use Rattle.std.proofs.Common.{◌∙◌, sym, subst, IfOk}
 use Rattle.flag_table.specs.Kinds.{table_of}
 use Rattle.flag_table.specs.Tables.{Table, HasRows}

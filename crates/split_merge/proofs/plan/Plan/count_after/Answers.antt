@@ -1,3 +1,4 @@
+-- For `Plan::count_after`: its goals.
 use Rattle.std.proofs.Common.{arith}
 use Rattle.split_merge.proofs.plan.Plan.count_after.Goals as goal
 

@@ -1,3 +1,4 @@
+-- For `Plan::count_after`: what each loop keeps.
 use Rattle.std.proofs.Common.{◌≡◌, ◌≤◌, ◌+◌, drop, length}
 use Rattle.split_merge.specs.Plans.{olds_of, news_of}
 use Rattle.split_merge.proofs.plan.Plan.count_after.Given as goal

@@ -1,3 +1,4 @@
+-- For `VecAreas::apply` of vec_areas.rt: its goals.
 use Rattle.std.proofs.Common.{All, List, subst, sym}
 use Rattle.std.specs.List.{Contains}
 use Rattle.split_merge.specs.declared.plan.Change.{Change}

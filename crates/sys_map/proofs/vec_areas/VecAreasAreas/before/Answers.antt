@@ -1,7 +1,8 @@
+-- For `VecAreas::before` of vec_areas.rt: its goals.
 use Rattle.std.specs.List.{last_or}
 use Rattle.split_merge.specs.Finding.{last_before}
 use Rattle.std.proofs.Common.{None, take, subst, sym, ap, ◌∙◌}
-use Rattle.sys_map.specs.Fronts.{begins_below, BeginsRise}
+use Rattle.sys_map.specs.BinarySearch.{begins_below, BeginsRise}
 use Rattle.sys_map.proofs.InOrder.{begins_ascend, before_is}
 use Rattle.sys_map.proofs.Ranging.{rise_from_ascend}
 use Rattle.sys_map.proofs.vec_areas.VecAreasAreas.before.Goals as goal

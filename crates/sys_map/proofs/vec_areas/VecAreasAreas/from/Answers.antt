@@ -1,6 +1,7 @@
+-- For `VecAreas::from` of vec_areas.rt: its goals.
 use Rattle.std.proofs.Common.{slice_get, subst, sym, ap, ◌∙◌}
 use Rattle.split_merge.specs.Finding.{first_from}
-use Rattle.sys_map.specs.Fronts.{ends_by, EndsRise}
+use Rattle.sys_map.specs.BinarySearch.{ends_by, EndsRise}
 use Rattle.sys_map.proofs.InOrder.{ends_rise, from_is}
 use Rattle.sys_map.proofs.vec_areas.VecAreasAreas.from.Goals as goal
 

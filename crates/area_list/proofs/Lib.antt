@@ -1,0 +1,14 @@
+pub mod Elements
+pub mod Finding
+pub mod Parts
+pub mod Order
+pub mod Ordered
+pub mod Pages
+pub mod Holding
+pub mod Cutting
+pub mod Merging
+pub mod Putting
+pub mod Uniqueness
+pub mod NewProtection
+pub mod Protecting
+pub mod SmallNumbers

@@ -1,7 +1,0 @@
-use Rattle.std.proofs.Common.{◌≡◌, ◌++◌, drop}
-use Rattle.area_model.specs.Changes.{cut}
-use Rattle.area_model.proofs.changes.cut.Given as goal
-
--- the parts so far, and what the rest is cut to
-abbrev pub invariant-loop-area : goal.invariant-loop-area
-invariant-loop-area l = l.parts.items ++ cut l.span (drop l.area-index l.areas) ≡ cut l.span l.areas

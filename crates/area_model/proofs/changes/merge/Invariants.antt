@@ -1,7 +1,0 @@
-use Rattle.std.proofs.Common.{◌≡◌, ◌++◌, drop}
-use Rattle.area_model.specs.Changes.{merge_from}
-use Rattle.area_model.proofs.changes.merge.Given as goal
-
--- what is merged so far, and the rest merged from the area so far
-abbrev pub invariant-loop-next : goal.invariant-loop-next
-invariant-loop-next l = l.merged.items ++ merge_from l.first (drop l.next-index l.rest) ≡ merge_from l.initial.first l.rest

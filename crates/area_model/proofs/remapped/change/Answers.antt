@@ -1,9 +1,0 @@
-use Rattle.std.proofs.Common.{sym}
-use Rattle.mm_types.specs.declared.area.Record.{Record}
-use Rattle.area_model.specs.Areas.{has_page}
-use Rattle.area_model.proofs.SmallNumbers.{valid_found}
-use Rattle.area_model.proofs.remapped.change.Goals as goal
-
-pub mremap_change-requires-clause-of_list : goal.mremap_change-requires-clause-of_list
-mremap_change-requires-clause-of_list c = valid_found (λ (area : Record). has_page area.span c.page_of.result) c.args.areas.now c.in-Some.area.now
-    c.requires.valid (sym c.in-Some.ensures)

@@ -1,0 +1,329 @@
+-- For `plan_cut`, `plan_move`, `plan_protect` and others: each change along the events of a list is real, takes away an area near a span, and is one of a few.
+use mathlib.Core.Bool.{beq as same_bool}
+use Rattle.std.proofs.Common.{◌≡◌, ◌≤◌, ◌<◌, ◌+◌, ◌*◌, ◌⊎◌, inl, inr, ℕ, Bool, true, false, ◌&&◌, nat_eq, nat_lt, if◌then◌else◌, List, [], ◌∷◌, ◌++◌, length, map, Option, Some, None, IfSome, refl, ap, ◌∙◌, sym, subst, arith}
+use Rattle.std.specs.List.{Contains, AllByRecursion as Each}
+use Rattle.std.specs.Option.{option_len}
+use Rattle.std.proofs.lemmas.Bool.{both_ways, eqb-true, cond_both}
+use Rattle.std.proofs.lemmas.Bool.Decides.{nat_tests}
+use Rattle.std.proofs.lemmas.List.{length-append}
+use Rattle.std.proofs.lemmas.List.Elements.{All-contains, All-from_recursion}
+use Rattle.mm_types.specs.declared.area.Prot.{Prot}
+use Rattle.mm_types.specs.declared.area.Attr.{Attr}
+use Rattle.mm_types.specs.declared.area.Record.{Record}
+use Rattle.area_list.specs.Areas.{joins, same_prot, same_attr}
+use Rattle.area_list.specs.Changes.{joined_area}
+use Rattle.area_list.proofs.Elements.{Pairs, Each-append, Each-weaker}
+use Rattle.split_merge.specs.declared.plan.Change.{Change}
+use Rattle.split_merge.specs.declared.plan.Change.TheVariants.{Alter}
+use Rattle.split_merge.specs.declared.planner.Run.{Run}
+use Rattle.split_merge.specs.Plans.{olds_of}
+use Rattle.split_merge.specs.Planner.{Event, page_at, same_area, detaching, replacing, closing, taken, left, run_with, planned_with, along, come, come_in, weight}
+use Rattle.split_merge.proofs.Replacing.{olds_of-append}
+use Rattle.split_merge.proofs.Counting.{contains_cases}
+use Rattle.split_merge.proofs.Turning.{Unlike, IsRealChange}
+use Rattle.split_merge.proofs.Steps.{length-detaching, length-closing, laid_short}
+use Rattle.split_merge.proofs.Events.{key, Precedes, olds_in}
+
+prot_alike : (a : Prot) → same_prot a a ≡ true
+prot_alike a = all a.read a.write a.exec
+  where
+    all : (x y z : Bool) → (same_bool x x && (same_bool y y && same_bool z z)) ≡ true
+    all x y z = grind arith
+
+attr_alike : (a : Attr) → same_attr a a ≡ true
+attr_alike a = all (same_prot a.prot a.prot) (same_prot a.most a.most) a.shared a.grows a.sealed a.heap (prot_alike a.prot) (prot_alike a.most)
+  where
+    all : (p q w x y z : Bool) → p ≡ true → q ≡ true
+        → (p && (q && (same_bool w w && (same_bool x x && (same_bool y y && same_bool z z))))) ≡ true
+    all p q w x y z first second = grind arith
+
+area_alike : (a : Record) → same_area a a ≡ true
+area_alike a = all a.span.lo a.span.hi a.object a.offset (same_attr a.attr a.attr) (attr_alike a.attr)
+  where
+    all : (lo hi object offset : ℕ) (alike : Bool) → alike ≡ true
+        → ((nat_eq lo lo && nat_eq hi hi) && (alike && (nat_eq object object && nat_eq offset offset))) ≡ true
+    all lo hi object offset alike is = grind (arith, nat_tests)
+
+-- the old area begins where the new one does, and where there is none, none begins there
+abbrev IsRealRun : List Record → Option Record → Record → Type 0
+IsRealRun areas None new = Each (Unlike new) areas
+IsRealRun areas (Some old) new = old.span.lo ≡ new.span.lo
+
+real_detaching : (areas : List Record) (old : Option Record) → Each (IsRealChange areas) (detaching old)
+real_detaching areas None = tt
+real_detaching areas (Some old) = (tt, tt)
+
+real_replacing : (areas : List Record) (old : Option Record) (new : Record) → IsRealRun areas old new → Each (IsRealChange areas) (replacing old new)
+real_replacing areas None new real = (real, tt)
+real_replacing areas (Some old) new real = by (same_area old new) refl
+  where
+    by : (same : Bool) → same_area old new ≡ same → Each (IsRealChange areas) (if same then [] else Alter old new ∷ [])
+    by true is = tt
+    by false is = ((real, (λ equal. both_ways (same_area old new) is (ap (same_area old) (sym equal) ∙ area_alike old))), tt)
+
+abbrev pub RunIsReal : List Record → Option Run → Type 0
+RunIsReal areas run = IfSome run (λ r. IsRealRun areas r.old r.new)
+
+real_closing : (areas : List Record) (run : Option Run) → RunIsReal areas run → Each (IsRealChange areas) (closing run)
+real_closing areas None real = tt
+real_closing areas (Some run) real = real_replacing areas run.old run.new real
+
+-- where a part begins, the area that begins there is the pending one, if there is one
+abbrev Fits : List Record → Option Record → List Event → Type 0
+Fits areas pending [] = Unit {0}
+Fits areas pending (Event.Begins area ∷ events) = Fits areas (Some area) events
+Fits areas pending (Event.Comes part ∷ events) = (taken pending part ≡ None → Each (Unlike part) areas) × Fits areas (left pending part) events
+Fits areas pending (Event.Passed area ∷ events) = Fits areas None events
+
+taken_real : (areas : List Record) (pending : Option Record) (part : Record) → (taken pending part ≡ None → Each (Unlike part) areas) → IsRealRun areas (taken pending part) part
+taken_real areas None part fits = fits refl
+taken_real areas (Some old) part fits = by (nat_eq old.span.lo part.span.lo) refl fits
+  where
+    by : (test : Bool) → nat_eq old.span.lo part.span.lo ≡ test → ((if test then Some old else None) ≡ None → Each (Unlike part) areas)
+        → IsRealRun areas (if test then Some old else None) part
+    by true is fits = eqb-true old.span.lo part.span.lo is
+    by false is fits = fits refl
+
+real_part : (areas : List Record) (pending : Option Record) (run : Option Run) (part : Record) → RunIsReal areas run
+    → (taken pending part ≡ None → Each (Unlike part) areas)
+    → Each (IsRealChange areas) (planned_with pending run part) × RunIsReal areas (Some (run_with pending run part))
+real_part areas pending None part real fits = (tt, taken_real areas pending part fits)
+real_part areas pending (Some run) part real fits = by (joins run.new part)
+  where
+    by : (join : Bool)
+        → Each (IsRealChange areas) (if join then detaching (taken pending part) else replacing run.old run.new)
+        × RunIsReal areas (Some (if join then record { old = run.old; new = joined_area run.new part } else record { old = taken pending part; new = part }))
+    by true = (real_detaching areas (taken pending part), still run.old real)
+      where
+        still : (old : Option Record) → IsRealRun areas old run.new → IsRealRun areas old (joined_area run.new part)
+        still None real = real
+        still (Some old) real = real
+    by false = (real_replacing areas run.old run.new real, taken_real areas pending part fits)
+
+real_along : (areas : List Record) (pending : Option Record) (run : Option Run) (events : List Event) → RunIsReal areas run → Fits areas pending events
+    → Each (IsRealChange areas) (along pending run events)
+real_along areas pending run [] real fits = Each-append (IsRealChange areas) (detaching pending) (closing run) (real_detaching areas pending) (real_closing areas run real)
+real_along areas pending run (Event.Begins area ∷ events) real fits =
+    Each-append (IsRealChange areas) (detaching pending) (along (Some area) run events) (real_detaching areas pending) (real_along areas (Some area) run events real fits)
+real_along areas pending run (Event.Comes part ∷ events) real fits =
+    let here = real_part areas pending run part real fits.0 in
+    Each-append (IsRealChange areas) (planned_with pending run part) (along (left pending part) (Some (run_with pending run part)) events) here.0
+    (real_along areas (left pending part) (Some (run_with pending run part)) events here.1 fits.1)
+real_along areas pending run (Event.Passed area ∷ events) real fits =
+    Each-append (IsRealChange areas) (detaching pending ++ closing run) (along None None events)
+    (Each-append (IsRealChange areas) (detaching pending) (closing run) (real_detaching areas pending) (real_closing areas run real))
+    (real_along areas None None events tt fits)
+
+-- an old area is below all that comes, is the pending one, or comes
+abbrev Place : Option Record → List Event → Record → Type 0
+Place pending events area = (Each (λ event. 2 * area.span.lo + 1 < key event) events) ⊎ (pending ≡ Some area) ⊎ Contains (olds_in events) area
+
+olds_above : (page : ℕ) (events : List Event) → Each (λ event. 2 * page + 1 < key event) events → Each (λ area. page < area.span.lo) (olds_in events)
+olds_above page [] above = tt
+olds_above page (Event.Begins area ∷ events) above = (omega (arith, above.0), olds_above page events above.1)
+olds_above page (Event.Comes part ∷ events) above = olds_above page events above.1
+olds_above page (Event.Passed area ∷ events) above = (omega (arith, above.0), olds_above page events above.1)
+
+-- what comes is above the pending area
+abbrev Above : Option Record → List Event → Type 0
+Above pending events = IfSome pending (λ old. Each (λ event. 2 * old.span.lo < key event) events)
+
+none_unlike : (pending : Option Record) (part : Record) (area : Record) → pending ≡ Some area → taken pending part ≡ None → Unlike part area
+none_unlike pending part area is none = by (nat_eq area.span.lo part.span.lo) refl (ap (λ found. taken found part) (sym is) ∙ none)
+  where
+    by : (test : Bool) → nat_eq area.span.lo part.span.lo ≡ test → (if test then Some area else None) ≡ None → Unlike part area
+    by true same none = cc
+    by false same none = λ equal. differ area.span.lo part.span.lo same (sym equal)
+      where
+        differ : (a b : ℕ) → nat_eq a b ≡ false → a ≡ b → ⊥
+        differ a b test equal = grind (arith, nat_tests)
+
+-- each old area has its place at each event
+fits_along : (areas : List Record) (pending : Option Record) (events : List Event) → Each (Place pending events) areas → Above pending events → Pairs Precedes events
+    → Fits areas pending events
+fits_along areas pending [] places above order = tt
+fits_along areas pending (Event.Begins next ∷ events) places above order =
+    fits_along areas (Some next) events (Each-weaker (Place pending (Event.Begins next ∷ events)) (Place (Some next) events) step areas places) order.0 order.1
+  where
+    step : (area : Record) → Place pending (Event.Begins next ∷ events) area → Place (Some next) events area
+    step area (inl below) = inl below.1
+    step area (inr (inl is)) = inl (higher (subst (λ found. Above found (Event.Begins next ∷ events)) is above))
+      where
+        higher : Each (λ event. 2 * area.span.lo < key event) (Event.Begins next ∷ events) → Each (λ event. 2 * area.span.lo + 1 < key event) events
+        higher each = Each-weaker (Precedes (Event.Begins next)) (λ event. 2 * area.span.lo + 1 < key event) (λ event less. omega (arith, each.0)) events order.0
+    step area (inr (inr comes)) = by (contains_cases next (olds_in events) area comes)
+      where
+        by : (next ≡ area) ⊎ Contains (olds_in events) area → Place (Some next) events area
+        by (inl same) = inr (inl (ap (λ (a : Record). Some a) same))
+        by (inr later) = inr (inr later)
+fits_along areas pending (Event.Comes part ∷ events) places above order = (
+  (λ none. Each-weaker (Place pending (Event.Comes part ∷ events)) (Unlike part) (λ area place. unlike area place none) areas places),
+  fits_along areas (left pending part) events (Each-weaker (Place pending (Event.Comes part ∷ events)) (Place (left pending part) events) step areas places)
+      (stays pending above) order.1,
+)
+  where
+    unlike : (area : Record) → Place pending (Event.Comes part ∷ events) area → taken pending part ≡ None → Unlike part area
+    unlike area (inl below) none = λ same. omega (arith, below.0)
+    unlike area (inr (inl is)) none = none_unlike pending part area is none
+    unlike area (inr (inr comes)) none = λ same. omega (
+      arith,
+      All-contains (λ (old : Record). part.span.lo < old.span.lo) (olds_in events) area
+          (All-from_recursion (λ (old : Record). part.span.lo < old.span.lo) (olds_in events) (olds_above part.span.lo events order.0)) comes,
+    )
+
+    step : (area : Record) → Place pending (Event.Comes part ∷ events) area → Place (left pending part) events area
+    step area (inl below) = inl below.1
+    step area (inr (inl is)) = by (nat_eq area.span.lo part.span.lo) refl (ap (λ found. left found part) is)
+      where
+        by : (test : Bool) → nat_eq area.span.lo part.span.lo ≡ test → left pending part ≡ (if test then None else Some area) → Place (left pending part) events area
+        by true same is = inl (Each-weaker (Precedes (Event.Comes part)) (λ event. 2 * area.span.lo + 1 < key event)
+            (λ event less. omega (arith, eqb-true area.span.lo part.span.lo same)) events order.0)
+        by false same is = inr (inl is)
+    step area (inr (inr comes)) = inr (inr comes)
+
+    stays : (found : Option Record) → Above found (Event.Comes part ∷ events) → Above (left found part) events
+    stays None above = tt
+    stays (Some old) above = cond_both (nat_eq old.span.lo part.span.lo) None (Some old) (λ kept. Above kept events) (λ same. tt) (λ other. above.1)
+fits_along areas pending (Event.Passed next ∷ events) places above order =
+    fits_along areas None events (Each-weaker (Place pending (Event.Passed next ∷ events)) (Place None events) step areas places) tt order.1
+  where
+    step : (area : Record) → Place pending (Event.Passed next ∷ events) area → Place None events area
+    step area (inl below) = inl below.1
+    step area (inr (inl is)) = inl (higher (subst (λ found. Above found (Event.Passed next ∷ events)) is above))
+      where
+        higher : Each (λ event. 2 * area.span.lo < key event) (Event.Passed next ∷ events) → Each (λ event. 2 * area.span.lo + 1 < key event) events
+        higher each = Each-weaker (Precedes (Event.Passed next)) (λ event. 2 * area.span.lo + 1 < key event) (λ event less. omega (arith, each.0)) events order.0
+    step area (inr (inr comes)) = by (contains_cases next (olds_in events) area comes)
+      where
+        by : (next ≡ area) ⊎ Contains (olds_in events) area → Place None events area
+        by (inl same) = inl (Each-weaker (Precedes (Event.Passed next)) (λ event. 2 * area.span.lo + 1 < key event)
+            (λ event less. omega (arith, ap (λ (a : Record). a.span.lo) same)) events order.0)
+        by (inr later) = inr (inr later)
+
+-- each change of a plan along a list is real
+pub changes_real : (areas : List Record) (events : List Event) → Each (Contains (olds_in events)) areas → Pairs Precedes events → Each (IsRealChange areas) (along None None events)
+changes_real areas events members order = real_along areas None None events tt
+    (fits_along areas None events (Each-weaker (Contains (olds_in events)) (Place None events) (λ area member. inr (inr member)) areas members) tt order)
+
+-- the old areas that the events do not pass over
+abbrev pub begun_in : List Event → List Record
+begun_in [] = []
+begun_in (Event.Begins area ∷ events) = area ∷ begun_in events
+begun_in (Event.Comes part ∷ events) = begun_in events
+begun_in (Event.Passed area ∷ events) = begun_in events
+
+abbrev RunHas : (Record → Type 0) → Option Run → Type 0
+RunHas P run = IfSome run (λ r. IfSome r.old P)
+
+olds_of-detaching : (P : Record → Type 0) (old : Option Record) → IfSome old P → Each P (olds_of (detaching old))
+olds_of-detaching P None has = tt
+olds_of-detaching P (Some old) has = (has, tt)
+
+olds_of-replacing : (P : Record → Type 0) (old : Option Record) (new : Record) → IfSome old P → Each P (olds_of (replacing old new))
+olds_of-replacing P None new has = tt
+olds_of-replacing P (Some old) new has = by (same_area old new)
+  where
+    by : (same : Bool) → Each P (olds_of (if same then [] else Alter old new ∷ []))
+    by true = tt
+    by false = (has, tt)
+
+olds_of-closing : (P : Record → Type 0) (run : Option Run) → RunHas P run → Each P (olds_of (closing run))
+olds_of-closing P None has = tt
+olds_of-closing P (Some run) has = olds_of-replacing P run.old run.new has
+
+each_olds : (P : Record → Type 0) (xs ys : List Change) → Each P (olds_of xs) → Each P (olds_of ys) → Each P (olds_of (xs ++ ys))
+each_olds P xs ys first second = subst (Each P) (sym (olds_of-append xs ys)) (Each-append P (olds_of xs) (olds_of ys) first second)
+
+taken_has : (P : Record → Type 0) (pending : Option Record) (part : Record) → IfSome pending P → IfSome (taken pending part) P × IfSome (left pending part) P
+taken_has P None part has = (tt, tt)
+taken_has P (Some old) part has = by (nat_eq old.span.lo part.span.lo)
+  where
+    by : (test : Bool) → IfSome (if test then Some old else None) P × IfSome (if test then None else Some old) P
+    by true = (has, tt)
+    by false = (tt, has)
+
+part_has : (P : Record → Type 0) (pending : Option Record) (run : Option Run) (part : Record) → IfSome pending P → RunHas P run
+    → Each P (olds_of (planned_with pending run part)) × RunHas P (Some (run_with pending run part))
+part_has P pending None part has of_run = (tt, (taken_has P pending part has).0)
+part_has P pending (Some run) part has of_run = by (joins run.new part)
+  where
+    by : (join : Bool) → Each P (olds_of (if join then detaching (taken pending part) else replacing run.old run.new))
+        × RunHas P (Some (if join then record { old = run.old; new = joined_area run.new part } else record { old = taken pending part; new = part }))
+    by true = (olds_of-detaching P (taken pending part) (taken_has P pending part has).0, of_run)
+    by false = (olds_of-replacing P run.old run.new of_run, (taken_has P pending part has).0)
+
+-- only they go
+along_olds : (P : Record → Type 0) (pending : Option Record) (run : Option Run) (events : List Event) → IfSome pending P → RunHas P run → Each P (begun_in events)
+    → Each P (olds_of (along pending run events))
+along_olds P pending run [] has of_run each = each_olds P (detaching pending) (closing run) (olds_of-detaching P pending has) (olds_of-closing P run of_run)
+along_olds P pending run (Event.Begins area ∷ events) has of_run each =
+    each_olds P (detaching pending) (along (Some area) run events) (olds_of-detaching P pending has) (along_olds P (Some area) run events each.0 of_run each.1)
+along_olds P pending run (Event.Comes part ∷ events) has of_run each =
+    let here = part_has P pending run part has of_run in
+    each_olds P (planned_with pending run part) (along (left pending part) (Some (run_with pending run part)) events) here.0
+    (along_olds P (left pending part) (Some (run_with pending run part)) events (taken_has P pending part has).1 here.1 each)
+along_olds P pending run (Event.Passed area ∷ events) has of_run each =
+    each_olds P (detaching pending ++ closing run) (along None None events)
+    (each_olds P (detaching pending) (closing run) (olds_of-detaching P pending has) (olds_of-closing P run of_run))
+    (along_olds P None None events tt tt each)
+
+pub changes_olds : (P : Record → Type 0) (events : List Event) → Each P (begun_in events) → Each P (olds_of (along None None events))
+changes_olds P events each = along_olds P None None events tt tt each
+
+pub begun_come : (new : Option Record) (events : List Event) → begun_in (come new events) ≡ begun_in events
+begun_come None events = refl
+begun_come (Some new) [] = refl
+begun_come (Some new) (event ∷ events) =
+    cond_both (nat_lt new.span.lo (page_at event)) (Event.Comes new ∷ (event ∷ events)) (event ∷ come_in new events) (λ list. begun_in list ≡ begun_in (event ∷ events))
+    (λ first. refl) (λ later. by event (begun_come (Some new) events))
+  where
+    by : (e : Event) → begun_in (come_in new events) ≡ begun_in events → begun_in (e ∷ come_in new events) ≡ begun_in (e ∷ events)
+    by (Event.Begins area) rest = ap (λ list. area ∷ list) rest
+    by (Event.Comes part) rest = rest
+    by (Event.Passed area) rest = rest
+
+pub begun_append : (P : Record → Type 0) (xs ys : List Event) → Each P (begun_in xs) → Each P (begun_in ys) → Each P (begun_in (xs ++ ys))
+begun_append P [] ys first second = second
+begun_append P (Event.Begins area ∷ xs) ys first second = (first.0, begun_append P xs ys first.1 second)
+begun_append P (Event.Comes part ∷ xs) ys first second = begun_append P xs ys first second
+begun_append P (Event.Passed area ∷ xs) ys first second = begun_append P xs ys first second
+
+pub begun_comes : (P : Record → Type 0) (parts : List Record) → Each P (begun_in (map Event.Comes parts))
+begun_comes P [] = tt
+begun_comes P (part ∷ parts) = begun_comes P parts
+
+-- at most so many changes are planned
+along_short : (pending : Option Record) (run : Option Run) (events : List Event)
+    → length (along pending run events) ≤ option_len pending + (option_len run + weight events)
+along_short pending run [] = omega (arith, length-append (detaching pending) (closing run), length-detaching pending, length-closing run)
+along_short pending run (Event.Begins area ∷ events) =
+    omega (arith, length-append (detaching pending) (along (Some area) run events), length-detaching pending, along_short (Some area) run events)
+along_short pending run (Event.Comes part ∷ events) = omega (
+  arith,
+  length-append (planned_with pending run part) (along (left pending part) (Some (run_with pending run part)) events),
+  laid_short pending run part,
+  along_short (left pending part) (Some (run_with pending run part)) events,
+)
+along_short pending run (Event.Passed area ∷ events) = omega (
+  arith,
+  length-append (detaching pending ++ closing run) (along None None events),
+  length-append (detaching pending) (closing run),
+  length-detaching pending,
+  length-closing run,
+  along_short None None events,
+)
+
+come_weight : (new : Record) (events : List Event) → weight (come_in new events) ≡ 1 + weight events
+come_weight new [] = refl
+come_weight new (event ∷ events) =
+    cond_both (nat_lt new.span.lo (page_at event)) (Event.Comes new ∷ (event ∷ events)) (event ∷ come_in new events) (λ list. weight list ≡ 1 + weight (event ∷ events))
+    (λ first. refl) (λ later. by event (come_weight new events))
+  where
+    by : (e : Event) → weight (come_in new events) ≡ 1 + weight events → weight (e ∷ come_in new events) ≡ 1 + weight (e ∷ events)
+    by (Event.Begins area) rest = omega (arith, rest)
+    by (Event.Comes part) rest = omega (arith, rest)
+    by (Event.Passed area) rest = rest
+
+pub changes_short : (new : Option Record) (events : List Event) → length (along None None (come new events)) ≤ 1 + weight events
+changes_short None events = omega (arith, along_short None None events)
+changes_short (Some new) events = omega (arith, along_short None None (come_in new events), come_weight new events)

@@ -1,0 +1,314 @@
+-- For `Planner::begin`, `Planner::come_to`, `Planner::come_to_all` and others: the planner's steps: what each plans.
+use Rattle.std.proofs.Common.{◌≡◌, ◌≤◌, ◌+◌, ◌<◌, ◌⊎◌, inl, inr, ℕ, Bool, true, false, ◌&&◌, if◌then◌else◌, nat_eq, nat_lt, List, [], ◌∷◌, ◌++◌, length, map, take, drop, get_or, Option, Some, None, refl, ap, sym, subst, ◌∙◌, arith}
+use Rattle.std.specs.List.{flat_map}
+use Rattle.std.specs.Option.{option_len, option_to_list}
+use Rattle.std.proofs.lemmas.Bool.{and_parts, eqb-true}
+use Rattle.std.proofs.lemmas.List.{append-nil, append_assoc, length-append, map-append, take_more, take-append-drop}
+use Rattle.std.proofs.lemmas.List.Concat.{flat_map-append}
+use Rattle.mm_types.specs.declared.area.Attr.{Attr}
+use Rattle.mm_types.specs.declared.area.Record.{Record}
+use Rattle.area_list.specs.Areas.{joins, same_attr}
+use Rattle.area_list.proofs.Merging.{joins_true}
+use Rattle.split_merge.specs.declared.plan.Change.{Change}
+use Rattle.split_merge.specs.declared.plan.Change.TheVariants.{Alter}
+use Rattle.split_merge.specs.declared.planner.Run.{Run}
+use Rattle.split_merge.specs.declared.planner.Planner.{Planner}
+use Rattle.split_merge.specs.Plans.{Planned}
+use Rattle.split_merge.specs.Planner.{Event, page_at, same_area, detaching, replacing, closing, taken, left, planned_with, along, come, come_in, laid, reached, reached_with, reaching, reaching_with, held, weight, GoesAlong}
+
+-- attributes are the same where areas with them would join
+same_attrs : (a b : Attr) → same_attr a b ≡ true → a ≡ b
+unfolding joins
+same_attrs a b h = (joins_true (nowhere a) (nowhere b) (rw h)).attr
+  where
+    nowhere : Attr → Record
+    nowhere attr = record { span = record { lo = 0; hi = 0 }; attr = attr; object = 0; offset = 0 }
+
+pub same_areas : (a b : Record) → same_area a b ≡ true → a ≡ b
+same_areas a b h =
+    let span = and_parts (nat_eq a.span.lo b.span.lo && nat_eq a.span.hi b.span.hi) _ h in
+    let ends = and_parts (nat_eq a.span.lo b.span.lo) (nat_eq a.span.hi b.span.hi) span.0 in
+    let attr = and_parts (same_attr a.attr b.attr) _ span.1 in
+    let object = and_parts (nat_eq a.object b.object) (nat_eq a.offset b.offset) attr.1 in
+    λ i. record {
+      span = record { lo = eqb-true a.span.lo b.span.lo ends.0 i; hi = eqb-true a.span.hi b.span.hi ends.1 i };
+      attr = same_attrs a.attr b.attr attr.0 i;
+      object = eqb-true a.object b.object object.0 i;
+      offset = eqb-true a.offset b.offset object.1 i;
+    }
+
+-- an area that is the old one again brings nothing
+pub replaced_same : (found : Option Record) (old new : Record) → found ≡ Some old → same_area old new ≡ true → replacing found new ≡ []
+replaced_same found old new is same = rw (is, same)
+
+pub length-detaching : (old : Option Record) → length (detaching old) ≡ option_len old
+length-detaching None = refl
+length-detaching (Some old) = refl
+
+length-replacing : (old : Option Record) (new : Record) → length (replacing old new) ≤ 1
+length-replacing None new = omega arith
+length-replacing (Some old) new = by (same_area old new)
+  where
+    by : (same : Bool) → length (if same then [] else Alter old new ∷ []) ≤ 1
+    by true = omega arith
+    by false = omega arith
+
+pub length-closing : (run : Option Run) → length (closing run) ≤ option_len run
+length-closing None = omega arith
+length-closing (Some run) = length-replacing run.old run.new
+
+taken_or_left : (pending : Option Record) (part : Record) → option_len (taken pending part) + option_len (left pending part) ≡ option_len pending
+taken_or_left None part = refl
+taken_or_left (Some old) part = by (nat_eq old.span.lo part.span.lo)
+  where
+    by : (test : Bool) → option_len (if test then Some old else None) + option_len (if test then None else Some old) ≡ 1
+    by true = refl
+    by false = refl
+
+-- a part brings at most one change more
+pub laid_short : (pending : Option Record) (run : Option Run) (part : Record)
+    → length (planned_with pending run part) + option_len (left pending part) ≤ option_len pending + option_len run
+laid_short pending None part = omega (arith, taken_or_left pending part)
+laid_short pending (Some run) part = by (joins run.new part)
+  where
+    by : (join : Bool) → length (if join then detaching (taken pending part) else replacing run.old run.new) + option_len (left pending part)
+        ≤ option_len pending + 1
+    by true = omega (arith, length-detaching (taken pending part), taken_or_left pending part)
+    by false = omega (arith, length-replacing run.old run.new, taken_or_left pending part)
+
+-- where the planner comes to a page, it holds no more
+pub reach_short : (planner : Planner) (page : ℕ) → length (reaching planner page) + held (reached planner page) ≤ held planner
+reach_short planner page = by planner.coming refl
+  where
+    by : (coming : Option Record) → planner.coming ≡ coming
+        → length (reaching_with coming planner page) + held (reached_with coming planner page) ≤ held planner
+    by None is = omega arith
+    by (Some new) is = test (nat_lt new.span.lo page)
+      where
+        test : (below : Bool)
+            → length (if below then planned_with planner.pending planner.run new else [])
+            + held (if below then laid (record planner { coming = None }) new else planner) ≤ held planner
+        test true = omega (arith, laid_short planner.pending planner.run new, ap (λ (c : Option Record). option_len c) is)
+        test false = omega arith
+
+pub reach_coming : (planner : Planner) (page : ℕ) → ((reached planner page).coming ≡ None) ⊎ ((reached planner page).coming ≡ planner.coming)
+reach_coming planner page = by planner.coming
+  where
+    by : (coming : Option Record) → ((reached_with coming planner page).coming ≡ None) ⊎ ((reached_with coming planner page).coming ≡ planner.coming)
+    by None = inr refl
+    by (Some new) = test (nat_lt new.span.lo page)
+      where
+        test : (below : Bool)
+            → ((if below then laid (record planner { coming = None }) new else planner).coming ≡ None)
+            ⊎ ((if below then laid (record planner { coming = None }) new else planner).coming ≡ planner.coming)
+        test true = inl refl
+        test false = inr refl
+
+-- and then plans what it would have planned with the new area in its place
+pub reach_planned : (planner : Planner) (event : Event) (later : List Event)
+    → reaching planner (page_at event) ++ along (reached planner (page_at event)).pending (reached planner (page_at event)).run
+    (event ∷ come (reached planner (page_at event)).coming later)
+    ≡ along planner.pending planner.run (come planner.coming (event ∷ later))
+reach_planned planner event later = by planner.coming refl
+  where
+    page : ℕ
+    page = page_at event
+
+    by : (coming : Option Record) → planner.coming ≡ coming
+        → reaching_with coming planner page ++ along (reached_with coming planner page).pending (reached_with coming planner page).run
+        (event ∷ come (reached_with coming planner page).coming later)
+        ≡ along planner.pending planner.run (come coming (event ∷ later))
+    by None is = ap (λ (c : Option Record). along planner.pending planner.run (event ∷ come c later)) is
+    by (Some new) is = test (nat_lt new.span.lo page)
+      where
+        after : Bool → Planner
+        after below = if below then laid (record planner { coming = None }) new else planner
+
+        test : (below : Bool)
+            → (if below then planned_with planner.pending planner.run new else [])
+            ++ along (if below then laid (record planner { coming = None }) new else planner).pending
+            (if below then laid (record planner { coming = None }) new else planner).run
+            (event ∷ come (if below then laid (record planner { coming = None }) new else planner).coming later)
+            ≡ along planner.pending planner.run (if below then Event.Comes new ∷ (event ∷ later) else event ∷ come_in new later)
+        test true = refl
+        test false = ap (λ (c : Option Record). along planner.pending planner.run (event ∷ come c later)) is
+
+-- a step: the page of what comes is reached, and then this is planned
+step : (event : Event) (planner : Planner) (rest : Planner → Planner) (more : Planner → List Change) (old : Planned)
+    → ((q : Planner) (later : List Event) → more q ++ along (rest q).pending (rest q).run (come (rest q).coming later) ≡ along q.pending q.run (event ∷ come q.coming later))
+    → ((q : Planner) → length (more q) + held (rest q) ≤ held q + weight (event ∷ []))
+    → ((q : Planner) → (rest q).coming ≡ q.coming)
+    → GoesAlong (event ∷ []) planner (rest (reached planner (page_at event))) old
+    (record old { changes = (old.changes ++ reaching planner (page_at event)) ++ more (reached planner (page_at event)) })
+step event planner rest more old plans holds keeps =
+    let page : ℕ = page_at event in
+    let next : Planner = reached planner page in
+    record {
+      planned = λ later. append_assoc (old.changes ++ reaching planner page) (more next) (along (rest next).pending (rest next).run (come (rest next).coming later))
+          ∙ ap (λ tail. (old.changes ++ reaching planner page) ++ tail) (plans next later)
+          ∙ append_assoc old.changes (reaching planner page) (along next.pending next.run (event ∷ come next.coming later))
+          ∙ ap (λ tail. old.changes ++ tail) (reach_planned planner event later);
+      within = omega (
+        arith,
+        length-append (old.changes ++ reaching planner page) (more next),
+        length-append old.changes (reaching planner page),
+        holds next,
+        reach_short planner page,
+      );
+      room = refl;
+      coming = kept (reach_coming planner page);
+    }
+  where
+    kept : ((reached planner (page_at event)).coming ≡ None) ⊎ ((reached planner (page_at event)).coming ≡ planner.coming)
+        → ((rest (reached planner (page_at event))).coming ≡ None) ⊎ ((rest (reached planner (page_at event))).coming ≡ planner.coming)
+    kept (inl none) = inl (keeps (reached planner (page_at event)) ∙ none)
+    kept (inr same) = inr (keeps (reached planner (page_at event)) ∙ same)
+
+pub begin_goes : (planner next : Planner) (area : Record) (old mid new : Planned) → next ≡ reached planner area.span.lo
+    → mid ≡ record old { changes = old.changes ++ reaching planner area.span.lo } → new ≡ record mid { changes = mid.changes ++ detaching next.pending }
+    → GoesAlong (Event.Begins area ∷ []) planner (record next { pending = Some area }) old new
+begin_goes planner next area old mid new reach first second =
+    subst (GoesAlong (Event.Begins area ∷ []) planner (record next { pending = Some area }) old)
+    (sym (second ∙ ap (λ (plan : Planned). record plan { changes = plan.changes ++ detaching next.pending }) first))
+    (subst (λ (q : Planner). GoesAlong (Event.Begins area ∷ []) planner (record q { pending = Some area }) old
+    (record old { changes = (old.changes ++ reaching planner area.span.lo) ++ detaching q.pending })) (sym reach)
+    (step (Event.Begins area) planner (λ q. record q { pending = Some area }) (λ q. detaching q.pending) old
+    (λ q later. refl) (λ q. omega (arith, length-detaching q.pending)) (λ q. refl)))
+
+pub come_to_goes : (planner next last : Planner) (part : Record) (old mid new : Planned) → next ≡ reached planner part.span.lo
+    → mid ≡ record old { changes = old.changes ++ reaching planner part.span.lo } → last ≡ laid next part
+    → new ≡ record mid { changes = mid.changes ++ planned_with next.pending next.run part }
+    → GoesAlong (Event.Comes part ∷ []) planner last old new
+come_to_goes planner next last part old mid new reach first lay second =
+    subst (GoesAlong (Event.Comes part ∷ []) planner last old)
+    (sym (second ∙ ap (λ (plan : Planned). record plan { changes = plan.changes ++ planned_with next.pending next.run part }) first))
+    (subst (λ (q : Planner). GoesAlong (Event.Comes part ∷ []) planner q old
+    (record old { changes = (old.changes ++ reaching planner part.span.lo) ++ planned_with next.pending next.run part })) (sym lay)
+    (subst (λ (q : Planner). GoesAlong (Event.Comes part ∷ []) planner (laid q part) old
+    (record old { changes = (old.changes ++ reaching planner part.span.lo) ++ planned_with q.pending q.run part })) (sym reach)
+    (step (Event.Comes part) planner (λ q. laid q part) (λ q. planned_with q.pending q.run part) old
+    (λ q later. refl) (λ q. omega (arith, laid_short q.pending q.run part)) (λ q. refl))))
+
+pub pass_goes : (planner next : Planner) (area : Record) (old mid more new : Planned) → next ≡ reached planner area.span.lo
+    → mid ≡ record old { changes = old.changes ++ reaching planner area.span.lo } → more ≡ record mid { changes = mid.changes ++ detaching next.pending }
+    → new ≡ record more { changes = more.changes ++ closing next.run }
+    → GoesAlong (Event.Passed area ∷ []) planner (record next { pending = None; run = None }) old new
+pass_goes planner next area old mid more new reach first second third =
+    subst (GoesAlong (Event.Passed area ∷ []) planner (record next { pending = None; run = None }) old)
+    (sym (third ∙ ap (λ (plan : Planned). record plan { changes = plan.changes ++ closing next.run })
+    (second ∙ ap (λ (plan : Planned). record plan { changes = plan.changes ++ detaching next.pending }) first)
+    ∙ ap (λ changes. record old { changes = changes }) (append_assoc (old.changes ++ reaching planner area.span.lo) (detaching next.pending) (closing next.run))))
+    (subst (λ (q : Planner). GoesAlong (Event.Passed area ∷ []) planner (record q { pending = None; run = None }) old
+    (record old { changes = (old.changes ++ reaching planner area.span.lo) ++ (detaching q.pending ++ closing q.run) })) (sym reach)
+    (step (Event.Passed area) planner (λ q. record q { pending = None; run = None }) (λ q. detaching q.pending ++ closing q.run) old
+    (λ q later. refl)
+    (λ q. omega (arith, length-append (detaching q.pending) (closing q.run), length-detaching q.pending, length-closing q.run)) (λ q. refl)))
+
+pub weight-append : (xs ys : List Event) → weight (xs ++ ys) ≡ weight xs + weight ys
+weight-append [] ys = omega arith
+weight-append (Event.Begins area ∷ xs) ys = omega (arith, weight-append xs ys)
+weight-append (Event.Comes part ∷ xs) ys = omega (arith, weight-append xs ys)
+weight-append (Event.Passed area ∷ xs) ys = weight-append xs ys
+
+pub weight-comes : (parts : List Record) → weight (map Event.Comes parts) ≡ length parts
+weight-comes [] = refl
+weight-comes (part ∷ parts) = omega (arith, weight-comes parts)
+
+-- along some and then along others is along all
+pub goes_on : (xs ys : List Event) {planner next last : Planner} {old new newest : Planned} → GoesAlong xs planner next old new
+    → GoesAlong ys next last new newest → GoesAlong (xs ++ ys) planner last old newest
+goes_on xs ys {planner = planner} {next = next} {last = last} {old = old} first second = record {
+  planned = λ later. second.planned later ∙ first.planned (ys ++ later)
+      ∙ ap (λ events. old.changes ++ along planner.pending planner.run (come planner.coming events)) (sym (append_assoc xs ys later));
+  within = omega (arith, first.within, second.within, weight-append xs ys);
+  room = second.room ∙ first.room;
+  coming = kept second.coming first.coming;
+}
+  where
+    kept : (last.coming ≡ None) ⊎ (last.coming ≡ next.coming) → (next.coming ≡ None) ⊎ (next.coming ≡ planner.coming)
+        → (last.coming ≡ None) ⊎ (last.coming ≡ planner.coming)
+    kept (inl none) before = inl none
+    kept (inr same) (inl none) = inl (same ∙ none)
+    kept (inr same) (inr before) = inr (same ∙ before)
+
+-- the room that is left where a page is reached
+pub reach_room : (planner next : Planner) (page : ℕ) (old mid : Planned) → next ≡ reached planner page
+    → mid ≡ record old { changes = old.changes ++ reaching planner page } → (more : ℕ) → length old.changes + (held planner + more) ≤ old.room
+    → length mid.changes + (held next + more) ≤ mid.room
+reach_room planner next page old mid reach first more room = omega (
+  arith,
+  ap (λ (plan : Planned). length plan.changes) first,
+  ap (λ (plan : Planned). plan.room) first,
+  length-append old.changes (reaching planner page),
+  ap (λ (p : Planner). held p) reach,
+  reach_short planner page,
+  room,
+)
+
+-- the room that is left where an old area was taken away
+pub detach_room : (old : Option Record) (mid new : Planned) (more : ℕ) → new ≡ record mid { changes = mid.changes ++ detaching old }
+    → length mid.changes + (option_len old + more) ≤ mid.room → length new.changes + more ≤ new.room
+detach_room old mid new more is room = omega (
+  arith,
+  ap (λ (plan : Planned). length plan.changes) is,
+  ap (λ (plan : Planned). plan.room) is,
+  length-append mid.changes (detaching old),
+  length-detaching old,
+  room,
+)
+
+-- the room that is left where the planner went along
+pub goes_room : (events : List Event) {planner next : Planner} {old new : Planned} → GoesAlong events planner next old new → (more : ℕ)
+    → length old.changes + (held planner + (weight events + more)) ≤ old.room → length new.changes + (held next + more) ≤ new.room
+goes_room events g more room = omega (arith, g.within, g.room, room)
+
+-- the room that is left at the end, after the new area if that is still to come
+pub last_room : (planner next : Planner) (new : Record) (old mid : Planned) → planner.coming ≡ Some new → next ≡ laid planner new
+    → mid ≡ record old { changes = old.changes ++ planned_with planner.pending planner.run new } → length old.changes + held planner ≤ old.room
+    → length mid.changes + (option_len next.pending + option_len next.run) ≤ mid.room
+last_room planner next new old mid coming lay is room = omega (
+  arith,
+  ap (λ (plan : Planned). length plan.changes) is,
+  ap (λ (plan : Planned). plan.room) is,
+  length-append old.changes (planned_with planner.pending planner.run new),
+  laid_short planner.pending planner.run new,
+  ap (λ (c : Option Record). option_len c) coming,
+  ap (λ (p : Planner). option_len p.pending) lay,
+  ap (λ (p : Planner). option_len p.run) lay,
+  room,
+)
+
+pub same_room : (planner next : Planner) (old mid : Planned) → next ≡ planner → mid ≡ old → length old.changes + held planner ≤ old.room
+    → length mid.changes + (option_len next.pending + option_len next.run) ≤ mid.room
+same_room planner next old mid same is room = omega (
+  arith,
+  ap (λ (plan : Planned). length plan.changes) is,
+  ap (λ (plan : Planned). plan.room) is,
+  ap (λ (p : Planner). option_len p.pending) same,
+  ap (λ (p : Planner). option_len p.run) same,
+  room,
+)
+
+-- the parts as far as one more
+pub parts_more : (parts : List (Option Record)) (i : ℕ) (part : Option Record) → i < length parts → get_or parts i None ≡ part
+    → map Event.Comes (flat_map option_to_list (take (i + 1) parts))
+    ≡ map Event.Comes (flat_map option_to_list (take i parts)) ++ map Event.Comes (option_to_list part)
+parts_more parts i part within is =
+    ap (λ front. map Event.Comes (flat_map option_to_list front)) (take_more parts i None within ∙ ap (λ last. take i parts ++ last ∷ []) is)
+    ∙ ap (map Event.Comes) (flat_map-append option_to_list (take i parts) (part ∷ []) ∙ ap (λ last. flat_map option_to_list (take i parts) ++ last) (append-nil (option_to_list part)))
+    ∙ map-append Event.Comes (flat_map option_to_list (take i parts)) (option_to_list part)
+
+-- there are no more of them than of all
+pub parts_within : (parts : List (Option Record)) (i : ℕ) (part : Option Record) → i < length parts → get_or parts i None ≡ part
+    → weight (map Event.Comes (flat_map option_to_list (take i parts))) + length (option_to_list part) ≤ length (flat_map option_to_list parts)
+parts_within parts i part within is = omega (
+  arith,
+  weight-comes (flat_map option_to_list (take i parts)),
+  ap (λ front. length (flat_map option_to_list front)) (take_more parts i None within ∙ ap (λ last. take i parts ++ last ∷ []) is),
+  ap length (flat_map-append option_to_list (take i parts) (part ∷ [])),
+  length-append (flat_map option_to_list (take i parts)) (option_to_list part ++ []),
+  ap length (append-nil (option_to_list part)),
+  ap (λ whole. length (flat_map option_to_list whole)) (take-append-drop (i + 1) parts),
+  ap length (flat_map-append option_to_list (take (i + 1) parts) (drop (i + 1) parts)),
+  length-append (flat_map option_to_list (take (i + 1) parts)) (flat_map option_to_list (drop (i + 1) parts)),
+)

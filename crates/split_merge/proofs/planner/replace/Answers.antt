@@ -1,0 +1,11 @@
+-- Where the old area is the new one, nothing is planned.
+use Rattle.std.proofs.Common.{sym}
+use Rattle.std.proofs.lemmas.Bool.{not-false}
+use Rattle.split_merge.specs.Planner.{same_area, replacing}
+use Rattle.split_merge.proofs.Planning.{plan_unchanged}
+use Rattle.split_merge.proofs.Steps.{replaced_same}
+use Rattle.split_merge.proofs.planner.replace.Goals as goal
+
+pub returns-else-ne : goal.returns-else-ne
+returns-else-ne c = plan_unchanged c.args.plan.now (replacing c.args.old c.args.new)
+    (replaced_same c.args.old c.in-Some.old c.args.new c.in-Some.is (not-false (same_area c.in-Some.old c.args.new) (sym c.if-ne.ensures)))

@@ -1,0 +1,86 @@
+//! What becomes of the areas of a list in a call.
+ghost use Rattle.std.specs.Prelude.{◌≡◌, ◌++◌, min, max, flat_map, map};
+ghost use Rattle.std.specs.Option.{option_to_list};
+ghost use Rattle.mm_types.specs.Records.{IsValid};
+ghost use Rattle.area_list.specs.Changes.{piece, with_prot, parts_protected};
+ghost use Rattle.split_merge.specs.Becoming.{parts_outside_both, parts_left, low_of, high_of};
+
+use crate::parts::{piece, with_prot};
+use mm_types::{Prot, Record, Span};
+
+/// What becomes of the pages of a span, or of two.
+#[derive(Clone, Copy)]
+pub(crate) enum Becoming {
+    /// The pages of the two spans, which may be one, go.
+    Outside { low: Span, high: Span },
+    /// The pages of the span get the protection.
+    Protected { span: Span, prot: Prot },
+}
+
+/// The parts of an area outside both spans: below the lower, between the two, and above the upper.
+#[tactic(auto, unfolding(crate::specs::Becoming::parts_outside_both))]
+fn outside(low: Span, high: Span, area: &Record) -> [Option<Record>; 3]
+    requires { IsValid area.now }
+    ensures { flat_map option_to_list result ≡ parts_outside_both low high area.now }
+{
+    [
+        piece(area, area.span.lo, area.span.hi.min(low.lo)),
+        piece(area, area.span.lo.max(low.hi), area.span.hi.min(high.lo)),
+        piece(area, area.span.lo.max(high.hi), area.span.hi),
+    ]
+}
+
+/// The part of an area within the span, with the protection, if it has a page.
+fn within(span: Span, prot: Prot, area: &Record) -> Option<Record>
+    requires { IsValid area.now }
+    ensures { option_to_list result ≡ map (with_prot prot) (piece area.now (max area.now.span.lo span.lo) (min area.now.span.hi span.hi)) }
+{
+    let part = piece(area, area.span.lo.max(span.lo), area.span.hi.min(span.hi))?;
+    Some(with_prot(prot, part))
+}
+
+/// The parts of an area: below the span, within it with the protection, and above it.
+#[tactic(auto, unfolding(area_list::specs::Changes::parts_protected))]
+fn protected(span: Span, prot: Prot, area: &Record) -> [Option<Record>; 3]
+    requires { IsValid area.now }
+    ensures { flat_map option_to_list result ≡ parts_protected prot span area.now }
+{
+    [
+        piece(area, area.span.lo, area.span.hi.min(span.lo)),
+        within(span, prot, area),
+        piece(area, area.span.lo.max(span.hi), area.span.hi),
+    ]
+}
+
+impl Becoming {
+    /// The lower of the two spans.
+    pub(crate) fn low(&self) -> Span
+        ensures { result ≡ low_of self.now }
+    {
+        match self {
+            Becoming::Outside { low, .. } => *low,
+            Becoming::Protected { span, .. } => *span,
+        }
+    }
+
+    /// The upper of the two spans.
+    pub(crate) fn high(&self) -> Span
+        ensures { result ≡ high_of self.now }
+    {
+        match self {
+            Becoming::Outside { high, .. } => *high,
+            Becoming::Protected { span, .. } => *span,
+        }
+    }
+
+    /// The parts that take the place of an area, by ascending page.
+    pub(crate) fn parts(&self, area: &Record) -> [Option<Record>; 3]
+        requires { IsValid area.now }
+        ensures { flat_map option_to_list result ≡ parts_left self.now area.now }
+    {
+        match self {
+            Becoming::Outside { low, high } => outside(*low, *high, area),
+            Becoming::Protected { span, prot } => protected(*span, *prot, area),
+        }
+    }
+}
