@@ -1,0 +1,168 @@
+-- For `LockState::end`: the end of a call: rows that show the list after it, and the refusal where they do not.
+use Rattle.std.proofs.Common.{ℕ, ◌≡◌, ◌<◌, ◌≤◌, ◌+◌, ◌%◌, ◌^◌, ◌∙◌, refl, sym, ap, subst, true, false, not, cond, nat_eq, nat_le, List, [], ◌∷◌, ◌++◌, length, map, All, Option, Some, None, arith, inl, inr}
+use Rattle.std.specs.List.{sum_by, filter}
+use Rattle.std.specs.Option.{option_map, is_some, unwrap_or}
+use Rattle.std.specs.Cmp.Lexicographic.{pointwise, same_text}
+use Rattle.std.proofs.lemmas.Bool.{cases_Bool, cond_both, cond-true, cond-false, eqb-true, ne_eqb}
+use Rattle.std.proofs.lemmas.List.{length_push}
+use Rattle.std.proofs.lemmas.List.Sums.{sum_by-cons}
+use Rattle.mm_types.specs.declared.area.Record.{Record}
+use Rattle.mm_types.specs.declared.call.Call.{Call}
+use Rattle.mm_types.specs.declared.call.Entry.{Entry}
+use Rattle.mm_types.specs.declared.call.Reply.{Reply}
+use Rattle.mm_types.specs.declared.config.Config.{Config}
+use Rattle.mm_types.specs.Config.{IsValidConfig}
+use Rattle.mm_types.specs.Packed.{packed}
+use Rattle.mm_types.specs.Records.{IsValid}
+use Rattle.area_model.specs.Tables.{AddressSpace, Outcome}
+use Rattle.area_model.specs.Steps.{step, IsReady, after}
+use Rattle.area_model.specs.Stepped.{space_of}
+use Rattle.mm_types.specs.Sorts.{sort_by}
+use Rattle.stable_sort.proofs.Sorting.{insert_by}
+use Rattle.area_model.proofs.Journals.{after_ready, after-push, legal-push}
+use Rattle.lock_core.specs.declared.events.LockEvent.TheVariants.{End}
+use Rattle.lock_core.specs.declared.events.StepRefusal.TheVariants.{NotTheList}
+use Rattle.lock_core.specs.declared.stage.SlotState.{SlotState}
+use Rattle.lock_core.specs.declared.state.LockState.TheInside.{Inside}
+use Rattle.lock_core.specs.Core.{Core}
+use Rattle.lock_core.specs.Rows.{is_detached, attached_weight, Exactly}
+use Rattle.lock_core.specs.Events.{after_end, entry_of}
+use Rattle.lock_core.specs.Refusals.{first_page, sorted_rows, first_difference, list_difference, refusal}
+use Rattle.lock_core.specs.Kept.{IsKept}
+use Rattle.lock_core.proofs.Keeping.{end_keeps}
+
+mapped_none : (f : ℕ → ℕ) (o : Option ℕ) → option_map f o ≡ None → o ≡ None
+mapped_none f None none = refl
+mapped_none f (Some x) none = absurd (cc)
+
+-- where two lists of rows differ nowhere, they are one
+pub no_difference : (rows others : List (List ℕ)) → first_difference rows others ≡ None → rows ≡ others
+no_difference [] [] none = refl
+no_difference [] (other ∷ others) none = absurd (cc)
+no_difference (row ∷ rows) [] none = absurd (cc)
+no_difference (row ∷ rows) (other ∷ others) none = elim (cases_Bool (pointwise nat_eq row other)) [
+  | inl alike ↦
+      let first = same_text row other (sym alike) in
+      let later = sym (cond-true (pointwise nat_eq row other) (option_map (λ place. place + 1) (first_difference rows others)) (Some 0) alike) ∙ none in
+      let rest = no_difference rows others (mapped_none (λ place. place + 1) (first_difference rows others) later) in cc
+  | inr unlike ↦
+      let here = sym (cond-false (pointwise nat_eq row other) (option_map (λ place. place + 1) (first_difference rows others)) (Some 0) unlike) ∙ none in absurd (cc)
+]
+
+-- a list weighs the same with its elements in another order
+sum_by-insert_by : {A : Type 0} (key weight : A → ℕ) (x : A) (xs : List A) → sum_by weight (insert_by key x xs) ≡ weight x + sum_by weight xs
+sum_by-insert_by key weight x [] = sum_by-cons weight x []
+sum_by-insert_by {A} key weight x (first ∷ xs) =
+    cond_both (nat_le (key x) (key first)) (x ∷ first ∷ xs) (first ∷ insert_by key x xs) (λ (l : List A). sum_by weight l ≡ weight x + sum_by weight (first ∷ xs))
+    (λ h. sum_by-cons weight x (first ∷ xs))
+    (λ h. omega (arith, sum_by-cons weight first (insert_by key x xs), sum_by-insert_by key weight x xs, sum_by-cons weight first xs))
+
+sum_by-sort_by : {A : Type 0} (key weight : A → ℕ) (xs : List A) → sum_by weight (sort_by key xs) ≡ sum_by weight xs
+sum_by-sort_by key weight [] = refl
+sum_by-sort_by key weight (x ∷ xs) =
+    omega (arith, sum_by-insert_by key weight x (sort_by key xs), sum_by-sort_by key weight xs, sum_by-cons weight x xs)
+
+-- the attached rows weigh what the slots weigh
+pub sum_by-attached : (weight : List ℕ → ℕ) (slots : List SlotState)
+    → sum_by weight (filter (λ row. not (is_detached row)) (map (λ slot. slot.row) slots)) ≡ sum_by (attached_weight weight) slots
+sum_by-attached weight [] = refl
+sum_by-attached weight (slot ∷ slots) =
+    let rest = sum_by-attached weight slots in
+    let rows = filter (λ row. not (is_detached row)) (map (λ (s : SlotState). s.row) slots) in
+    let here = sum_by-cons (attached_weight weight) slot slots in
+    elim (cases_Bool (is_detached slot.row)) [
+      | inl detached ↦
+          let none = cond-true {A = ℕ} (is_detached slot.row) 0 (weight slot.row) detached in
+          ap (λ (l : List (List ℕ)). sum_by weight l) (cond-false (not (is_detached slot.row)) (slot.row ∷ rows) rows (ap not detached))
+          ∙ omega (arith, rest, here, none)
+      | inr attached ↦
+          let some = cond-false {A = ℕ} (is_detached slot.row) 0 (weight slot.row) attached in
+          ap (λ (l : List (List ℕ)). sum_by weight l) (cond-true (not (is_detached slot.row)) (slot.row ∷ rows) rows (ap not attached))
+          ∙ omega (arith, rest, here, some, sum_by-cons weight slot.row rows)
+    ]
+
+-- the rows of a list weigh what its areas weigh by their words
+pub sum_by-packed : (weight : List ℕ → ℕ) (areas : List Record) → sum_by weight (map packed areas) ≡ sum_by (λ area. weight (packed area)) areas
+sum_by-packed weight [] = refl
+sum_by-packed weight (area ∷ areas) =
+    omega (arith, sum_by-cons weight (packed area) (map packed areas), sum_by-cons (λ (a : Record). weight (packed a)) area areas, sum_by-packed weight areas)
+
+-- rows that differ nowhere from a list show exactly it
+pub rows_exact : (slots : List SlotState) (areas : List Record) → first_difference (sorted_rows slots) (map packed areas) ≡ None → Exactly slots areas
+rows_exact slots areas none weight =
+    let attached = filter (λ row. not (is_detached row)) (map (λ (slot : SlotState). slot.row) slots) in
+    let same = ap (λ (rows : List (List ℕ)). sum_by weight rows) (no_difference (sorted_rows slots) (map packed areas) none) in
+    omega (arith, same, sum_by-sort_by first_page weight attached, sum_by-attached weight slots, sum_by-packed weight areas)
+
+-- where a step may be taken
+pub kept_ready : (state : Inside) → IsKept state → length state.protocol.journal < 2 ^ 31 → IsReady state.config (space_of state.list state.objects)
+kept_ready state kept room =
+    subst (λ (space : AddressSpace). IsReady state.config space) (sym kept.space) (after_ready state.config state.protocol.journal kept.valid (omega arith))
+
+-- a call that was made is the one that the journal's new entry makes
+pub ended_space : (state : Inside) (caller : ℕ) (call : Call) (areas : List Record) (objects : ℕ) (reply : Reply) → IsKept state
+    → (let made : Outcome = record { space = space_of areas objects; reply = reply } in made ≡ step state.config (space_of state.list state.objects) call)
+    → (reply ≡ (entry_of state.config state.protocol.journal caller call).reply)
+    × (space_of areas objects ≡ after state.config (state.protocol.journal ++ entry_of state.config state.protocol.journal caller call ∷ []))
+ended_space state caller call areas objects reply kept made =
+    let there = made ∙ ap (λ (space : AddressSpace). step state.config space call) kept.space in (
+      ap (λ (o : Outcome). o.reply) there,
+      ap (λ (o : Outcome). o.space) there ∙ sym (after-push state.config state.protocol.journal (entry_of state.config state.protocol.journal caller call)),
+    )
+
+-- its areas are valid
+pub ended_valid : (config : Config) (journal : List Entry) (areas : List Record) (objects : ℕ) → IsValidConfig config → length journal ≤ 3000000000
+    → space_of areas objects ≡ after config journal → All IsValid areas
+ended_valid config journal areas objects valid few is =
+    subst (λ (l : List Record). All IsValid l) (sym (ap (λ (space : AddressSpace). space.areas) is)) ((after_ready config journal valid few).sound.canonical.valid)
+
+-- a state keeps its fields at the end of a call whose rows show the list after it
+pub kept_end : (state : Inside) (caller : ℕ) (call : Call) (areas : List Record) (objects : ℕ) → IsKept state → nat_eq (state.protocol.seq % 2) 1 ≡ true
+    → space_of areas objects ≡ after state.config (state.protocol.journal ++ entry_of state.config state.protocol.journal caller call ∷ [])
+    → first_difference (sorted_rows state.protocol.slots) (map packed areas) ≡ None
+    → IsKept (record state { protocol = after_end state.protocol (entry_of state.config state.protocol.journal caller call); list = areas; objects = objects })
+kept_end state caller call areas objects kept is_open is none = record {
+  valid = kept.valid;
+  facts = end_keeps state.config state.protocol entry kept.facts (eqb-true (state.protocol.seq % 2) 1 is_open)
+      ((legal-push state.config state.protocol.journal entry).1 (kept.facts.rows.legal, refl))
+      (subst (λ (l : List Record). Exactly state.protocol.slots l) (ap (λ (space : AddressSpace). space.areas) is) (rows_exact state.protocol.slots areas none));
+  few = kept.few;
+  space = is;
+}
+  where
+    entry : Entry
+    entry = entry_of state.config state.protocol.journal caller call
+
+-- whether an end is refused once a call is open, by where the rows differ from the list
+pub refusal_end : (config : Config) (core : Core) (caller : ℕ) (call : Call) → nat_eq (core.seq % 2) 1 ≡ true
+    → refusal config core (End caller call) ≡ option_map NotTheList (list_difference config core (End caller call))
+unfolding refusal
+refusal_end config core caller call is_open =
+    let odd = eqb-true (core.seq % 2) 1 is_open in
+    let closed : nat_eq (core.seq % 2) 0 ≡ false = ne_eqb (core.seq % 2) 0 (λ e. absurd (omega arith)) in
+    rw closed (by_place (list_difference config core (End caller call)))
+  where
+    by_place : (place : Option ℕ) → cond (is_some place) (Some (NotTheList (unwrap_or place 0))) None ≡ option_map NotTheList place
+    by_place None = refl
+    by_place (Some place) = refl
+
+-- what the search for a difference found
+pub difference_is : (slots shown : List SlotState) (rows : List (List ℕ)) (areas items : List Record) (found : Option ℕ)
+    → rows ≡ sorted_rows shown → shown ≡ slots → items ≡ areas → found ≡ first_difference rows (map packed items)
+    → first_difference (sorted_rows slots) (map packed areas) ≡ found
+difference_is slots shown rows areas items found sorted same same_items is =
+    ap (λ (l : List SlotState). first_difference (sorted_rows l) (map packed areas)) (sym same)
+    ∙ ap (λ (l : List (List ℕ)). first_difference l (map packed areas)) (sym sorted)
+    ∙ ap (λ (l : List Record). first_difference rows (map packed l)) (sym same_items) ∙ sym is
+
+-- the same of the list after a call
+pub list_difference_is : (state : Inside) (caller : ℕ) (call : Call) (areas : List Record) (objects : ℕ) (found : Option ℕ)
+    → space_of areas objects ≡ after state.config (state.protocol.journal ++ entry_of state.config state.protocol.journal caller call ∷ [])
+    → first_difference (sorted_rows state.protocol.slots) (map packed areas) ≡ found
+    → list_difference state.config state.protocol (End caller call) ≡ found
+list_difference_is state caller call areas objects found is same =
+    ap (λ (space : AddressSpace). first_difference (sorted_rows state.protocol.slots) (map packed space.areas)) (sym is) ∙ same
+
+-- the journal with one more entry is short enough
+pub ended_short : (journal : List Entry) (entry : Entry) → length journal < 2 ^ 31 → length (journal ++ entry ∷ []) ≤ 3000000000
+ended_short journal entry room = omega (arith, length_push journal entry, room)

@@ -1,0 +1,13 @@
+pub mod Elements
+pub mod Weighing
+pub mod Words
+pub mod Holding
+pub mod Keeping
+pub mod Reading
+pub mod Viewing
+pub mod Opening
+pub mod Differing
+pub mod Preserving
+pub mod Ending
+pub mod Growing
+pub mod Permuting

@@ -1,0 +1,9 @@
+pub mod Core
+pub mod Rows
+pub mod Facts
+pub mod Events
+pub mod Refusals
+pub mod Words
+pub mod States
+pub mod Protocols
+pub mod Kept

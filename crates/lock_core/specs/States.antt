@@ -1,0 +1,62 @@
+-- A state with its configuration, as contracts see it, and what an event may result in.
+use Rattle.std.specs.Prelude.{ℕ, ◌≡◌, ◌<◌, ◌^◌, ◌⊎◌, Bool, true, false, [], length, replicate, Some, None, Result, MatchResult}
+use Rattle.mm_types.specs.declared.config.Config.{Config}
+use Rattle.lock_core.specs.declared.events.LockAnswer.{LockAnswer}
+use Rattle.lock_core.specs.declared.events.LockEvent.{LockEvent}
+use Rattle.lock_core.specs.declared.events.LockEvent.TheVariants.{Field, Store, End, Split}
+use Rattle.lock_core.specs.declared.events.StepRefusal.{StepRefusal}
+use Rattle.lock_core.specs.declared.events.StepRefusal.TheVariants.{NoMemory}
+use Rattle.lock_core.specs.declared.stage.Stage.TheVariants.{Out}
+use Rattle.lock_core.specs.Core.{Core, free_slot}
+use Rattle.lock_core.specs.Events.{after_event, answer}
+use Rattle.lock_core.specs.Refusals.{refusal}
+
+-- a state with the configuration of its address space
+pub record Lock : Type 0 where
+  pub config : Config
+  pub core : Core
+
+-- The state before anything happened: sequence 2, so many slots that were never marked and so many readers that hold
+-- nothing, and an empty journal.
+abbrev pub opening_core : ℕ → ℕ → Core
+opening_core readers slots = record {
+  seq = 2;
+  slots = replicate slots free_slot;
+  counts = replicate slots 0;
+  readers = replicate readers (record { stage = Out; seen = [] });
+  journal = [];
+}
+
+-- the state after an event that is not refused
+abbrev pub after_step : Lock → LockEvent → Lock
+after_step lock event = record lock { core = after_event lock.config lock.core event }
+
+-- the field that an event names is one of the four of a row
+abbrev pub NamesField : LockEvent → Type 0
+NamesField (Field reader field) = field < 4
+NamesField (Store slot field word) = field < 4
+NamesField _ = Unit {0}
+
+-- whether an event takes memory, for an entry or for a reader
+abbrev pub takes_memory : LockEvent → Bool
+takes_memory (End caller call) = true
+takes_memory (Split reader) = true
+takes_memory _ = false
+
+-- the event is not refused, and this is the state after it and what it finds
+abbrev pub IsDone : Lock → LockEvent → Lock → LockAnswer → Type 0
+IsDone lock event new found = (refusal lock.config lock.core event ≡ None) × (new ≡ after_step lock event) × (found ≡ answer lock.core event)
+
+-- The event is refused for this reason, and the state is as it was. An event that takes memory may find none.
+abbrev pub IsRefused : Lock → LockEvent → Lock → StepRefusal → Type 0
+IsRefused lock event new reason = (new ≡ lock)
+    × ((refusal lock.config lock.core event ≡ Some reason) ⊎ ((takes_memory event ≡ true) × (reason ≡ NoMemory)))
+
+-- the outcome of a change of a state
+abbrev pub IsStep : Lock → LockEvent → Result LockAnswer StepRefusal → Lock → Type 0
+IsStep lock event result new = MatchResult result (IsDone lock event new) (IsRefused lock event new)
+
+-- there is room for an entry and a reader more
+pub record HasRoom (lock : Lock) : Type 0 where
+  pub entries : length lock.core.journal < 2 ^ 31
+  pub readers : length lock.core.readers < 2 ^ 31
