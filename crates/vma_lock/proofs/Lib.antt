@@ -1,0 +1,12 @@
+pub mod Places
+pub mod Lines
+pub mod Journals
+pub mod Standing
+pub mod Adding
+pub mod Looking
+pub mod Marking
+pub mod Turning
+pub mod Starting
+pub mod Seating
+pub mod Meeting
+pub mod Small

@@ -1,0 +1,176 @@
+-- For the small address space of the tests: what the rows show, and what a loop of tries leaves.
+use Rattle.std.proofs.Common.{ℕ, zero, suc, ◌≡◌, ◌≢◌, ◌<◌, ◌∙◌, inl, inr, refl, sym, ap, subst, true, List, [], ◌∷◌, ◌++◌, length, set, replicate, arith}
+use Rattle.std.specs.List.{sum_by}
+use Rattle.std.proofs.lemmas.Bool.{cond-true, cond-false}
+use Rattle.std.proofs.lemmas.List.{length-set, get_or-set_other}
+use Rattle.std.proofs.lemmas.List.Sums.{sum_by-cons}
+use Rattle.mm_types.specs.declared.area.Record.{Record}
+use Rattle.mm_types.specs.declared.call.Call.{Call}
+use Rattle.mm_types.specs.declared.call.Entry.{Entry}
+use Rattle.mm_types.specs.declared.files.FileRow.{FileRow}
+use Rattle.mm_types.specs.declared.config.Config.{Config}
+use Rattle.mm_types.specs.Packed.{packed}
+use Rattle.area_model.specs.Stepped.{space_of}
+use Rattle.area_model.specs.Steps.{step, opening, after}
+use Rattle.area_model.specs.Tables.{AddressSpace, Outcome}
+use Rattle.area_model.proofs.Journals.{after-nil, after-push}
+use Rattle.lock_core.specs.declared.stage.SlotState.{SlotState}
+use Rattle.lock_core.specs.declared.stage.Stage.{Stage}
+use Rattle.lock_core.specs.declared.stage.Stage.TheVariants.{Holds}
+use Rattle.lock_core.specs.Facts.{list_after}
+use Rattle.lock_core.specs.Core.{slot_at, free_slot}
+use Rattle.lock_core.specs.Rows.{is_detached, IsRowOf, attached_weight, Exactly}
+use Rattle.vma_lock.specs.declared.view.Desk.{Desk}
+use Rattle.vma_lock.specs.declared.view.View.{View}
+use Rattle.vma_lock.specs.Views.{begin_at, mark_at, try_at, write_at, lent_at, opened_view, slot_count}
+use Rattle.vma_lock.specs.Plays.{LooksAt}
+use Rattle.vma_lock.specs.Seats.{row_of}
+use Rattle.vma_lock.specs.Small.{IsSmall, AreFree, ShowsOne, IsMarking}
+
+-- free slots weigh nothing
+free_weigh : (weight : List ℕ → ℕ) (slots : List SlotState) → ((slot : ℕ) → is_detached (slot_at slots slot).row ≡ true) → sum_by (attached_weight weight) slots ≡ 0
+free_weigh weight [] free = refl
+free_weigh weight (slot ∷ slots) free =
+    let first = cond-true {A = ℕ} (is_detached slot.row) 0 (weight slot.row) (free 0) in
+    omega (arith, first, sum_by-cons (attached_weight weight) slot slots, free_weigh weight slots (λ k. free (suc k)))
+
+-- the slots weigh what the first weighs
+first_weighs : (weight : List ℕ → ℕ) (slots : List SlotState) (changed : SlotState) → AreFree slots → 0 < length slots
+    → sum_by (attached_weight weight) (set slots 0 changed) ≡ attached_weight weight changed
+first_weighs weight [] changed free some_slot = absurd (omega arith)
+first_weighs weight (slot ∷ slots) changed free some_slot =
+    omega (arith, sum_by-cons (attached_weight weight) changed slots, free_weigh weight slots (λ k. free (suc k) (λ e. omega arith)))
+
+-- where only the first slot may have a row, and it shows the list, the rows are exactly the list
+pub shows_exactly : (slots : List SlotState) (list : List Record) (changed : SlotState) → AreFree slots → 0 < length slots → ShowsOne list changed.row
+    → Exactly (set slots 0 changed) list
+shows_exactly slots list changed free some_slot (inl none_shown) weight =
+    first_weighs weight slots changed free some_slot
+    ∙ cond-true {A = ℕ} (is_detached changed.row) 0 (weight changed.row) none_shown.1
+    ∙ sym (ap (λ (l : List Record). sum_by (λ area. weight (packed area)) l) none_shown.0)
+shows_exactly slots list changed free some_slot (inr one_shown) weight =
+    let sum : sum_by (λ area. weight (packed area)) (one_shown.0 ∷ []) ≡ weight (packed one_shown.0) =
+    (let e = sum_by-cons (λ (area : Record). weight (packed area)) one_shown.0 [] in omega (arith, e)) in
+    first_weighs weight slots changed free some_slot
+    ∙ cond-false {A = ℕ} (is_detached changed.row) 0 (weight changed.row) one_shown.3
+    ∙ ap weight (sym one_shown.2) ∙ sym sum
+    ∙ sym (ap (λ (l : List Record). sum_by (λ area. weight (packed area)) l) one_shown.1)
+
+-- another row in the first slot leaves the others free
+pub still_free : (slots : List SlotState) (changed : SlotState) → AreFree slots → AreFree (set slots 0 changed)
+still_free slots changed free slot apart =
+    ap (λ (s : SlotState). is_detached s.row) (get_or-set_other slots 0 slot changed free_slot apart) ∙ free slot apart
+
+-- a row that is read after the first validating look is right for the list that this look saw
+pub row_found : (config other : Config) (journal seen : List Entry) (seq slot found : ℕ) (before now : Stage) (row : List ℕ)
+    → LooksAt config journal seq before now → before ≡ Holds slot found → found ≢ seq → row ≡ row_of now → config ≡ other → seen ≡ journal
+    → IsRowOf (list_after other seen) row
+row_found config other journal seen seq slot found before now row looks holds apart is same sees =
+    let told = (subst (λ s. LooksAt config journal seq s now) holds looks).1 apart in
+    subst (λ c. IsRowOf (list_after c seen) row) same
+    (subst (λ (j : List Entry). IsRowOf (list_after config j) row) (sym sees)
+    (subst (IsRowOf (list_after config journal)) (sym (is ∙ ap row_of told.1)) told.3))
+
+-- a try that found readers changes nothing but what the writer knows of its tries
+pub trying_more : (old now new : View) (slot found : ℕ) → IsMarking old now → new ≡ try_at now slot found → IsMarking old new
+trying_more old now new slot found trying is = subst (IsMarking old) (sym is) (record {
+  config = trying.config;
+  seen = trying.seen;
+  turn = trying.turn;
+  desk = trying.desk;
+})
+
+-- and at last the slot is marked
+pub marking_done : (old now new : View) (slot found other : ℕ) → IsMarking old now → new ≡ mark_at now slot found → IsMarking (mark_at old slot other) new
+marking_done old now new slot found other trying is = subst (IsMarking (mark_at old slot other)) (sym is) (record {
+  config = trying.config;
+  seen = trying.seen;
+  turn = trying.turn;
+  desk = ap (λ (d : Desk). record d { slots = set d.slots slot (record (slot_at d.slots slot) { lock_seq = d.seq }) }) trying.desk;
+})
+
+-- the rows after a whole call on the first slot
+pub enters_exactly : (slots : List SlotState) (list : List Record) (before marked written : Desk) (row : List ℕ) → AreFree slots → 0 < length slots → ShowsOne list row
+    → before.slots ≡ slots
+    → marked ≡ record before { slots = set before.slots 0 (record (slot_at before.slots 0) { lock_seq = before.seq }) }
+    → written ≡ record marked { slots = set marked.slots 0 (record (slot_at marked.slots 0) { row = row }) }
+    → Exactly written.slots list
+enters_exactly slots list before marked written row free some_slot shows same mark write =
+    let first : SlotState = record (slot_at before.slots 0) { lock_seq = before.seq } in
+    let between : AreFree before.slots = subst AreFree (sym same) free in
+    let marked_slots : marked.slots ≡ set before.slots 0 first = ap (λ (d : Desk). d.slots) mark in
+    let marked_free : AreFree marked.slots = subst AreFree (sym marked_slots) (still_free before.slots first between) in
+    let many : 0 < length marked.slots =
+    omega (arith, some_slot, ap (λ (l : List SlotState). length l) marked_slots, length-set before.slots 0 first, ap (λ (l : List SlotState). length l) same) in
+    subst (λ (l : List SlotState). Exactly l list) (sym (ap (λ (d : Desk). d.slots) write))
+    (shows_exactly marked.slots list (record (slot_at marked.slots 0) { row = row }) marked_free many shows)
+
+-- the list after one more call
+pub list_more : (config : Config) (journal : List Entry) (entry : Entry) (space : AddressSpace) (list : List Record) (objects : ℕ)
+    → after config journal ≡ space → (step config space entry.call).space ≡ space_of list objects
+    → after config (journal ++ entry ∷ []) ≡ space_of list objects
+list_more config journal entry space list objects now stepped =
+    after-push config journal entry ∙ ap (λ s. (step config s entry.call).space) now ∙ stepped
+
+-- what a whole call on the first slot owes at its end
+pub enter_owes : (first lent begun marked written seat : View) (entry : Entry) (row : List ℕ) → lent ≡ lent_at first seat → begun ≡ begin_at lent
+    → IsMarking (mark_at begun 0 0) marked → written ≡ write_at marked 0 row → AreFree first.desk.slots → 0 < length first.desk.slots
+    → ShowsOne (list_after first.config (first.seen ++ entry ∷ [])) row
+    → Exactly written.desk.slots (list_after written.config (written.seen ++ entry ∷ []))
+enter_owes first lent begun marked written seat entry row lend begin mark write free some_slot shows =
+    let slots : begun.desk.slots ≡ first.desk.slots = ap (λ (v : View). v.desk.slots) begin ∙ ap (λ (v : View). v.desk.slots) lend in
+    let config : written.config ≡ first.config =
+    ap (λ (v : View). v.config) write ∙ mark.config ∙ ap (λ (v : View). v.config) begin ∙ ap (λ (v : View). v.config) lend in
+    let seen : written.seen ≡ first.seen =
+    ap (λ (v : View). v.seen) write ∙ mark.seen ∙ ap (λ (v : View). v.seen) begin ∙ ap (λ (v : View). v.seen) lend in
+    subst (λ c. Exactly written.desk.slots (list_after c (written.seen ++ entry ∷ []))) (sym config)
+    (subst (λ (j : List Entry). Exactly written.desk.slots (list_after first.config (j ++ entry ∷ []))) (sym seen)
+    (enters_exactly first.desk.slots (list_after first.config (first.seen ++ entry ∷ [])) begun.desk marked.desk written.desk row
+    free some_slot shows slots mark.desk (ap (λ (v : View). v.desk) write)))
+
+-- the space after a call that the model made
+pub small_after : (config : Config) (view : View) (entry : Entry) (list next : List Record) (objects more : ℕ) (outcome : Outcome) → IsSmall view list objects
+    → config ≡ view.config → outcome.space ≡ space_of next more → outcome ≡ step config (space_of list objects) entry.call
+    → after view.config (view.seen ++ entry ∷ []) ≡ space_of next more
+small_after config view entry list next objects more outcome small same space is =
+    list_more view.config view.seen entry (space_of list objects) next more small.space
+    (ap (λ c. (step c (space_of list objects) entry.call).space) (sym same) ∙ sym (ap (λ (o : Outcome). o.space) is) ∙ space)
+
+-- a new table is that of a space with no area
+pub opened_small : (config : Config) (readers : ℕ) → config.files ≡ [] → IsSmall (opened_view config readers) [] 0
+unfolding opening
+opened_small config readers none_open = record {
+  closed = refl;
+  turn = refl;
+  space = after-nil config ∙ ap (λ (l : List FileRow). record { areas = []; objects = length l }) none_open;
+  free = λ slot apart. free_copies (slot_count config) slot;
+}
+  where
+    free_copies : (count slot : ℕ) → is_detached (slot_at (replicate count free_slot) slot).row ≡ true
+    free_copies zero slot = refl
+    free_copies (suc count) zero = refl
+    free_copies (suc count) (suc slot) = free_copies count slot
+
+-- the reply of a call that the model made first
+pub small_reply : (config : Config) (view : View) (call : Call) (list : List Record) (objects : ℕ) (outcome : Outcome) → IsSmall view list objects
+    → config ≡ view.config → outcome ≡ step config (space_of list objects) call
+    → outcome.reply ≡ (step view.config (after view.config view.seen) call).reply
+small_reply config view call list objects outcome small same is =
+    ap (λ (o : Outcome). o.reply) is ∙ ap (λ c. (step c (space_of list objects) call).reply) same
+    ∙ ap (λ s. (step view.config s call).reply) (sym small.space)
+
+-- a try that found readers, and then the mark
+pub marking_from : (first tried marked : View) (slot found : ℕ) → tried ≡ try_at first slot found → IsMarking (mark_at tried 0 0) marked
+    → IsMarking (mark_at first 0 0) marked
+marking_from first tried marked slot found is marking = record {
+  config = marking.config ∙ ap (λ (v : View). v.config) is;
+  seen = marking.seen ∙ ap (λ (v : View). v.seen) is;
+  turn = marking.turn ∙ ap (λ (v : View). v.turn) is;
+  desk = marking.desk ∙ ap (λ (v : View). (mark_at v 0 0).desk) is;
+}
+
+-- the same, as the writer of a new table knows it
+pub opened_is_small : (config : Config) (readers : ℕ) (view : View) (list : List Record) → config.files ≡ [] → view ≡ opened_view config readers → list ≡ []
+    → IsSmall view list 0
+opened_is_small config readers view list none_open is empty =
+    subst (λ (v : View). IsSmall v list 0) (sym is) (subst (λ (l : List Record). IsSmall (opened_view config readers) l 0) (sym empty) (opened_small config readers none_open))

@@ -1,0 +1,27 @@
+-- For `add`: the step keeps the rule, and the seat knows its slot.
+use Rattle.std.proofs.Common.{refl, ap, arith}
+use Rattle.vma_lock.proofs.Adding.{add_allows}
+use Rattle.vma_lock.proofs.Seating.{add_kept}
+use Rattle.vma_lock.proofs.seats.VmaTable.add.Goals as goal
+
+pub fetch_add-found-requires : goal.fetch_add-found-requires
+fetch_add-found-requires c =
+    let seat = c.args.seat.now in
+    let sized = c.args.self.now.sized in
+    rw c.deref.ensures (
+      c.requires.table,
+      omega (arith, sized.words_are, c.requires.slot),
+      add_allows _ _ _ _ seat.seat.me seat.kept.kind c.requires.free c.requires.slot,
+    )
+
+pub invariant_of-seat : goal.invariant_of-seat
+invariant_of-seat c =
+    let seat = c.args.seat.now in
+    let sized = c.args.self.now.sized in
+    record {
+      kept = add_kept _ _ _ _ _ _ _ _ seat.kept (ap (λ id. id.words) c.fetch_add-found.ensures.0)
+          (rw c.requires.table (omega (arith, sized.words_are, c.requires.slot))) (c.fetch_add-found.ensures.2 c.args.slot.0 refl);
+    }
+
+pub returns-clause-view : goal.returns-clause-view
+returns-clause-view c = ap (λ m. m.0) (c.fetch_add-found.ensures.2 c.args.slot.0 refl)

@@ -1,0 +1,39 @@
+-- What the structs of a table and of its seats keep.
+use Rattle.std.specs.Prelude.{ℕ, ◌≡◌, ◌≤◌, ◌+◌, ◌*◌, ◌/◌, ◌^◌, List, [], length, map, Option, Some}
+use Rattle.mm_types.specs.declared.call.Entry.{Entry}
+use Rattle.mm_types.specs.declared.config.Config.{Config}
+use Rattle.lock_core.specs.declared.stage.SlotState.{SlotState}
+use Rattle.lock_core.specs.Core.{held}
+use Rattle.atomic_table.specs.Table.{Me}
+use Rattle.vma_lock.specs.declared.view.SeatKind.TheVariants.{Reads, Writes}
+use Rattle.vma_lock.specs.declared.view.View.{View}
+use Rattle.vma_lock.specs.Views.{slot_count}
+
+-- a table has a line of words for the sequence and for each slot of its configuration
+pub record IsSized (config : Config) (words : ℕ) : Type 0 where
+  pub words_are : words ≡ (slot_count config + 1) * 8
+  pub few : config.areas ≤ 65530
+
+-- what a reader's seat knows beside its view
+pub record ReaderKept (caller slot words : ℕ) (me : Me Entry View) : Type 0 where
+  pub kind : me.0.kind ≡ Reads
+  pub empty : me.1 ≡ []
+  pub caller_is : me.0.caller ≡ caller
+  pub slot_is : (at : ℕ × ℕ) → held me.0.stage ≡ Some at → at.0 ≡ slot
+  pub within : (slot + 2) * 8 ≤ words
+
+-- the mark word of a slot that no reader holds
+abbrev pub free_mark : SlotState → ℕ
+free_mark slot = slot.lock_seq * 256
+
+-- what the writer's seat knows beside its view
+pub record WriterKept (config : Config) (seq : ℕ) (marks : List ℕ) (turn : Option ℕ) (words : ℕ) (me : Me Entry View) : Type 0 where
+  pub kind : me.0.kind ≡ Writes
+  pub settings : me.0.config ≡ config
+  pub empty : me.1 ≡ []
+  pub seq_is : me.0.desk.seq ≡ seq
+  pub marks_are : marks ≡ map free_mark me.0.desk.slots
+  pub turn_is : me.0.turn ≡ turn
+  pub sized : words ≡ (length marks + 1) * 8
+  pub counted : seq / 2 ≡ length me.0.seen + 1
+  pub room : seq ≤ 2 ^ 32 + 2

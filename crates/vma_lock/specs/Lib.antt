@@ -1,0 +1,7 @@
+pub mod Views
+pub mod Words
+pub mod Rule
+pub mod Plays
+pub mod Kept
+pub mod Seats
+pub mod Small

@@ -1,0 +1,20 @@
+//! The lock protocol over shared words: a sequence word, and for each slot a mark word and a row of four words. Up to
+//! 64 readers count themselves in slots and look at the sequence, while one writer marks slots and writes rows. The
+//! words and what the seats know always show one state of the protocol.
+#![tactic(auto)]
+
+mod opening;
+mod reading;
+mod rule;
+mod seats;
+mod turns;
+mod uses;
+mod view;
+mod writing;
+
+pub use seats::{ReaderSeat, VmaTable, WriterSeat};
+pub use view::{Desk, LastWords, SeatKind, SeenAt, Trace, View};
+pub use writing::ReadersLeft;
+
+#[cfg(test)]
+mod tests;

@@ -1,0 +1,92 @@
+ghost use Rattle.std.specs.Prelude.{◌≡◌, ◌≤◌, ◌<◌, ◌+◌, ◌*◌, ℕ, IfOk, length, replicate, slice_get, slice_set, Some};
+ghost use Rattle.mm_types.specs.Config.{IsValidConfig};
+ghost use Rattle.vma_lock.specs.declared.seats.ReaderSeat.{ReaderSeat as Reader};
+ghost use Rattle.vma_lock.specs.Views.{slot_count, opened_view, new_reader, after_reader};
+ghost use Rattle.vma_lock.specs.Seats.{table_of, config_of, IsOf, Writes, view, sight};
+
+use crate::rule::NewReader;
+use crate::seats::{ReaderSeat, VmaTable, WriterSeat};
+use atomic_table::Table;
+use mm_types::{Config, NoMemory};
+use std::alloc::Global;
+use std::sync::Arc;
+
+/// The words of a cache line, which has 64 bytes.
+const LINE: usize = 8;
+
+/// The sequence of a new table.
+const FIRST_SEQ: u64 = 2;
+
+impl VmaTable {
+    /// Makes a table with its writer and so many readers, the first of caller 0. No call was made, each row is
+    /// detached, and each reader has its turn.
+    pub fn new(
+        alloc: Global,
+        config: &Config,
+        readers: u32,
+    ) -> Result<(VmaTable, WriterSeat, Vec<ReaderSeat>), NoMemory>
+        requires config { IsValidConfig config.now }
+        requires readers { (1 ≤ readers) × (readers ≤ 64) }
+        ensures table { IfOk result (λ made. config_of made.0 ≡ config.now) }
+        ensures writer { IfOk result (λ made. Writes made.1 made.0 × (sight made.1 ≡ opened_view config.now readers)) }
+        ensures seats { IfOk result (λ made. length made.2.items ≡ readers) }
+        ensures fresh { IfOk result (λ made. (caller : ℕ) (seat : Reader) → slice_get made.2.items caller ≡ Some seat → IsOf seat made.0 × (view seat ≡ new_reader (opened_view config.now caller))) }
+    {
+        let (table, mut writer) = open(alloc, config)?;
+        let mut seats = Vec::with_capacity(alloc, readers as usize)?;
+        for caller in 0..readers {
+            seats.push(table.new_reader(&mut writer, caller))?;
+        }
+        Ok((table, writer, seats))
+    }
+
+    /// The next reader.
+    fn new_reader(&self, writer: &mut WriterSeat, caller: u32) -> ReaderSeat
+        requires table { Writes writer.old self.now }
+        requires caller { (caller ≡ (sight writer.old).desk.made) × (caller < 64) }
+        ensures table { Writes writer.new self.now × IsOf result self.now }
+        ensures writer { sight writer.new ≡ after_reader (sight writer.old) }
+        ensures view { view result ≡ new_reader (sight writer.old) }
+    {
+        let seat = self.table.shared.split_seat::<NewReader>(&mut writer.seat);
+        ReaderSeat {
+            seat,
+            caller,
+            slot: 0,
+        }
+    }
+}
+
+/// A table with no reader.
+fn open(alloc: Global, config: &Config) -> Result<(VmaTable, WriterSeat), NoMemory>
+    requires { IsValidConfig config.now }
+    ensures table { IfOk result (λ made. config_of made.0 ≡ config.now) }
+    ensures writer { IfOk result (λ made. Writes made.1 made.0 × (sight made.1 ≡ opened_view config.now 0)) }
+{
+    let slots = 2 * config.areas as usize + 2;
+    let words = opening_words(alloc, slots)?;
+    let (table, seat) = Table::of_words(alloc, words.as_slice(), config)?;
+    let table = VmaTable {
+        table: Arc::new(alloc, table)?,
+    };
+    let writer = WriterSeat {
+        seat,
+        table: VmaTable {
+            table: Arc::try_clone(&table.table)?,
+        },
+        seq: FIRST_SEQ,
+        marks: vec![in alloc; 0; slots]?,
+        turn: None,
+    };
+    Ok((table, writer))
+}
+
+/// The words of a table before anything happened.
+fn opening_words(alloc: Global, slots: usize) -> Result<Vec<u64>, NoMemory>
+    requires { slots < 200000 }
+    ensures { IfOk result (λ words. words.items ≡ slice_set (replicate ((slots + 1) * 8) 0) 0 2) }
+{
+    let mut words = vec![in alloc; 0; (slots + 1) * LINE]?;
+    words[0] = FIRST_SEQ;
+    Ok(words)
+}

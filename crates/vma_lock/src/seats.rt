@@ -1,0 +1,39 @@
+ghost use Rattle.std.specs.Arc.{arc_value};
+ghost use Rattle.std.specs.Prelude.{◌≡◌};
+ghost use Rattle.vma_lock.specs.Kept.{IsSized, ReaderKept, WriterKept};
+
+use crate::rule::Protocol;
+use crate::view::View;
+use atomic_table::{Seat, Table};
+use mm_types::{Config, Entry};
+use std::alloc::Global;
+use std::sync::Arc;
+
+/// A handle of a table: a sequence word, and a mark word and a row of four words for each slot.
+#[derive(Drop)]
+pub struct VmaTable {
+    pub(crate) table: Arc<Table<Entry, View, Config, Protocol, Global>, Global>,
+    pub ghost sized: { IsSized (arc_value table).shared.key (arc_value table).shared.table_id.words },
+}
+
+/// A reader of a table. It can hold one slot.
+#[derive(Drop)]
+pub struct ReaderSeat {
+    pub(crate) seat: Seat<Entry, View>,
+    pub(crate) caller: u32,
+    pub(crate) slot: u32,
+    pub ghost kept: { ReaderKept caller slot seat.table_id.words seat.me },
+}
+
+/// The one writer of a table.
+#[derive(Drop)]
+pub struct WriterSeat {
+    pub(crate) seat: Seat<Entry, View>,
+    pub(crate) table: VmaTable,
+    pub(crate) seq: u64,
+    /// Each slot's mark word, without the count of readers.
+    pub(crate) marks: Vec<u64>,
+    pub(crate) turn: Option<u32>,
+    pub ghost kept: { WriterKept (arc_value table.table).shared.key seq marks.items turn seat.table_id.words seat.me },
+    pub ghost table_is: { seat.table_id ≡ (arc_value table.table).shared.table_id },
+}

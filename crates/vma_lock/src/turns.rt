@@ -1,0 +1,143 @@
+ghost use Rattle.std.specs.Prelude.{◌≡◌, ◌≢◌, ℕ, IfOk, if◌then◌else◌, true, None, Some};
+ghost use Rattle.lock_core.specs.declared.stage.Stage.TheVariants.{Out};
+ghost use Rattle.lock_core.specs.Core.{StartsWith};
+ghost use Rattle.vma_lock.specs.Views.{calls_by, without_turn, lent_at, heard_at, joined_at, returned_at};
+ghost use Rattle.vma_lock.specs.Plays.{IsSettled};
+ghost use Rattle.vma_lock.specs.Seats.{config_of, IsOf, Writes, view, seen, stage, HasTurn, sight, journal, IsClosed, is_turn_of, met_turn, kept_turn, greeted_at, Meets};
+
+use crate::rule::{Heard, Joined, Lent, Noted, Returned, Settled, TurnNoted};
+use crate::seats::{ReaderSeat, VmaTable, WriterSeat};
+use mm_types::NoMemory;
+use std::sync::Arc;
+
+impl WriterSeat {
+    /// Another handle of the writer's table.
+    pub fn table(&self) -> Result<VmaTable, NoMemory>
+        ensures { IfOk result (λ table. Writes self.now table × (config_of table ≡ (sight self.now).config)) }
+    {
+        Ok(VmaTable {
+            table: Arc::try_clone(&self.table.table)?,
+        })
+    }
+}
+
+impl VmaTable {
+    /// Lends a reader's turn to the writer. The writer learns that the reader has seen a beginning of the journal that
+    /// has every entry of its caller.
+    pub fn lend(&self, writer: &mut WriterSeat, seat: &mut ReaderSeat)
+        requires tables { Writes writer.old self.now × IsOf seat.old self.now }
+        requires closed { IsClosed writer.old }
+        requires turn { HasTurn seat.old }
+        requires free { (sight writer.old).turn ≡ None }
+        ensures tables { Writes writer.new self.now × IsOf seat.new self.now }
+        ensures seat { view seat.new ≡ without_turn (view seat.old) }
+        ensures writer { sight writer.new ≡ lent_at (sight writer.old) (view seat.old) }
+        ensures seen { StartsWith (journal writer.old) (seen seat.old) }
+        ensures own { calls_by (view seat.old).caller (journal writer.old) ≡ calls_by (view seat.old).caller (seen seat.old) }
+    {
+        let shared = &self.table.shared;
+        let note = shared.split_seat::<TurnNoted>(&mut seat.seat);
+        writer.turn = Some(seat.caller);
+        shared.join_seat::<Lent>(&mut writer.seat, note);
+        shared.load::<Settled>(&mut writer.seat, 0);
+    }
+
+    /// A reader meets the writer: it has then seen exactly the writer's journal, and has its turn again if the writer
+    /// had it.
+    pub fn meet(&self, writer: &mut WriterSeat, seat: &mut ReaderSeat)
+        requires tables { Writes writer.old self.now × IsOf seat.old self.now }
+        ensures tables { Writes writer.new self.now × IsOf seat.new self.now }
+        ensures seat { Meets (view seat.old) (journal writer.old) (met_turn (sight writer.old) (view seat.old)) (view seat.new) }
+        ensures writer { sight writer.new ≡ record (sight writer.old) { turn = kept_turn (sight writer.old) (view seat.old); joined = journal writer.old } }
+        ensures seen { StartsWith (journal writer.old) (seen seat.old) }
+        ensures own { is_turn_of (view seat.old).caller (sight writer.old).turn ≢ true
+            → (caller : ℕ) → (view seat.old).turn ≡ Some caller → calls_by caller (journal writer.old) ≡ calls_by caller (seen seat.old) }
+    {
+        self.greet(writer, seat);
+        self.look(seat);
+        self.hear(writer, seat);
+    }
+
+    /// The writer tells a reader what it has seen, and gives its turn back if it has it.
+    fn greet(&self, writer: &mut WriterSeat, seat: &mut ReaderSeat)
+        requires { Writes writer.old self.now × IsOf seat.old self.now }
+        ensures tables { Writes writer.new self.now × IsOf seat.new self.now }
+        ensures seat { view seat.new ≡ greeted_at (view seat.old) (sight writer.old) }
+        ensures writer { sight writer.new ≡ record (sight writer.old) { turn = kept_turn (sight writer.old) (view seat.old) } }
+    {
+        if is_turn_of(writer.turn, seat.caller) {
+            self.give_back_turn(writer, seat);
+        } else {
+            self.tell(writer, seat);
+        }
+    }
+
+    /// The writer tells a reader what it has seen, and gives its turn away.
+    fn give_back_turn(&self, writer: &mut WriterSeat, seat: &mut ReaderSeat)
+        requires { Writes writer.old self.now × IsOf seat.old self.now }
+        ensures tables { Writes writer.new self.now × IsOf seat.new self.now }
+        ensures seat { view seat.new ≡ returned_at (view seat.old) (sight writer.old) }
+        ensures writer { sight writer.new ≡ without_turn (sight writer.old) }
+    {
+        let shared = &self.table.shared;
+        writer.turn = None;
+        let note = shared.split_seat::<TurnNoted>(&mut writer.seat);
+        shared.join_seat::<Returned>(&mut seat.seat, note);
+    }
+
+    /// The writer tells a reader what it has seen.
+    fn tell(&self, writer: &mut WriterSeat, seat: &mut ReaderSeat)
+        requires { Writes writer.old self.now × IsOf seat.old self.now }
+        ensures tables { Writes writer.new self.now × IsOf seat.new self.now }
+        ensures seat { view seat.new ≡ joined_at (view seat.old) (sight writer.old) }
+        ensures writer { sight writer.new ≡ sight writer.old }
+    {
+        let shared = &self.table.shared;
+        let note = shared.split_seat::<Noted>(&mut writer.seat);
+        shared.join_seat::<Joined>(&mut seat.seat, note);
+    }
+
+    /// A reader tells the writer what it has seen, which is a beginning of the journal.
+    fn hear(&self, writer: &mut WriterSeat, seat: &mut ReaderSeat)
+        requires { Writes writer.old self.now × IsOf seat.old self.now }
+        ensures tables { Writes writer.new self.now × IsOf seat.new self.now }
+        ensures seat { view seat.new ≡ view seat.old }
+        ensures writer { sight writer.new ≡ heard_at (sight writer.old) (view seat.old) }
+        ensures seen { StartsWith (journal writer.old) (seen seat.old) }
+    {
+        let shared = &self.table.shared;
+        let note = shared.split_seat::<Noted>(&mut seat.seat);
+        shared.join_seat::<Heard>(&mut writer.seat, note);
+        shared.load::<Settled>(&mut writer.seat, 0);
+    }
+
+    /// Joins another reader into one, which has then seen the longer of both lists. A turn that the other has ends.
+    pub fn join(&self, seat: &mut ReaderSeat, other: ReaderSeat)
+        requires tables { IsOf seat.old self.now × IsOf other self.now }
+        requires free { stage other ≡ Out }
+        ensures table { IsOf seat.new self.now }
+        ensures view { view seat.new ≡ joined_at (view seat.old) (view other) }
+        ensures old { StartsWith (seen seat.new) (seen seat.old) }
+        ensures other { StartsWith (seen seat.new) (seen other) }
+        ensures own { (caller : ℕ) → (view seat.old).turn ≡ Some caller → calls_by caller (seen seat.new) ≡ calls_by caller (seen seat.old) }
+    {
+        let shared = &self.table.shared;
+        let ReaderSeat {
+            seat: taken,
+            caller: _,
+            slot: _,
+        } = other;
+        shared.join_seat::<Joined>(&mut seat.seat, taken);
+        shared.load::<Settled>(&mut seat.seat, 0);
+    }
+}
+
+/// Whether it is a caller's turn.
+fn is_turn_of(turn: Option<u32>, caller: u32) -> bool
+    ensures { result ≡ is_turn_of caller turn }
+{
+    match turn {
+        Some(other) => other == caller,
+        None => false,
+    }
+}
