@@ -7,5 +7,6 @@ pub mod Mprotect
 pub mod Mremap
 pub mod Verdicts
 pub mod Steps
+pub mod Journals
 pub mod Stepped
 pub mod Laws

@@ -30,6 +30,6 @@ pub use flags::{
 pub use laws::{flag_bits, profile_numbers};
 pub use memory::NoMemory;
 pub use packed::{pack, packing_is_undone, unpack};
-pub use slot::Slot;
+pub use slot::{Row, Slot};
 pub use text::Text;
 pub use validity::{holds_all, is_valid};

@@ -7,7 +7,7 @@ use crate::apply::carry_out;
 use crate::binary_search::{area_at, begins_below, ends_by, last_of};
 use crate::placement::place;
 use area_model::{Bounds, bounds_of};
-use mm_types::{Config, NoMemory, Page, Record};
+use mm_types::{AreaList, Config, NoMemory, Page, Record};
 use split_merge::{Areas, Plan};
 use std::alloc::Global;
 use std::marker::Model;
@@ -56,6 +56,13 @@ impl VecAreas {
         ensures kept { IsKept self.now.bounds self.now.most self.now.list }
     {
         self.items.as_slice()
+    }
+
+    /// Hands the list out.
+    pub fn into_list(self) -> AreaList
+        ensures { result ≡ self.list }
+    {
+        AreaList::of(self.items)
     }
 
     /// Changes the list by a plan, within its room. The areas after those that change move at most once.

@@ -20,7 +20,8 @@ use Rattle.atomic_table.specs.Table.{State, Me, step, stepped, Allows, keeps}
 use Rattle.atomic_table.proofs.Lists.{exchanged}
 use Rattle.vma_lock.specs.declared.view.SeatKind.TheVariants.{Writes}
 use Rattle.vma_lock.specs.declared.view.View.{View}
-use Rattle.vma_lock.specs.Views.{slot_count, calls_by, reader_of, view_at, spent_view, begin_at, try_at, mark_at, store_at, end_at}
+use Rattle.vma_lock.specs.Views.{slot_count, reader_of, view_at, spent_view, begin_at, try_at, mark_at, store_at, end_at}
+use Rattle.area_model.specs.Journals.{calls_by}
 use Rattle.vma_lock.specs.Words.{table_words, mark_place, field_place}
 use Rattle.vma_lock.specs.Rule.{IsTraced, turn_weight, bears, IsWriter, Fits, Shows}
 use Rattle.vma_lock.specs.Plays.{begun, tried, stored, ended}

@@ -19,7 +19,7 @@ use Rattle.vma_lock.specs.Views.{slot_count, add_at, field_at, mark_at, try_at, 
 use Rattle.vma_lock.specs.Words.{mark_place}
 use Rattle.vma_lock.specs.Rule.{Shows}
 use Rattle.vma_lock.specs.Plays.{begun, tried, ended, given_back}
-use Rattle.vma_lock.specs.Kept.{ReaderKept, WriterKept, free_mark}
+use Rattle.vma_lock.specs.Kept.{ReaderKept, ReaderCounts, WriterKept, free_mark}
 use Rattle.vma_lock.specs.Seats.{MayEnter}
 use Rattle.vma_lock.proofs.Adding.{sub_allows}
 use Rattle.vma_lock.proofs.Marking.{begin_allows, mark_allows, end_allows}
@@ -47,6 +47,18 @@ field_kept caller slot words more word me new kept same is =
       slot_is = kept.slot_is;
       within = omega (arith, kept.within);
     })
+
+-- what a reader's seat counts, after an add
+pub add_counts : (looks version slot found : ℕ) (me new : Me Entry View) → ReaderCounts looks version me → new ≡ (add_at me.0 slot found, me.1)
+    → ReaderCounts looks version new
+add_counts looks version slot found me new counts is =
+    subst (ReaderCounts looks version) (sym is) (record { looks_are = counts.looks_are; version_is = counts.version_is })
+
+-- what it counts, after a word was read
+pub field_counts : (looks version word : ℕ) (me new : Me Entry View) → ReaderCounts looks version me → new ≡ (field_at me.0 word, me.1)
+    → ReaderCounts looks version new
+field_counts looks version word me new counts is =
+    subst (ReaderCounts looks version) (sym is) (record { looks_are = counts.looks_are; version_is = counts.version_is })
 
 -- a held slot is the one that the seat knows
 pub held_slot_is : (caller slot words : ℕ) (me : Me Entry View) → ReaderKept caller slot words me → IsSome (held me.0.stage)

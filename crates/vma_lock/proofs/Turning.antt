@@ -19,7 +19,8 @@ use Rattle.atomic_table.specs.Table.{State, Me, step, Allows, Splits, Joins, kee
 use Rattle.atomic_table.proofs.Lists.{set_else}
 use Rattle.vma_lock.specs.declared.view.SeatKind.TheVariants.{Reads, Writes, Note, Spent}
 use Rattle.vma_lock.specs.declared.view.View.{View}
-use Rattle.vma_lock.specs.Views.{calls_by, reader_of, view_at, spent_view, split_view, new_reader, after_reader, without_turn, note_of, turn_note, lent_at, heard_at, joined_at, returned_at}
+use Rattle.vma_lock.specs.Views.{reader_of, view_at, spent_view, split_view, new_reader, after_reader, without_turn, note_of, turn_note, lent_at, heard_at, joined_at, returned_at}
+use Rattle.area_model.specs.Journals.{calls_by}
 use Rattle.vma_lock.specs.Rule.{turn_weight, bears, kind_weight, can_hold, Fits, Shows}
 use Rattle.vma_lock.specs.Plays.{settled}
 use Rattle.vma_lock.proofs.Places.{each_else, each_more}

@@ -1,5 +1,5 @@
 -- What the structs of a table and of its seats keep.
-use Rattle.std.specs.Prelude.{ℕ, ◌≡◌, ◌≤◌, ◌+◌, ◌*◌, ◌/◌, ◌^◌, List, [], length, map, Option, Some}
+use Rattle.std.specs.Prelude.{ℕ, ◌≡◌, ◌≤◌, ◌+◌, ◌-◌, ◌*◌, ◌/◌, ◌^◌, min, List, [], length, map, Option, Some}
 use Rattle.mm_types.specs.declared.call.Entry.{Entry}
 use Rattle.mm_types.specs.declared.config.Config.{Config}
 use Rattle.lock_core.specs.declared.stage.SlotState.{SlotState}
@@ -21,6 +21,11 @@ pub record ReaderKept (caller slot words : ℕ) (me : Me Entry View) : Type 0 wh
   pub caller_is : me.0.caller ≡ caller
   pub slot_is : (at : ℕ × ℕ) → held me.0.stage ≡ Some at → at.0 ≡ slot
   pub within : (slot + 2) * 8 ≤ words
+
+-- what a reader's seat counts: its looks, up to the greatest number of 64 bits, and the entries that it has seen
+pub record ReaderCounts (looks version : ℕ) (me : Me Entry View) : Type 0 where
+  pub looks_are : looks ≡ min me.0.trace.looks (2 ^ 64 - 1)
+  pub version_is : version ≡ length me.0.seen
 
 -- the mark word of a slot that no reader holds
 abbrev pub free_mark : SlotState → ℕ

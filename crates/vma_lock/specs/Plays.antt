@@ -11,7 +11,8 @@ use Rattle.lock_core.specs.Facts.{list_after}
 use Rattle.lock_core.specs.Rows.{IsRowOf, Exactly}
 use Rattle.atomic_table.specs.Table.{Me, Step}
 use Rattle.vma_lock.specs.declared.view.View.{View}
-use Rattle.vma_lock.specs.Views.{calls_by, add_at, look_at, field_at, sub_at, begin_at, try_at, mark_at, store_at, end_at}
+use Rattle.vma_lock.specs.Views.{add_at, look_at, field_at, sub_at, begin_at, try_at, mark_at, store_at, end_at}
+use Rattle.area_model.specs.Journals.{calls_by}
 use Rattle.vma_lock.specs.Words.{mark_place, field_place}
 use Rattle.vma_lock.specs.Rule.{IsTraced}
 

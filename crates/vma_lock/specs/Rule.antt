@@ -13,7 +13,8 @@ use Rattle.vma_lock.specs.declared.view.SeatKind.{SeatKind}
 use Rattle.vma_lock.specs.declared.view.SeatKind.TheVariants.{Reads, Writes, Note, Spent}
 use Rattle.vma_lock.specs.declared.view.SeenAt.{SeenAt}
 use Rattle.vma_lock.specs.declared.view.View.{View}
-use Rattle.vma_lock.specs.Views.{slot_count, calls_by, reader_of, view_at}
+use Rattle.vma_lock.specs.Views.{slot_count, reader_of, view_at}
+use Rattle.area_model.specs.Journals.{calls_by}
 use Rattle.vma_lock.specs.Words.{table_words}
 
 -- 1 where it is this caller's turn

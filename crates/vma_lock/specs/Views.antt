@@ -1,5 +1,5 @@
 -- What a seat knows, and what each step makes of it.
-use Rattle.std.specs.Prelude.{ℕ, ◌+◌, ◌*◌, if◌then◌else◌, nat_eq, List, [], ◌∷◌, ◌++◌, filter, slice_index, slice_index_or, slice_set, replicate, Option, Some, None}
+use Rattle.std.specs.Prelude.{ℕ, ◌+◌, ◌*◌, if◌then◌else◌, nat_eq, List, [], ◌∷◌, ◌++◌, slice_index, slice_index_or, slice_set, replicate, Option, Some, None}
 use Rattle.mm_types.specs.declared.call.Entry.{Entry}
 use Rattle.mm_types.specs.declared.config.Config.{Config}
 use Rattle.lock_core.specs.declared.stage.SlotState.{SlotState}
@@ -17,10 +17,6 @@ use Rattle.vma_lock.specs.declared.view.View.{View}
 -- how many slots a table has: enough for the areas of a call's list before and after it
 abbrev pub slot_count : Config → ℕ
 slot_count config = 2 * config.areas + 2
-
--- the entries of a caller, in order
-abbrev pub calls_by : ℕ → List Entry → List Entry
-calls_by caller journal = filter (λ entry. nat_eq entry.caller caller) journal
 
 -- the reader of the protocol that a seat is
 abbrev pub reader_of : View → Reader

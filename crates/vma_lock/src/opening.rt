@@ -48,11 +48,14 @@ impl VmaTable {
         ensures writer { sight writer.new ≡ after_reader (sight writer.old) }
         ensures view { view result ≡ new_reader (sight writer.old) }
     {
+        let version = writer.version();
         let seat = self.table.shared.split_seat::<NewReader>(&mut writer.seat);
         ReaderSeat {
             seat,
             caller,
             slot: 0,
+            looks: 0,
+            version,
         }
     }
 }

@@ -1,4 +1,4 @@
-ghost use Rattle.std.specs.Prelude.{◌≡◌, ◌<◌, ◌+◌, true};
+ghost use Rattle.std.specs.Prelude.{◌≡◌, ◌<◌, ◌+◌, ◌-◌, ◌^◌, min, length, true};
 ghost use Rattle.lock_core.specs.declared.stage.Stage.TheVariants.{Out};
 ghost use Rattle.vma_lock.specs.Views.{add_at, look_at, field_at, read_at, sub_at};
 ghost use Rattle.vma_lock.specs.Rule.{IsTraced};
@@ -8,6 +8,29 @@ ghost use Rattle.vma_lock.specs.Seats.{slots_of, IsOf, view, seen, stage, IsHeld
 use crate::rule::{Added, GivenBack, Looked, Read};
 use crate::seats::{ReaderSeat, VmaTable};
 use mm_types::Slot;
+
+impl ReaderSeat {
+    /// Whose seat it is.
+    pub fn caller(&self) -> u32
+        ensures { result ≡ (view self.now).caller }
+    {
+        self.caller
+    }
+
+    /// How often it looked at the sequence, or 2^64 - 1 where it looked more often.
+    pub fn looks(&self) -> u64
+        ensures { result ≡ min (view self.now).trace.looks (2 ^ 64 - 1) }
+    {
+        self.looks
+    }
+
+    /// How many entries of the journal it has seen.
+    pub fn version(&self) -> u64
+        ensures { result ≡ length (seen self.now) }
+    {
+        self.version
+    }
+}
 
 impl VmaTable {
     /// Counts the reader in a slot, and answers the lock sequence that was found there.
@@ -37,7 +60,10 @@ impl VmaTable {
         ensures slot { LooksAt (view seat.old).config (seen seat.new) result (stage seat.old) (stage seat.new) }
         ensures view { view seat.new ≡ look_at (view seat.old) result (seen seat.new) (stage seat.new) }
     {
-        self.table.shared.load::<Looked>(&mut seat.seat, 0)
+        let found = self.table.shared.load::<Looked>(&mut seat.seat, 0);
+        seat.looks = seat.looks.saturating_add(1);
+        seat.version = found / 2 - 1;
+        found
     }
 
     /// Reads the row of the slot that a validated reader holds: the words that it had at the first validating look, which

@@ -1,6 +1,6 @@
 ghost use Rattle.std.specs.Arc.{arc_value};
 ghost use Rattle.std.specs.Prelude.{◌≡◌};
-ghost use Rattle.vma_lock.specs.Kept.{IsSized, ReaderKept, WriterKept};
+ghost use Rattle.vma_lock.specs.Kept.{IsSized, ReaderKept, ReaderCounts, WriterKept};
 
 use crate::rule::Protocol;
 use crate::view::View;
@@ -22,7 +22,12 @@ pub struct ReaderSeat {
     pub(crate) seat: Seat<Entry, View>,
     pub(crate) caller: u32,
     pub(crate) slot: u32,
+    /// How often it looked, up to the greatest number.
+    pub(crate) looks: u64,
+    /// How many entries it has seen.
+    pub(crate) version: u64,
     pub ghost kept: { ReaderKept caller slot seat.table_id.words seat.me },
+    pub ghost counts: { ReaderCounts looks version seat.me },
 }
 
 /// The one writer of a table.

@@ -1,7 +1,8 @@
-ghost use Rattle.std.specs.Prelude.{◌≡◌, ◌≢◌, ℕ, IfOk, if◌then◌else◌, true, None, Some};
+ghost use Rattle.std.specs.Prelude.{◌≡◌, ◌≢◌, ℕ, length, IfOk, if◌then◌else◌, true, None, Some};
 ghost use Rattle.lock_core.specs.declared.stage.Stage.TheVariants.{Out};
 ghost use Rattle.lock_core.specs.Core.{StartsWith};
-ghost use Rattle.vma_lock.specs.Views.{calls_by, without_turn, lent_at, heard_at, joined_at, returned_at};
+ghost use Rattle.vma_lock.specs.Views.{without_turn, lent_at, heard_at, joined_at, returned_at};
+ghost use Rattle.area_model.specs.Journals.{calls_by};
 ghost use Rattle.vma_lock.specs.Plays.{IsSettled};
 ghost use Rattle.vma_lock.specs.Seats.{config_of, IsOf, Writes, view, seen, stage, HasTurn, sight, journal, IsClosed, is_turn_of, met_turn, kept_turn, greeted_at, Meets};
 
@@ -11,6 +12,13 @@ use mm_types::NoMemory;
 use std::sync::Arc;
 
 impl WriterSeat {
+    /// How many entries the journal has.
+    pub fn version(&self) -> u64
+        ensures { result ≡ length (journal self.now) }
+    {
+        self.seq / 2 - 1
+    }
+
     /// Another handle of the writer's table.
     pub fn table(&self) -> Result<VmaTable, NoMemory>
         ensures { IfOk result (λ table. Writes self.now table × (config_of table ≡ (sight self.now).config)) }
@@ -83,6 +91,7 @@ impl VmaTable {
         writer.turn = None;
         let note = shared.split_seat::<TurnNoted>(&mut writer.seat);
         shared.join_seat::<Returned>(&mut seat.seat, note);
+        seat.version = seat.version.max(writer.version());
     }
 
     /// The writer tells a reader what it has seen.
@@ -95,6 +104,7 @@ impl VmaTable {
         let shared = &self.table.shared;
         let note = shared.split_seat::<Noted>(&mut writer.seat);
         shared.join_seat::<Joined>(&mut seat.seat, note);
+        seat.version = seat.version.max(writer.version());
     }
 
     /// A reader tells the writer what it has seen, which is a beginning of the journal.
@@ -126,8 +136,11 @@ impl VmaTable {
             seat: taken,
             caller: _,
             slot: _,
+            looks: _,
+            version,
         } = other;
         shared.join_seat::<Joined>(&mut seat.seat, taken);
+        seat.version = seat.version.max(version);
         shared.load::<Settled>(&mut seat.seat, 0);
     }
 }

@@ -6,7 +6,8 @@ ghost use Rattle.area_model.specs.Steps.{step, after};
 ghost use Rattle.lock_core.specs.declared.stage.Stage.TheVariants.{Out};
 ghost use Rattle.lock_core.specs.Facts.{list_after};
 ghost use Rattle.lock_core.specs.Rows.{is_detached};
-ghost use Rattle.vma_lock.specs.Views.{calls_by, mark_at};
+ghost use Rattle.vma_lock.specs.Views.{mark_at};
+ghost use Rattle.area_model.specs.Journals.{calls_by};
 ghost use Rattle.vma_lock.specs.Seats.{slots_of, IsOf, Writes, view, seen, HasTurn, sight, journal, slots, stage, IsHeld, IsOpen, IsClosed};
 ghost use Rattle.vma_lock.specs.Small.{AreFree, ShowsOne, IsMarking};
 

@@ -21,7 +21,8 @@ pub(super) struct Small {
 
 impl Small {
     ghost use Rattle.std.specs.Prelude.{◌<◌, ◌^◌, ◌++◌, ◌∷◌, [], length, true, IfOk, IfSome};
-    ghost use Rattle.vma_lock.specs.Views.{opened_view, calls_by};
+    ghost use Rattle.vma_lock.specs.Views.{opened_view};
+    ghost use Rattle.area_model.specs.Journals.{calls_by};
     ghost use Rattle.vma_lock.specs.Seats.{IsOf, Writes, view, seen, HasTurn, journal};
 
     /// The writer of a new table, whose list is empty.

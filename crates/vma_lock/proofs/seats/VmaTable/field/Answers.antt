@@ -1,7 +1,7 @@
 -- For `field`: the step keeps the rule, and tells the word of the seat's row.
 use Rattle.std.proofs.Common.{refl, ap, arith}
 use Rattle.vma_lock.proofs.Looking.{field_allows}
-use Rattle.vma_lock.proofs.Seating.{field_kept}
+use Rattle.vma_lock.proofs.Seating.{field_kept, field_counts}
 use Rattle.vma_lock.proofs.seats.VmaTable.field.Goals as goal
 
 pub load-requires : goal.load-requires
@@ -18,7 +18,10 @@ load-requires c =
 pub invariant_of-seat : goal.invariant_of-seat
 invariant_of-seat c =
     let told = c.load.ensures.2 c.args.seat.now.slot c.args.field c.requires.field refl in
-    record { kept = field_kept _ _ _ _ _ _ _ c.args.seat.now.kept (ap (λ id. id.words) c.load.ensures.0) told.0 }
+    record {
+      kept = field_kept _ _ _ _ _ _ _ c.args.seat.now.kept (ap (λ id. id.words) c.load.ensures.0) told.0;
+      counts = field_counts _ _ _ _ _ c.args.seat.now.counts told.0;
+    }
 
 pub returns-clause-right : goal.returns-clause-right
 returns-clause-right c = (c.load.ensures.2 c.args.seat.now.slot c.args.field c.requires.field refl).2
