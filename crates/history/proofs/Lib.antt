@@ -1,3 +1,14 @@
-pub mod Callers
+pub mod CallerOrder
 pub mod Serial
-pub mod Gathering
+pub mod SerialOrder
+pub mod ThreadCounts
+pub mod Sorts
+pub mod Gathers
+pub mod Steps
+pub mod Legal
+pub mod Placed
+pub mod Finished
+pub mod Labels
+pub mod Orders
+pub mod Merging
+pub mod Regrouping

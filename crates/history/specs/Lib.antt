@@ -1,1 +1,4 @@
 pub mod Histories
+pub mod Runs
+pub mod Labels
+pub mod Threads

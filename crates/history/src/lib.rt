@@ -1,9 +1,23 @@
-//! Histories: what the callers of a trace did, in one order; which are legal and of a trace; and the history of a trace
-//! whose lines run in their order.
+//! Histories: what the callers of a trace did, in one order; which are legal and of a trace; the history of a trace
+//! whose lines run in their order; and the history of a finished run, gathered from its journal and the logs of its callers.
 #![tactic(auto)]
 
+mod callers;
+mod gathering;
 mod items;
+mod labelling;
 mod laws;
+mod ordering;
+mod run_laws;
+#[cfg(test)]
+mod tests;
 
-pub use items::{Content, Item};
+pub use callers::{Callers, MOST_THREADS};
+pub use gathering::gather;
+pub use items::{Content, History, Item};
+pub use labelling::label;
 pub use laws::{serial_history_by_version, serial_history_is_legal, sort_by_caller_is_stable};
+pub use run_laws::{
+    callers_share_the_lines, labels_make_the_serial_history, no_lines_past_the_callers,
+    one_operation_more, run_makes_a_legal_history,
+};

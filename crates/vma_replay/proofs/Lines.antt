@@ -13,7 +13,7 @@ use Rattle.area_model.specs.Tables.{AddressSpace}
 use Rattle.area_model.specs.Steps.{opening, after}
 use Rattle.history.specs.Histories.{asks_call, journal_of, line_of, answer_of, space_after, version_after, space_after_all, answered_by, answered, serial_history, sort_by_caller}
 use Rattle.history.proofs.Serial.{AllAnswer}
-use Rattle.history.proofs.Gathering.{serial-answered, answered_answer, serial_space}
+use Rattle.history.proofs.SerialOrder.{serial-answered, answered_answer, serial_space}
 use Rattle.trace_reader.specs.declared.trace.Trace.{Trace}
 use Rattle.vma_replay.specs.Output.{item_text, items_text, start_text, content_text, maps_text, output_text, serial_output}
 

@@ -19,8 +19,8 @@ use Rattle.area_model.specs.Stepped.{space_of}
 use Rattle.area_model.specs.Tables.{AddressSpace, Outcome}
 use Rattle.area_model.specs.Steps.{step, opening, IsReady}
 use Rattle.history.specs.Histories.{asks_call, occurs, answer_of, space_after, version_after, space_after_all, answered_by, answered, sort_by_caller}
-use Rattle.history.proofs.Gathering.{answered-read, answered-call, sort_by_caller-from_threads}
-use Rattle.history.proofs.Callers.{all_occur}
+use Rattle.history.proofs.SerialOrder.{answered-read, answered-call, sort_by_caller-from_threads}
+use Rattle.history.proofs.CallerOrder.{all_occur}
 use Rattle.trace_reader.specs.declared.trace.Trace.{Trace}
 use Rattle.trace_reader.specs.Values.{IsTraceValue}
 use Rattle.vma_replay.specs.Output.{start_text, reply_text, content_text, maps_text, serial_output}

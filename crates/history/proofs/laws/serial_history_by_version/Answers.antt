@@ -1,5 +1,5 @@
 -- For `serial_history_by_version`: its goals.
-use Rattle.history.proofs.Gathering.{serial-answered, answered_line, serial_space, answered_groups, leading_reads-after_reads, leading_reads_are_reads}
+use Rattle.history.proofs.SerialOrder.{serial-answered, answered_line, serial_space, answered_groups, leading_reads-after_reads, leading_reads_are_reads}
 use Rattle.history.proofs.laws.serial_history_by_version.Goals as goal
 
 pub returns-clause-items : goal.returns-clause-items

@@ -1,5 +1,5 @@
 -- For `sort_by_caller_is_stable`: its goals.
-use Rattle.history.proofs.Gathering.{sort_by_caller-from_filters, sort_by_caller-from_stable, sort_by_caller-from_threads}
+use Rattle.history.proofs.SerialOrder.{sort_by_caller-from_filters, sort_by_caller-from_stable, sort_by_caller-from_threads}
 use Rattle.history.proofs.laws.sort_by_caller_is_stable.Goals as goal
 
 pub returns-clause-callers : goal.returns-clause-callers

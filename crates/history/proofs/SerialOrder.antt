@@ -15,12 +15,12 @@ use Rattle.area_model.specs.Tables.{AddressSpace}
 use Rattle.area_model.specs.Steps.{opening, after}
 use Rattle.mm_types.specs.Sorts.{insert_in_order, sort_by}
 use Rattle.history.specs.Histories.{occurs, caller_of, lines_of, asks_call, is_call, journal_of, line_of, IsLegalHistory, goes_first, gather, answer_of, space_after, version_after, items_from, serial_history, space_after_all, sort_by_caller, leading_reads, after_reads, answered_by, answered}
-use Rattle.history.proofs.Callers.{callers_alike}
+use Rattle.history.proofs.CallerOrder.{callers_alike}
 use Rattle.stable_sort.proofs.Sorting.{insert_by, filter-sort_by, All-sort_by, Rises, Rises-sort_by, sort_by-from_filters, sort_by-from_stable, sort_by_alike}
 use Rattle.history.proofs.Serial.{item_of, call_answer, HasLines, pairs_from, items_of_pairs, answers_place, AllAnswer, all_answer, GoesBefore, AreOrdered, none_counted, opening_stands, items_are_history, all_reached}
 
 -- an item in its place in a history
-abbrev insert_item : Item → List Item → List Item
+abbrev pub insert_item : Item → List Item → List Item
 insert_item item items = insert_in_order goes_first item items
 
 -- a line that asks for no call
@@ -82,7 +82,7 @@ call_first a b above call = elim (cases_lt a.version b.version) [
 ]
 
 -- items begin at this version or above it
-abbrev BeginsAt : ℕ → List Item → Type 0
+abbrev pub BeginsAt : ℕ → List Item → Type 0
 BeginsAt version [] = Unit {0}
 BeginsAt version (item ∷ items) = version ≤ item.version
 
@@ -114,7 +114,7 @@ gathered_before version (item ∷ items) later all begins =
     ∙ inserted_before item (gather items) (gather later)
     (subst (λ (v : ℕ). BeginsAt (v + 1) (gather later)) (sym (All-head level item items all)) begins)
 
-inserted_first : (item : Item) (later : List Item) → is_call item.content ≡ true → BeginsAt item.version later
+pub inserted_first : (item : Item) (later : List Item) → is_call item.content ≡ true → BeginsAt item.version later
     → insert_item item later ≡ item ∷ later
 inserted_first item [] call begins = refl
 inserted_first item (first ∷ later) call begins = cond-true _ _ _ (call_first item first begins call)

@@ -1,0 +1,34 @@
+-- For `label`: its goals.
+use Rattle.std.proofs.Common.{List, [], ◌∷◌, ◌≤◌, ◌≡◌, All, sym, ap, subst, ◌∙◌}
+use Rattle.std.specs.List.{AllPairs}
+use Rattle.trace_reader.specs.declared.trace.TraceLine.{TraceLine}
+use Rattle.history.specs.declared.items.Item.{Item}
+use Rattle.history.specs.Runs.{history_of, time_key}
+use Rattle.history.specs.Labels.{labelled}
+use Rattle.history.proofs.Sorts.{Small}
+use Rattle.history.proofs.Regrouping.{labelled_small, label_in_time, label_made}
+use Rattle.history.proofs.labelling.label.Goals as goal
+
+-- the lines are the trace's, and the items are those of the history with the callers of the lines
+given : (c : goal.After-give_callers) → c.give_callers.new.items.items ≡ labelled c.args.trace.now.lines c.args.trace.now.lines
+    (history_of c.args.journal.now (c.args.log.now ∷ []))
+given c =
+    c.give_callers.ensures ∙ ap (λ (l : List TraceLine). labelled l l c.in_ok-items.items.items) c.items.ensures
+    ∙ ap (λ (l : List Item). labelled c.args.trace.now.lines c.args.trace.now.lines l) c.in_ok-items.ensures
+
+pub in_order-requires-clause-time : goal.in_order-requires-clause-time
+in_order-requires-clause-time c =
+    subst (λ (l : List Item). AllPairs (λ a b. time_key a ≤ time_key b) l) (sym (given c))
+    (label_in_time c.args.trace.now.lines c.args.journal.now (c.args.log.now ∷ []))
+
+pub in_order-requires-clause-callers : goal.in_order-requires-clause-callers
+in_order-requires-clause-callers c =
+    subst (λ (l : List Item). All Small l) (sym (given c))
+    (labelled_small c.args.trace.now.lines c.args.trace.now.lines (history_of c.args.journal.now (c.args.log.now ∷ [])) c.requires)
+
+pub returns : goal.returns
+returns c =
+    c.of.ensures ∙ c.in_ok-items-2.ensures
+    ∙ label_made c.args.trace.now.lines c.args.journal.now c.args.log.now c.give_callers.new.items.items
+    (c.give_callers.ensures ∙ ap (λ (l : List TraceLine). labelled l l c.in_ok-items.items.items) c.items.ensures
+    ∙ ap (λ (l : List Item). labelled c.args.trace.now.lines c.args.trace.now.lines l) c.in_ok-items.ensures)

@@ -1,0 +1,11 @@
+-- For `are_in_order`: the places so far do not fall, up to the last.
+use Rattle.std.proofs.Common.{◌≤◌, take, All}
+use Rattle.stable_sort.proofs.Sorting.{Rises}
+use Rattle.history.specs.Runs.{place_key}
+use Rattle.history.proofs.ordering.are_in_order.Given as goal
+
+abbrev pub invariant-loop-item : goal.invariant-loop-item
+invariant-loop-item l = record {
+  rises : Rises place_key 0 (take l.item-index l.items);
+  low : All (λ y. place_key y ≤ l.last) (take l.item-index l.items);
+}

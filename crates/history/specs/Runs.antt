@@ -1,0 +1,72 @@
+-- Finished runs: what callers did, as items of a history.
+use Rattle.std.specs.Prelude.{ℕ, ◌≡◌, ◌≤◌, ◌+◌, ◌*◌, ◌^◌, if◌then◌else◌, List, [], ◌∷◌, ◌++◌, length, map, slice_get, Some, All}
+use Rattle.mm_types.specs.declared.call.Entry.{Entry}
+use Rattle.mm_types.specs.declared.call.Seen.{Seen}
+use Rattle.mm_types.specs.declared.call.Seen.TheVariants as reads
+use Rattle.mm_types.specs.declared.config.Config.{Config}
+use Rattle.trace_reader.specs.declared.trace.Op.{Op}
+use Rattle.trace_reader.specs.declared.trace.TraceLine.{TraceLine}
+use Rattle.area_model.specs.Steps.{IsLegalJournal}
+use Rattle.area_model.specs.Journals.{calls_by, version_of, IsReadRight}
+use Rattle.history.specs.declared.items.Content.{Content}
+use Rattle.history.specs.declared.items.Content.TheVariants as contents
+use Rattle.history.specs.declared.items.Item.{Item}
+use Rattle.history.specs.Histories.{items_of, lines_of, op_of, is_call, gather}
+
+-- the items of the entries of a journal that goes on from a version; an entry's version counts the entry itself
+unfoldable pub entry_items : ℕ → List Entry → List Item
+entry_items version [] = []
+entry_items version (entry ∷ entries) =
+    record { caller = entry.caller; version = version + 1; content = contents.Called entry.call entry.reply } ∷ entry_items (version + 1) entries
+
+-- what a read found, as the content of an item
+abbrev pub content_of : Seen → Content
+content_of (reads.Fault version page access verdict) = contents.Fault page access verdict
+content_of (reads.Maps version list) = contents.List list
+
+-- the item of a caller's read
+abbrev pub read_item : ℕ → Seen → Item
+read_item caller read = record { caller = caller; version = version_of read; content = content_of read }
+
+-- the items of a caller's log
+unfoldable pub log_items : ℕ → List Seen → List Item
+log_items caller log = map (read_item caller) log
+
+-- the items of logs, of which the first is of this caller, the next of the next caller, and so on
+unfoldable pub logs_items : ℕ → List (List Seen) → List Item
+logs_items caller [] = []
+logs_items caller (log ∷ logs) = log_items caller log ++ logs_items (caller + 1) logs
+
+-- the history of a journal and of the logs of the callers from 0 on
+unfoldable pub history_of : List Entry → List (List Seen) → List Item
+history_of journal logs = gather (entry_items 0 journal ++ logs_items 0 logs)
+
+-- what a caller did by this journal and its log, in the order of a history
+unfoldable pub own_of : ℕ → List Entry → List Seen → List Item
+own_of caller journal log = gather (items_of (entry_items 0 journal) caller ++ log_items caller log)
+
+-- what items were asked to do
+unfoldable pub ops_of : List Item → List Op
+ops_of items = map (λ item. op_of item.content) items
+
+-- what lines ask for
+abbrev pub asked : List TraceLine → List Op
+asked lines = map (λ line. line.op) lines
+
+-- A finished run of the lines of a trace by so many callers: the journal is legal, there is a log for each caller whose reads are right in the
+-- journal, what each caller did is its lines, in order, and nobody else did anything or has a line.
+pub record IsRun (config : Config) (lines : List TraceLine) (callers : ℕ) (journal : List Entry) (logs : List (List Seen)) : Type 0 where
+  pub legal : IsLegalJournal config journal
+  pub all : length logs ≡ callers
+  pub right : (caller : ℕ) (log : List Seen) → slice_get logs caller ≡ Some log → All (IsReadRight config journal) log
+  pub done : (caller : ℕ) (log : List Seen) → slice_get logs caller ≡ Some log → ops_of (own_of caller journal log) ≡ asked (lines_of lines caller)
+  pub others : (caller : ℕ) → callers ≤ caller → calls_by caller journal ≡ []
+  pub no_lines : (caller : ℕ) → callers ≤ caller → lines_of lines caller ≡ []
+
+-- where an item stands in a history, as one number, where callers have 32 bits: by version, then a call, and then the reads by caller
+abbrev pub place_key : Item → ℕ
+place_key item = item.version * 2 ^ 33 + (if is_call item.content then 0 else item.caller + 1)
+
+-- when it stands in a history, whoever did it: by version, then a call, and then the reads
+abbrev pub time_key : Item → ℕ
+time_key item = item.version * 2 + (if is_call item.content then 0 else 1)

@@ -1,0 +1,54 @@
+//! The order of a history.
+ghost use Rattle.std.specs.Prelude.{◌≡◌, ◌<◌, ◌^◌, ℕ, All, AllPairs, IfOk, OnOk, true};
+ghost use Rattle.std.specs.Bool.{OnTrue};
+ghost use Rattle.history.specs.declared.items.Item.{Item};
+ghost use Rattle.history.specs.Histories.{goes_first, gather};
+ghost use Rattle.history.specs.Runs.{place_key};
+
+use crate::items::Item;
+use mm_types::NoMemory;
+
+/// What a version counts for in a place: more than any caller does.
+const VERSION_STEP: u128 = 1 << 33;
+
+/// Puts items in the order of a history, those that tie in the order that they had; in linear time where they are so already.
+pub(crate) fn put_in_order(items: &mut Vec<Item>) -> Result<(), NoMemory>
+    requires { All (λ item. item.caller < 2 ^ 32) items.old.items }
+    ensures order { OnOk result (items.new.items ≡ gather items.old.items) }
+    ensures pairs { OnOk result (AllPairs (λ a b. goes_first a b ≡ true) items.new.items) }
+{
+    if are_in_order(items.as_slice()) {
+        return Ok(());
+    }
+    items.sort_by_key(|item| place(item))?;
+    Ok(())
+}
+
+/// Whether the places of items do not fall.
+pub(crate) fn are_in_order(items: &[Item]) -> bool
+    requires { All (λ item. item.caller < 2 ^ 32) items.now }
+    ensures order { OnTrue result (items.now ≡ gather items.now) }
+    ensures pairs { OnTrue result (AllPairs (λ a b. goes_first a b ≡ true) items.now) }
+{
+    let mut last = 0;
+    for item in items {
+        let now = place(item);
+        if now < last {
+            return false;
+        }
+        last = now;
+    }
+    true
+}
+
+/// Where an item stands in a history, as a number.
+fn place(item: &Item) -> u128
+    ensures { result ≡ place_key item.now }
+{
+    let caller = if item.is_call() {
+        0
+    } else {
+        u128::from(item.caller) + 1
+    };
+    u128::from(item.version) * VERSION_STEP + caller
+}
