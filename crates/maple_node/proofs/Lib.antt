@@ -1,0 +1,9 @@
+pub mod Packing
+pub mod Places
+pub mod Entries
+pub mod Children
+pub mod Lists
+pub mod Levels
+pub mod Frames
+pub mod Trees
+pub mod Reading

@@ -1,0 +1,6 @@
+pub mod Nodes
+pub mod Words
+pub mod Levels
+pub mod Roots
+pub mod Trees
+pub mod Ticks

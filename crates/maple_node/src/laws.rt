@@ -1,0 +1,79 @@
+//! Laws of the layout of a tree. Each is the contract of a function that does nothing.
+
+ghost use Rattle.std.specs.Prelude.{◌≡◌, ◌<◌, ◌≤◌, ◌^◌, ◌↔◌, ℕ, true, false, List, [], ◌∷◌, All, slice_get, IsSome};
+ghost use Rattle.std.specs.Option.{option_map};
+ghost use Rattle.maple_node.specs.declared.item.Item.{Item};
+ghost use Rattle.maple_node.specs.declared.root.Root.{Root};
+ghost use Rattle.maple_node.specs.Nodes.{end_of, Ascends};
+ghost use Rattle.maple_node.specs.Levels.{IsNode, read, Agree, times, item_at};
+ghost use Rattle.maple_node.specs.Words.{entry_item, child_item, leaf_entry, inner_child};
+ghost use Rattle.maple_node.specs.Trees.{Tree, IsLayout, IsFirst, IsTree, tree_of, top_of, tree_rows, entries_of, pairs_of};
+
+/// Reading a node place by place gives its items in order, and nothing past the last, where slots and rows have 32 bits.
+pub fn nodes_are_read_by_place()
+    ensures leaf { (at : ℕ → List ℕ) (limit start : ℕ) (item : Item) (place : ℕ) → IsNode at true limit start item
+        → All (λ entry. entry.word ≤ 2 ^ 32) (read at true item.word)
+        → option_map entry_item (leaf_entry (at item.word) place) ≡ slice_get (read at true item.word) place }
+    ensures inner { (at : ℕ → List ℕ) (limit start : ℕ) (item : Item) (place : ℕ) → IsNode at false limit start item
+        → All (λ child. child.word < 2 ^ 32) (read at false item.word)
+        → option_map child_item (inner_child (at item.word) place) ≡ slice_get (read at false item.word) place }
+{}
+
+/// A tree depends only on its own rows: where two tables agree on them, both have the same rows, entries and pairs from its
+/// root on, and the one shows the tree exactly where the other does.
+pub fn depends_on_its_rows()
+    ensures rows { (at other : ℕ → List ℕ) (tree : Tree) → Agree at other (tree_rows at tree)
+        → tree_rows at tree ≡ tree_rows other tree }
+    ensures entries { (at other : ℕ → List ℕ) (tree : Tree) → Agree at other (tree_rows at tree)
+        → entries_of at tree ≡ entries_of other tree }
+    ensures pairs { (at other : ℕ → List ℕ) (tree : Tree) → Agree at other (tree_rows at tree)
+        → pairs_of at tree ≡ pairs_of other tree }
+    ensures layout { (at other : ℕ → List ℕ) (slots : ℕ) (rows : List ℕ) (tree : Tree) → Agree at other (tree_rows at tree)
+        → IsLayout at slots rows tree ↔ IsLayout other slots rows tree }
+    ensures tree { (at other : ℕ → List ℕ) (slots : ℕ) (rows : List ℕ) (root : Root)
+        → Agree at other (tree_rows at (tree_of at root)) → IsTree at slots rows root ↔ IsTree other slots rows root }
+{}
+
+/// Tree 0 has one row, row 0, and no entries or pairs.
+pub fn first_tree_is_empty()
+    ensures rows { (at : ℕ → List ℕ) (rows : List ℕ) (root : Root) → IsFirst at rows root
+        → tree_rows at (tree_of at root) ≡ 0 ∷ [] }
+    ensures entries { (at : ℕ → List ℕ) (rows : List ℕ) (root : Root) → IsFirst at rows root
+        → entries_of at (tree_of at root) ≡ [] }
+    ensures pairs { (at : ℕ → List ℕ) (rows : List ℕ) (root : Root) → IsFirst at rows root
+        → pairs_of at (tree_of at root) ≡ [] }
+{}
+
+/// The root of a tree that meets the layout stands in the tree's rows once, and names the tree: its row and height determine
+/// where the tree ends and its largest gap, so the root of any later number that has them shows this tree.
+pub fn root_stands_once()
+    ensures once { (at : ℕ → List ℕ) (slots : ℕ) (rows : List ℕ) (tree : Tree) → IsLayout at slots rows tree
+        → (times tree.top.word (tree_rows at tree) ≡ 1) × (times tree.top.word rows ≡ 1) }
+    ensures named { (at : ℕ → List ℕ) (slots : ℕ) (rows : List ℕ) (tree : Tree) → IsLayout at slots rows tree
+        → tree.top ≡ top_of at tree.height tree.top.word }
+    ensures shown { (at : ℕ → List ℕ) (slots : ℕ) (rows : List ℕ) (tree : Tree) (root : Root) → IsLayout at slots rows tree
+        → 1 ≤ root.tree → root.height ≡ tree.height → root.row.0 ≡ tree.top.word → IsTree at slots rows root }
+{}
+
+/// The rows of a tree are those of its nodes, each once, so a tree shows that it is one from its own rows alone.
+pub fn rows_are_those_of_its_nodes()
+    ensures counted { (at : ℕ → List ℕ) (slots : ℕ) (rows : List ℕ) (root : Root) (row : ℕ) → IsTree at slots rows root
+        → times row rows ≡ times row (tree_rows at (tree_of at root)) }
+    ensures once { (at : ℕ → List ℕ) (slots : ℕ) (rows : List ℕ) (root : Root) (row : ℕ) → IsTree at slots rows root
+        → times row rows ≤ 1 }
+    ensures own { (at : ℕ → List ℕ) (slots : ℕ) (rows : List ℕ) (root : Root) → IsTree at slots rows root
+        → IsTree at slots (tree_rows at (tree_of at root)) root }
+{}
+
+/// The entries of a tree that meets the layout cover the pages from 0 up to the limit with no hole: they ascend from page 0,
+/// the last ends at the limit, and each page below it is in an entry.
+pub fn entries_cover_pages()
+    ensures some { (at : ℕ → List ℕ) (slots : ℕ) (rows : List ℕ) (tree : Tree) → IsLayout at slots rows tree
+        → 0 < tree.top.end }
+    ensures ascend { (at : ℕ → List ℕ) (slots : ℕ) (rows : List ℕ) (tree : Tree) → IsLayout at slots rows tree
+        → Ascends 0 (entries_of at tree) }
+    ensures limit { (at : ℕ → List ℕ) (slots : ℕ) (rows : List ℕ) (tree : Tree) → IsLayout at slots rows tree
+        → end_of 0 (entries_of at tree) ≡ tree.top.end }
+    ensures covered { (at : ℕ → List ℕ) (slots : ℕ) (rows : List ℕ) (tree : Tree) (page : ℕ) → IsLayout at slots rows tree
+        → page < tree.top.end → IsSome (item_at page (entries_of at tree)) }
+{}

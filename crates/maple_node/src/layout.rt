@@ -1,0 +1,289 @@
+//! Nodes as rows of 32 words.
+
+ghost use Rattle.std.specs.Prelude.{◌≡◌, ◌<◌, ◌≤◌, ◌^◌, ℕ, List, map, length, slice_get, true, false};
+ghost use Rattle.maple_node.specs.Nodes.{words_of, items_of, Ascends};
+ghost use Rattle.maple_node.specs.Words.{
+  Entry,
+  Child,
+  slot_word,
+  slot_of,
+  entry_item,
+  child_item,
+  leaf_entry,
+  inner_child,
+  FitsLeaf,
+  FitsInner,
+  IsLeafOf,
+  IsInnerOf,
+};
+
+use mm_types::{Row, Slot};
+
+/// The words of a node.
+const WORDS: usize = 32;
+
+/// The layout of a node by its number of places: 16 in a leaf, and 10 in an inner node.
+pub struct Layout<const SLOTS: usize>;
+
+impl Layout<16> {
+    /// The entry at a place of a leaf: the first page after it, and its slot, or none for a gap. There is none from place 16
+    /// on, where the place's first word is 0, and where its second is above 2^32.
+    #[tactic(auto, unfolding(crate::specs::Words::leaf_entry))]
+    pub fn leaf_at(words: &[u64; 32], place: usize) -> Option<(u64, Option<Slot>)>
+        ensures { result ≡ leaf_entry words.now place }
+    {
+        if place >= 16 {
+            return None;
+        }
+        let end = words[2 * place];
+        let word = words[2 * place + 1];
+        if end == 0 || word > 1 << 32 {
+            return None;
+        }
+        Some((end, slot_of(word)))
+    }
+
+    /// The words of a leaf: for each entry the first page after it, and its slot's number plus 1, or 0 for a gap; then zeros.
+    pub fn leaf_words(entries: &[(u64, Option<Slot>)]) -> [u64; 32]
+        requires few { length entries.now ≤ 16 }
+        requires ascends { Ascends 0 (map entry_item entries.now) }
+        ensures { result ≡ words_of true (map entry_item entries.now) }
+    {
+        let mut words = [0; WORDS];
+        for (place, (end, slot)) in entries.iter().enumerate() {
+            words[2 * place] = *end;
+            words[2 * place + 1] = slot_word(*slot);
+        }
+        words
+    }
+}
+
+impl Layout<10> {
+    /// The child at a place of an inner node: the first page after it, its row, and its largest gap, in pages. There is none
+    /// from place 10 on, where the place's first word is 0, and where its second has more than 32 bits.
+    #[tactic(auto, unfolding(crate::specs::Words::inner_child))]
+    pub fn inner_at(words: &[u64; 32], place: usize) -> Option<(u64, Row, u64)>
+        ensures { result ≡ inner_child words.now place }
+    {
+        if place >= 10 {
+            return None;
+        }
+        let end = words[3 * place];
+        let row = u32::try_from(words[3 * place + 1]).ok()?;
+        (end > 0).then_some((end, Row(row), words[3 * place + 2]))
+    }
+
+    /// The words of an inner node: for each child the first page after it, its row, and its largest gap; then zeros.
+    pub fn inner_words(children: &[(u64, Row, u64)]) -> [u64; 32]
+        requires few { length children.now ≤ 10 }
+        requires ascends { Ascends 0 (map child_item children.now) }
+        ensures { result ≡ words_of false (map child_item children.now) }
+    {
+        let mut words = [0; WORDS];
+        for (place, (end, row, gap)) in children.iter().enumerate() {
+            words[3 * place] = *end;
+            words[3 * place + 1] = u64::from(row.0);
+            words[3 * place + 2] = *gap;
+        }
+        words
+    }
+}
+
+/// The word of a slot.
+fn slot_word(slot: Option<Slot>) -> u64
+    ensures { result ≡ slot_word slot }
+{
+    slot.map_or(0, |slot| u64::from(slot.0) + 1)
+}
+
+/// The slot that a word tells.
+fn slot_of(word: u64) -> Option<Slot>
+    requires { word ≤ 2 ^ 32 }
+    ensures { result ≡ slot_of word }
+{
+    if word == 0 {
+        None
+    } else {
+        Some(Slot((word - 1) as u32))
+    }
+}
+
+/// Packing the entries of a leaf and reading them undo each other: each place is read back, and there is nothing past the
+/// last entry. Words that read as entries, and are 0 behind them, are the words of these entries.
+pub fn leaf_packing_is_undone()
+    ensures read_back { (entries : List Entry) (place : ℕ) → FitsLeaf entries
+        → leaf_entry (words_of true (map entry_item entries)) place ≡ slice_get entries place }
+    ensures items { (entries : List Entry) → FitsLeaf entries
+        → items_of true (words_of true (map entry_item entries)) ≡ map entry_item entries }
+    ensures shown { (entries : List Entry) → FitsLeaf entries → IsLeafOf (words_of true (map entry_item entries)) entries }
+    ensures written_back { (words : List ℕ) (entries : List Entry) → IsLeafOf words entries
+        → words_of true (map entry_item entries) ≡ words }
+{}
+
+/// Packing the children of an inner node and reading them undo each other: each place is read back, and there is nothing
+/// past the last child. Words that read as children, and are 0 behind them, are the words of these children.
+pub fn inner_packing_is_undone()
+    ensures read_back { (children : List Child) (place : ℕ) → FitsInner children
+        → inner_child (words_of false (map child_item children)) place ≡ slice_get children place }
+    ensures items { (children : List Child) → FitsInner children
+        → items_of false (words_of false (map child_item children)) ≡ map child_item children }
+    ensures shown { (children : List Child) → FitsInner children
+        → IsInnerOf (words_of false (map child_item children)) children }
+    ensures written_back { (words : List ℕ) (children : List Child) → IsInnerOf words children
+        → words_of false (map child_item children) ≡ words }
+{}
+
+#[cfg(test)]
+mod tests {
+    use super::Layout;
+    use mm_types::{Row, Slot};
+
+    /// A full leaf, whose first entry is a gap, and whose last has the greatest slot and ends at the greatest page.
+    const ENTRIES: [(u64, Option<Slot>); 16] = [
+        (0x10, None),
+        (0x11, Some(Slot(0))),
+        (0x15, Some(Slot(7))),
+        (0x400, None),
+        (0x401, Some(Slot(65_529))),
+        (0x402, Some(Slot(65_528))),
+        (0x403, Some(Slot(65_527))),
+        (0x404, Some(Slot(65_526))),
+        (0x405, Some(Slot(65_525))),
+        (0x406, Some(Slot(65_524))),
+        (0x407, Some(Slot(65_523))),
+        (0x408, Some(Slot(65_522))),
+        (0x409, Some(Slot(65_521))),
+        (0x7_ffff_7ffe, None),
+        (0x7_ffff_7fff, Some(Slot(1))),
+        (u64::MAX, Some(Slot(u32::MAX))),
+    ];
+
+    const LEAF: [u64; 32] = [
+        0x10,
+        0,
+        0x11,
+        1,
+        0x15,
+        8,
+        0x400,
+        0,
+        0x401,
+        65_530,
+        0x402,
+        65_529,
+        0x403,
+        65_528,
+        0x404,
+        65_527,
+        0x405,
+        65_526,
+        0x406,
+        65_525,
+        0x407,
+        65_524,
+        0x408,
+        65_523,
+        0x409,
+        65_522,
+        0x7_ffff_7ffe,
+        0,
+        0x7_ffff_7fff,
+        2,
+        u64::MAX,
+        0x1_0000_0000,
+    ];
+
+    /// A full inner node, whose third child has no gap.
+    const CHILDREN: [(u64, Row, u64); 10] = [
+        (0x10, Row(3), 0x10),
+        (0x50, Row(2), 0x3f),
+        (0x51, Row(1), 0),
+        (0x60, Row(0), 4),
+        (0x70, Row(9), 5),
+        (0x80, Row(8), 6),
+        (0x90, Row(7), 7),
+        (0xa0, Row(6), 8),
+        (0x7_ffff_7fff, Row(1_048_575), 0x7_ffff_0000),
+        (u64::MAX, Row(u32::MAX), u64::MAX),
+    ];
+
+    const INNER: [u64; 32] = [
+        0x10,
+        3,
+        0x10,
+        0x50,
+        2,
+        0x3f,
+        0x51,
+        1,
+        0,
+        0x60,
+        0,
+        4,
+        0x70,
+        9,
+        5,
+        0x80,
+        8,
+        6,
+        0x90,
+        7,
+        7,
+        0xa0,
+        6,
+        8,
+        0x7_ffff_7fff,
+        1_048_575,
+        0x7_ffff_0000,
+        u64::MAX,
+        0xffff_ffff,
+        u64::MAX,
+        0,
+        0,
+    ];
+
+    #[test]
+    fn full_leaf(rt: HostRuntime) {
+        assert_eq!(rt; Layout::leaf_words(&ENTRIES), LEAF);
+        for (place, entry) in ENTRIES.iter().enumerate() {
+            assert_eq!(rt;
+                Layout::leaf_at(&LEAF, place),
+                Some(*entry),
+                "place {place}"
+            );
+        }
+        assert_eq!(rt; Layout::leaf_at(&LEAF, 16), None);
+        assert_eq!(rt; Layout::leaf_at(&LEAF, usize::MAX), None);
+    }
+
+    #[test]
+    fn full_inner_node(rt: HostRuntime) {
+        assert_eq!(rt; Layout::inner_words(&CHILDREN), INNER);
+        for (place, child) in CHILDREN.iter().enumerate() {
+            assert_eq!(rt;
+                Layout::inner_at(&INNER, place),
+                Some(*child),
+                "place {place}"
+            );
+        }
+        assert_eq!(rt; Layout::inner_at(&INNER, 10), None);
+        assert_eq!(rt; Layout::inner_at(&INNER, usize::MAX), None);
+    }
+
+    #[test]
+    fn places_of_nothing(rt: HostRuntime) {
+        let mut words = [0; 32];
+        assert_eq!(rt; Layout::leaf_words(&[]), words);
+        assert_eq!(rt; Layout::inner_words(&[]), words);
+        assert_eq!(rt; Layout::leaf_at(&words, 0), None);
+        assert_eq!(rt; Layout::inner_at(&words, 0), None);
+
+        words[0] = 1;
+        words[1] = 1 << 32;
+        assert_eq!(rt; Layout::leaf_at(&words, 0), Some((1, Some(Slot(u32::MAX)))));
+        assert_eq!(rt; Layout::inner_at(&words, 0), None, "a row of 33 bits");
+
+        words[1] += 1;
+        assert_eq!(rt; Layout::leaf_at(&words, 0), None, "a slot of 33 bits");
+    }
+}
