@@ -1,0 +1,11 @@
+pub mod Elements
+pub mod Clearings
+pub mod Leaving
+pub mod Moves
+pub mod Marks
+pub mod Desks
+pub mod Keeping
+pub mod Opening
+pub mod Preserving
+pub mod Refusing
+pub mod Following

@@ -1,0 +1,72 @@
+-- What each event of the grace protocol does to a state, and what it finds.
+use Rattle.std.specs.Prelude.{ℕ, List, [], ◌∷◌, ◌++◌, length, slice_index, slice_set, Option, Some, None}
+use Rattle.grace_core.specs.declared.events.GraceAnswer.{GraceAnswer}
+use Rattle.grace_core.specs.declared.events.GraceAnswer.TheVariants as found
+use Rattle.grace_core.specs.declared.events.GraceEvent.{GraceEvent}
+use Rattle.grace_core.specs.declared.events.GraceEvent.TheVariants.{Open, Root, Word, Close, Fill, Publish, Scan, Split, Join}
+use Rattle.grace_core.specs.Core.{Core, Tree, row_at, root_of, pin_at, snapshot_at, numbers_of}
+use Rattle.grace_core.specs.Steps.{turned, filled, published, scanned, split, joined}
+
+-- open: the reader's pin becomes odd
+abbrev pub after_open : Core → ℕ → Core
+after_open core reader = record core { pins = slice_set core.pins reader (turned (pin_at core.pins reader)) }
+
+-- root: the reader's snapshot is the present tree
+abbrev pub after_root : Core → ℕ → Core
+after_root core reader = record core { snapshots = slice_set core.snapshots reader (Some core.desk.tree) }
+
+-- close: the reader's pin becomes even, and its snapshot ends
+abbrev pub after_close : Core → ℕ → Core
+after_close core reader = record core {
+  pins = slice_set core.pins reader (turned (pin_at core.pins reader));
+  snapshots = slice_set core.snapshots reader None;
+}
+
+-- fill: the row's word becomes this one
+abbrev pub after_fill : Core → ℕ → ℕ → Core
+after_fill core row word = record core { desk = filled core.desk row 0 word }
+
+-- publish: the tree of this number and these rows is present
+abbrev pub after_publish : Core → ℕ → List ℕ → Core
+after_publish core number rows = record core { desk = published core.desk number rows }
+
+-- scan: the writer finds the reader's pin
+abbrev pub after_scan : Core → ℕ → Core
+after_scan core reader = record core { desk = scanned core.desk reader (pin_at core.pins reader) }
+
+-- split: there is a new reader, closed and never scanned
+abbrev pub after_split : Core → Core
+after_split core = record { desk = split core.desk; pins = core.pins ++ 0 ∷ []; snapshots = core.snapshots ++ None ∷ [] }
+
+-- join: the second reader no longer counts
+abbrev pub after_join : Core → ℕ → Core
+after_join core second = record core { desk = joined core.desk second }
+
+-- the state after an event that is not refused
+abbrev pub after_event : Core → GraceEvent → Core
+after_event core (Open reader) = after_open core reader
+after_event core (Root reader) = after_root core reader
+after_event core (Word reader row) = core
+after_event core (Close reader) = after_close core reader
+after_event core (Fill row word) = after_fill core row.0 word
+after_event core (Publish number rows) = after_publish core number (numbers_of rows)
+after_event core (Scan reader) = after_scan core reader
+after_event core (Split reader) = after_split core
+after_event core (Join first second) = after_join core second
+
+-- the word that a row has in a snapshot
+abbrev pub word_of : Option Tree → ℕ → ℕ
+word_of (Some tree) row = slice_index (row_at tree.words row) 0
+word_of None row = 0
+
+-- what an event finds that is not refused
+abbrev pub answer : Core → GraceEvent → GraceAnswer
+answer core (Open reader) = found.Done
+answer core (Root reader) = found.Tree core.desk.tree.number (record { 0 = root_of core.desk.tree })
+answer core (Word reader row) = found.Word (word_of (snapshot_at core.snapshots reader) row.0)
+answer core (Close reader) = found.Done
+answer core (Fill row word) = found.Done
+answer core (Publish number rows) = found.Done
+answer core (Scan reader) = found.Pin (pin_at core.pins reader)
+answer core (Split reader) = found.Made (length core.pins)
+answer core (Join first second) = found.Done

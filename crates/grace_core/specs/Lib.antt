@@ -1,0 +1,9 @@
+pub mod Core
+pub mod Steps
+pub mod Facts
+pub mod Trees
+pub mod Events
+pub mod Refusals
+pub mod States
+pub mod Kept
+pub mod Laws

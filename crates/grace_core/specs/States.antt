@@ -1,0 +1,74 @@
+-- The state at first, and what an event may result in.
+use Rattle.std.specs.Prelude.{ℕ, ◌≡◌, ◌≢◌, ◌<◌, ◌⊎◌, Bool, true, false, [], ◌∷◌, length, replicate, All, Some, None, Result, MatchResult}
+use Rattle.grace_core.specs.declared.events.GraceAnswer.{GraceAnswer}
+use Rattle.grace_core.specs.declared.events.GraceEvent.{GraceEvent}
+use Rattle.grace_core.specs.declared.events.GraceEvent.TheVariants.{Open, Root, Word, Close, Fill, Publish, Scan, Split, Join}
+use Rattle.grace_core.specs.declared.events.GraceRefusal.{GraceRefusal}
+use Rattle.grace_core.specs.declared.events.GraceRefusal.TheVariants.{NoMemory}
+use Rattle.grace_core.specs.Core.{Core, Desk, pin_at, is_open, Exists}
+use Rattle.grace_core.specs.Steps.{new_clearing}
+use Rattle.grace_core.specs.Events.{after_event, answer}
+use Rattle.grace_core.specs.Refusals.{refusal}
+
+-- The desk before anything happened: tree 0 of row 0 alone, every word 0, no row left out by any tree, and no reader scanned.
+abbrev pub opening_desk : ℕ → ℕ → Desk
+opening_desk readers rows = record {
+  width = 1;
+  tree = record { number = 0; rows = 0 ∷ []; words = replicate rows (0 ∷ []) };
+  words = replicate rows (0 ∷ []);
+  since = replicate rows 0;
+  clearings = replicate readers new_clearing;
+  passed = 0;
+}
+
+-- the state before anything happened: so many readers that are closed, and so many rows
+abbrev pub opening : ℕ → ℕ → Core
+opening readers rows = record { desk = opening_desk readers rows; pins = replicate readers 0; snapshots = replicate readers None }
+
+-- a reader exists
+abbrev pub HasReader : Core → ℕ → Type 0
+HasReader core reader = Exists core.desk.clearings reader
+
+-- a row exists
+abbrev pub HasRow : Core → ℕ → Type 0
+HasRow core row = row < length core.desk.words
+
+-- two readers can be joined: both exist, differ and are closed
+pub record CanJoin (core : Core) (first second : ℕ) : Type 0 where
+  pub first_exists : HasReader core first
+  pub second_exists : HasReader core second
+  pub differ : first ≢ second
+  pub first_closed : is_open (pin_at core.pins first) ≡ false
+  pub second_closed : is_open (pin_at core.pins second) ≡ false
+
+-- The readers and rows that an event names exist. A publish lists a row, and a join has two closed readers.
+abbrev pub IsPossible : Core → GraceEvent → Type 0
+IsPossible core (Open reader) = HasReader core reader
+IsPossible core (Root reader) = HasReader core reader
+IsPossible core (Word reader row) = HasReader core reader × HasRow core row.0
+IsPossible core (Close reader) = HasReader core reader
+IsPossible core (Fill row word) = HasRow core row.0
+IsPossible core (Publish number rows) = (rows ≢ []) × All (λ row. HasRow core row.0) rows
+IsPossible core (Scan reader) = HasReader core reader
+IsPossible core (Split reader) = HasReader core reader
+IsPossible core (Join first second) = CanJoin core first second
+
+-- whether an event takes memory: for a snapshot, a tree or a reader
+abbrev pub takes_memory : GraceEvent → Bool
+takes_memory (Root reader) = true
+takes_memory (Publish number rows) = true
+takes_memory (Split reader) = true
+takes_memory _ = false
+
+-- the event is not refused, and this is the state after it and what it finds
+abbrev pub IsDone : Core → GraceEvent → Core → GraceAnswer → Type 0
+IsDone core event new found = (refusal core event ≡ None) × (new ≡ after_event core event) × (found ≡ answer core event)
+
+-- The event is refused for this reason, and the state is as it was. An event that takes memory may find none.
+abbrev pub IsRefused : Core → GraceEvent → Core → GraceRefusal → Type 0
+IsRefused core event new reason = (new ≡ core)
+    × ((refusal core event ≡ Some reason) ⊎ ((takes_memory event ≡ true) × (reason ≡ NoMemory)))
+
+-- the outcome of a change of a state
+abbrev pub IsStep : Core → GraceEvent → Result GraceAnswer GraceRefusal → Core → Type 0
+IsStep core event result new = MatchResult result (IsDone core event new) (IsRefused core event new)

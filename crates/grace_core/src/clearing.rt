@@ -1,0 +1,37 @@
+ghost use Rattle.std.specs.Prelude.{◌≡◌};
+ghost use Rattle.grace_core.specs.Steps.{looked};
+
+/// What the scans of a reader's pin found.
+#[derive(Clone, Copy, Debug, PartialEq, Eq)]
+pub struct Clearing {
+    /// The number of the tree up to which the reader is cleared: it holds no row that was left out at or before this tree.
+    pub cleared: u64,
+    /// The pin that the last scan found; 0 before the first scan.
+    pub pin: u64,
+    /// The number of the tree that was present at the last scan; 0 before the first scan.
+    pub tree: u64,
+    /// Whether the reader was joined away, so that it no longer counts.
+    pub joined: bool,
+}
+
+impl Clearing {
+    /// With a scan that finds this pin while the tree of this number is present. An even pin clears the reader up to the present
+    /// tree. An odd one that is not the pin of the last scan clears it up to the tree that was present then.
+    pub(crate) fn looked(self, number: u64, pin: u64) -> Clearing
+        ensures { result ≡ looked number pin self }
+    {
+        let cleared = if pin % 2 == 0 {
+            number
+        } else if pin == self.pin {
+            self.cleared
+        } else {
+            self.tree
+        };
+        Clearing {
+            cleared,
+            pin,
+            tree: number,
+            joined: self.joined,
+        }
+    }
+}

@@ -1,0 +1,34 @@
+//! Laws of the definitions. Each is the contract of a function that does nothing.
+
+ghost use Rattle.std.specs.Prelude.{ℕ};
+ghost use Rattle.grace_core.specs.Core.{Desk};
+ghost use Rattle.grace_core.specs.Laws.{PinsTurn, RowsStand, StandsOnce, SnapshotsStay, RowsBecomeFree, FreeRowsStay, ClearingsRise};
+
+/// A pin is odd exactly while its reader is open: each open and close makes it another one, odd where it was even and even
+/// where it was odd.
+pub fn pins_turn()
+    ensures { PinsTurn }
+{}
+
+/// A row is of the present tree, free or waiting, and only one of these.
+pub fn rows_stand_once()
+    ensures one { RowsStand }
+    ensures only { (desk : Desk) (row : ℕ) → StandsOnce desk row }
+{}
+
+/// No row is free, and so none is filled, that a reader's snapshot has.
+pub fn snapshots_stay()
+    ensures { SnapshotsStay }
+{}
+
+/// A row that waits is free once every reader is cleared up to the tree that left it out, and stays free until a publish
+/// lists it.
+pub fn rows_become_free()
+    ensures freed { RowsBecomeFree }
+    ensures stay { FreeRowsStay }
+{}
+
+/// The tree up to which a reader is cleared never falls.
+pub fn clearings_rise()
+    ensures { ClearingsRise }
+{}
