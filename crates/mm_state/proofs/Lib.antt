@@ -1,0 +1,10 @@
+pub mod Placing
+pub mod Ordering
+pub mod Rows
+pub mod Hanging
+pub mod Writing
+pub mod Changing
+pub mod Carrying
+pub mod Sane
+pub mod Opening
+pub mod Entering

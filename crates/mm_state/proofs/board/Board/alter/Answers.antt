@@ -1,0 +1,15 @@
+-- For `Board::alter`: the slot that is taken out is one of the table.
+use Rattle.std.proofs.Common.{arith}
+use Rattle.vma_lock.specs.Seats.{slots}
+use Rattle.mm_state.proofs.Writing.{taken_slot}
+use Rattle.mm_state.proofs.board.Board.alter.Goals as goal
+
+pub write_slot-requires-clause-slot : goal.write_slot-requires-clause-slot
+write_slot-requires-clause-slot g c =
+    let board = c.args.self.now in
+    omega (
+      arith,
+      (taken_slot (slots board.writer) board.order.items c.take_out-slot.new.self.items board.hand.items board.slots c.take_out-slot.result c.args.old.now
+          c.requires.can.hangs c.take_out-slot.ensures.taken).below,
+      c.requires.can.count,
+    )

@@ -1,0 +1,42 @@
+-- What the fields of the state behind the mmap lock keep.
+use Rattle.std.specs.Prelude.{◌≡◌, ◌≤◌, ◌^◌, length}
+use Rattle.std.specs.Vec.{vec_capacity}
+use Rattle.mm_types.specs.Config.{IsValidConfig}
+use Rattle.area_model.specs.Placement.{bounds_of}
+use Rattle.area_model.specs.Stepped.{space_of}
+use Rattle.area_model.specs.Steps.{after, IsLegalJournal}
+use Rattle.split_merge.specs.Plans.{IsKept, IsFresh}
+use Rattle.vma_lock.specs.Seats.{config_of, table_of, journal, slots}
+use Rattle.mm_state.specs.declared.state.MmState.TheInside.{Inside}
+use Rattle.mm_state.specs.Boards.{IsAtRest}
+use Rattle.mm_state.specs.Shelves.{areas_of}
+use Rattle.mm_state.specs.States.{StateView}
+
+-- the state that the fields are
+abbrev pub state_of : Inside → StateView
+state_of state = record {
+  table = table_of state.board.table;
+  config = state.config;
+  slots = slots state.board.writer;
+  journal = state.journal.items;
+  room = state.room;
+}
+
+-- The board is at rest, its table has this configuration, which is valid, and its writer has seen this journal, which is
+-- legal and has room. The list and the count of objects are those after the journal, the slots show the list, and the
+-- plan is fresh.
+pub record IsState (state : Inside) : Type 0 where
+  pub rest : IsAtRest state.board
+  pub settings : config_of state.board.table ≡ state.config
+  pub valid : IsValidConfig state.config
+  pub journal : journal state.board.writer ≡ state.journal.items
+  pub legal : IsLegalJournal state.config state.journal.items
+  pub space : space_of state.areas.list state.objects ≡ after state.config state.journal.items
+  pub shown : areas_of state.board.order.items ≡ state.areas.list
+  pub bounds : state.areas.bounds ≡ bounds_of state.config
+  pub most : state.areas.most ≡ state.config.areas
+  pub kept : IsKept state.areas.bounds state.areas.most state.areas.list
+  pub fresh : IsFresh state.config.areas state.plan
+  pub room : length state.journal.items ≤ state.room
+  pub entries : state.room ≤ 2 ^ 31
+  pub reserved : state.room ≤ vec_capacity state.journal

@@ -1,0 +1,182 @@
+//! The state behind the mmap lock.
+ghost use Rattle.std.specs.Prelude.{◌≡◌, ◌≢◌, ◌≤◌, ◌<◌, ◌+◌, ◌/◌, ◌^◌, ◌++◌, ◌∷◌, [], ℕ, IfOk, length, replicate, None};
+ghost use Rattle.mm_types.specs.Config.{IsValidConfig};
+ghost use Rattle.area_model.specs.Journals.{calls_by};
+ghost use Rattle.area_model.specs.Steps.{step, after, IsLegalJournal};
+ghost use Rattle.area_model.specs.Verdicts.{verdict};
+ghost use Rattle.lock_core.specs.declared.stage.Stage.TheVariants.{Out};
+ghost use Rattle.lock_core.specs.Core.{free_slot, slot_at, StartsWith};
+ghost use Rattle.vma_lock.specs.Views.{slot_count, opened_view, look_at};
+ghost use Rattle.vma_lock.specs.Seats.{view, seen, stage, sight, HasTurn};
+
+use crate::board::Board;
+use crate::plans::plan_call;
+use area_model::area_verdict;
+use mm_types::{Access, AreaList, Call, Config, Entry, NoMemory, Page, Reply, Verdict};
+use split_merge::{Plan, area_at};
+use std::alloc::Global;
+use std::marker::Model;
+use std::sync::Wait;
+use sys_map::VecAreas;
+use vma_lock::{ReaderSeat, WriterSeat};
+
+/// The state behind the mmap lock. All memory of its calls is taken when it is made.
+#[derive(Drop)]
+pub struct MmState {
+    config: Config,
+    board: Board,
+    areas: VecAreas,
+    /// How many objects are numbered.
+    objects: u32,
+    /// Empty between two calls.
+    plan: Plan,
+    journal: Vec<Entry>,
+    /// For how many entries there is room.
+    room: u64,
+}
+
+impl Model for MmState {
+    ghost use Rattle.mm_state.specs.States.{StateView};
+
+    ghost Value = { StateView };
+
+    ghost use Rattle.mm_state.specs.Kept.{state_of, IsState};
+
+    ghost view = { state_of };
+
+    ghost invariant = { IsState };
+}
+
+impl MmState {
+    ghost use Rattle.mm_state.specs.States.{list_of};
+
+    /// The state of a new table, of which the writer is given, with room for so many entries.
+    pub fn new(
+        alloc: Global,
+        config: Config,
+        entries: u64,
+        writer: WriterSeat,
+    ) -> Result<MmState, NoMemory>
+        requires config { IsValidConfig config }
+        requires entries { entries ≤ 2 ^ 31 }
+        requires fresh { (readers : ℕ) × (sight writer ≡ opened_view config readers) }
+        ensures { IfOk result (λ state. state ≡ record {
+          table = writer.seat.table_id;
+          config = config;
+          slots = replicate (slot_count config) free_slot;
+          journal = [];
+          room = entries;
+        }) }
+    {
+        let board = Board::new(alloc, writer, config.areas)?;
+        let areas = VecAreas::with_room(alloc, &config)?;
+        let plan = Plan::with_room(alloc, config.areas)?;
+        let journal = Vec::with_capacity(alloc, entries as usize)?;
+        let objects = config.files.items().len() as u32;
+        Ok(MmState {
+            config,
+            board,
+            areas,
+            objects,
+            plan,
+            journal,
+            room: entries,
+        })
+    }
+
+    /// Makes a call with the turn of a reader that holds no slot, and enters it in the journal. Waits for the readers of
+    /// the slots whose areas change. The reader has then seen the whole journal, and has its turn again.
+    pub fn apply<R: Wait>(&mut self, rt: &R, seat: &mut ReaderSeat, call: &Call) -> Reply
+        requires room { length self.old.journal < self.old.room }
+        requires table { seat.old.seat.table_id ≡ self.old.table }
+        requires turn { HasTurn seat.old }
+        requires free { stage seat.old ≡ Out }
+        ensures table { seat.new.seat.table_id ≡ self.old.table }
+        // exactly one entry: the seat's caller, the call, the step's reply
+        ensures entry { self.new.journal ≡ self.old.journal ++ record { caller = (view seat.old).caller; call = call.now; reply = result } ∷ [] }
+        ensures same { (self.new.table ≡ self.old.table) × (self.new.config ≡ self.old.config) × (self.new.room ≡ self.old.room) }
+        ensures reply { result ≡ (step self.old.config (after self.old.config self.old.journal) call.now).reply }
+        // the seat has then seen the whole journal, by one look more, and has its turn again
+        ensures view { (found : ℕ) × (found / 2 ≡ length self.new.journal + 1) × (view seat.new ≡ look_at (view seat.old) found self.new.journal Out) }
+        // what it had seen lies before this entry, and no entry between is of its caller
+        ensures later { StartsWith self.old.journal (seen seat.old) }
+        ensures own { calls_by (view seat.old).caller self.old.journal ≡ calls_by (view seat.old).caller (seen seat.old) }
+        // a slot whose mark rose shows another row than before: its area left, changed or came
+        ensures marks { (slot : ℕ) → (slot_at self.new.slots slot).lock_seq ≢ (slot_at self.old.slots slot).lock_seq
+            → (slot_at self.new.slots slot).row ≢ (slot_at self.old.slots slot).row }
+    {
+        let called = plan_call(
+            &self.config,
+            self.objects,
+            &self.areas,
+            call,
+            &mut self.plan,
+        );
+        let entry = Entry {
+            caller: seat.caller(),
+            call: *call,
+            reply: called.reply,
+        };
+        self.board.enter(rt, seat, self.plan.changes(), entry);
+        self.areas.apply(&self.plan);
+        self.plan.clear();
+        self.objects = called.objects;
+        self.journal.push_reserved(entry);
+        called.reply
+    }
+
+    /// A reader that holds no slot sees the whole journal, by one look.
+    pub fn meet(&mut self, seat: &mut ReaderSeat)
+        requires table { seat.old.seat.table_id ≡ self.old.table }
+        requires free { stage seat.old ≡ Out }
+        ensures table { seat.new.seat.table_id ≡ self.old.table }
+        ensures same { self.new ≡ self.old }
+        ensures view { (found : ℕ) × (found / 2 ≡ length self.old.journal + 1) × (view seat.new ≡ look_at (view seat.old) found self.old.journal Out) }
+        ensures later { StartsWith self.old.journal (seen seat.old) }
+        ensures own { HasTurn seat.old → calls_by (view seat.old).caller self.old.journal ≡ calls_by (view seat.old).caller (seen seat.old) }
+    {
+        self.board.meet(seat);
+    }
+
+    /// The verdict on a fault at a page.
+    #[tactic(auto, unfolding(area_model::specs::Verdicts::verdict))]
+    pub fn verdict(&self, page: Page, access: Access) -> Verdict
+        ensures { result ≡ verdict self.now.config.files (list_of self.now) page.0 access }
+    {
+        match area_at(&self.areas, page.0) {
+            Some(area) => area_verdict(self.config.files.items(), page.0, access, &area),
+            None => Verdict::MapErr,
+        }
+    }
+
+    /// How many entries the journal has.
+    pub fn version(&self) -> u64
+        ensures { result ≡ length self.now.journal }
+    {
+        self.journal.len() as u64
+    }
+
+    /// A copy of the list of areas.
+    pub fn copy_list(&self, alloc: Global) -> Result<AreaList, NoMemory>
+        ensures { IfOk result (λ list. list ≡ list_of self.now) }
+    {
+        Ok(AreaList::of(Vec::from_slice(alloc, self.areas.list())?))
+    }
+
+    /// Hands the journal and the list out.
+    pub fn finish(self) -> (Vec<Entry>, AreaList)
+        ensures journal { result.0.items ≡ self.journal }
+        ensures list { result.1 ≡ list_of self }
+        ensures legal { IsLegalJournal self.config self.journal }
+    {
+        (self.journal, self.areas.into_list())
+    }
+
+    /// What the type keeps: the journal is legal, and within its room.
+    pub fn facts(&self)
+        ensures legal { IsLegalJournal self.now.config self.now.journal }
+        ensures room { length self.now.journal ≤ self.now.room }
+    {
+        let _room = self.room;
+    }
+}

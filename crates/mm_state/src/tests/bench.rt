@@ -1,0 +1,129 @@
+//! A state with the table that it writes and one reader of it.
+ghost use Rattle.std.specs.Prelude.{◌≡◌, IfOk, IfSome, slice_get, Some};
+ghost use Rattle.lock_core.specs.declared.stage.Stage.TheVariants.{Out};
+ghost use Rattle.vma_lock.specs.Seats.{config_of, table_of, IsOf, stage, HasTurn};
+
+use crate::state::MmState;
+use mm_types::{AreaList, Call, Config, Entry, FileRow, Files, NoMemory, Reply, Slot, Text};
+use std::alloc::Global;
+use std::sync::Wait;
+use vma_lock::{ReaderSeat, VmaTable};
+
+/// For how many calls there is room.
+const ROOM: u64 = 8000;
+
+/// The slots of a table of at most 9 areas.
+pub(super) const SLOTS: u32 = 20;
+
+/// A state, its table, and a reader that holds no slot and has its turn.
+#[derive(Drop)]
+pub(super) struct Bench {
+    table: VmaTable,
+    pub(super) state: MmState,
+    seat: ReaderSeat,
+    pub ghost mine: { IsOf seat table × (table_of table ≡ state.table) },
+    pub ghost turn: { (stage seat ≡ Out) × HasTurn seat },
+    pub ghost sizes: { (state.room ≡ 8000) × ((config_of table).areas ≡ 9) },
+}
+
+impl Bench {
+    ghost use Rattle.std.specs.Prelude.{◌<◌};
+    ghost use Rattle.mm_types.specs.Config.{IsValidConfig};
+
+    /// A state with no area, of at most 9.
+    pub(super) fn open(alloc: Global, config: Config) -> Result<Option<Bench>, NoMemory>
+        requires valid { IsValidConfig config }
+        requires areas { config.areas ≡ 9 }
+    {
+        let (table, writer, seats) = VmaTable::new(alloc, &config, 1)?;
+        let Some(seat) = first_seat(seats) else {
+            return Ok(None);
+        };
+        let state = MmState::new(alloc, config, ROOM, writer)?;
+        Ok(Some(Bench { table, state, seat }))
+    }
+
+    /// Makes a call where there is room for another.
+    pub(super) fn call<R: Wait>(&mut self, rt: &R, call: &Call) -> Option<Reply> {
+        if self.state.version() >= ROOM {
+            return None;
+        }
+        Some(self.state.apply(rt, &mut self.seat, call))
+    }
+
+    /// Meets the state, and answers how many entries the reader has then seen.
+    pub(super) fn meet(&mut self) -> u64 {
+        self.state.meet(&mut self.seat);
+        self.seat.version()
+    }
+
+    /// The row of a slot, where the reader is validated there.
+    pub(super) fn row(&mut self, slot: u32) -> Option<[u64; 4]>
+        requires { slot < 20 }
+    {
+        let found = self.table.add(&mut self.seat, Slot(slot));
+        let seq = self.table.look(&mut self.seat);
+        if found == seq {
+            self.table.sub(&mut self.seat);
+            return None;
+        }
+        let row = self.table.read_row(&mut self.seat);
+        self.table.sub(&mut self.seat);
+        Some(row)
+    }
+
+    /// Hands the journal and the list out.
+    pub(super) fn finish(self) -> (Vec<Entry>, AreaList) {
+        let Bench {
+            table: _,
+            state,
+            seat: _,
+        } = self;
+        state.finish()
+    }
+
+    /// A copy of the list.
+    pub(super) fn list(&self, alloc: Global) -> Result<AreaList, NoMemory> {
+        self.state.copy_list(alloc)
+    }
+}
+
+/// The first of some readers.
+fn first_seat(mut seats: Vec<ReaderSeat>) -> Option<ReaderSeat>
+    ensures { IfSome result (λ seat. slice_get seats.items 0 ≡ Some seat) }
+{
+    if seats.is_empty() {
+        None
+    } else {
+        Some(seats.swap_remove(0))
+    }
+}
+
+fn file(alloc: Global, fd: i32, write: bool) -> FileRow {
+    FileRow {
+        fd,
+        read: true,
+        write,
+        size: 40960,
+        major: 8,
+        minor: 1,
+        inode: 7,
+        path: Text::of(String::new(alloc)),
+    }
+}
+
+/// Few places and at most 9 areas, and two files, of which the first may be written.
+pub(super) fn config(alloc: Global) -> Result<Config, NoMemory>
+    ensures { IfOk result (λ config. config.areas ≡ 9) }
+{
+    let mut files = Vec::new(alloc);
+    files.push(file(alloc, 3, true))?;
+    files.push(file(alloc, 4, false))?;
+    Ok(Config {
+        min: 0x1_0000,
+        top: 0x2_8000,
+        limit: 0x7fff_ffff_f000,
+        areas: 9,
+        files: Files::of(files),
+    })
+}
