@@ -1,0 +1,148 @@
+//! The pass of a caller.
+ghost use Rattle.std.specs.Prelude.{◌≡◌, ◌≤◌, ◌<◌, ◌+◌, ◌-◌, ◌^◌, ◌++◌, ◌∷◌, [], length, min, All, AllPairs, IfOk};
+ghost use Rattle.area_model.specs.Journals.{version_of, IsReadRight};
+ghost use Rattle.area_model.specs.Steps.{IsLegalJournal};
+ghost use Rattle.lock_core.specs.declared.stage.Stage.TheVariants.{Out};
+ghost use Rattle.vma_lock.specs.Seats.{seen, stage, HasTurn};
+ghost use Rattle.fault_path.specs.Passes.{caller, config, seen_by, made_by, looks_of};
+
+use mm_types::{NoMemory, Seen};
+use std::alloc::Global;
+use std::marker::Model;
+use vma_lock::ReaderSeat;
+
+/// What a caller has of its own: its seat at the table, the log of its reads, and how many operations it has left. Each
+/// call, fault or list that it asks for is one operation.
+#[derive(Drop)]
+pub struct Pass {
+    pub reader: ReaderSeat,
+    log: Vec<Seen>,
+    left: u64,
+    operations: u64,
+}
+
+impl Model for Pass {
+    ghost use Rattle.std.specs.Prelude.{vec_capacity};
+    ghost use Rattle.fault_path.specs.Passes.{PassView, IsPass};
+
+    ghost Value = { PassView };
+
+    ghost view = { λ p. record { reader = p.reader; log = p.log.items; left = p.left; operations = p.operations } };
+
+    ghost invariant = { λ p.
+        IsPass (record { reader = p.reader; log = p.log.items; left = p.left; operations = p.operations }) (vec_capacity p.log) };
+}
+
+impl Pass {
+    /// The pass of a reader that has seen nothing, with so many operations. The room for as many reads is taken here.
+    pub(crate) fn new(alloc: Global, reader: ReaderSeat, operations: u64) -> Result<Pass, NoMemory>
+        requires seen { seen reader ≡ [] }
+        requires turn { HasTurn reader }
+        requires free { stage reader ≡ Out }
+        requires few { operations < 2 ^ 32 }
+        ensures { IfOk result (λ pass. pass ≡ record { reader = reader; log = []; left = operations; operations = operations }) }
+    {
+        Ok(Pass {
+            reader,
+            log: Vec::with_capacity(alloc, operations as usize)?,
+            left: operations,
+            operations,
+        })
+    }
+
+    /// Whose pass it is.
+    pub fn caller(&self) -> u32
+        ensures { result ≡ caller self.now }
+    {
+        self.reader.caller()
+    }
+
+    /// How many entries of the journal it has seen.
+    pub fn version(&self) -> u64
+        ensures { result ≡ length (seen_by self.now) }
+    {
+        self.reader.version()
+    }
+
+    /// How often it looked at the sequence, or 2^64 - 1 where it looked more often.
+    pub fn looks(&self) -> u64
+        ensures { result ≡ min (looks_of self.now) (2 ^ 64 - 1) }
+    {
+        self.reader.looks()
+    }
+
+    /// How often it walked the tree of areas. No pass does yet.
+    pub fn walks(&self) -> u64
+        ensures { result ≡ 0 }
+    {
+        0
+    }
+
+    /// How many operations are left.
+    pub fn left(&self) -> u64
+        ensures { result ≡ self.now.left }
+    {
+        self.left
+    }
+
+    /// The reads so far, in order.
+    pub fn log(&self) -> &[Seen]
+        ensures { result.now ≡ self.now.log }
+    {
+        self.log.as_slice()
+    }
+
+    /// Tells what each pass keeps.
+    pub fn facts(&self)
+        ensures legal { IsLegalJournal (config self.now) (seen_by self.now) }
+        ensures turn { HasTurn self.now.reader }
+        ensures free { stage self.now.reader ≡ Out }
+        ensures right { All (IsReadRight (config self.now) (seen_by self.now)) self.now.log }
+        ensures rises { AllPairs (λ earlier later. version_of earlier ≤ version_of later) self.now.log }
+        ensures few { length (made_by self.now) + length self.now.log + self.now.left ≤ self.now.operations }
+    {
+        let _left = self.left;
+    }
+
+    /// Adds a read to the log, as one operation. The read is right in what the pass has seen, and no read before it has a
+    /// greater version.
+    pub fn note(&mut self, read: Seen)
+        requires left { 0 < self.old.left }
+        requires right { IsReadRight (config self.old) (seen_by self.old) read }
+        requires rises { All (λ earlier. version_of earlier ≤ version_of read) self.old.log }
+        ensures { self.new ≡ record self.old { log = self.old.log ++ read ∷ []; left = self.old.left - 1 } }
+    {
+        self.spend();
+        self.log.push_reserved(read);
+    }
+
+    /// Takes one operation, for a call that is to be made. Tells how many entries the caller can have made at most.
+    pub fn spend(&mut self)
+        requires left { 0 < self.old.left }
+        ensures same { self.new ≡ record self.old { left = self.old.left - 1 } }
+        ensures few { length (made_by self.old) + length self.old.log + self.old.left ≤ self.old.operations }
+    {
+        self.left -= 1;
+    }
+
+    /// Ends the pass, and hands its log out.
+    pub fn into_log(self) -> Vec<Seen>
+        ensures { result.items ≡ self.log }
+    {
+        let (_reader, log) = self.into_parts();
+        log
+    }
+
+    /// Ends the pass, and hands its seat and its log out.
+    pub(crate) fn into_parts(self) -> (ReaderSeat, Vec<Seen>)
+        ensures { (result.0 ≡ self.reader) × (result.1.items ≡ self.log) }
+    {
+        let Pass {
+            reader,
+            log,
+            left: _,
+            operations: _,
+        } = self;
+        (reader, log)
+    }
+}
