@@ -1,0 +1,4 @@
+pub mod States
+pub mod Settling
+pub mod Opening
+pub mod Playing

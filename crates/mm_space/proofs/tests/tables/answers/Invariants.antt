@@ -1,0 +1,5 @@
+-- For `answers`: the space has the name of what it is opened with.
+use Rattle.mm_space.proofs.tests.tables.answers.Given as goal
+
+abbrev pub ghosts-play_all : goal.ghosts-play_all
+ghosts-play_all g a = record { table = a.ready.table; config = a.ready.config; operations = a.ready.operations }

@@ -1,0 +1,4 @@
+pub mod Names
+pub mod Spaces
+pub mod Opening
+pub mod Closing

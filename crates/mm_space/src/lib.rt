@@ -1,0 +1,19 @@
+//! An address space that callers share: each has a pass of its own, calls and reads go under the mmap lock, and closing
+//! hands out the journal of all calls with the log of each caller.
+#![tactic(auto)]
+
+mod closed;
+mod closing;
+mod name;
+mod named;
+mod ready;
+mod space;
+
+pub use closed::Closed;
+pub use name::SpaceName;
+pub use named::Named;
+pub use ready::Ready;
+pub use space::{Called, Faulted, Space};
+
+#[cfg(test)]
+mod tests;

@@ -1,0 +1,116 @@
+//! The state behind the lock of a named space.
+ghost use Rattle.std.specs.Prelude.{◌≡◌, ◌<◌, ◌+◌, ◌++◌, ◌∷◌, [], IfOk, length, slice_index_or};
+ghost use Rattle.area_model.specs.Journals.{calls_by};
+ghost use Rattle.area_model.specs.Steps.{IsLegalJournal};
+ghost use Rattle.area_model.specs.Verdicts.{verdict};
+ghost use Rattle.lock_core.specs.declared.stage.Stage.TheVariants.{Out};
+ghost use Rattle.lock_core.specs.Core.{StartsWith};
+ghost use Rattle.lock_core.specs.Facts.{list_after};
+ghost use Rattle.vma_lock.specs.Seats.{view, seen, stage, HasTurn};
+ghost use Rattle.mm_space.specs.Names.{Within, IsNamed};
+
+use crate::name::SpaceName;
+use mm_state::MmState;
+use mm_types::{Access, AreaList, Call, Entry, NoMemory, Page, Reply, Verdict};
+use std::alloc::Global;
+use std::marker::{Model, PhantomData};
+use std::sync::Wait;
+use vma_lock::ReaderSeat;
+
+/// The state of the space of this name. It has room for the calls of every caller that has operations left.
+#[derive(Drop)]
+pub struct Named<N: SpaceName> {
+    state: MmState,
+    of: PhantomData<N>,
+}
+
+impl<N: SpaceName> Model for Named<N> {
+    ghost use Rattle.mm_state.specs.States.{StateView};
+    ghost use Rattle.mm_space.specs.Names.{IsNamed};
+
+    ghost Value = { StateView };
+
+    ghost view = { λ n. n.state };
+
+    ghost invariant = { λ n. IsNamed N.table N.config N.operations n.state };
+}
+
+impl<N: SpaceName> Named<N> {
+    /// Gives a state its name.
+    pub(crate) fn new(state: MmState) -> Named<N>
+        requires { IsNamed N.table N.config N.operations state }
+        ensures { result ≡ state }
+    {
+        Named {
+            state,
+            of: PhantomData,
+        }
+    }
+
+    /// Makes a call with the turn of a reader whose caller has made fewer calls than it may, and enters it in the journal.
+    /// The reader has then seen the whole journal, by one look more, and has its turn again.
+    pub(crate) fn apply<R: Wait>(&mut self, rt: &R, seat: &mut ReaderSeat, call: &Call) -> Reply
+        requires table { seat.old.seat.table_id ≡ N.table }
+        requires turn { HasTurn seat.old }
+        requires free { stage seat.old ≡ Out }
+        requires room { length (calls_by (view seat.old).caller (seen seat.old)) < slice_index_or N.operations (view seat.old).caller 0 }
+        ensures table { seat.new.seat.table_id ≡ N.table }
+        ensures entry { self.new.journal ≡ self.old.journal ++ record { caller = (view seat.old).caller; call = call.now; reply = result } ∷ [] }
+        ensures legal { IsLegalJournal N.config self.new.journal }
+        ensures seen { seen seat.new ≡ self.new.journal }
+        ensures same { ((view seat.new).caller ≡ (view seat.old).caller) × ((view seat.new).config ≡ (view seat.old).config) }
+        ensures turn { HasTurn seat.new }
+        ensures free { stage seat.new ≡ Out }
+        ensures looks { (view seat.new).trace.looks ≡ (view seat.old).trace.looks + 1 }
+        ensures later { StartsWith self.old.journal (seen seat.old) }
+        ensures own { calls_by (view seat.old).caller self.old.journal ≡ calls_by (view seat.old).caller (seen seat.old) }
+    {
+        let reply = self.state.apply(rt, seat, call);
+        self.state.facts();
+        reply
+    }
+
+    /// A reader that holds no slot sees the whole journal, by one look.
+    pub(crate) fn meet(&mut self, seat: &mut ReaderSeat)
+        requires table { seat.old.seat.table_id ≡ N.table }
+        requires turn { HasTurn seat.old }
+        requires free { stage seat.old ≡ Out }
+        ensures table { seat.new.seat.table_id ≡ N.table }
+        ensures state { self.new ≡ self.old }
+        ensures legal { IsLegalJournal N.config self.new.journal }
+        ensures seen { seen seat.new ≡ self.new.journal }
+        ensures same { ((view seat.new).caller ≡ (view seat.old).caller) × ((view seat.new).config ≡ (view seat.old).config) }
+        ensures turn { HasTurn seat.new }
+        ensures free { stage seat.new ≡ Out }
+        ensures looks { (view seat.new).trace.looks ≡ (view seat.old).trace.looks + 1 }
+        ensures later { StartsWith self.old.journal (seen seat.old) }
+        ensures own { calls_by (view seat.old).caller self.old.journal ≡ calls_by (view seat.old).caller (seen seat.old) }
+    {
+        self.state.facts();
+        self.state.meet(seat);
+    }
+
+    /// The verdict on a fault at a page.
+    pub(crate) fn verdict(&self, page: Page, access: Access) -> Verdict
+        ensures { result ≡ verdict N.config.files (list_after N.config self.now.journal) page.0 access }
+    {
+        self.state.verdict(page, access)
+    }
+
+    /// A copy of the list of areas.
+    pub(crate) fn copy_list(&self, alloc: Global) -> Result<AreaList, NoMemory>
+        ensures { IfOk result (λ list. list ≡ list_after N.config self.now.journal) }
+    {
+        self.state.copy_list(alloc)
+    }
+
+    /// Hands the journal and the list out.
+    pub(crate) fn finish(self) -> (Vec<Entry>, AreaList)
+        ensures journal { result.0.items ≡ self.journal }
+        ensures list { result.1 ≡ list_after N.config self.journal }
+        ensures legal { IsLegalJournal N.config self.journal }
+        ensures within { Within N.operations self.journal }
+    {
+        self.state.finish()
+    }
+}
