@@ -1,5 +1,6 @@
-//! Replays a trace: `vma_main serial` reads it from standard input and writes every reply and the final list of
-//! areas to standard output. Where that fails, a line on standard error says why, and the exit status is 2 to 6.
+//! Replays a trace: `vma_main serial` and `vma_main threads` read it from standard input and write every reply and the final
+//! list of areas to standard output. `serial` runs its lines in their order, and `threads` those of each thread of the trace in a
+//! thread of its own. Where that fails, a line on standard error says why, and the exit status is 2 to 6.
 #![tactic(auto)]
 
 use io_edge::{PlainGate, StdSink, StdSource};
@@ -19,14 +20,17 @@ fn words<R: Env + AllocGlobal>(rt: &R) -> io::Result<Vec<String>> {
 
 fn run<R: Threads + Wait + Sync + Env + Input + Print + AllocGlobal>(rt: &R) -> Status {
     match words(rt) {
-        Ok(words) => replay(
-            rt,
-            rt.alloc(),
-            words.as_slice(),
-            &mut StdSource::new(rt.reader()),
-            &mut StdSink::new(io::writer(rt)),
-            &PlainGate,
-        ),
+        Ok(words) => {
+            replay(
+                rt,
+                rt.alloc(),
+                words.as_slice(),
+                &mut StdSource::new(rt.reader()),
+                &mut StdSink::new(io::writer(rt)),
+                &PlainGate,
+            )
+            .status
+        }
         Err(error) if error.kind() == io::ErrorKind::OutOfMemory => Status::NoMemory,
         // A word that is no text is none of the accepted ones.
         Err(_) => Status::Words,

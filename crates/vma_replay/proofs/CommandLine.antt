@@ -11,8 +11,9 @@ use Rattle.clap.specs.Simple.{built}
 use Rattle.clap.specs.Walk.{Rule, Text, Walk, finished, idle, is_empty, positional, nothing_held, settled_rows, walk_from, walked}
 use Rattle.clap.specs.Words.{matches_of, takes}
 use Rattle.clap.proofs.OnLiterals.{clap_on_literals}
-use Rattle.vma_replay.specs.Replaying.{are_accepted}
-use Rattle.vma_replay.specs.CommandLine.{begins_with_dash, is_serial, words_command}
+use Rattle.vma_replay.specs.declared.words.Mode.TheVariants as modes
+use Rattle.vma_replay.specs.Replaying.{are_only, mode_of_words}
+use Rattle.vma_replay.specs.CommandLine.{begins_with_dash, names_alone, words_command}
 
 -- a text that does not begin with `-`
 abbrev Plain : Text → Type 0
@@ -87,38 +88,37 @@ after_words t rest (w ∷ ws) none =
     ∙ after_words t (rest ++ string_bytes w ∷ []) ws plain.1
     ∙ ap (after_rest t) (append_assoc rest (string_bytes w ∷ []) (map string_bytes ws))
 
--- with no word after the mode the values are those of `serial` where the mode is
-one_serial : (t : Text) → is_serial (finished rules (after_mode t).held) ≡ bytes_eq t (codes "serial")
-unfolding clap_on_literals rules after_mode is_serial
-one_serial t = refl
+-- with no word after the mode the values are those of a list of one word where the mode is that word
+one_word : (name t : Text) → names_alone name (finished rules (after_mode t).held) ≡ bytes_eq t name
+unfolding clap_on_literals rules after_mode names_alone
+one_word name t = refl
 
 not_empty : (u : Text) (rest : List Text) → is_empty (u ∷ rest) ≡ false
 not_empty u rest = grind arith
 
 -- and with one they are not
-more_not_serial : (t u : Text) (rest : List Text) → is_serial (finished rules (after_rest t (u ∷ rest)).held) ≡ false
-unfolding clap_on_literals rules after_rest is_serial
-more_not_serial t u rest = rw (not_empty u rest) refl
+more_words : (name t u : Text) (rest : List Text) → names_alone name (finished rules (after_rest t (u ∷ rest)).held) ≡ false
+unfolding clap_on_literals rules after_rest names_alone
+more_words name t u rest = rw (not_empty u rest) refl
 
 matches_walk : (texts : List Text) → matches_of words_command texts ≡ finished rules (fold (walked rules []) (walk_from nothing_held) texts).held
 unfolding rules words_command
 matches_walk texts = refl
 
-no_words : is_serial (matches_of words_command []) ≡ false
-unfolding clap_on_literals words_command is_serial
-no_words = refl
+no_words : (name : Text) → names_alone name (matches_of words_command []) ≡ false
+unfolding clap_on_literals words_command names_alone
+no_words name = refl
 
--- the values are those of `serial` exactly where the words are accepted
-pub is_serial_words : (words : List (String Global)) → list_any begins_with_dash words ≡ false
-    → is_serial (matches_of words_command (map string_bytes words)) ≡ are_accepted words
-unfolding are_accepted
-is_serial_words [] none = no_words
-is_serial_words (w ∷ []) none =
+-- the values are those of a list of one word exactly where the words are that word alone
+named_words : (name : Text) (words : List (String Global)) → list_any begins_with_dash words ≡ false
+    → names_alone name (matches_of words_command (map string_bytes words)) ≡ are_only name words
+named_words name [] none = no_words name
+named_words name (w ∷ []) none =
     let plain = neither (begins_with_dash w) false none in
-    ap is_serial (matches_walk (string_bytes w ∷ [])
+    ap (names_alone name) (matches_walk (string_bytes w ∷ [])
     ∙ ap (λ walk. finished rules walk.held) (after_first (string_bytes w) plain.0))
-    ∙ one_serial (string_bytes w)
-is_serial_words (w ∷ v ∷ ws) none =
+    ∙ one_word name (string_bytes w)
+named_words name (w ∷ v ∷ ws) none =
     let first = neither (begins_with_dash w) (list_any begins_with_dash (v ∷ ws)) none in
     let second = neither (begins_with_dash v) (list_any begins_with_dash ws) first.1 in
     let t = string_bytes w in
@@ -127,27 +127,66 @@ is_serial_words (w ∷ v ∷ ws) none =
     ap (λ walk. walked rules [] walk u) (after_first t first.0) ∙ after_second t u second.0 in
     let whole : fold (walked rules []) (walk_from nothing_held) (map string_bytes (w ∷ v ∷ ws)) ≡ after_rest t (u ∷ map string_bytes ws) =
     ap (λ walk. fold (walked rules []) walk (map string_bytes ws)) begun ∙ after_words t (u ∷ []) ws second.1 in
-    ap is_serial (matches_walk _ ∙ ap (λ walk. finished rules walk.held) whole) ∙ more_not_serial t u (map string_bytes ws)
+    ap (names_alone name) (matches_walk _ ∙ ap (λ walk. finished rules walk.held) whole) ∙ more_words name t u (map string_bytes ws)
+
+-- so they name the mode that the words name
+pub named_serial : (words : List (String Global)) → list_any begins_with_dash words ≡ false
+    → names_alone (codes "serial") (matches_of words_command (map string_bytes words)) ≡ true → mode_of_words words ≡ Some modes.Serial
+unfolding mode_of_words
+named_serial words none named = rw (sym (named_words (codes "serial") words none) ∙ named) refl
+
+pub named_threads : (words : List (String Global)) → list_any begins_with_dash words ≡ false
+    → names_alone (codes "serial") (matches_of words_command (map string_bytes words)) ≡ false
+    → names_alone (codes "threads") (matches_of words_command (map string_bytes words)) ≡ true → mode_of_words words ≡ Some modes.Threads
+unfolding mode_of_words
+named_threads words none other named =
+    rw (sym (named_words (codes "serial") words none) ∙ other, sym (named_words (codes "threads") words none) ∙ named) refl
+
+-- or none
+pub named_none : (words : List (String Global)) → list_any begins_with_dash words ≡ false
+    → names_alone (codes "serial") (matches_of words_command (map string_bytes words)) ≡ false
+    → names_alone (codes "threads") (matches_of words_command (map string_bytes words)) ≡ false → mode_of_words words ≡ None
+unfolding mode_of_words
+named_none words none other another =
+    rw (sym (named_words (codes "serial") words none) ∙ other, sym (named_words (codes "threads") words none) ∙ another) refl
+
+-- words that `clap` refuses name none
+only_taken : (name : Text) → takes words_command (name ∷ []) ≡ true → (words : List (String Global)) → are_only name words ≡ true
+    → takes words_command (map string_bytes words) ≡ true
+only_taken name taken [] only = cc
+only_taken name taken (w ∷ []) only = ap (λ t. takes words_command (t ∷ [])) ((bytes_eq-Decides (string_bytes w) name).0 only) ∙ taken
+only_taken name taken (w ∷ v ∷ ws) only = cc
 
 serial_taken : takes words_command (codes "serial" ∷ []) ≡ true
 unfolding clap_on_literals words_command
 serial_taken = refl
 
--- the accepted words are taken
-pub accepted_taken : (words : List (String Global)) → are_accepted words ≡ true → takes words_command (map string_bytes words) ≡ true
-unfolding are_accepted
-accepted_taken [] accepted = cc
-accepted_taken (w ∷ []) accepted = ap (λ t. takes words_command (t ∷ [])) ((bytes_eq-Decides (string_bytes w) (codes "serial")).0 accepted) ∙ serial_taken
-accepted_taken (w ∷ v ∷ ws) accepted = cc
+threads_taken : takes words_command (codes "threads" ∷ []) ≡ true
+unfolding clap_on_literals words_command
+threads_taken = refl
 
-no_dash_text : (t : Text) → (slice_index t 0 == 45 || false) ≡ true → bytes_eq t (codes "serial") ≡ false
-no_dash_text t dash = false_from_ne_true (bytes_eq t (codes "serial")) (λ same.
-    let other : (slice_index t 0 == 45 || false) ≡ false = ap (λ text. slice_index text 0 == 45 || false) ((bytes_eq-Decides t (codes "serial")).0 same) in
+neither_only : (words : List (String Global)) → are_only (codes "serial") words ≡ false → are_only (codes "threads") words ≡ false
+    → mode_of_words words ≡ None
+unfolding mode_of_words
+neither_only words other another = rw (other, another) refl
+
+pub refused : (words : List (String Global)) → (takes words_command (map string_bytes words) ≡ true → ⊥) → mode_of_words words ≡ None
+refused words refuses = neither_only words
+    (false_from_ne_true (are_only (codes "serial") words) (λ only. refuses (only_taken (codes "serial") serial_taken words only)))
+    (false_from_ne_true (are_only (codes "threads") words) (λ only. refuses (only_taken (codes "threads") threads_taken words only)))
+
+-- and so do words of which one begins with `-`
+other_text : (name t : Text) → (slice_index name 0 == 45 || false) ≡ false → (slice_index t 0 == 45 || false) ≡ true → bytes_eq t name ≡ false
+other_text name t plain dash = false_from_ne_true (bytes_eq t name) (λ same.
+    let other : (slice_index t 0 == 45 || false) ≡ false = ap (λ text. slice_index text 0 == 45 || false) ((bytes_eq-Decides t name).0 same)
+    ∙ plain in
     cc)
 
--- and none of them begins with `-`
-pub dash_refused : (words : List (String Global)) → list_any begins_with_dash words ≡ true → are_accepted words ≡ false
-unfolding are_accepted
-dash_refused [] dash = cc
-dash_refused (w ∷ []) dash = no_dash_text (string_bytes w) dash
-dash_refused (w ∷ v ∷ ws) dash = refl
+other_words : (name : Text) → (slice_index name 0 == 45 || false) ≡ false → (words : List (String Global)) → list_any begins_with_dash words ≡ true
+    → are_only name words ≡ false
+other_words name plain [] dash = refl
+other_words name plain (w ∷ []) dash = other_text name (string_bytes w) plain dash
+other_words name plain (w ∷ v ∷ ws) dash = refl
+
+pub dash_refused : (words : List (String Global)) → list_any begins_with_dash words ≡ true → mode_of_words words ≡ None
+dash_refused words dash = neither_only words (other_words (codes "serial") refl words dash) (other_words (codes "threads") refl words dash)

@@ -1,6 +1,9 @@
 pub mod Given
-pub mod Lines
-pub mod Ready
-pub mod Running
 pub mod Taken
 pub mod CommandLine
+pub mod Telling
+pub mod Placing
+pub mod Operations
+pub mod Workers
+pub mod ClosedRuns
+pub mod RunTexts

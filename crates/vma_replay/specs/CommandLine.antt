@@ -28,7 +28,7 @@ unfoldable pub words_command : App
 words_command = with_rule (with_rule (on_top (λ top. record top { no_binary_name = true; disable_help_flag = true; disable_version_flag = true })
     (new_app (codes "replay"))) mode_rule) rest_rule
 
--- the values are those of the accepted list `serial`: it is the mode, and nothing is after it
-unfoldable pub is_serial : List Row → Bool
-is_serial rows = is_empty (unwrap_or (all_of (codes "rest") rows) [])
-    && option_map_or (λ mode. bytes_eq mode (codes "serial")) (first_of (codes "mode") rows) false
+-- the values are those of a list of this word alone: it is the mode, and nothing is after it
+unfoldable pub names_alone : List ℕ → List Row → Bool
+names_alone name rows = is_empty (unwrap_or (all_of (codes "rest") rows) [])
+    && option_map_or (λ mode. bytes_eq mode name) (first_of (codes "mode") rows) false

@@ -1,7 +1,9 @@
+pub mod CallerPlaces
+pub mod Sharing
+pub mod Driving
 pub mod Output
 pub mod Statuses
 pub mod Replaying
-pub mod Spaces
 pub mod Reading
 pub mod Giving
 pub mod CommandLine

@@ -1,5 +1,5 @@
 -- The text of a history.
-use Rattle.std.specs.Prelude.{ℕ, ◌+◌, false, List, [], ◌∷◌, ◌++◌, length, codes, decimal, Option}
+use Rattle.std.specs.Prelude.{ℕ, false, List, [], ◌∷◌, ◌++◌, length, codes, decimal}
 use Rattle.std.specs.Fmt.{digits}
 use Rattle.std.specs.Option.{option_map_or}
 use Rattle.mm_types.specs.declared.area.Record.{Record}
@@ -56,7 +56,8 @@ content_text files (contents.List areas) = maps_text files areas
 
 -- what stands before it: `L<line> t<thread> v<version> = `
 unfoldable pub start_text : TraceLine → ℕ → List ℕ
-start_text line version = codes "L" ++ (decimal line.number ++ (codes " t" ++ (decimal line.thread ++ (codes " v" ++ (decimal version ++ codes " = ")))))
+start_text line version = codes "L" ++ (decimal line.number
+    ++ (codes " t" ++ (decimal line.thread ++ (codes " v" ++ (decimal version ++ codes " = ")))))
 
 -- an item, with the line that it answers
 abbrev pub item_text : List FileRow → TraceLine → Item → List ℕ

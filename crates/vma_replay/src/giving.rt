@@ -1,24 +1,47 @@
 ghost use Rattle.std.specs.Prelude.{◌<◌, ◌^◌, ◌-◌};
-ghost use Rattle.vma_replay.specs.Output.{serial_output};
 ghost use Rattle.trace_reader.specs.Values.{IsTraceValue};
-ghost use Rattle.vma_replay.specs.Giving.{IsGiving};
+ghost use Rattle.vma_replay.specs.Giving.{IsGiving, IsGivingRun};
 
-use crate::serial::serial_text;
+use crate::printing::run_text;
+use crate::replayed::{Replayed, Runs};
+use crate::running::closed_run;
 use crate::status::Status;
-use io_edge::{GiveFault, Sink};
+use crate::words::Mode;
+use io_edge::{Gate, GiveFault, Sink};
 use mm_types::NoMemory;
 use std::alloc::Global;
+use std::sync::Wait;
+use std::thread::Threads;
 use trace_reader::Trace;
 
-/// Gives a sink the output of a trace that runs in the order of its lines.
-pub(crate) fn write_output<K: Sink>(alloc: Global, sink: &mut K, trace: &Trace) -> Status
+/// Runs a trace, and gives a sink its output. The room for the run that is kept is taken first.
+pub(crate) fn give_run<R: Threads + Wait + Sync, K: Sink, G: Gate>(
+    rt: &R,
+    alloc: Global,
+    mode: Mode,
+    sink: &mut K,
+    trace: &Trace,
+    gate: &G,
+) -> Replayed
     requires trace { IsTraceValue trace.now }
     requires sink { K.faults sink.old < 2 ^ 64 - 1 }
-    ensures { IsGiving (serial_output trace.now) (K.written sink.old) (K.written sink.new) (K.faults sink.old) (K.faults sink.new) result }
+    ensures { IsGivingRun mode trace.now (K.written sink.old) (K.written sink.new) (K.faults sink.old) (K.faults sink.new) result.status result.runs }
 {
-    match serial_text(alloc, trace) {
-        Ok(text) => give_all(sink, &text),
-        Err(NoMemory) => Status::NoMemory,
+    let Ok(room) = Vec::with_capacity(alloc, 1) else {
+        return Replayed::failed(alloc, Status::NoMemory);
+    };
+    let Ok(run) = closed_run(rt, alloc, mode, trace, gate) else {
+        return Replayed::failed(alloc, Status::NoMemory);
+    };
+    let Ok(text) = run_text(alloc, mode, trace, &run) else {
+        return Replayed::failed(alloc, Status::NoMemory);
+    };
+    match give_all(sink, &text) {
+        Status::Done => Replayed {
+            status: Status::Done,
+            runs: Runs::one(room, run),
+        },
+        status => Replayed::failed(alloc, status),
     }
 }
 

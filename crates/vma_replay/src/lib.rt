@@ -1,22 +1,30 @@
 //! The replayer: reads a trace, replays it against the model, and writes every reply and the final list of areas.
 #![tactic(auto)]
 
-#[cfg(test)]
-mod call_tests;
+mod copying;
+mod driving;
 mod giving;
 mod output;
-mod plans;
+mod places;
+mod printing;
 mod reading;
+mod replayed;
 mod run;
-mod serial;
-mod space;
+mod running;
 mod status;
 #[cfg(test)]
 mod table_tests;
 #[cfg(test)]
 mod tests;
+#[cfg(test)]
+mod thread_tests;
 mod words;
 
+pub use driving::{drive, in_order};
+pub use history::label;
+pub use printing::history_text;
+pub use replayed::{Replayed, Runs};
 pub use run::replay;
 pub use status::{Status, status_line, status_number};
 pub use trace_reader::Cause;
+pub use words::Mode;

@@ -8,33 +8,17 @@ use mm_types::{Errno, Files, NoMemory, Record, Reply, Verdict};
 use std::io::Write;
 use trace_reader::TraceLine;
 
-/// Appends a fault's verdict, and ends its line.
+/// Appends a fault's verdict.
 #[tactic(auto, unfolding(crate::specs::Output::verdict_text))]
 pub(crate) fn push_verdict(text: &mut Vec<u8>, verdict: Verdict) -> Result<(), NoMemory>
-    ensures { OnOk result (text.new.items ≡ text.old.items ++ (verdict_text verdict ++ codes "\n")) }
+    ensures { OnOk result (text.new.items ≡ text.old.items ++ verdict_text verdict) }
 {
     match verdict {
-        Verdict::Served { area, index } => push_served(text, &area, index)?,
+        Verdict::Served { area, index } => return push_served(text, &area, index),
         Verdict::MapErr => text.extend_from_slice(b"SIGSEGV SEGV_MAPERR")?,
         Verdict::AccErr => text.extend_from_slice(b"SIGSEGV SEGV_ACCERR")?,
         Verdict::BusErr => text.extend_from_slice(b"SIGBUS BUS_ADRERR")?,
     }
-    text.push(b'\n')?;
-    Ok(())
-}
-
-/// Appends the line of a call: `L<line> t<thread> v<version> = <reply>`.
-pub(crate) fn push_called(
-    text: &mut Vec<u8>,
-    line: &TraceLine,
-    version: u64,
-    reply: Reply,
-) -> Result<(), NoMemory>
-    ensures { OnOk result (text.new.items ≡ text.old.items ++ (start_text line.now version ++ (reply_text reply ++ codes "\n"))) }
-{
-    push_start(text, line, version)?;
-    push_reply(text, reply)?;
-    text.push(b'\n')?;
     Ok(())
 }
 
@@ -65,7 +49,7 @@ pub(crate) fn push_start(text: &mut Vec<u8>, line: &TraceLine, version: u64) -> 
 
 /// Appends a reply: an address, 0, or -1 and the name of the error.
 #[tactic(auto, unfolding(crate::specs::Output::reply_text))]
-fn push_reply(text: &mut Vec<u8>, reply: Reply) -> Result<(), NoMemory>
+pub(crate) fn push_reply(text: &mut Vec<u8>, reply: Reply) -> Result<(), NoMemory>
     ensures { OnOk result (text.new.items ≡ text.old.items ++ reply_text reply) }
 {
     match reply {

@@ -53,7 +53,8 @@ pub fn status_line(alloc: Global, status: &Status) -> Result<Text, NoMemory>
 }
 
 fn trace_line(alloc: Global, line: u64, number: u8, name: &str) -> Result<String, NoMemory>
-    ensures { IfOk result (λ text. string_bytes text ≡ codes "trace line " ++ (decimal line ++ (codes " cause " ++ (decimal number ++ (codes " " ++ name.now))))) }
+    ensures { IfOk result (λ text. string_bytes text ≡ codes "trace line "
+        ++ (decimal line ++ (codes " cause " ++ (decimal number ++ (codes " " ++ name.now))))) }
 {
     Ok(format!(in alloc; "trace line {line} cause {number} {name}")?)
 }

@@ -190,7 +190,7 @@ fn each_row_answers(rt: HostRuntime) -> Result<(), Fail> {
     for (trace, output) in runs {
         let mut source = SureSource::new(Vec::from_slice(rt.alloc(), trace)?);
         let mut sink = SureSink::new(rt.alloc());
-        let status = replay(&rt, rt.alloc(), &words, &mut source, &mut sink, &PlainGate);
+        let status = replay(&rt, rt.alloc(), &words, &mut source, &mut sink, &PlainGate).status;
         assert_eq!(rt; status, Status::Done);
         assert_eq!(rt; sink.bytes(), output);
     }

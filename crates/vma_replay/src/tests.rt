@@ -59,7 +59,7 @@ fn gives_replies_and_areas(rt: HostRuntime) -> Result<(), Fail> {
         let mut source = SureSource::new(Vec::from_slice(rt.alloc(), trace)?);
         let mut sink = SureSink::new(rt.alloc());
         assert_eq!(rt;
-            replay(&rt, rt.alloc(), &words, &mut source, &mut sink, &PlainGate),
+            replay(&rt, rt.alloc(), &words, &mut source, &mut sink, &PlainGate).status,
             Status::Done
         );
         assert_eq!(rt; sink.bytes(), output);
@@ -79,7 +79,7 @@ fn gives_nothing_for_what_is_no_trace(rt: HostRuntime) -> Result<(), Fail> {
     for (trace, line, cause) in runs {
         let mut source = SureSource::new(Vec::from_slice(rt.alloc(), trace)?);
         let mut sink = SureSink::new(rt.alloc());
-        let status = replay(&rt, rt.alloc(), &words, &mut source, &mut sink, &PlainGate);
+        let status = replay(&rt, rt.alloc(), &words, &mut source, &mut sink, &PlainGate).status;
         assert_eq!(rt; status, Status::Trace { line, cause });
         assert!(rt; sink.bytes().is_empty());
     }
@@ -87,10 +87,12 @@ fn gives_nothing_for_what_is_no_trace(rt: HostRuntime) -> Result<(), Fail> {
 }
 
 #[test]
-fn accepts_serial_alone(rt: HostRuntime) -> Result<(), Fail> {
-    let lists: [&[&str]; 5] = [
+fn accepts_each_mode_alone(rt: HostRuntime) -> Result<(), Fail> {
+    let lists: [&[&str]; 7] = [
         &[],
         &["serial", "serial"],
+        &["serial", "threads"],
+        &["threads", ""],
         &["--help"],
         &["help"],
         &["Serial"],
@@ -100,7 +102,7 @@ fn accepts_serial_alone(rt: HostRuntime) -> Result<(), Fail> {
         let mut source = SureSource::new(Vec::from_slice(rt.alloc(), TWO_PAGES)?);
         let mut sink = SureSink::new(rt.alloc());
         assert_eq!(rt;
-            replay(&rt, rt.alloc(), &words, &mut source, &mut sink, &PlainGate),
+            replay(&rt, rt.alloc(), &words, &mut source, &mut sink, &PlainGate).status,
             Status::Words
         );
         assert!(rt; sink.bytes().is_empty());
@@ -116,7 +118,7 @@ fn tells_each_fault_of_the_source(rt: HostRuntime) -> Result<(), Fail> {
         let fail = vec![in rt.alloc(); call]?;
         let mut source = MemSource::new(Vec::from_slice(rt.alloc(), TWO_PAGES)?, fail);
         let mut sink = SureSink::new(rt.alloc());
-        let status = replay(&rt, rt.alloc(), &words, &mut source, &mut sink, &PlainGate);
+        let status = replay(&rt, rt.alloc(), &words, &mut source, &mut sink, &PlainGate).status;
         let is_reached = call < 3;
         assert_eq!(rt;
             status,
@@ -148,7 +150,7 @@ fn tells_each_fault_of_the_sink(rt: HostRuntime) -> Result<(), Fail> {
     for (call, given, answer) in runs {
         let mut source = SureSource::new(Vec::from_slice(rt.alloc(), TWO_PAGES)?);
         let mut sink = MemSink::new(rt.alloc(), vec![in rt.alloc(); call]?);
-        let status = replay(&rt, rt.alloc(), &words, &mut source, &mut sink, &PlainGate);
+        let status = replay(&rt, rt.alloc(), &words, &mut source, &mut sink, &PlainGate).status;
         assert_eq!(rt; status, answer, "call {call}");
         assert_eq!(rt; sink.bytes(), given, "call {call}");
     }

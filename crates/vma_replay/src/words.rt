@@ -1,8 +1,8 @@
-ghost use Rattle.std.specs.Prelude.{◌≡◌, IfErr, IfOk, Err, Ok, false, map, string_bytes, true};
+ghost use Rattle.std.specs.Prelude.{◌≡◌, IfErr, IfOk, Err, None, Some, map, string_bytes, true};
 ghost use Rattle.std.specs.List.{list_any};
 ghost use Rattle.clap.specs.Words.{app_of, found_of, matches_of, rows_of, takes};
-ghost use Rattle.vma_replay.specs.Replaying.{are_accepted};
-ghost use Rattle.vma_replay.specs.CommandLine.{begins_with_dash, is_serial, words_command};
+ghost use Rattle.vma_replay.specs.Replaying.{mode_of_words};
+ghost use Rattle.vma_replay.specs.CommandLine.{begins_with_dash, names_alone, words_command};
 
 use clap::error::ErrorKind;
 use clap::{Arg, ArgMatches, Command};
@@ -16,9 +16,11 @@ const REST: &str = "rest";
 
 /// How the lines of a trace are run.
 #[derive(Clone, Copy, Debug, PartialEq, Eq)]
-pub(crate) enum Mode {
+pub enum Mode {
     /// One after the other, in their order.
     Serial,
+    /// Those of each thread of the trace in a thread of their own.
+    Threads,
 }
 
 /// Why words name no mode.
@@ -30,19 +32,21 @@ pub(crate) enum WordsFault {
     NoMemory,
 }
 
-/// The mode that words name: `serial` alone names one. No word may begin with `-`, so there are no options and no
-/// `--`.
-#[tactic(auto, using(crate::proofs::CommandLine::accepted_taken, crate::proofs::CommandLine::dash_refused, crate::proofs::CommandLine::is_serial_words))]
+/// The mode that words name: `serial` alone and `threads` alone name one. No word may begin with `-`, so there are no
+/// options and no `--`.
+#[tactic(auto, using(crate::proofs::CommandLine::named_serial, crate::proofs::CommandLine::named_threads, crate::proofs::CommandLine::named_none, crate::proofs::CommandLine::refused, crate::proofs::CommandLine::dash_refused))]
 pub(crate) fn mode_of(alloc: Global, words: &[String]) -> Result<Mode, WordsFault>
-    ensures serial { result ≡ Ok Mode.Serial → are_accepted words.now ≡ true }
-    ensures words { result ≡ Err WordsFault.Words → are_accepted words.now ≡ false }
+    ensures mode { IfOk result (λ mode. mode_of_words words.now ≡ Some mode) }
+    ensures words { result ≡ Err WordsFault.Words → mode_of_words words.now ≡ None }
 {
     if has_dash_word(words) {
         return Err(WordsFault::Words);
     }
     let matches = parse(alloc, words)?;
-    if is_serial(&matches) {
+    if names_alone(&matches, "serial") {
         Ok(Mode::Serial)
+    } else if names_alone(&matches, "threads") {
+        Ok(Mode::Threads)
     } else {
         Err(WordsFault::Words)
     }
@@ -70,13 +74,13 @@ fn parse<'a>(alloc: Global, words: &'a [String]) -> Result<ArgMatches<'a>, Words
     }
 }
 
-/// Whether the values are those of the accepted list `serial`.
-#[tactic(auto, unfolding(crate::specs::CommandLine::is_serial))]
-fn is_serial(matches: &ArgMatches<'_>) -> bool
-    ensures { result ≡ is_serial (rows_of (found_of matches.now)) }
+/// Whether the values are those of the list of this word alone.
+#[tactic(auto, unfolding(crate::specs::CommandLine::names_alone))]
+fn names_alone(matches: &ArgMatches<'_>, word: &str) -> bool
+    ensures { result ≡ names_alone word.now (rows_of (found_of matches.now)) }
 {
     let rest = matches.get_strs(REST).unwrap_or(&[]);
-    rest.is_empty() && matches.get_str(MODE) == Some("serial")
+    rest.is_empty() && matches.get_str(MODE) == Some(word)
 }
 
 /// The command line: a mode, and any number of words after it.

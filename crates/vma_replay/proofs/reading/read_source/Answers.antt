@@ -7,7 +7,8 @@ pub returns-in-Ok-clause-value : goal.returns-in-Ok-clause-value
 returns-in-Ok-clause-value g c = trace_of-value _ _ c.in-Ok.ensures
 
 pub returns-in-Ok-clause-reading : goal.returns-in-Ok-clause-reading
-returns-in-Ok-clause-reading g c = reads_lines _ _ _ _ c.in_ok-bytes.bytes.items c.in-Ok.trace c.in_ok-bytes.ensures (rw (← c.deref.ensures.value) c.in-Ok.ensures)
+returns-in-Ok-clause-reading g c = reads_lines _ _ _ _ c.in_ok-bytes.bytes.items c.in-Ok.trace c.in_ok-bytes.ensures
+    (rw (← c.deref.ensures.value) c.in-Ok.ensures)
 
 pub returns-in-Err-Bad-clause-reading : goal.returns-in-Err-Bad-clause-reading
 returns-in-Err-Bad-clause-reading g c =
