@@ -1,0 +1,14 @@
+pub mod Elements
+pub mod Standing
+pub mod Walking
+pub mod Seating
+pub mod Joining
+pub mod Counting
+pub mod Starting
+pub mod Storing
+pub mod Filling
+pub mod Leasts
+pub mod Listing
+pub mod Writers
+pub mod Leaves
+pub mod Seated

@@ -1,0 +1,137 @@
+-- For `NodeTable::open`, `NodeTable::root` and others: what the structs of seats keep, after each step.
+use Rattle.std.proofs.Common.{ℕ, zero, suc, ◌≡◌, ◌<◌, ◌+◌, ◌-◌, ◌^◌, ◌∙◌, min, refl, sym, ap, subst, List, [], ◌∷◌, length, get_or, set, Some, arith}
+use Rattle.std.proofs.lemmas.List.{length-set}
+use Rattle.grace_core.specs.declared.clearing.Clearing.{Clearing}
+use Rattle.grace_core.specs.Core.{row_at, clearing_at, no_clearing}
+use Rattle.grace_core.specs.Steps.{least, looked, next_tree}
+use Rattle.grace_core.proofs.Elements.{one_set}
+use Rattle.grace_core.proofs.Leaving.{length-since_from}
+use Rattle.maple_node.specs.declared.root.Root.{Root}
+use Rattle.maple_node.specs.Roots.{FitsRoot}
+use Rattle.node_slots.specs.declared.view.Size.{Size}
+use Rattle.node_slots.specs.Trees.{shown_rows}
+use Rattle.atomic_table.specs.Table.{Me}
+use Rattle.node_slots.specs.declared.view.Shown.{Shown}
+use Rattle.node_slots.specs.declared.view.NodeView.{NodeView}
+use Rattle.node_slots.specs.Views.{root_at, store_at, named_tree, publish_at, scan_at}
+use Rattle.node_slots.specs.Plays.{RowsExist}
+use Rattle.node_slots.specs.Kept.{ReaderKept, WriterKept}
+
+-- a value that is read there, whatever stands for none
+pub read_any : {A : Type 0} (xs : List A) (i : ℕ) (d e : A) → i < length xs → get_or xs i d ≡ get_or xs i e
+read_any [] i d e within = absurd (omega arith)
+read_any (x ∷ xs) zero d e within = refl
+read_any (x ∷ xs) (suc i) d e within = read_any xs i d e (omega arith)
+
+-- a reader's seat after it took another view of the same reader, whose snapshot it had
+pub reader_kept : (reader walks words more : ℕ) (me new : Me (Unit {0}) NodeView) (view : NodeView) → ReaderKept reader walks words me → more ≡ words
+    → new ≡ (view, me.1) → view.kind ≡ me.0.kind → view.reader ≡ me.0.reader → view.size ≡ me.0.size → view.walks ≡ me.0.walks
+    → ((shown : Shown) → view.snapshot ≡ Some shown → me.0.snapshot ≡ Some shown)
+    → ReaderKept reader walks more new
+reader_kept reader walks words more me new view kept same is kind number sized count snapshots =
+    subst (ReaderKept reader walks more) (sym is) (record {
+      kind = kind ∙ kept.kind;
+      empty = kept.empty;
+      reader_is = number ∙ kept.reader_is;
+      within = omega (arith, kept.within, same);
+      walks_are = kept.walks_are ∙ ap (λ n. min n (2 ^ 64 - 1)) (sym count);
+      exist = λ shown some row here. rw sized (kept.exist shown (snapshots shown some) row here);
+    })
+
+-- a reader's seat after it loaded a root
+pub root_kept : (reader walks count words more : ℕ) (me new : Me (Unit {0}) NodeView) (shown : Shown) → ReaderKept reader walks words me
+    → more ≡ words
+    → new ≡ (root_at me.0 shown, me.1) → RowsExist me.0.size.rows shown → count ≡ min (walks + 1) (2 ^ 64 - 1)
+    → ReaderKept reader count more new
+root_kept reader walks count words more me new shown kept same is exist counted =
+    subst (ReaderKept reader count more) (sym is) (record {
+      kind = kept.kind;
+      empty = kept.empty;
+      reader_is = kept.reader_is;
+      within = omega (arith, kept.within, same);
+      walks_are = omega (arith, counted, kept.walks_are);
+      exist = λ other some. subst (RowsExist me.0.size.rows) (let e : shown ≡ other = cc in e) exist;
+    })
+
+-- the writer's seat after it stored a word
+pub store_kept : (size : Size) (root : Root) (words : List (List ℕ)) (clearings : List Clearing) (row place word : ℕ) (old : List ℕ)
+    (me new : Me (Unit {0}) NodeView)
+    → WriterKept size root words clearings me → row < size.rows → old ≡ get_or words row old → new ≡ (store_at me.0 row place word, me.1)
+    → WriterKept size root (set words row (set old place word)) clearings new
+store_kept size root words clearings row place word old me new kept there was is =
+    let within : row < length words = omega (arith, there, kept.rows) in
+    let old_is : old ≡ row_at words row = was ∙ read_any words row old [] within in
+    subst (WriterKept size root (set words row (set old place word)) clearings) (sym is) (record {
+      kind = kept.kind;
+      empty = kept.empty;
+      size_is = kept.size_is;
+      root_is = kept.root_is;
+      number_is = kept.number_is;
+      words_are = ap (λ (l : List (List ℕ)). set l row (set (row_at l row) place word)) kept.words_are
+          ∙ ap (λ (l : List ℕ). set words row (set l place word)) (sym old_is);
+      clearings_are = kept.clearings_are;
+      fits = kept.fits;
+      rows = length-set words row (set old place word) ∙ kept.rows;
+      wide = λ other inside. one_set (λ (l : List ℕ). length l ≡ 32) words row other (set old place word) []
+          (kept.wide other (omega (arith, inside, length-set words row (set old place word))))
+          (λ _. length-set old place word ∙ ap (λ (l : List ℕ). length l) old_is ∙ kept.wide row within);
+      readers = kept.readers;
+      since = kept.since;
+      reached = kept.reached;
+    })
+
+-- the writer's seat after a publish
+pub publish_kept : (size : Size) (root next : Root) (words : List (List ℕ)) (clearings : List Clearing) (me new : Me (Unit {0}) NodeView)
+    → WriterKept size root words clearings me → FitsRoot next → new ≡ (publish_at me.0 next, me.1) → WriterKept size next words clearings new
+publish_kept size root next words clearings me new kept fits is =
+    subst (WriterKept size next words clearings) (sym is) (record {
+      kind = kept.kind;
+      empty = kept.empty;
+      size_is = kept.size_is;
+      root_is = refl;
+      number_is = refl;
+      words_are = kept.words_are;
+      clearings_are = kept.clearings_are;
+      fits = fits;
+      rows = kept.rows;
+      wide = kept.wide;
+      readers = kept.readers;
+      since = length-since_from 0 me.0.known.desk.tree (next_tree me.0.known.desk next.tree (shown_rows (named_tree me.0.known next)))
+          me.0.known.desk.since ∙ kept.since;
+      reached = omega (arith, ap (least next.tree) kept.clearings_are);
+    })
+
+-- the writer's seat after it loaded a pin
+pub scan_kept : (size : Size) (root : Root) (words : List (List ℕ)) (clearings : List Clearing) (reader found : ℕ) (old changed : Clearing)
+    (me new : Me (Unit {0}) NodeView)
+    → WriterKept size root words clearings me → reader < size.readers → old ≡ get_or clearings reader old → changed ≡ looked root.tree found old
+    → new ≡ (scan_at me.0 reader found, me.1) → WriterKept size root words (set clearings reader changed) new
+scan_kept size root words clearings reader found old changed me new kept there was change is =
+    let within : reader < length clearings = omega (arith, there, kept.readers) in
+    let old_is : old ≡ clearing_at clearings reader = was ∙ read_any clearings reader old no_clearing within in
+    let same : set me.0.known.desk.clearings reader (looked me.0.known.desk.tree.number found (clearing_at me.0.known.desk.clearings reader)) ≡ set
+    clearings reader changed =
+    ap (λ (l : List Clearing). set l reader (looked me.0.known.desk.tree.number found (clearing_at l reader))) kept.clearings_are
+    ∙ ap (λ n. set clearings reader (looked n found (clearing_at clearings reader))) kept.number_is
+    ∙ ap (λ (c : Clearing). set clearings reader (looked root.tree found c)) (sym old_is)
+    ∙ ap (set clearings reader) (sym change) in
+    subst (WriterKept size root words (set clearings reader changed)) (sym is) (record {
+      kind = kept.kind;
+      empty = kept.empty;
+      size_is = kept.size_is;
+      root_is = kept.root_is;
+      number_is = kept.number_is;
+      words_are = kept.words_are;
+      clearings_are = same;
+      fits = kept.fits;
+      rows = kept.rows;
+      wide = kept.wide;
+      readers = length-set clearings reader changed ∙ kept.readers;
+      since = kept.since;
+      reached = omega (
+        arith,
+        ap (least root.tree) same,
+        ap (λ n. least n (set me.0.known.desk.clearings reader
+            (looked me.0.known.desk.tree.number found (clearing_at me.0.known.desk.clearings reader)))) kept.number_is,
+      );
+    })

@@ -1,0 +1,80 @@
+-- For `NodeTable::leave`, `NodeTable::publish` and others: what a writer's lists tell of a row.
+use Rattle.std.proofs.Common.{ℕ, ◌≡◌, ◌<◌, ◌≤◌, ◌+◌, ◌^◌, ◌∙◌, true, false, cond, nat_eq, List, [], ◌∷◌, get_or, refl, sym, ap, subst, arith, inl, inr}
+use Rattle.std.proofs.lemmas.Bool.{cases_Bool, cond-true, cond-false, ltb-true}
+use Rattle.grace_core.specs.Core.{times, has_row}
+use Rattle.maple_node.specs.Levels as levels
+use Rattle.maple_node.specs.Levels.{at_of}
+use Rattle.maple_node.specs.Trees.{tree_of, IsLayout}
+use Rattle.maple_node.proofs.Trees.{root-once}
+use Rattle.node_slots.specs.declared.view.Shown.{Shown}
+use Rattle.node_slots.specs.declared.seats.NodeWriter.{NodeWriter}
+use Rattle.node_slots.specs.Trees.{shown_rows}
+use Rattle.node_slots.specs.Plays.{RowsExist}
+use Rattle.node_slots.specs.Kept.{times_gone, first_at}
+use Rattle.node_slots.specs.Seats.{sight, desk, is_kept, is_taken, is_present, ReachesNewRows}
+use Rattle.node_slots.proofs.Counting.{times_first}
+use Rattle.node_slots.proofs.Seating.{read_any}
+use Rattle.node_slots.proofs.Listing.{kept_parts, kept_from, taken_parts}
+
+-- a row that is neither free nor left
+pub writer_kept : (writer : NodeWriter) (row : ℕ) → is_kept writer row ≡ true
+    → (row < writer.desk.table.size.rows) × (times_gone writer.free.items writer.left.items row ≡ 0)
+writer_kept writer row is =
+    let parts = kept_parts (sight writer).size.rows row (times_gone writer.free.items writer.left.items row) is in
+    (subst (λ s. row < s.rows) writer.desk.kept.size_is parts.0, parts.1)
+
+-- and the first tree that may have it, as it was read
+pub writer_first : (writer : NodeWriter) (row found : ℕ) → is_kept writer row ≡ true → found ≡ get_or writer.firsts.items row found
+    → first_at writer.firsts.items row ≡ found
+writer_first writer row found is read =
+    let kept = writer_kept writer row is in
+    sym (read ∙ read_any writer.firsts.items row found 0 (omega (arith, kept.0, writer.rows.sized)))
+
+-- a row that was taken
+pub writer_taken : (writer : NodeWriter) (row : ℕ) → is_taken writer row ≡ true
+    → (row < writer.desk.table.size.rows) × (times_gone writer.free.items writer.left.items row ≡ 0) × (has_row (desk writer).tree row ≡ false)
+writer_taken writer row is =
+    let parts = taken_parts (sight writer).size.rows row (times_gone writer.free.items writer.left.items row) (is_present writer row) is in
+    (subst (λ s. row < s.rows) writer.desk.kept.size_is parts.0, parts.1, parts.2)
+
+-- no row that is free or left is a new one
+pub new_not_gone : (writer : NodeWriter) (shown : Shown) → ReachesNewRows writer shown → (row : ℕ)
+    → 1 ≤ times_gone writer.free.items writer.left.items row → times row (shown_rows shown) ≡ 0
+new_not_gone writer shown reaches row some = elim (cases_Bool (is_kept writer row)) [
+  | inl kept ↦ absurd (let parts = writer_kept writer row kept in omega (arith, some, parts.1))
+  | inr out ↦ reaches row ∙ cond-false {A = ℕ} (is_kept writer row) 1 0 out
+]
+
+-- and each other is
+pub new_all : (writer : NodeWriter) (shown : Shown) → ReachesNewRows writer shown → (row : ℕ) → row < writer.desk.table.size.rows
+    → times_gone writer.free.items writer.left.items row ≡ 0 → 1 ≤ times row (shown_rows shown)
+new_all writer shown reaches row within none =
+    let kept : is_kept writer row ≡ true =
+    kept_from (sight writer).size.rows row (times_gone writer.free.items writer.left.items row)
+    (subst (λ s. row < s.rows) (sym writer.desk.kept.size_is) within) none in
+    omega (arith, reaches row, cond-true {A = ℕ} (is_kept writer row) 1 0 kept)
+
+-- a row that is reached exists
+new_within : (writer : NodeWriter) (shown : Shown) → ReachesNewRows writer shown → (row : ℕ) → 1 ≤ times row (shown_rows shown)
+    → row < writer.desk.table.size.rows
+new_within writer shown reaches row some = elim (cases_Bool (is_kept writer row)) [
+  | inl kept ↦ (writer_kept writer row kept).0
+  | inr out ↦ absurd (omega (arith, some, reaches row, cond-false {A = ℕ} (is_kept writer row) 1 0 out))
+]
+
+pub new_exist : (writer : NodeWriter) (shown : Shown) → ReachesNewRows writer shown → RowsExist (sight writer).size.rows shown
+new_exist writer shown reaches row here =
+    subst (λ s. row < s.rows) (sym writer.desk.kept.size_is) (new_within writer shown reaches row (ltb-true 0 (times row (shown_rows shown)) here))
+
+-- both ways to count say the same
+pub times_same : (row : ℕ) (rows : List ℕ) → levels.times row rows ≡ times row rows
+times_same row [] = refl
+times_same row (other ∷ rows) = ap (λ n. cond (nat_eq other row) 1 0 + n) (times_same row rows) ∙ sym (times_first row other rows)
+
+-- the root of a tree is a row that exists
+pub root_within : (writer : NodeWriter) (shown : Shown) (slots : ℕ) → ReachesNewRows writer shown
+    → IsLayout (at_of shown.words) slots (shown_rows shown) (tree_of (at_of shown.words) shown.root) → shown.root.row.0 < 2 ^ 20
+root_within writer shown slots reaches layout =
+    let once = (root-once (at_of shown.words) slots (shown_rows shown) (tree_of (at_of shown.words) shown.root) layout).1 in
+    let some : 1 ≤ times shown.root.row.0 (shown_rows shown) = omega (arith, once, times_same shown.root.row.0 (shown_rows shown)) in
+    omega (arith, new_within writer shown reaches shown.root.row.0 some, writer.desk.table.sized.fits.few_rows)

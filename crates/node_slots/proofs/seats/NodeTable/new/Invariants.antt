@@ -1,0 +1,19 @@
+-- For `new`: so many readers were made, and each is of the table and made no step.
+use Rattle.std.proofs.Common.{◌≡◌, ℕ, length, slice_get, Some, []}
+use Rattle.node_slots.specs.declared.seats.NodeSeat.{NodeSeat as Reader}
+use Rattle.node_slots.specs.Opening.{IsFreeFrom}
+use Rattle.node_slots.specs.Views.{opened_view, reader_view}
+use Rattle.node_slots.specs.Seats.{size_of, IsOf, Writes, view, sight, free_of, left_of}
+use Rattle.node_slots.proofs.seats.NodeTable.new.Given as goal
+
+abbrev pub invariant-loop-reader : goal.invariant-loop-reader
+invariant-loop-reader l = record {
+  size : size_of l.table ≡ record { rows = l.fn.rows; slots = l.fn.slots; readers = l.fn.readers };
+  table : Writes l.writer l.table;
+  writer : sight l.writer ≡ opened_view (record { rows = l.fn.rows; slots = l.fn.slots; readers = l.fn.readers }) l.reader;
+  free : IsFreeFrom 1 l.fn.rows (free_of l.writer);
+  left : left_of l.writer ≡ [];
+  count : length l.seats.items ≡ l.reader;
+  fresh : (reader : ℕ) (seat : Reader) → slice_get l.seats.items reader ≡ Some seat
+      → IsOf seat l.table × (view seat ≡ reader_view (record { rows = l.fn.rows; slots = l.fn.slots; readers = l.fn.readers }) reader);
+}

@@ -1,0 +1,61 @@
+-- For `free_first`: the first of the queue left first, and there is room.
+use Rattle.std.proofs.Common.{◌≡◌, ◌∙◌, List, [], ◌∷◌, ◌++◌, refl, ap, subst, arith}
+use Rattle.std.specs.Option.{option_to_list}
+use Rattle.std.proofs.lemmas.List.{map-append}
+use Rattle.mm_types.specs.declared.slot.Row.{Row}
+use Rattle.node_slots.specs.declared.left.Left.{Left}
+use Rattle.node_slots.specs.Kept.{left_at, free_numbers, left_numbers, RowsKept}
+use Rattle.node_slots.specs.Seats.{desk}
+use Rattle.node_slots.proofs.Listing.{waiting_after, passed_lists, gone_few}
+use Rattle.node_slots.proofs.seats.NodeWriter.free_first.Goals as goal
+
+pub returns-then-not-has_passed-clause-rest : goal.returns-then-not-has_passed-clause-rest
+returns-then-not-has_passed-clause-rest c =
+    let writer = c.args.self.now in
+    λ _. (
+      refl,
+      refl,
+      waiting_after writer.desk.table.size.rows c.args.passed writer.free.items writer.left.items writer.firsts.items (desk writer) writer.rows
+          (c.has_passed.ensures.none c.if-not-has_passed.true),
+    )
+
+pub unwrap-first-requires : goal.unwrap-first-requires
+unwrap-first-requires c = c.pop_front.ensures.variant.1
+    (omega (arith, (c.has_passed.ensures.some c.if-not-has_passed.false).0, c.args.self.now.left.ok))
+
+pub push_back_reserved-requires : goal.push_back_reserved-requires
+push_back_reserved-requires c =
+    let writer = c.args.self.now in
+    let some = (c.has_passed.ensures.some c.if-not-has_passed.false).0 in
+    let all = gone_few writer.desk.table.size.rows writer.free.items writer.left.items writer.firsts.items (desk writer) writer.rows in
+    omega (arith, all, some, writer.free_room, writer.free.ok)
+
+pub invariant_of-self : goal.invariant_of-self
+invariant_of-self c =
+    let writer = c.args.self.now in
+    let one : Left = c.unwrap-first.result in
+    let rest : List Left = c.pop_front.new.self.items in
+    let items : writer.left.items ≡ one ∷ rest = c.pop_front.ensures.items ∙ ap (λ o. option_to_list o ++ rest) c.unwrap-first.ensures in
+    let some = c.has_passed.ensures.some c.if-not-has_passed.false in
+    let first = ap (λ (l : List Left). (left_at l 0).since) items in
+    record {
+      rows = rw c.push_back_reserved.ensures.items
+          (passed_lists writer.desk.table.size.rows one writer.free.items rest writer.firsts.items (desk writer)
+          (subst (λ (l : List Left). RowsKept writer.desk.table.size.rows writer.free.items l writer.firsts.items (desk writer)) items writer.rows)
+          (omega (arith, some.1, first, c.requires.passed.1)) (omega (arith, some.1, first, c.requires.passed.0)));
+      free_room = omega (arith, writer.free_room, c.push_back_reserved.ensures.capacity);
+      left_room = omega (arith, writer.left_room, c.pop_front.ensures.capacity);
+    }
+
+pub returns-clause-freed : goal.returns-clause-freed
+returns-clause-freed c =
+    let writer = c.args.self.now in
+    let one : Left = c.unwrap-first.result in
+    let rest : List Left = c.pop_front.new.self.items in
+    let items : writer.left.items ≡ one ∷ rest = c.pop_front.ensures.items ∙ ap (λ o. option_to_list o ++ rest) c.unwrap-first.ensures in
+    λ _. (
+      one.row.0,
+      ap free_numbers c.push_back_reserved.ensures.items
+          ∙ map-append (λ (r : Row). r.0) writer.free.items (one.row ∷ []),
+      ap left_numbers items,
+    )

@@ -1,0 +1,10 @@
+-- For `free_passed`: so many rows came into the free list.
+use Rattle.std.proofs.Common.{◌≡◌, ◌++◌, ℕ, List, length}
+use Rattle.node_slots.specs.Seats.{free_of, left_of}
+use Rattle.node_slots.proofs.seats.NodeWriter.free_passed.Given as goal
+
+abbrev pub invariant-loop-count : goal.invariant-loop-count
+invariant-loop-count l = record {
+  desk : l.self.desk ≡ l.fn.self.desk;
+  freed : (rows : List ℕ) × (length rows ≡ l.count) × (free_of l.self ≡ free_of l.fn.self ++ rows) × (left_of l.fn.self ≡ rows ++ left_of l.self);
+}

@@ -1,0 +1,99 @@
+-- What the structs of a table and of its seats keep.
+use Rattle.std.specs.Prelude.{ℕ, ◌≡◌, ◌<◌, ◌≤◌, ◌+◌, ◌-◌, ◌*◌, ◌^◌, min, List, [], length, map, slice_index_or, true, false, Some}
+use Rattle.mm_types.specs.declared.slot.Row.{Row}
+use Rattle.grace_core.specs.declared.clearing.Clearing.{Clearing}
+use Rattle.grace_core.specs.Core.{Desk, times, has_row, row_at, since_at, is_free}
+use Rattle.grace_core.specs.Steps.{least}
+use Rattle.maple_node.specs.declared.root.Root.{Root}
+use Rattle.maple_node.specs.Roots.{FitsRoot}
+use Rattle.atomic_table.specs.Table.{Me}
+use Rattle.node_slots.specs.declared.view.Size.{Size}
+use Rattle.node_slots.specs.declared.view.SeatKind.TheVariants.{Reads, Writes}
+use Rattle.node_slots.specs.declared.view.Shown.{Shown}
+use Rattle.node_slots.specs.declared.view.NodeView.{NodeView}
+use Rattle.node_slots.specs.declared.left.Left.{Left}
+use Rattle.node_slots.specs.Places.{word_count}
+use Rattle.node_slots.specs.Plays.{RowsExist}
+
+-- a size that a table can have
+pub record IsSize (size : Size) : Type 0 where
+  pub some_rows : 1 ≤ size.rows
+  pub few_rows : size.rows ≤ 2 ^ 20
+  pub some_readers : 1 ≤ size.readers
+  pub few_readers : size.readers ≤ 64
+
+-- a table has the size that its rule speaks of, and a word for each place
+pub record IsSized (size key : Size) (words : ℕ) : Type 0 where
+  pub size_is : size ≡ key
+  pub words_are : words ≡ word_count size
+  pub fits : IsSize size
+
+-- what a reader's seat knows beside its view
+pub record ReaderKept (reader walks words : ℕ) (me : Me (Unit {0}) NodeView) : Type 0 where
+  pub kind : me.0.kind ≡ Reads
+  pub empty : me.1 ≡ []
+  pub reader_is : me.0.reader ≡ reader
+  pub within : (reader + 2) * 8 ≤ words
+  pub walks_are : walks ≡ min me.0.walks (2 ^ 64 - 1)
+  pub exist : (shown : Shown) → me.0.snapshot ≡ Some shown → RowsExist me.0.size.rows shown
+
+-- what the writer's seat knows beside its view
+pub record WriterKept (size : Size) (root : Root) (words : List (List ℕ)) (clearings : List Clearing) (me : Me (Unit {0}) NodeView) : Type 0 where
+  pub kind : me.0.kind ≡ Writes
+  pub empty : me.1 ≡ []
+  pub size_is : me.0.size ≡ size
+  pub root_is : me.0.known.root ≡ root
+  pub number_is : me.0.known.desk.tree.number ≡ root.tree
+  pub words_are : me.0.known.desk.words ≡ words
+  pub clearings_are : me.0.known.desk.clearings ≡ clearings
+  pub fits : FitsRoot root
+  pub rows : length words ≡ size.rows
+  pub wide : (row : ℕ) → row < length words → length (row_at words row) ≡ 32
+  pub readers : length clearings ≡ size.readers
+  pub since : length me.0.known.desk.since ≡ size.rows
+  pub reached : least root.tree clearings ≤ me.0.known.desk.passed
+
+-- the numbers of free rows
+abbrev pub free_numbers : List Row → List ℕ
+free_numbers free = map (λ row. row.0) free
+
+-- the numbers of the rows that were left
+abbrev pub left_numbers : List Left → List ℕ
+left_numbers left = map (λ one. one.row.0) left
+
+-- how often a row is free or was left
+abbrev pub times_gone : List Row → List Left → ℕ → ℕ
+times_gone free left row = times row (free_numbers free) + times row (left_numbers left)
+
+-- a row that is none
+abbrev pub no_left : Left
+no_left = record { row = record { 0 = 0 }; since = 0 }
+
+-- the row that was left at a place of the queue
+abbrev pub left_at : List Left → ℕ → Left
+left_at left place = slice_index_or left place no_left
+
+-- the first tree that may have a row
+abbrev pub first_at : List ℕ → ℕ → ℕ
+first_at firsts row = slice_index_or firsts row 0
+
+-- what is so of a row that was left: it leaves at the next publish, or it waits since the tree that left it out
+pub record IsLeft (desk : Desk) (left : Left) : Type 0 where
+  pub some : 1 ≤ left.since
+  pub most : left.since ≤ desk.tree.number + 1
+  pub leaves : has_row desk.tree left.row.0 ≡ true → left.since ≡ desk.tree.number + 1
+  pub waits : has_row desk.tree left.row.0 ≡ false → since_at desk.since left.row.0 ≡ left.since
+
+-- What the writer's lists keep. A row is at most once free or left. A free row is free by the grace protocol. Each other row is of
+-- the present tree, or it was taken since the last publish: then it is free by the protocol, and the next tree is the first that
+-- may have it. The rows that were left are in the order of the trees that leave them out.
+pub record RowsKept (rows : ℕ) (free : List Row) (left : List Left) (firsts : List ℕ) (desk : Desk) : Type 0 where
+  pub sized : length firsts ≡ rows
+  pub first : (row : ℕ) → first_at firsts row ≤ desk.tree.number + 1
+  pub once : (row : ℕ) → times_gone free left row ≤ 1
+  pub inside : (row : ℕ) → 1 ≤ times_gone free left row → row < rows
+  pub free_is : (row : ℕ) → 1 ≤ times row (free_numbers free) → is_free desk row ≡ true
+  pub present : (row : ℕ) → row < rows → times_gone free left row ≡ 0 → first_at firsts row ≤ desk.tree.number → has_row desk.tree row ≡ true
+  pub taken : (row : ℕ) → row < rows → times_gone free left row ≡ 0 → desk.tree.number < first_at firsts row → is_free desk row ≡ true
+  pub queue : (place : ℕ) → place < length left → IsLeft desk (left_at left place)
+  pub order : (place other : ℕ) → place ≤ other → other < length left → (left_at left place).since ≤ (left_at left other).since

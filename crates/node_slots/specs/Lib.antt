@@ -1,0 +1,9 @@
+pub mod Trees
+pub mod Places
+pub mod Views
+pub mod Rule
+pub mod Plays
+pub mod Opening
+pub mod Kept
+pub mod Seats
+pub mod Leaves

@@ -1,0 +1,110 @@
+-- What contracts see of a table and of its seats.
+use Rattle.std.specs.Prelude.{ℕ, ◌≡◌, ◌+◌, ◌%◌, Bool, true, not, ◌&&◌, if◌then◌else◌, nat_eq, nat_lt, List, Some}
+use Rattle.std.specs.Arc.{arc_value}
+use Rattle.grace_core.specs.Core as grace
+use Rattle.grace_core.specs.Core.{times, has_row}
+use Rattle.maple_node.specs.declared.root.Root.{Root}
+use Rattle.atomic_table.specs.Seated.{TableId}
+use Rattle.node_slots.specs.declared.view.Size.{Size}
+use Rattle.node_slots.specs.declared.view.Shown.{Shown}
+use Rattle.node_slots.specs.declared.view.NodeView.{NodeView}
+use Rattle.node_slots.specs.declared.seats.NodeTable.{NodeTable}
+use Rattle.node_slots.specs.declared.seats.NodeSeat.{NodeSeat}
+use Rattle.node_slots.specs.declared.seats.WriterSeat.{WriterSeat}
+use Rattle.node_slots.specs.declared.seats.NodeWriter.{NodeWriter}
+use Rattle.node_slots.specs.Trees.{grace_tree, shown_rows}
+use Rattle.node_slots.specs.Views.{named_tree}
+use Rattle.node_slots.specs.Kept.{free_numbers, left_numbers}
+
+-- which table a handle is of
+abbrev pub table_of : NodeTable → TableId
+table_of table = (arc_value table.table).shared.table_id
+
+-- how large a table is
+abbrev pub size_of : NodeTable → Size
+size_of table = table.size
+
+-- the seat is of this table
+pub record IsOf (seat : NodeSeat) (table : NodeTable) : Type 0 where
+  pub same : seat.seat.table_id ≡ table_of table
+  pub size_is : seat.seat.me.0.size ≡ size_of table
+
+-- the writer's seat is of this table
+pub record SitsAt (seat : WriterSeat) (table : NodeTable) : Type 0 where
+  pub same : seat.seat.table_id ≡ table_of table
+  pub size_is : seat.table.size ≡ size_of table
+
+-- the writer is of this table
+abbrev pub Writes : NodeWriter → NodeTable → Type 0
+Writes writer table = SitsAt writer.desk table
+
+-- what a reader knows
+abbrev pub view : NodeSeat → NodeView
+view seat = seat.seat.me.0
+
+-- a reader is open
+abbrev pub IsOpen : NodeSeat → Type 0
+IsOpen seat = (view seat).pin % 2 ≡ 1
+
+-- a reader is closed
+abbrev pub IsClosed : NodeSeat → Type 0
+IsClosed seat = (view seat).pin % 2 ≡ 0
+
+-- a row is of a reader's snapshot
+abbrev pub ShowsRow : NodeView → ℕ → Type 0
+ShowsRow view row = (shown : Shown) × (view.snapshot ≡ Some shown) × (has_row (grace_tree shown) row ≡ true)
+
+-- what the writer's seat knows
+abbrev pub seat_sight : WriterSeat → NodeView
+seat_sight seat = seat.seat.me.0
+
+-- what the writer knows
+abbrev pub sight : NodeWriter → NodeView
+sight writer = seat_sight writer.desk
+
+-- what the writer knows of the grace protocol
+abbrev pub desk : NodeWriter → grace.Desk
+desk writer = (sight writer).known.desk
+
+-- how many rows a writer's table has
+abbrev pub row_count : NodeWriter → ℕ
+row_count writer = (sight writer).size.rows
+
+-- the free list of a writer
+abbrev pub free_of : NodeWriter → List ℕ
+free_of writer = free_numbers writer.free.items
+
+-- the rows that a writer left and that are not free again: they leave at the next publish, or wait
+abbrev pub left_of : NodeWriter → List ℕ
+left_of writer = left_numbers writer.left.items
+
+-- whether a row is of the present tree
+abbrev pub is_present : NodeWriter → ℕ → Bool
+is_present writer row = has_row (desk writer).tree row
+
+-- whether a row waits: it was left, and is not of the present tree
+abbrev pub is_waiting : NodeWriter → ℕ → Bool
+is_waiting writer row = nat_lt 0 (times row (left_of writer)) && not (is_present writer row)
+
+-- whether a row is neither in the free list nor left
+abbrev pub is_kept : NodeWriter → ℕ → Bool
+is_kept writer row = nat_lt row (row_count writer) && nat_eq (times row (free_of writer) + times row (left_of writer)) 0
+
+-- whether a row was taken, and is neither published nor left
+abbrev pub is_taken : NodeWriter → ℕ → Bool
+is_taken writer row = is_kept writer row && not (is_present writer row)
+
+-- how often a row is counted
+abbrev pub count_of : Bool → ℕ
+count_of is = if is then 1 else 0
+
+-- the tree that a root of this row and height names now, with the number after the present tree's
+abbrev pub next_root : NodeWriter → ℕ → ℕ → Root
+next_root writer row height = record { tree = (desk writer).tree.number + 1; height = height; row = record { 0 = row } }
+
+abbrev pub next_shown : NodeWriter → ℕ → ℕ → Shown
+next_shown writer row height = named_tree (sight writer).known (next_root writer row height)
+
+-- The new rows are exactly those that a tree reaches: each row that is neither free nor left is reached once, and no other is.
+abbrev pub ReachesNewRows : NodeWriter → Shown → Type 0
+ReachesNewRows writer shown = (row : ℕ) → times row (shown_rows shown) ≡ count_of (is_kept writer row)

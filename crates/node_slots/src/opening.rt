@@ -1,0 +1,180 @@
+ghost use Rattle.std.specs.Prelude.{◌≡◌, ◌≤◌, ◌<◌, ◌+◌, ◌*◌, ℕ, [], IfOk, length, replicate, slice_get, slice_set, Some};
+ghost use Rattle.std.specs.Arc.{arc_value};
+ghost use Rattle.std.specs.VecDeque.{deque_capacity};
+ghost use Rattle.grace_core.specs.Core.{times};
+ghost use Rattle.grace_core.specs.Steps.{new_clearing};
+ghost use Rattle.maple_node.specs.Roots.{packed_root};
+ghost use Rattle.node_slots.specs.declared.seats.NodeSeat.{NodeSeat as Reader};
+ghost use Rattle.node_slots.specs.Trees.{first_root, empty_row};
+ghost use Rattle.node_slots.specs.Places.{word_count};
+ghost use Rattle.node_slots.specs.Views.{opened_view, reader_view, new_reader, after_reader};
+ghost use Rattle.node_slots.specs.Kept.{IsSize, free_numbers};
+ghost use Rattle.node_slots.specs.Opening.{IsFreeFrom};
+ghost use Rattle.node_slots.specs.Seats.{size_of, IsOf, Writes, view, sight, free_of, left_of};
+
+use crate::rule::NewReader;
+use crate::seats::{NodeSeat, NodeTable, NodeWriter, WriterSeat};
+use crate::view::Size;
+use atomic_table::Table;
+use grace_core::Clearing;
+use maple_node::{Root, pack_root};
+use mm_types::{NoMemory, Row};
+use std::alloc::Global;
+use std::collections::VecDeque;
+use std::sync::Arc;
+
+/// The words of a cache line, which has 64 bytes.
+const LINE: usize = 8;
+
+/// The words of a row.
+const ROW: usize = 32;
+
+/// The root of tree 0, a leaf without entries in row 0.
+const FIRST_ROOT: Root = Root {
+    tree: 0,
+    height: 1,
+    row: Row(0),
+};
+
+/// A reader that was never scanned.
+const NEW_CLEARING: Clearing = Clearing {
+    cleared: 0,
+    pin: 0,
+    tree: 0,
+    joined: false,
+};
+
+impl NodeTable {
+    /// Makes a table of so many rows with its writer and so many readers. Tree 0, a leaf without entries in row 0, is present, all
+    /// other rows are free, and all readers are closed. Its trees pair only slots below `slots`.
+    pub fn new(
+        alloc: Global,
+        rows: u32,
+        slots: u32,
+        readers: u32,
+    ) -> Result<(NodeTable, NodeWriter, Vec<NodeSeat>), NoMemory>
+        requires size { IsSize (record { rows = rows; slots = slots; readers = readers }) }
+        ensures table { IfOk result (λ made. size_of made.0 ≡ record { rows = rows; slots = slots; readers = readers }) }
+        ensures writer { IfOk result (λ made. Writes made.1 made.0
+            × (sight made.1 ≡ opened_view (record { rows = rows; slots = slots; readers = readers }) readers)) }
+        ensures free { IfOk result (λ made. IsFreeFrom 1 rows (free_of made.1)) }
+        ensures left { IfOk result (λ made. left_of made.1 ≡ []) }
+        ensures seats { IfOk result (λ made. length made.2.items ≡ readers) }
+        ensures fresh { IfOk result (λ made. (reader : ℕ) (seat : Reader) → slice_get made.2.items reader ≡ Some seat → IsOf seat made.0
+            × (view seat ≡ reader_view (record { rows = rows; slots = slots; readers = readers }) reader)) }
+    {
+        let size = Size {
+            rows,
+            slots,
+            readers,
+        };
+        let (table, mut writer) = open(alloc, size)?;
+        let mut seats = Vec::with_capacity(alloc, readers as usize)?;
+        for reader in 0..readers {
+            seats.push(table.new_reader(&mut writer, reader))?;
+        }
+        Ok((table, writer, seats))
+    }
+
+    /// The next reader.
+    fn new_reader(&self, writer: &mut NodeWriter, reader: u32) -> NodeSeat
+        requires table { Writes writer.old self.now }
+        requires reader { (reader ≡ (sight writer.old).known.made) × (reader < (size_of self.now).readers) }
+        ensures table { Writes writer.new self.now × IsOf result self.now }
+        ensures writer { sight writer.new ≡ after_reader (sight writer.old) }
+        ensures free { free_of writer.new ≡ free_of writer.old }
+        ensures left { left_of writer.new ≡ left_of writer.old }
+        ensures view { view result ≡ new_reader (sight writer.old) }
+    {
+        let seat = self
+            .table
+            .shared
+            .split_seat::<NewReader>(&mut writer.desk.seat);
+        NodeSeat {
+            seat,
+            reader,
+            walks: 0,
+        }
+    }
+}
+
+/// A table with no reader.
+fn open(alloc: Global, size: Size) -> Result<(NodeTable, NodeWriter), NoMemory>
+    requires { IsSize size }
+    ensures table { IfOk result (λ made. size_of made.0 ≡ size) }
+    ensures writer { IfOk result (λ made. Writes made.1 made.0 × (sight made.1 ≡ opened_view size 0)) }
+    ensures free { IfOk result (λ made. IsFreeFrom 1 size.rows (free_of made.1)) }
+    ensures left { IfOk result (λ made. left_of made.1 ≡ []) }
+{
+    let (table, desk) = open_seat(alloc, size)?;
+    let writer = NodeWriter {
+        desk,
+        free: first_free(alloc, size.rows)?,
+        left: VecDeque::with_capacity(alloc, size.rows as usize)?,
+        firsts: vec![in alloc; 0; size.rows as usize]?,
+    };
+    Ok((table, writer))
+}
+
+/// A table with no reader, and the seat of its writer.
+fn open_seat(alloc: Global, size: Size) -> Result<(NodeTable, WriterSeat), NoMemory>
+    requires { IsSize size }
+    ensures table { IfOk result (λ made. size_of made.0 ≡ size) }
+    ensures seat { IfOk result (λ made. (made.1.seat.table_id ≡ (arc_value made.0.table).shared.table_id) × (made.1.table.size ≡ size)
+        × (made.1.seat.me.0 ≡ opened_view size 0)) }
+{
+    let words = first_words(alloc, size)?;
+    let rows = empty_rows(alloc, size.rows)?;
+    let clearings = vec![in alloc; NEW_CLEARING; size.readers as usize]?;
+    let (table, seat) = Table::of_words(alloc, words.as_slice(), &size)?;
+    let table = NodeTable {
+        table: Arc::new(alloc, table)?,
+        size,
+    };
+    let seat = WriterSeat {
+        seat,
+        table: NodeTable {
+            table: Arc::try_clone(&table.table)?,
+            size,
+        },
+        root: FIRST_ROOT,
+        words: rows,
+        clearings,
+    };
+    Ok((table, seat))
+}
+
+/// The words of a table before anything happened.
+fn first_words(alloc: Global, size: Size) -> Result<Vec<u64>, NoMemory>
+    requires { IsSize size }
+    ensures { IfOk result (λ words. words.items ≡ slice_set (replicate (word_count size) 0) 0 (packed_root first_root)) }
+{
+    let count = (size.readers as usize + 1) * LINE + size.rows as usize * ROW;
+    let mut words = vec![in alloc; 0; count]?;
+    words[0] = pack_root(FIRST_ROOT);
+    Ok(words)
+}
+
+/// So many rows of zeros.
+fn empty_rows(alloc: Global, count: u32) -> Result<Vec<[u64; 32]>, NoMemory>
+    ensures { IfOk result (λ rows. rows.items ≡ replicate count empty_row) }
+{
+    let mut rows = Vec::with_capacity(alloc, count as usize)?;
+    for _row in 0..count {
+        rows.push([0; ROW])?;
+    }
+    Ok(rows)
+}
+
+/// All rows but the first, in their order.
+fn first_free(alloc: Global, count: u32) -> Result<VecDeque<Row>, NoMemory>
+    requires { 1 ≤ count }
+    ensures room { IfOk result (λ free. count ≤ deque_capacity free) }
+    ensures free { IfOk result (λ free. IsFreeFrom 1 count (free_numbers free.items)) }
+{
+    let mut free = VecDeque::with_capacity(alloc, count as usize)?;
+    for row in 1..count {
+        free.push_back(Row(row))?;
+    }
+    Ok(free)
+}

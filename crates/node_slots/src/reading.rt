@@ -1,0 +1,93 @@
+ghost use Rattle.std.specs.Prelude.{◌≡◌, ◌<◌, ◌-◌, ◌^◌, min, slice_index, Some};
+ghost use Rattle.grace_core.specs.Core.{row_at};
+ghost use Rattle.node_slots.specs.declared.view.Shown.{Shown};
+ghost use Rattle.node_slots.specs.Trees.{IsShown};
+ghost use Rattle.node_slots.specs.Plays.{RowsExist};
+ghost use Rattle.node_slots.specs.Views.{open_at, root_at, word_at, close_at, joined_at};
+ghost use Rattle.node_slots.specs.Seats.{IsOf, view, IsOpen, IsClosed, ShowsRow};
+
+use crate::rule::{Joined, Loaded, Opened, ReaderClosed, WordRead};
+use crate::seats::{NodeSeat, NodeTable};
+use maple_node::{Root, unpack_root};
+use mm_types::Row;
+
+impl NodeSeat {
+    /// How many roots it loaded, or 2^64 - 1 where it loaded more.
+    pub fn walks(&self) -> u64
+        ensures { result ≡ min (view self.now).walks (2 ^ 64 - 1) }
+    {
+        self.walks
+    }
+}
+
+impl NodeTable {
+    /// Opens a reader: from its next root load on, the rows of the loaded tree keep their words until it closes.
+    pub fn open(&self, seat: &mut NodeSeat)
+        requires table { IsOf seat.old self.now }
+        requires closed { IsClosed seat.old }
+        ensures table { IsOf seat.new self.now }
+        ensures open { IsOpen seat.new }
+        ensures view { view seat.new ≡ open_at (view seat.old) }
+    {
+        let place = (seat.reader as usize + 1) * 8;
+        self.table
+            .shared
+            .fetch_add::<Opened>(&mut seat.seat, place, 1);
+    }
+
+    /// Loads the root of the present tree, which is the reader's snapshot from then on. The tree meets the layout, and its rows
+    /// exist.
+    pub fn root(&self, seat: &mut NodeSeat) -> Root
+        requires table { IsOf seat.old self.now }
+        requires open { IsOpen seat.old }
+        ensures table { IsOf seat.new self.now }
+        ensures shown { (shown : Shown) × (shown.root ≡ result) × IsShown (view seat.old).size.slots shown
+            × RowsExist (view seat.old).size.rows shown × (view seat.new ≡ root_at (view seat.old) shown) }
+    {
+        let found = self.table.shared.load::<Loaded>(&mut seat.seat, 0);
+        seat.walks = seat.walks.saturating_add(1);
+        unpack_root(found)
+    }
+
+    /// Loads a word of a row of the reader's snapshot: the word that it had when the tree was published.
+    pub fn word(&self, seat: &mut NodeSeat, row: Row, place: u32) -> u64
+        requires table { IsOf seat.old self.now }
+        requires shown { ShowsRow (view seat.old) row.0 }
+        requires place { place < 32 }
+        ensures table { IsOf seat.new self.now }
+        ensures word { (shown : Shown) → (view seat.old).snapshot ≡ Some shown → result ≡ slice_index (row_at shown.words row.0) place }
+        ensures view { view seat.new ≡ word_at (view seat.old) }
+    {
+        let place = (self.size.readers as usize + 1) * 8 + row.0 as usize * 32 + place as usize;
+        self.table.shared.load::<WordRead>(&mut seat.seat, place)
+    }
+
+    /// Closes a reader: its snapshot ends.
+    pub fn close(&self, seat: &mut NodeSeat)
+        requires table { IsOf seat.old self.now }
+        requires open { IsOpen seat.old }
+        ensures table { IsOf seat.new self.now }
+        ensures closed { IsClosed seat.new }
+        ensures view { view seat.new ≡ close_at (view seat.old) }
+    {
+        let place = (seat.reader as usize + 1) * 8;
+        self.table
+            .shared
+            .fetch_add::<ReaderClosed>(&mut seat.seat, place, 1);
+    }
+
+    /// Joins another reader into one. The other's pin stays even for ever.
+    pub fn join(&self, seat: &mut NodeSeat, other: NodeSeat)
+        requires tables { IsOf seat.old self.now × IsOf other self.now }
+        requires closed { IsClosed seat.old × IsClosed other }
+        ensures table { IsOf seat.new self.now }
+        ensures view { view seat.new ≡ joined_at (view seat.old) }
+    {
+        let NodeSeat {
+            seat: taken,
+            reader: _,
+            walks: _,
+        } = other;
+        self.table.shared.join_seat::<Joined>(&mut seat.seat, taken);
+    }
+}

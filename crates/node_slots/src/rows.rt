@@ -1,0 +1,190 @@
+ghost use Rattle.std.specs.Prelude.{◌≡◌, ◌≤◌, ◌<◌, ◌+◌, ◌-◌, ◌^◌, ℕ, true, false, if◌then◌else◌, List, [], ◌∷◌, ◌++◌, length, MatchOption, IfSome, IfOk};
+ghost use Rattle.grace_core.specs.Core.{row_at, since_at, times};
+ghost use Rattle.grace_core.specs.Steps.{least};
+ghost use Rattle.maple_node.specs.Levels.{at_of};
+ghost use Rattle.maple_node.specs.Trees.{tree_of, IsLayout};
+ghost use Rattle.node_slots.specs.Trees.{shown_rows};
+ghost use Rattle.node_slots.specs.Views.{fill_at, publish_at, scan_from};
+ghost use Rattle.node_slots.specs.Kept.{left_at};
+ghost use Rattle.node_slots.specs.Seats.{size_of, Writes, sight, desk, row_count, free_of, left_of, is_present, is_waiting, is_kept, is_taken, count_of, next_root, next_shown, ReachesNewRows};
+
+use crate::left::Left;
+use crate::seats::{NodeTable, NodeWriter};
+use crate::writing::least;
+use maple_node::{Root, Steps};
+use mm_types::{NoMemory, Row};
+use std::sync::Arc;
+
+impl NodeTable {
+    /// Takes a row from the writer's free list. None exactly where the list is empty.
+    pub fn take_row(&self, writer: &mut NodeWriter) -> Option<Row>
+        requires table { Writes writer.old self.now }
+        ensures table { Writes writer.new self.now }
+        ensures free { MatchOption result ((free_of writer.old ≡ []) × (free_of writer.new ≡ []))
+            (λ row. free_of writer.old ≡ row.0 ∷ free_of writer.new) }
+        ensures taken { IfSome result (λ row. is_taken writer.new row.0 ≡ true) }
+        ensures left { left_of writer.new ≡ left_of writer.old }
+        ensures view { sight writer.new ≡ sight writer.old }
+    {
+        let row = writer.free.pop_front()?;
+        writer.firsts[row.0 as usize] = writer.desk.root.tree + 1;
+        Some(row)
+    }
+
+    /// Stores the words of a row that was taken and is not published.
+    pub fn fill(&self, writer: &mut NodeWriter, row: Row, words: &[u64; 32])
+        requires table { Writes writer.old self.now }
+        requires taken { is_taken writer.old row.0 ≡ true }
+        ensures table { Writes writer.new self.now }
+        ensures view { sight writer.new ≡ fill_at (sight writer.old) row.0 words.now }
+        ensures lists { (free_of writer.new ≡ free_of writer.old) × (left_of writer.new ≡ left_of writer.old) }
+    {
+        self.fill_row(&mut writer.desk, row, words);
+    }
+
+    /// Leaves a row of the present tree, or one that was taken and is not published, and that was not left since. A row of the
+    /// present tree leaves at the next publish; one that was taken is free at once.
+    pub fn leave(&self, writer: &mut NodeWriter, row: Row)
+        requires table { Writes writer.old self.now }
+        requires kept { is_kept writer.old row.0 ≡ true }
+        ensures table { Writes writer.new self.now }
+        ensures view { sight writer.new ≡ sight writer.old }
+        ensures free { free_of writer.new ≡ (if is_present writer.old row.0 then free_of writer.old else free_of writer.old ++ row.0 ∷ []) }
+        ensures left { left_of writer.new ≡ (if is_present writer.old row.0 then left_of writer.old ++ row.0 ∷ [] else left_of writer.old) }
+    {
+        let next = writer.desk.root.tree + 1;
+        if writer.firsts[row.0 as usize] < next {
+            writer.left.push_back_reserved(Left { row, since: next });
+        } else {
+            writer.free.push_back_reserved(row);
+        }
+    }
+
+    /// Publishes a tree by its root and height: it is the present one, with the next number. Its rows are those of the present
+    /// tree and those that were taken, without those that were left.
+    pub fn publish(&self, writer: &mut NodeWriter, root: Row, height: u32)
+        requires table { Writes writer.old self.now }
+        requires height { height ≤ 9 }
+        requires number { (desk writer.old).tree.number < 2 ^ 40 - 1 }
+        requires layout { IsLayout (at_of (desk writer.old).words) (sight writer.old).size.slots (shown_rows (next_shown writer.old root.0 height))
+            (tree_of (at_of (desk writer.old).words) (next_root writer.old root.0 height)) }
+        requires rows { ReachesNewRows writer.old (next_shown writer.old root.0 height) }
+        ensures table { Writes writer.new self.now }
+        ensures view { sight writer.new ≡ publish_at (sight writer.old) (next_root writer.old root.0 height) }
+        ensures lists { (free_of writer.new ≡ free_of writer.old) × (left_of writer.new ≡ left_of writer.old) }
+    {
+        let root = Root {
+            tree: writer.desk.root.tree + 1,
+            height,
+            row: root,
+        };
+        self.publish_root(&mut writer.desk, root);
+    }
+
+    /// Loads every pin once, and answers how many rows came into the writer's free list: those that were left out by a tree up to
+    /// which every reader is cleared.
+    pub fn scan(&self, writer: &mut NodeWriter) -> u32
+        requires table { Writes writer.old self.now }
+        ensures table { Writes writer.new self.now }
+        ensures view { (pins : List ℕ) × (length pins ≡ (size_of self.now).readers) × (sight writer.new ≡ scan_from 0 pins (sight writer.old)) }
+        ensures freed { (rows : List ℕ) × (length rows ≡ result)
+            × (free_of writer.new ≡ free_of writer.old ++ rows) × (left_of writer.old ≡ rows ++ left_of writer.new) }
+        ensures rest { (row : ℕ) → is_waiting writer.new row ≡ true
+            → least (desk writer.new).tree.number (desk writer.new).clearings < since_at (desk writer.new).since row }
+    {
+        self.scan_pins(&mut writer.desk);
+        let passed = least(writer.desk.root.tree, writer.desk.clearings.as_slice());
+        writer.free_passed(passed)
+    }
+
+    /// How many rows are in the writer's free list. Each row of the table is free, was taken, is of the present tree, or waits.
+    pub fn free_rows(&self, writer: &NodeWriter) -> u32
+        requires table { Writes writer.now self.now }
+        ensures length { result ≡ length (free_of writer.now) }
+        ensures counted { (row : ℕ) → row < row_count writer.now → times row (free_of writer.now) + count_of (is_taken writer.now row)
+            + count_of (is_present writer.now row) + count_of (is_waiting writer.now row) ≡ 1 }
+    {
+        writer.free.len() as u32
+    }
+
+    /// The words that the table has in a row. Counts one step.
+    pub fn written<L>(&self, writer: &NodeWriter, row: Row, steps: &mut Steps<L>) -> [u64; 32]
+        requires table { Writes writer.now self.now }
+        requires row { row.0 < row_count writer.now }
+        ensures words { result ≡ row_at (desk writer.now).words row.0 }
+        ensures steps { steps.new ≡ steps.old + 1 }
+    {
+        steps.tick();
+        writer.desk.words[row.0 as usize]
+    }
+
+    /// The greatest tree, at most the present one, such that no row waits that left at its publish or before.
+    pub fn settled(&self, writer: &NodeWriter) -> u64
+        requires table { Writes writer.now self.now }
+        ensures most { result ≤ (desk writer.now).tree.number }
+        ensures none { (row : ℕ) → is_waiting writer.now row ≡ true → result < since_at (desk writer.now).since row }
+        ensures greatest { (tree : ℕ) → tree ≤ (desk writer.now).tree.number
+            → ((row : ℕ) → is_waiting writer.now row ≡ true → tree < since_at (desk writer.now).since row) → tree ≤ result }
+    {
+        match writer.left.front() {
+            Some(first) => first.since - 1,
+            None => writer.desk.root.tree,
+        }
+    }
+}
+
+impl NodeWriter {
+    /// Another handle of the writer's table.
+    pub fn table(&self) -> Result<NodeTable, NoMemory>
+        ensures { IfOk result (λ table. Writes self.now table) }
+    {
+        Ok(NodeTable {
+            table: Arc::try_clone(&self.desk.table.table)?,
+            size: self.desk.table.size,
+        })
+    }
+
+    /// Frees the rows that were left out by this tree or one before it, and answers how many.
+    fn free_passed(&mut self, passed: u64) -> u32
+        requires passed { (passed ≤ (desk self.old).passed) × (passed ≤ (desk self.old).tree.number) }
+        ensures desk { self.new.desk ≡ self.old.desk }
+        ensures freed { (rows : List ℕ) × (length rows ≡ result)
+            × (free_of self.new ≡ free_of self.old ++ rows) × (left_of self.old ≡ rows ++ left_of self.new) }
+        ensures rest { (row : ℕ) → is_waiting self.new row ≡ true → passed < since_at (desk self.new).since row }
+    {
+        let waiting = self.left.len() as u32;
+        for count in 0..waiting {
+            if !self.free_first(passed) {
+                return count;
+            }
+        }
+        waiting
+    }
+
+    /// Frees the row that was left first, if it was left out by this tree or one before it. Answers whether it did.
+    fn free_first(&mut self, passed: u64) -> bool
+        requires passed { (passed ≤ (desk self.old).passed) × (passed ≤ (desk self.old).tree.number) }
+        ensures desk { self.new.desk ≡ self.old.desk }
+        ensures freed { result ≡ true → (row : ℕ) × (free_of self.new ≡ free_of self.old ++ row ∷ []) × (left_of self.old ≡ row ∷ left_of self.new) }
+        ensures rest { result ≡ false → (free_of self.new ≡ free_of self.old) × (left_of self.new ≡ left_of self.old)
+            × ((row : ℕ) → is_waiting self.new row ≡ true → passed < since_at (desk self.new).since row) }
+    {
+        if !self.has_passed(passed) {
+            return false;
+        }
+        let first = self.left.pop_front().unwrap();
+        self.free.push_back_reserved(first.row);
+        true
+    }
+
+    /// Whether some row was left, and the first of them was left out by this tree or one before it.
+    fn has_passed(&self, passed: u64) -> bool
+        ensures some { result ≡ true → (0 < length self.now.left.items) × ((left_at self.now.left.items 0).since ≤ passed) }
+        ensures none { result ≡ false → 0 < length self.now.left.items → passed < (left_at self.now.left.items 0).since }
+    {
+        match self.left.front() {
+            Some(first) => first.since <= passed,
+            None => false,
+        }
+    }
+}

@@ -1,0 +1,62 @@
+ghost use Rattle.std.specs.Arc.{arc_value};
+ghost use Rattle.std.specs.Prelude.{◌≡◌, ◌≤◌};
+ghost use Rattle.std.specs.VecDeque.{deque_capacity};
+ghost use Rattle.node_slots.specs.Kept.{IsSized, ReaderKept, WriterKept, RowsKept};
+
+use crate::left::Left;
+use crate::rule::Protocol;
+use crate::view::{NodeView, Size};
+use atomic_table::{Seat, Table};
+use grace_core::Clearing;
+use maple_node::Root;
+use mm_types::Row;
+use std::alloc::Global;
+use std::collections::VecDeque;
+use std::sync::Arc;
+
+/// A handle of a table: a root word, a pin for each reader, and rows of 32 words.
+#[derive(Drop)]
+pub struct NodeTable {
+    pub(crate) table: Arc<Table<(), NodeView, Size, Protocol, Global>, Global>,
+    pub(crate) size: Size,
+    pub ghost sized: { IsSized size (arc_value table).shared.key (arc_value table).shared.table_id.words },
+}
+
+/// A reader of a table.
+#[derive(Drop)]
+pub struct NodeSeat {
+    pub(crate) seat: Seat<(), NodeView>,
+    pub(crate) reader: u32,
+    /// How many roots it loaded, up to the greatest number.
+    pub(crate) walks: u64,
+    pub ghost kept: { ReaderKept reader walks seat.table_id.words seat.me },
+}
+
+/// The writer's seat, with what it knows of the table.
+#[derive(Drop)]
+pub struct WriterSeat {
+    pub(crate) seat: Seat<(), NodeView>,
+    pub(crate) table: NodeTable,
+    /// The root of the present tree.
+    pub(crate) root: Root,
+    /// The words of each row.
+    pub(crate) words: Vec<[u64; 32]>,
+    /// What the scans of each reader found.
+    pub(crate) clearings: Vec<Clearing>,
+    pub ghost kept: { WriterKept table.size root words.items clearings.items seat.me },
+    pub ghost table_is: { seat.table_id ≡ (arc_value table.table).shared.table_id },
+}
+
+/// The one writer of a table. It knows which rows are free, which were left, and which are of the present tree.
+#[derive(Drop)]
+pub struct NodeWriter {
+    pub(crate) desk: WriterSeat,
+    pub(crate) free: VecDeque<Row>,
+    /// The rows that were left and are not free again, in the order of the trees that leave them out.
+    pub(crate) left: VecDeque<Left>,
+    /// For each row the first tree that may have it.
+    pub(crate) firsts: Vec<u64>,
+    pub ghost rows: { RowsKept desk.table.size.rows free.items left.items firsts.items desk.seat.me.0.known.desk },
+    pub ghost free_room: { desk.table.size.rows ≤ deque_capacity free },
+    pub ghost left_room: { desk.table.size.rows ≤ deque_capacity left },
+}

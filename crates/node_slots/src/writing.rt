@@ -1,0 +1,137 @@
+ghost use Rattle.std.specs.Prelude.{◌≡◌, ◌<◌, true, ℕ, List, ◌∷◌, length};
+ghost use Rattle.grace_core.specs.declared.clearing.Clearing.{Clearing as Found};
+ghost use Rattle.grace_core.specs.Core.{is_free};
+ghost use Rattle.grace_core.specs.Steps.{looked, least};
+ghost use Rattle.maple_node.specs.Roots.{FitsRoot};
+ghost use Rattle.node_slots.specs.Trees.{IsShown};
+ghost use Rattle.node_slots.specs.Plays.{RowsExist};
+ghost use Rattle.node_slots.specs.Views.{store_at, fill_at, named_tree, publish_at, scan_at, scan_from};
+ghost use Rattle.node_slots.specs.Seats.{SitsAt, seat_sight};
+
+use crate::rule::{Published, Scanned, Stored};
+use crate::seats::{NodeTable, WriterSeat};
+use grace_core::Clearing;
+use maple_node::{Root, pack_root};
+use mm_types::Row;
+
+impl NodeTable {
+    /// Stores a word of a free row, where the table does not have it there already.
+    fn store_word(&self, seat: &mut WriterSeat, row: Row, place: usize, word: u64)
+        requires table { SitsAt seat.old self.now }
+        requires row { row.0 < seat.old.table.size.rows }
+        requires place { place < 32 }
+        requires free { is_free (seat_sight seat.old).known.desk row.0 ≡ true }
+        ensures table { SitsAt seat.new self.now }
+        ensures view { seat_sight seat.new ≡ store_at (seat_sight seat.old) row.0 place word }
+        ensures same { seat.new.table ≡ seat.old.table }
+    {
+        let mut words = seat.words[row.0 as usize];
+        if words[place] == word {
+            return;
+        }
+        words[place] = word;
+        seat.words[row.0 as usize] = words;
+        let at = (self.size.readers as usize + 1) * 8 + row.0 as usize * 32 + place;
+        self.table.shared.store::<Stored>(&mut seat.seat, at, word);
+    }
+
+    /// Stores the words of a free row.
+    pub(crate) fn fill_row(&self, seat: &mut WriterSeat, row: Row, words: &[u64; 32])
+        requires table { SitsAt seat.old self.now }
+        requires row { row.0 < seat.old.table.size.rows }
+        requires free { is_free (seat_sight seat.old).known.desk row.0 ≡ true }
+        ensures table { SitsAt seat.new self.now }
+        ensures view { seat_sight seat.new ≡ fill_at (seat_sight seat.old) row.0 words.now }
+        ensures same { seat.new.table ≡ seat.old.table }
+    {
+        for place in 0..32 {
+            self.store_word(seat, row, place, words[place]);
+        }
+    }
+
+    /// Stores a root word: its tree is the present one.
+    pub(crate) fn publish_root(&self, seat: &mut WriterSeat, root: Root)
+        requires table { SitsAt seat.old self.now }
+        requires fits { FitsRoot root }
+        requires later { (seat_sight seat.old).known.desk.tree.number < root.tree }
+        requires shown { IsShown (seat_sight seat.old).size.slots (named_tree (seat_sight seat.old).known root) }
+        requires exist { RowsExist (seat_sight seat.old).size.rows (named_tree (seat_sight seat.old).known root) }
+        ensures table { SitsAt seat.new self.now }
+        ensures view { seat_sight seat.new ≡ publish_at (seat_sight seat.old) root }
+        ensures same { seat.new.table ≡ seat.old.table }
+    {
+        let word = pack_root(root);
+        self.table
+            .shared
+            .store::<Published>(&mut seat.seat, 0, word);
+        seat.root = root;
+    }
+
+    /// Loads a reader's pin, and answers it.
+    fn scan_pin(&self, seat: &mut WriterSeat, reader: u32) -> u64
+        requires table { SitsAt seat.old self.now }
+        requires reader { reader < self.now.size.readers }
+        ensures table { SitsAt seat.new self.now }
+        ensures view { seat_sight seat.new ≡ scan_at (seat_sight seat.old) reader result }
+        ensures same { seat.new.table ≡ seat.old.table }
+    {
+        let place = (reader as usize + 1) * 8;
+        let found = self.table.shared.load::<Scanned>(&mut seat.seat, place);
+        let clearing = seat.clearings[reader as usize];
+        seat.clearings[reader as usize] = looked(seat.root.tree, found, clearing);
+        found
+    }
+
+    /// Loads every pin once.
+    pub(crate) fn scan_pins(&self, seat: &mut WriterSeat)
+        requires { SitsAt seat.old self.now }
+        ensures table { SitsAt seat.new self.now }
+        ensures view { (pins : List ℕ) × (length pins ≡ self.now.size.readers) × (seat_sight seat.new ≡ scan_from 0 pins (seat_sight seat.old)) }
+        ensures same { seat.new.table ≡ seat.old.table }
+    {
+        for reader in 0..self.size.readers {
+            self.scan_pin(seat, reader);
+        }
+    }
+}
+
+/// What the scans of a reader found, with one at the tree of this number that found this pin.
+fn looked(number: u64, found: u64, clearing: Clearing) -> Clearing
+    ensures { result ≡ looked number found clearing }
+{
+    let cleared = if found % 2 == 0 {
+        number
+    } else if found == clearing.pin {
+        clearing.cleared
+    } else {
+        clearing.tree
+    };
+    Clearing {
+        cleared,
+        pin: found,
+        tree: number,
+        joined: clearing.joined,
+    }
+}
+
+/// The greatest tree, up to this one, up to which every reader is cleared.
+pub(crate) fn least(number: u64, clearings: &[Clearing]) -> u64
+    ensures { result ≡ least number clearings.now }
+{
+    let mut passed = number;
+    for clearing in clearings {
+        passed = least_with(passed, *clearing);
+    }
+    passed
+}
+
+/// The same with one reader more.
+fn least_with(passed: u64, clearing: Clearing) -> u64
+    ensures { (others : List Found) → least passed (clearing ∷ others) ≡ least result others }
+{
+    if clearing.joined {
+        passed
+    } else {
+        passed.min(clearing.cleared)
+    }
+}
