@@ -263,7 +263,10 @@ fn object_mapped(config: &Config, objects: u32, args: &MmapArgs) -> u32
     if is_anonymous(args) {
         return if is_shared(args) { objects + 1 } else { 0 };
     }
-    object_of(config.files.items(), args.fd).unwrap_or(0)
+    match object_of(config.files.items(), args.fd) {
+        Some(object) => object,
+        None => 0,
+    }
 }
 
 /// How many objects are numbered after a call of mmap(2) that succeeds, where so many were before it.

@@ -1,4 +1,4 @@
--- How often slots stand in lists.
+-- For `AreaSlots::new`, `take`, `retire` and `seen`: how often slots stand in lists.
 use Rattle.std.proofs.Common.{◌≡◌, ◌≢◌, ◌≤◌, ◌+◌, ℕ, Bool, true, false, not, nat_eq, nat_lt, ◌⊎◌, suc, zero, inl, inr, List, [], ◌∷◌, length, filter, refl, sym, ap, ◌∙◌, arith, if◌then◌else◌}
 use Rattle.std.proofs.lemmas.Bool.Decides.{nat_tests}
 use Rattle.std.proofs.lemmas.List.Sums.{sum_by-cons}

@@ -1,4 +1,4 @@
--- What the calls of a set of slots keep.
+-- For `AreaSlots::new`, `take`, `retire` and `seen`: what the calls of a set of slots keep.
 use Rattle.std.proofs.Common.{◌≡◌, ◌≢◌, ◌≤◌, ◌<◌, ◌+◌, ℕ, true, false, nat_le, nat_lt, subst, List, [], ◌∷◌, ◌++◌, length, map, get_or, refl, sym, ap, ◌∙◌, arith, if◌then◌else◌, Result, Ok, Err, OnOk, OnErr, ◌⊎◌, inl, inr, suc, zero, append_assoc, length-append}
 use Rattle.std.specs.List.{insert, range_with_len}
 use Rattle.std.proofs.lemmas.List.{append-nil}

@@ -1,8 +1,8 @@
--- The front of a list that passes a test, and the rest that does not.
+-- For `AreaSlots::seen`: the beginning of a list that passes a test, and the rest that does not.
 use Rattle.std.proofs.Common.{◌≡◌, ◌≤◌, ℕ, Bool, true, false, not, suc, zero, List, [], ◌∷◌, length, filter, take, drop, refl, ap, arith}
 use Rattle.std.specs.List.Sorted.{IsPartitionPoint}
 
--- what passes the test stands before the place, and the rest behind it
+-- what passes the test stands before the place, and the rest after it
 pub record IsParted {X : Type 0} (p : X → Bool) (xs : List X) (place : ℕ) : Type 0 where
   pub before : take place xs ≡ filter p xs
   pub behind : drop place xs ≡ filter (λ x. not (p x)) xs

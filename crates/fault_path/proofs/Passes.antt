@@ -1,4 +1,4 @@
--- Passes: fresh ones, and one with one read more.
+-- For `Pass::note` and `passes_of`: fresh passes, and one with one read more.
 use Rattle.std.proofs.Common.{ℕ, ◌≡◌, ◌≤◌, ◌+◌, List, [], ◌∷◌, ◌++◌, length, get_or, All, refl, sym, ap, subst, arith, ◌∙◌}
 use Rattle.std.proofs.lemmas.List.{length-append}
 use Rattle.std.proofs.lemmas.List.Elements.{All-push}

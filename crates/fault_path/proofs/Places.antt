@@ -1,4 +1,4 @@
--- The elements of a list that gains one.
+-- For `passes_of`: the elements of a list that gains one.
 use Rattle.std.proofs.Common.{ℕ, zero, suc, ◌≡◌, List, [], ◌∷◌, ◌++◌, length, slice_get, Some, None, IfSome, refl, sym, subst, ap, ◌∙◌, arith, append_assoc}
 use Rattle.std.proofs.lemmas.List.{length-append}
 

@@ -30,7 +30,7 @@ impl Model for FaultView {
 
 impl FaultView {
     /// Makes a table with its writer and a pass for each caller, in order, with as many operations as are given for it.
-    /// There are 1 to 64 callers, with at most 16,777,216 operations together. Refused only where memory is wanting.
+    /// There are 1 to 64 callers, with at most 16,777,216 operations together. Refused only where memory runs out.
     pub fn make(
         alloc: Global,
         config: &Config,

@@ -177,7 +177,7 @@ fn a_row_waits_for_its_reader(rt: HostRuntime) -> Result<(), Fail> {
     Ok(())
 }
 
-/// Each reason to refuse an event but want of memory.
+/// Each reason to refuse an event but running out of memory.
 #[test]
 fn each_refusal(rt: HostRuntime) -> Result<(), Fail> {
     let lines: &[Line<'_>] = &[

@@ -218,7 +218,7 @@ history_small : (journal : List Entry) (logs : List (List Seen)) → All Small (
 unfolding history_of
 history_small journal logs small = all_gather Small (entry_items 0 journal ++ logs_items 0 logs) small
 
--- a list, as what stands before a place, the element there, and what stands behind it
+-- a list, as what stands before a place, the element there, and what stands after it
 pub split_at : {X : Type 0} (xs : List X) (place : ℕ) (x : X) → slice_get xs place ≡ Some x → (rest : List X) × (take place xs ++ x ∷ rest ≡ xs)
 split_at [] place x found = absurd (cc)
 split_at {X} (first ∷ xs) zero x found =

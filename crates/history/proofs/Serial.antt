@@ -36,7 +36,7 @@ next_version config space version (ops.Call call) = refl
 next_version config space version (ops.Fault page access) = omega arith
 next_version config space version ops.Maps = omega arith
 
--- the element after a front
+-- the element after a beginning
 get_middle : {A : Type 0} (xs : List A) (y : A) (ys : List A) → slice_get (xs ++ y ∷ ys) (length xs) ≡ Some y
 get_middle [] y ys = refl
 get_middle (x ∷ xs) y ys = get_middle xs y ys

@@ -20,7 +20,7 @@ pub fn one_operation_more()
     ensures read { (old rest : List Entry) (log : List Seen) (read : Seen) (caller : ℕ) → calls_by caller rest ≡ []
         → All (λ read. version_of read ≤ length old) log → version_of read ≡ length (old ++ rest)
         → ops_of (own_of caller (old ++ rest) (log ++ read ∷ [])) ≡ ops_of (own_of caller old log) ++ op_of (content_of read) ∷ [] }
-    ensures nothing { (old rest : List Entry) (log : List Seen) (caller : ℕ) → calls_by caller rest ≡ []
+    ensures idle { (old rest : List Entry) (log : List Seen) (caller : ℕ) → calls_by caller rest ≡ []
         → own_of caller (old ++ rest) log ≡ own_of caller old log }
     ensures none { (caller : ℕ) → own_of caller [] [] ≡ [] }
 {}

@@ -1,7 +1,7 @@
 //! Copying bytes out of memory, a piece at a time.
 ghost use Rattle.std.specs.Prelude.{◌≡◌, ◌+◌, ◌<◌, ◌≤◌, ◌++◌, [], length, min, take, drop};
 
-/// Copies the bytes from `at` on into the front of `into`: at most `most` of them, and as many as there are and
+/// Copies the bytes from `at` on to the beginning of `into`: at most `most` of them, and as many as there are and
 /// as there is room for. Answers their number.
 #[tactic(auto, using(crate::proofs::Moved::left_none))]
 pub(crate) fn fill_piece(bytes: &[u8], at: usize, most: usize, into: &mut [u8]) -> usize

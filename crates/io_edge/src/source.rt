@@ -15,7 +15,7 @@ pub trait Source {
     /// How often the source has failed, up to 2^64 - 1.
     ghost faults: { Self → ℕ };
 
-    /// Moves the next bytes of what is left into the front of the piece, and answers their number. At a
+    /// Moves the next bytes of what is left to the beginning of the piece, and answers their number. At a
     /// piece that is not empty, 0 is the end of the input. An error took no byte.
     fn take(&mut self, into: &mut [u8]) -> Result<usize, Failed>
         ensures bound { ReadsAtMost result into.new }

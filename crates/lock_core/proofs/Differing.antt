@@ -17,7 +17,7 @@ same_first row other rows others same =
     cond-true (pointwise nat_eq row other) (option_map (λ place. place + 1) (first_difference rows others)) (Some 0)
     (ap (pointwise nat_eq row) (sym same) ∙ row_is_itself row)
 
--- two rows that differ, behind rows that do not
+-- two rows that differ, after rows that do not
 pub differs_at : (rows others : List (List ℕ)) (i : ℕ) → i < length rows → i < length others → take i rows ≡ take i others
     → get_or rows i [] ≢ get_or others i [] → first_difference rows others ≡ Some i
 differs_at [] others i within inside same apart = absurd (omega arith)

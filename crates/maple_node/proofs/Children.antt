@@ -1,4 +1,4 @@
--- Serves the law of the words of inner nodes.
+-- For the law `inner_packing_is_undone`: the words of inner nodes.
 use Rattle.std.proofs.Common.{ℕ, zero, suc, ◌≡◌, ◌<◌, ◌≤◌, ◌+◌, ◌-◌, ◌*◌, ◌/◌, ◌%◌, ◌^◌, Bool, true, false, ◌&&◌, if◌then◌else◌, nat_lt, List, [], ◌∷◌, length, map, get_or, Some, None, refl, sym, ap, subst, ◌∙◌, arith, inl, inr}
 use Rattle.std.proofs.lemmas.List.{length-map, get_or_past, get_or-map, ext_get_or}
 use Rattle.std.proofs.lemmas.Option.{slice_get-get_or}
@@ -118,7 +118,7 @@ each_word P index first second third = elim (cases_lt (index % 3) 1) as (λ _. P
   ]
 ]
 
--- the words behind the last child are 0
+-- the words after the last child are 0
 behind : (children : List Child) (index : ℕ) → 3 * length children ≤ index → get_or (words_of false (map child_item children)) index 0 ≡ 0
 behind children index past =
     let items = map child_item children in
@@ -128,7 +128,7 @@ behind children index past =
     (inner-words items (index / 3) ∙ ap (λ (item : Item). item.word) none)
     (inner-gaps items (index / 3) ∙ ap (λ (item : Item). item.gap) none)
 
--- they read as the children in the first places, and are 0 behind them
+-- they read as the children in the first places, and are 0 after them
 pub inner_shown : (children : List Child) → FitsInner children → IsInnerOf (words_of false (map child_item children)) children
 inner_shown children fits = record {
   sized = length-words_of false (map child_item children)
@@ -137,7 +137,7 @@ inner_shown children fits = record {
   unused = λ index past within. behind children index past;
 }
 
--- words that read as children, and are 0 behind them, are their words
+-- words that read as children, and are 0 after them, are their words
 word_there : (words : List ℕ) (children : List Child) → IsInnerOf words children → (k : ℕ) → k / 3 < length children
     → get_or (words_of false (map child_item children)) k 0 ≡ get_or words k 0
 word_there words children inner k there =

@@ -1,4 +1,4 @@
--- Serves the law of the words of leaves.
+-- For the law `leaf_packing_is_undone`: the words of leaves.
 use Rattle.std.proofs.Common.{ℕ, zero, suc, ◌≡◌, ◌<◌, ◌≤◌, ◌+◌, ◌-◌, ◌*◌, ◌/◌, ◌%◌, ◌^◌, Bool, true, false, ◌&&◌, if◌then◌else◌, nat_eq, nat_lt, nat_le, List, [], ◌∷◌, length, map, get_or, Option, Some, None, refl, sym, ap, subst, ◌∙◌, arith, inl, inr}
 use Rattle.std.proofs.lemmas.List.{length-map, get_or_past, get_or-map, ext_get_or}
 use Rattle.std.proofs.lemmas.Option.{slice_get-get_or}
@@ -120,7 +120,7 @@ each_word P index first second = elim (cases_lt (index % 2) 1) as (λ _. P index
   | inr odd ↦ let at : 2 * (index / 2) + 1 ≡ index = omega arith in subst P at second
 ]
 
--- the words behind the last entry are 0
+-- the words after the last entry are 0
 behind : (entries : List Entry) (index : ℕ) → 2 * length entries ≤ index → get_or (words_of true (map entry_item entries)) index 0 ≡ 0
 behind entries index past =
     let items = map entry_item entries in
@@ -129,7 +129,7 @@ behind entries index past =
     (leaf-ends items (index / 2) ∙ ap (λ (item : Item). item.end) none)
     (leaf-words items (index / 2) ∙ ap (λ (item : Item). item.word) none)
 
--- they read as the entries in the first places, and are 0 behind them
+-- they read as the entries in the first places, and are 0 after them
 pub leaf_shown : (entries : List Entry) → FitsLeaf entries → IsLeafOf (words_of true (map entry_item entries)) entries
 leaf_shown entries fits = record {
   sized = length-words_of true (map entry_item entries)
@@ -138,7 +138,7 @@ leaf_shown entries fits = record {
   unused = λ index past within. behind entries index past;
 }
 
--- words that read as entries, and are 0 behind them, are their words
+-- words that read as entries, and are 0 after them, are their words
 word_there : (words : List ℕ) (entries : List Entry) → IsLeafOf words entries → (k : ℕ) → k / 2 < length entries
     → get_or (words_of true (map entry_item entries)) k 0 ≡ get_or words k 0
 word_there words entries leaf k there =

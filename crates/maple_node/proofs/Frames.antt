@@ -1,4 +1,4 @@
--- A tree depends only on its own rows.
+-- For the law `depends_on_its_rows`: a tree depends only on its own rows.
 use Rattle.std.proofs.Common.{ℕ, zero, suc, ◌≡◌, ◌≤◌, ◌+◌, Bool, true, List, [], ◌∷◌, ◌++◌, length, map, refl, ap, sym, subst, ◌∙◌, arith, nat_eq}
 use Rattle.std.proofs.lemmas.Bool.Decides.{nat_tests}
 use Rattle.maple_node.specs.declared.item.Item.{Item}

@@ -1,4 +1,4 @@
--- Going down the levels of a tree.
+-- For all laws of trees: going down the levels of a tree.
 use Rattle.std.proofs.Common.{ℕ, zero, suc, ◌≡◌, ◌<◌, ◌+◌, Bool, List, [], ◌∷◌, refl, ap, sym, subst, ◌∙◌}
 use Rattle.maple_node.specs.declared.item.Item.{Item}
 use Rattle.maple_node.specs.Nodes.{end_of, Ascends}

@@ -1,4 +1,4 @@
--- Lists of items: where they end, and what holds of each.
+-- For all laws of trees: lists of items, where they end, and what holds of each.
 use Rattle.std.proofs.Common.{ℕ, ◌≡◌, ◌<◌, ◌≤◌, true, false, List, [], ◌∷◌, ◌++◌, length, refl, arith, inl, inr}
 use Rattle.std.specs.Prelude.{IsSome, nat_lt}
 use Rattle.std.proofs.lemmas.Bool.{cases_lt}
@@ -12,7 +12,7 @@ pub end_of-append : (start : ℕ) (xs ys : List Item) → end_of start (xs ++ ys
 end_of-append start [] ys = refl
 end_of-append start (x ∷ xs) ys = end_of-append x.end xs ys
 
--- items that ascend behind others that do
+-- items that ascend after others that do
 pub Ascends-append : (start : ℕ) (xs ys : List Item) → Ascends start xs → Ascends (end_of start xs) ys → Ascends start (xs ++ ys)
 Ascends-append start [] ys left right = right
 Ascends-append start (x ∷ xs) ys left right = (left.0, Ascends-append x.end xs ys left.1 right)

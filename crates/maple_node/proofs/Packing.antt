@@ -1,4 +1,4 @@
--- Serves `leaf_words` and `inner_words`, and the laws of node words.
+-- For `leaf_words`, `inner_words` and the laws of node words: words that are put one after another.
 use Rattle.std.proofs.Common.{ℕ, zero, suc, ◌≡◌, ◌<◌, ◌≤◌, ◌+◌, ◌-◌, ◌*◌, Bool, true, false, List, [], ◌∷◌, ◌++◌, length, take, get_or, set, replicate, refl, sym, ap, ◌∙◌, arith, length-append, append_assoc, append-nil, map}
 use Rattle.std.proofs.lemmas.List.{take_more, set_at, take_all, length-take-le, length-map, get_or-map}
 use Rattle.std.proofs.lemmas.Grind.{flat_map-append}
@@ -23,7 +23,7 @@ zeros_three (suc (suc (suc n))) some = let e : suc (suc (suc n)) - 3 ≡ n = ome
 put_one : (front rest : List ℕ) (old place a : ℕ) → length front ≡ place → set (front ++ old ∷ rest) place a ≡ (front ++ a ∷ []) ++ rest
 put_one front rest old place a long = set_at front old rest a place long ∙ sym (append_assoc front (a ∷ []) rest)
 
--- two words put behind others, where zeros stood
+-- two words put after others, where zeros stood
 pub put_two : (front words : List ℕ) (n place a b : ℕ) → words ≡ front ++ replicate n 0 → length front ≡ place → 2 ≤ n
     → set (set words place a) (place + 1) b ≡ (front ++ a ∷ b ∷ []) ++ replicate (n - 2) 0
 put_two front words n place a b is long some =
@@ -33,7 +33,7 @@ put_two front words n place a b is long some =
     let joined : (front ++ a ∷ []) ++ b ∷ [] ≡ front ++ a ∷ b ∷ [] = append_assoc front (a ∷ []) (b ∷ []) in
     rw (first, ← joined) (put_one (front ++ a ∷ []) rest 0 (place + 1) b more)
 
--- three words put behind others, where zeros stood
+-- three words put after others, where zeros stood
 pub put_three : (front words : List ℕ) (n place a b d : ℕ) → words ≡ front ++ replicate n 0 → length front ≡ place → 3 ≤ n
     → set (set (set words place a) (place + 1) b) (place + 2) d ≡ (front ++ a ∷ b ∷ d ∷ []) ++ replicate (n - 3) 0
 put_three front words n place a b d is long some =

@@ -1,4 +1,4 @@
--- Serves the laws of node words: what stands at each place.
+-- For the laws `leaf_packing_is_undone` and `inner_packing_is_undone`: what stands at each place.
 use Rattle.std.proofs.Common.{ℕ, zero, suc, ◌≡◌, ◌<◌, ◌≤◌, ◌+◌, ◌-◌, ◌*◌, Bool, true, false, nat_eq, List, [], ◌∷◌, ◌++◌, length, get_or, replicate, refl, sym, ap, arith, length-append}
 use Rattle.std.proofs.lemmas.List.{length-replicate}
 use Rattle.std.proofs.lemmas.Bool.Decides.{nat_tests}
@@ -10,7 +10,7 @@ use Rattle.maple_node.specs.Nodes.{item_words, words_of, leaf_items, inner_items
 abbrev pub unused : Item
 unused = record { end = 0; word = 0; gap = 0 }
 
--- a word of zeros, and behind them
+-- a word of zeros, and after them
 zeros_at : (n k : ℕ) → get_or {A = ℕ} (replicate n 0) k 0 ≡ 0
 zeros_at zero k = refl
 zeros_at (suc n) zero = refl

@@ -1,4 +1,4 @@
--- Laws of the layout of a tree.
+-- For all laws of trees: the layout, level by level.
 use Rattle.std.proofs.Common.{ℕ, zero, suc, ◌≡◌, ◌<◌, ◌≤◌, ◌+◌, ◌-◌, true, false, List, [], ◌∷◌, ◌++◌, length, All, replicate, refl, ap, sym, subst, ◌∙◌, arith, inl, inr, if◌then◌else◌, nat_eq}
 use Rattle.std.proofs.lemmas.Bool.{cases_lt}
 use Rattle.std.specs.Prelude.{IsSome, ◌↔◌}

@@ -52,13 +52,13 @@ pub record FitsInner (children : List Child) : Type 0 where
   pub ascends : Ascends 0 (map child_item children)
   pub rows : All (λ child. child.1.0 < 2 ^ 32) children
 
--- 32 words that read as these entries in the first places, and are 0 behind them
+-- 32 words that read as these entries in the first places, and are 0 after them
 pub record IsLeafOf (words : List ℕ) (entries : List Entry) : Type 0 where
   pub sized : length words ≡ 32
   pub used : (place : ℕ) → place < length entries → leaf_entry words place ≡ slice_get entries place
   pub unused : (index : ℕ) → 2 * length entries ≤ index → index < 32 → slice_index words index ≡ 0
 
--- 32 words that read as these children in the first places, and are 0 behind them
+-- 32 words that read as these children in the first places, and are 0 after them
 pub record IsInnerOf (words : List ℕ) (children : List Child) : Type 0 where
   pub sized : length words ≡ 32
   pub used : (place : ℕ) → place < length children → inner_child words place ≡ slice_get children place

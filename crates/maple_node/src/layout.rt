@@ -109,7 +109,7 @@ fn slot_of(word: u64) -> Option<Slot>
 }
 
 /// Packing the entries of a leaf and reading them undo each other: each place is read back, and there is nothing past the
-/// last entry. Words that read as entries, and are 0 behind them, are the words of these entries.
+/// last entry. Words that read as entries, and are 0 after them, are the words of these entries.
 pub fn leaf_packing_is_undone()
     ensures read_back { (entries : List Entry) (place : ℕ) → FitsLeaf entries
         → leaf_entry (words_of true (map entry_item entries)) place ≡ slice_get entries place }
@@ -121,7 +121,7 @@ pub fn leaf_packing_is_undone()
 {}
 
 /// Packing the children of an inner node and reading them undo each other: each place is read back, and there is nothing
-/// past the last child. Words that read as children, and are 0 behind them, are the words of these children.
+/// past the last child. Words that read as children, and are 0 after them, are the words of these children.
 pub fn inner_packing_is_undone()
     ensures read_back { (children : List Child) (place : ℕ) → FitsInner children
         → inner_child (words_of false (map child_item children)) place ≡ slice_get children place }

@@ -1,10 +1,10 @@
--- For `push_line`: where an append that stops leaves a front of the line.
+-- For `push_line`: where an append that stops leaves a beginning of the line.
 use Rattle.std.proofs.Common.{◌≡◌, ℕ, List, ◌++◌, codes, ◌-◌, length, length-append, arith, ap, ◌∙◌, subst}
 use Rattle.mm_types.specs.declared.area.Record.{Record}
 use Rattle.mm_types.specs.declared.files.FileRow.{FileRow}
 use Rattle.mm_types.specs.MapsText.{Backing, backing, front_text, name_text, area_text}
 use Rattle.maps_print.specs.Appends.{AppendsFront}
-use Rattle.maps_print.proofs.Fronts.{front_of_all, front_of_first, front_of_second}
+use Rattle.maps_print.proofs.Beginnings.{front_of_all, front_of_first, front_of_second}
 
 -- what stands before the name has been appended, and the name begins at its end
 pub record BeforeName (files : List FileRow) (area : Record) (old mid : List ℕ) (width : ℕ) (shown : List ℕ) : Type 0 where
@@ -31,7 +31,7 @@ names_line : (files : List FileRow) (area : Record) (old mid : List ℕ) (column
 names_line files area old mid column name before =
     ap (λ column. name_text column name) before.column ∙ ap (name_text (length (front_text area (backing files area.object)))) before.name
 
--- a front of the name
+-- a beginning of the name
 pub front_in_name : (files : List FileRow) (area : Record) (old mid new : List ℕ) (column : ℕ) (name : List ℕ)
     → BeforeName files area old mid column name → AppendsFront mid new (name_text column name) → AppendsFront old new (area_text files area)
 unfolding area_text

@@ -1,4 +1,4 @@
--- A new space can be opened: fresh passes have the operations that they were made with.
+-- For `Ready::make`: fresh passes have the operations that they were made with, so a new space can be opened.
 use Rattle.std.proofs.Common.{ℕ, ◌≡◌, ◌<◌, ◌≤◌, List, [], ◌∷◌, length, sum, get_or, sym, ap, subst, ◌∙◌, arith}
 use Rattle.std.proofs.lemmas.List.{length-map, ext_get_or, get_or-map}
 use Rattle.std.proofs.lemmas.Option.{slice_get-get_or}

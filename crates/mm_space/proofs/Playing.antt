@@ -1,4 +1,4 @@
--- The tests' passes: what each of them does in a thread of its own, and how many operations it has.
+-- For the tests' `drive` and `use_all`: what each pass does in a thread of its own, and how many operations it has.
 use Rattle.std.proofs.Common.{ℕ, ◌≡◌, ◌<◌, List, [], ◌∷◌, length, get_or, slice_get, Some, refl, sym, arith, ap, subst, ◌∙◌}
 use Rattle.std.proofs.lemmas.Option.{slice_get_read, slice_get_within, slice_get-get_or, get_or_from_slice_get}
 use Rattle.mm_types.specs.declared.config.Config.{Config}

@@ -1,4 +1,4 @@
--- Closing a space: the logs of its passes, and the passes in its journal.
+-- For `Space::close` and `gather_logs`: the logs of the passes, and the passes in the journal.
 use Rattle.std.proofs.Common.{ℕ, ◌≡◌, ◌≤◌, ◌<◌, List, [], ◌∷◌, ◌++◌, length, map, Option, IfSome, All, refl, sym, ap, subst, arith, ◌∙◌}
 use Rattle.std.proofs.lemmas.List.{length-append, length-map, map-append, get_or_past}
 use Rattle.std.proofs.lemmas.Option.{slice_get_within, get_or_from_slice_get}
@@ -45,7 +45,7 @@ regathered later logs last passes pass next gives is same =
     ap (λ all. all ++ next.log ∷ []) (gives ∙ is) ∙ ap (λ log. map (λ p. p.log) passes ++ log ∷ []) same
     ∙ sym (map-append (λ (p : PassView). p.log) passes (pass ∷ []))
 
--- what closing all passes comes to
+-- what closing all passes results in
 pub closes : (name : TableId) (settings : Config) (most : List ℕ) (passes : List PassView) (journal kept : List Entry)
     (logs : List (List Seen)) (list : List Record)
     → ArePasses name settings most passes → journal ≡ kept → IsLegalJournal settings kept → list ≡ list_after settings kept

@@ -33,7 +33,7 @@ impl Model for Ready {
 impl Ready {
     /// Makes a space that can be opened: an empty address space with this configuration, and as many callers as there are
     /// numbers of operations, in their order. There are 1 to 64 callers, with at most 16,777,216 operations together.
-    /// Refused only where memory is wanting.
+    /// Refused only where memory runs out.
     pub fn make(alloc: Global, config: Config, operations: &[u64]) -> Result<Ready, NoMemory>
         requires config { IsValidConfig config }
         requires callers { (1 ≤ length operations.now) × (length operations.now ≤ 64) }

@@ -17,14 +17,14 @@ use mmap_lock::MmapLock;
 use std::alloc::Global;
 use std::sync::Wait;
 
-/// What a call came to: its reply, and its place in the journal, counted from 1.
+/// What a call gave: its reply, and its place in the journal, counted from 1.
 #[derive(Clone, Copy, Debug, PartialEq, Eq)]
 pub struct Called {
     pub reply: Reply,
     pub version: u64,
 }
 
-/// What a fault came to: its verdict, and how many entries the journal had then.
+/// What a fault gave: its verdict, and how many entries the journal had then.
 #[derive(Clone, Copy, Debug, PartialEq, Eq)]
 pub struct Faulted {
     pub verdict: Verdict,
@@ -111,7 +111,7 @@ impl<N: SpaceName> Space<N> {
     }
 
     /// Reads the list of areas under the lock, and answers how many entries the journal had then. Refused where memory for
-    /// the copy is wanting: then no operation is taken.
+    /// the copy runs out: then no operation is taken.
     pub fn maps<R: Wait>(&self, rt: &R, alloc: Global, pass: &mut Pass) -> Result<u64, NoMemory>
         requires pass { IsPassOf N.table N.config N.operations pass.old }
         requires left { 0 < pass.old.left }

@@ -1,4 +1,4 @@
--- A whole plan is carried out.
+-- For `Board::change_all`, `carry_each` and `enter`: a whole plan is carried out.
 use Rattle.std.proofs.Common.{◌≡◌, ◌≤◌, ◌<◌, ◌+◌, ℕ, List, [], ◌∷◌, length, reverse, take, drop, get_or, sym, ap, ◌∙◌, subst, arith, length-append, drop-cons, add-one, vec_len, vec_capacity}
 use Rattle.std.proofs.lemmas.List.{length-map, length-reverse, reverse-reverse, take-append-drop}
 use Rattle.mm_types.specs.declared.area.Record.{Record}

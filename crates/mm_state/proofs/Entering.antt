@@ -1,4 +1,4 @@
--- A call from the state behind the lock.
+-- For `MmState::new` and `MmState::apply`: a call from opening to entry.
 use Rattle.std.proofs.Common.{◌≡◌, ◌≤◌, ◌<◌, ◌^◌, ℕ, List, [], ◌∷◌, ◌++◌, length, All, sym, ap, ◌∙◌, subst, arith, length-append}
 use Rattle.mm_types.specs.declared.area.Record.{Record}
 use Rattle.mm_types.specs.declared.config.Config.{Config}

@@ -1,4 +1,4 @@
--- Slots in order, and what they show.
+-- For the calls of `Order`: slots in order, and what they show.
 use Rattle.std.proofs.Common.{◌≡◌, ◌≢◌, ◌≤◌, ◌<◌, ◌+◌, ◌-◌, ◌⊎◌, inl, inr, ℕ, suc, zero, nat_lt, if◌then◌else◌, List, [], ◌∷◌, ◌++◌, length, length-append, take, drop, get_or, set, refl, sym, ap, ◌∙◌, subst, arith, All}
 use Rattle.std.specs.List.{remove, insert, prefix_len}
 use Rattle.std.specs.List.Sorted.{IsPermutation}

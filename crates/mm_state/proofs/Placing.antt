@@ -1,4 +1,4 @@
--- Areas in order, each with its slot: what the order of areas says of the places.
+-- For the calls of `Order`: areas in order, each with its slot, and what the order of areas says of the places.
 use Rattle.std.proofs.Common.{◌≡◌, ◌≤◌, ◌<◌, ◌+◌, ℕ, suc, zero, true, false, nat_lt, List, [], ◌∷◌, ◌++◌, length, reverse, append_assoc, take, drop, get_or, refl, sym, ap, ◌∙◌, subst, arith, if◌then◌else◌}
 use Rattle.std.specs.List.{remove, insert, Contains, prefix_len}
 use Rattle.std.specs.List.Sorted.{IsPermutation, IsNonDecreasingBy}

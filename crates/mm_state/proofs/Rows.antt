@@ -1,4 +1,4 @@
--- Rows of areas: none is detached, and two areas have two rows.
+-- For all calls of `Board`: no row of an area is detached, and two areas have two rows.
 use Rattle.std.proofs.Common.{◌≡◌, ◌≢◌, ◌+◌, ◌*◌, ◌^◌, ℕ, Bool, true, false, nat_eq, ◌&&◌, sym, ap, ◌∙◌, arith}
 use Rattle.std.proofs.lemmas.Bool.{ne_eqb}
 use Rattle.std.proofs.lemmas.Option.{same_Some}

@@ -1,4 +1,4 @@
--- The changes of a plan can be written.
+-- For `MmState::apply`: the changes of a plan can be written.
 use Rattle.std.proofs.Common.{List, [], ◌∷◌, All, sym, subst, arith}
 use Rattle.std.specs.List.{Contains, insert}
 use Rattle.std.proofs.lemmas.List.Elements.{All-nil, All-cons, All-head, All-tail, All-contains, All-weaker, All-from_recursion}

@@ -1,4 +1,4 @@
--- A slot is marked and its row is written.
+-- For `Board::alter`, `Board::detach` and `write_slot`: a slot is marked and its row is written.
 use Rattle.std.proofs.Common.{◌≡◌, ◌<◌, ℕ, suc, zero, List, ◌∷◌, ◌++◌, [], length, set, refl, ap, ◌∙◌}
 use Rattle.std.proofs.lemmas.List.{get_or-set_same}
 use Rattle.std.proofs.lemmas.List.Sorted.{IsPermutation-append_left, IsPermutation-sym}

@@ -7,7 +7,7 @@ use Rattle.mm_types.specs.declared.area.Span.{Span}
 use Rattle.mm_types.specs.declared.config.TheConstants.{PAGE_SIZE}
 use Rattle.mm_types.specs.declared.files.FileRow.{FileRow}
 
--- a number in lower-case hexadecimal, filled with zeros in front up to this width
+-- a number in lower-case hexadecimal, filled with leading zeros up to this width
 unfoldable pub hex : ℕ → ℕ → List ℕ
 hex width n = let text = digits 16 false n in replicate (width - length text) (byte "0") ++ text
 

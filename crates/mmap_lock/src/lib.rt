@@ -17,7 +17,7 @@ pub struct MmapGuard<'a, T> {
 }
 
 impl<T> MmapLock<T> {
-    /// Puts a value behind a lock that nobody has taken. No memory is taken.
+    /// Puts a value under a lock that nobody has taken. No memory is taken.
     pub fn new(value: T) -> MmapLock<T> {
         MmapLock {
             value: Mutex::new(value),

@@ -12,7 +12,7 @@ const THREADS: usize = 4;
 /// How often each of them counts.
 const ROUNDS: u64 = 10_000;
 
-/// What lies behind the lock: two numbers that are the same whenever nobody has it.
+/// What the lock guards: two numbers that are the same whenever nobody has it.
 #[derive(Drop)]
 struct Pair {
     first: u64,

@@ -6,7 +6,7 @@ use Rattle.std.proofs.lemmas.List.Sums.{sum_by-cons, sum_by_push}
 use Rattle.grace_core.specs.Core.{times}
 use Rattle.node_slots.specs.Opening.{IsFreeFrom}
 
--- a row in front, which is this row or another
+-- a row added first, which is this row or another
 pub times_first : (row other : ℕ) (rows : List ℕ) → times row (other ∷ rows) ≡ cond (nat_eq other row) 1 0 + times row rows
 times_first row other rows = sum_by-cons (λ n. cond (nat_eq n row) 1 0) other rows
 

@@ -32,7 +32,7 @@ Pairs-filter R passes (x ∷ xs) pairs =
     cond_both (passes x) (x ∷ filter passes xs) (filter passes xs) (Pairs R)
     (λ h. (Each-filter (R x) passes xs pairs.0, Pairs-filter R passes xs pairs.1)) (λ h. Pairs-filter R passes xs pairs.1)
 
--- an area below each of a list stands in front of it
+-- an area below each of a list stands before it
 pub insert_front : (area : Record) (areas : List Record) → Each (Below area) areas → insert_area area areas ≡ area ∷ areas
 insert_front area [] below = refl
 insert_front area (first ∷ areas) below = cond-false (nat_lt first.span.lo area.span.lo) (first ∷ insert_area area areas) (area ∷ (first ∷ areas))
@@ -47,7 +47,7 @@ with_all_behind area (new ∷ news) areas below =
     (lt-ltb area.span.lo new.span.lo below.0))
     ∙ with_all_behind area news (insert_area new areas) below.1
 
--- areas in ascending order below the others come in front
+-- areas in ascending order below the others stand first
 pub with_all_in_front : (front news areas whole : List Record) → Pairs Below (front ++ whole)
     → ((P : Record → Type 0) → Each P whole → Each P news × Each P areas)
     → with_all news areas ≡ whole → with_all (front ++ news) areas ≡ front ++ whole

@@ -11,7 +11,7 @@ use Rattle.area_list.proofs.Order.{Before}
 use Rattle.split_merge.specs.Finding.{first_from}
 use Rattle.split_merge.proofs.Walking.{InOrder}
 
--- the range up to end lies below an area, or behind it
+-- the range up to end lies below an area, or after it
 abbrev misses : ℕ → ℕ → ℕ → ℕ → Bool
 misses start end lo hi = nat_le end lo || nat_le hi start
 

@@ -40,7 +40,7 @@ length-filter_wider passes wider (x ∷ xs) each = by (passes x) (wider x) each.
     by false true implies rest = omega (arith, rest)
     by false false implies rest = rest
 
--- in a list of which each element is related to each later one, those of the back, and the ones of the front to the others
+-- in a list of which each element is related to each later one, those of the last part, and the ones of the first part to the others
 pub Pairs-right : {A : Type 0} (R : A → A → Type 0) (xs ys : List A) → Pairs R (xs ++ ys) → Pairs R ys
 Pairs-right R [] ys pairs = pairs
 Pairs-right R (x ∷ xs) ys pairs = Pairs-right R xs ys pairs.1

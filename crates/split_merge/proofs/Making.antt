@@ -119,7 +119,7 @@ HasPages (Event.Begins area) = Unit {0}
 HasPages (Event.Comes part) = part.span.lo < part.span.hi
 HasPages (Event.Passed area) = Unit {0}
 
--- the merge of areas behind one, if there is one
+-- the merge of areas after one, if there is one
 abbrev merged : Option Record → List Record → List Record
 merged None areas = merge areas
 merged (Some new) areas = merge_from new areas

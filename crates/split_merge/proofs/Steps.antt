@@ -76,7 +76,7 @@ laid_short pending (Some run) part = by (joins run.new part)
     by true = omega (arith, length-detaching (taken pending part), taken_or_left pending part)
     by false = omega (arith, length-replacing run.old run.new, taken_or_left pending part)
 
--- where the planner comes to a page, it holds no more
+-- where the planner reaches a page, it holds no more
 pub reach_short : (planner : Planner) (page : ℕ) → length (reaching planner page) + held (reached planner page) ≤ held planner
 reach_short planner page = by planner.coming refl
   where

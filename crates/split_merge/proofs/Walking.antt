@@ -41,7 +41,7 @@ in_order end areas c = record {
 pub rest_in_order : (area : Record) (areas : List Record) → InOrder (area ∷ areas) → InOrder areas
 rest_in_order area areas o = record { valid = o.valid.1; ordered = o.ordered.1 }
 
--- each area behind one in order ends above it
+-- each area after one in order ends above it
 behind : (area : Record) (areas : List Record) → InOrder (area ∷ areas)
     → Each (λ next. nat_lt area.span.hi next.span.hi ≡ true) areas
 behind area areas o = Each-also IsValid (Before area) (λ next. nat_lt area.span.hi next.span.hi ≡ true)

@@ -1,6 +1,6 @@
 pub mod Plans
 pub mod Calls
 pub mod Finding
-pub mod Places
+pub mod PageNumbers
 pub mod Becoming
 pub mod Planner

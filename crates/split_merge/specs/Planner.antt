@@ -12,7 +12,7 @@ use Rattle.split_merge.specs.declared.planner.Planner.{Planner}
 use Rattle.split_merge.specs.Becoming.{low_of, high_of, parts_left}
 use Rattle.split_merge.specs.Plans.{Planned, is_near_either}
 
--- what the planner comes to, by ascending page: the first page of an old area, a part that takes its place (or the new area), or an old area that it passes over
+-- what the planner meets, by ascending page: the first page of an old area, a part that takes its place (or the new area), or an old area that it passes over
 pub data Event : Type 0 where
   Begins : Record → Event
   Comes : Record → Event
@@ -88,7 +88,7 @@ planned planner events = along planner.pending planner.run (come planner.coming 
 abbrev pub laid : Planner → Record → Planner
 laid planner part = record { coming = planner.coming; pending = left planner.pending part; run = Some (run_with planner.pending planner.run part) }
 
--- the planner where it comes to a page: the new area is laid if it begins below that
+-- the planner where it reaches a page: the new area is laid if it begins below that
 abbrev pub reached_with : Option Record → Planner → ℕ → Planner
 reached_with None planner page = planner
 reached_with (Some new) planner page = if nat_lt new.span.lo page then laid (record planner { coming = None }) new else planner

@@ -1,7 +1,7 @@
 ghost use Rattle.std.specs.Prelude.{◌≡◌, ◌≤◌, length};
 ghost use Rattle.area_model.specs.Placement.{place};
 ghost use Rattle.split_merge.specs.Finding.{first_from, last_before};
-ghost use Rattle.split_merge.specs.Places.{page_number};
+ghost use Rattle.split_merge.specs.PageNumbers.{page_number};
 
 use mm_types::{Page, Record};
 

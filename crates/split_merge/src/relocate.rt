@@ -1,4 +1,4 @@
-//! Moves: an area comes to a new place, and the pages of a hole go.
+//! Moves: an area is put at a new place, and the pages of a hole are unmapped.
 ghost use Rattle.std.specs.Prelude.{◌≡◌, ◌<◌, ◌≤◌, false, if◌then◌else◌, nat_lt};
 ghost use Rattle.mm_types.specs.Records.{IsValid};
 ghost use Rattle.area_list.specs.Changes.{cut, put};

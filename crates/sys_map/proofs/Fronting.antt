@@ -1,10 +1,10 @@
--- For `begins_below`, `ends_by` and `last_of`: the front of a list that passes a test.
+-- For `begins_below`, `ends_by` and `last_of`: the beginning of a list that passes a test.
 use Rattle.std.proofs.Common.{◌≡◌, ◌≤◌, ℕ, Bool, true, false, ◌-◌, Some, None, slice_get, List, [], ◌∷◌, length, refl, ap, ◌∙◌, sym, arith}
 use Rattle.std.specs.List.{prefix_len, last_or}
 use Rattle.std.specs.List.Sorted.{IsPartitionPoint}
 use Rattle.std.proofs.lemmas.List.Sums.{prefix_len_is}
 
--- the place that a binary search gives is the length of that front
+-- the place that a binary search gives is the length of that beginning
 pub prefix_from_partition : {X : Type 0} (p : X → Bool) (xs : List X) (place : ℕ) → place ≤ length xs
     → IsPartitionPoint (λ x. p x ≡ true) (λ x. p x ≡ false) xs place → place ≡ prefix_len p xs
 prefix_from_partition p [] place within is = omega arith

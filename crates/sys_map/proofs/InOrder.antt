@@ -59,7 +59,7 @@ from_is (area ∷ areas) page = by (nat_le area.span.hi page) refl (from_is area
         ∙ sym (cond-false (nat_lt page area.span.hi) (Some area) (first_from areas page) (le-ltb page area.span.hi (leb-true area.span.hi page is)))
     by false is before = sym (cond-true (nat_lt page area.span.hi) (Some area) (first_from areas page) (lt-ltb page area.span.hi (leb-false area.span.hi page is)))
 
--- the areas in front of a place are those that begin below it
+-- the areas before a place are those that begin below it
 pub front_is : (areas : List Record) (page : ℕ) → Pairs Below areas
     → take (begins_below page areas) areas ≡ filter (λ area. nat_lt area.span.lo page) areas
 front_is [] page pairs = refl

@@ -22,12 +22,12 @@ rise_from_ascend areas ascend i j d order within = elim (cases_eq i j) [
   | inr apart ↦ omega (arith, ascend i j d (omega arith) within)
 ]
 
--- an area that goes out lies above the front and below the back
+-- an area that goes out lies above the first part and below the last
 record IsAmong (front back : List Record) (old : Record) : Type 0 where
   above : Each (λ area. area.span.lo < old.span.lo) front
   below : Each (λ area. old.span.lo < area.span.lo) back
 
--- an area comes in after the front, and not after the back
+-- an area is added after the first part, and not after the last
 record ComesAmong (front back : List Record) (new : Record) : Type 0 where
   above : Each (λ area. area.span.lo < new.span.lo) front
   below : Each (λ area. new.span.lo ≤ area.span.lo) back

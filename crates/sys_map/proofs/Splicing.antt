@@ -43,7 +43,7 @@ module _ {A : Type 0} (old parts : List A) (start end : ℕ) where
       both : length front + length (drop end old) ≡ length old - spare
       both = omega (arith, long, length-drop end old)
 
-  -- where more come in, the rest moves up after those that came to the end
+  -- where more come in, the rest moves up after those that were moved to the end
   pub spliced_up : (first rest one two three : List A) → start ≤ end → end ≤ length old → length first ≡ end - start → first ++ rest ≡ parts
       → one ≡ take start old ++ (first ++ drop (start + length first) old)
       → two ≡ one ++ rest

@@ -4,11 +4,11 @@ use Rattle.std.specs.List.{prefix_len}
 use Rattle.std.specs.List.Sorted.{IsNonDecreasingBy}
 use Rattle.mm_types.specs.declared.area.Record.{Record}
 
--- how many areas at the front begin below the page
+-- how many of the first areas begin below the page
 abbrev pub begins_below : ℕ → List Record → ℕ
 begins_below page areas = prefix_len (λ area. nat_lt area.span.lo page) areas
 
--- how many areas at the front end at or below the page
+-- how many of the first areas end at or below the page
 abbrev pub ends_by : ℕ → List Record → ℕ
 ends_by page areas = prefix_len (λ area. nat_le area.span.hi page) areas
 

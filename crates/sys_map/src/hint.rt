@@ -3,7 +3,7 @@ ghost use Rattle.std.specs.Prelude.{◌≡◌, ◌<◌, ◌≤◌, ◌+◌, ◌^
 ghost use Rattle.mm_types.specs.Config.{IsValidConfig};
 ghost use Rattle.area_list.specs.Areas.{IsCanonical};
 ghost use Rattle.area_model.specs.Placement.{bounds_of, hinted_place, place};
-ghost use Rattle.split_merge.specs.Places.{page_number};
+ghost use Rattle.split_merge.specs.PageNumbers.{page_number};
 
 use area_list::page_of;
 use area_model::fits;

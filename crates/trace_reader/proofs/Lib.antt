@@ -8,5 +8,5 @@ pub mod LineTests
 pub mod RawPieces
 pub mod RawReading
 pub mod RawLaws
-pub mod Fronts
+pub mod Beginnings
 pub mod FirstBad

@@ -45,7 +45,7 @@ parts text before after i j front back split =
     ∙ ap (λ (rest : List ℕ). take i text ++ (escape ++ rest)) (sym back)
     ∙ ap (λ (first : List ℕ). first ++ (escape ++ after)) (sym front)
 
--- what is read in front of it, and the newline, go to the path
+-- what is read before it, and the newline, go to the path
 pub unescaped-more : (path all text before after : List ℕ) → SplitsAroundMatch (FindsText escape) text before after
     → path ++ unescaped text ≡ all →
     ((path ++ before) ++ 10 ∷ []) ++ unescaped after ≡ all

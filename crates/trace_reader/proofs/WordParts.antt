@@ -50,7 +50,7 @@ boundary_at_blank text =
           subst (IsCharBoundary text) same (IsCharBoundary-end text)
     ]
 
--- ---- blanks in front
+-- ---- leading blanks
 
 past_one : (n : ℕ) (c : ℕ) (text : List ℕ) → drop (1 + n) (c ∷ text) ≡ drop n text
 past_one n c text = let next : 1 + n ≡ suc n = omega arith in ap (λ (k : ℕ). drop k (c ∷ text)) next

@@ -5,7 +5,7 @@ use thiserror::Error;
 
 /// Why a line of a trace is bad. The causes are numbered from 1 in this order. Where a line fails several tests, the
 /// first of these decides: it is too long; it has no end; it is not UTF-8; line 1 is not the header; a first word with
-/// a digit in front is no thread; another first word may not stand there; the second word is missing, or may not stand
+/// a first digit is no thread; another first word may not stand there; the second word is missing, or may not stand
 /// there; there are too few words or too many; the words from the left; NEW against the flags; a descriptor for the
 /// second time; too many lines.
 #[derive(Clone, Copy, Debug, PartialEq, Eq)]

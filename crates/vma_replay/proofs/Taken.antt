@@ -10,7 +10,7 @@ use Rattle.trace_reader.specs.Lines.{trace_limit}
 use Rattle.vma_replay.specs.declared.status.Status.TheVariants as statuses
 use Rattle.vma_replay.specs.Replaying.{Takes}
 use Rattle.vma_replay.specs.Reading.{IsReading, IsTaking}
-use Rattle.trace_reader.proofs.Fronts.{trace_of-front, trace_within}
+use Rattle.trace_reader.proofs.Beginnings.{trace_of-front, trace_within}
 
 -- Of a function that the first `limit + 1` bytes settle: what follows more than `limit` bytes does not change it.
 read-append : {A : Type 0} (read : List ℕ → A) (limit : ℕ)

@@ -9,7 +9,7 @@ use Rattle.vma_replay.specs.declared.words.Mode.{Mode}
 use Rattle.vma_replay.specs.Replaying.{IsGivenFor, IsOutputOf}
 
 -- What giving a text results in, by what was written and the sink's count of faults, before and after: all of it was
--- given, or a front of it.
+-- given, or a beginning of it.
 abbrev pub IsGiving : List ℕ → Option (List ℕ) → Option (List ℕ) → ℕ → ℕ → Status → Type 0
 IsGiving text old new before now statuses.Done = (now ≡ before) × Appends old new text
 IsGiving text old new before now statuses.WriteFault = (before < now) × (count : ℕ) × (count < length text) × Appends old new (take count text)
@@ -19,7 +19,7 @@ IsGiving text old new before now (statuses.Trace line cause) = ⊥
 IsGiving text old new before now statuses.ReadFault = ⊥
 
 -- What running a trace and giving its output results in, by what was written and the sink's count of faults, before and after: there is one
--- closed run, and its output was given, or there is none, and a front of an output was.
+-- closed run, and its output was given, or there is none, and a beginning of an output was.
 abbrev pub IsGivingRun : Mode → Trace → Option (List ℕ) → Option (List ℕ) → ℕ → ℕ → Status → List ClosedView → Type 0
 IsGivingRun mode trace old new before now statuses.Done runs = (now ≡ before)
     × (run : ClosedView) × (text : List ℕ) × (runs ≡ run ∷ []) × IsGivenFor mode trace run text × IsOutputOf mode trace text × Appends old new text

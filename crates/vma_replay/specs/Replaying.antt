@@ -69,12 +69,12 @@ IsOutputOf modes.Threads trace text = (items : List Item) × IsLegalHistory trac
     × (text ≡ output_text trace.config trace.lines items)
 IsOutputOf modes.Serial trace text = text ≡ serial_output trace
 
--- the input is a trace, and what was given is a front of an output of it
+-- the input is a trace, and what was given is a beginning of an output of it
 abbrev pub GivesFront : Mode → List ℕ → Option (List ℕ) → Option (List ℕ) → Type 0
 GivesFront mode input old new = IsOkAnd (trace_of input) (λ trace. (text : List ℕ) × IsOutputOf mode trace text
     × (count : ℕ) × Appends old new (take count text))
 
--- the input is a trace, and what was given is a front of an output of it that is not all of it
+-- the input is a trace, and what was given is a beginning of an output of it that is not all of it
 abbrev pub GivesProperFront : Mode → List ℕ → Option (List ℕ) → Option (List ℕ) → Type 0
 GivesProperFront mode input old new = IsOkAnd (trace_of input) (λ trace. (text : List ℕ) × IsOutputOf mode trace text
     × (count : ℕ) × (count < length text) × Appends old new (take count text))

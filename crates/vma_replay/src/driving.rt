@@ -21,7 +21,7 @@ use std::thread::Threads;
 use trace_reader::{Op, Trace, TraceLine};
 
 /// Runs the lines of a trace with the fresh passes of a space: those of each caller with its pass, in order, in a thread of its own.
-/// The gate is called before and after each operation with the number of its line. Where memory is wanting, each pass has run a
+/// The gate is called before and after each operation with the number of its line. Where memory runs out, each pass has run a
 /// beginning of its lines.
 pub fn drive<N: SpaceName + Send + Sync, R: Threads + Wait + Sync, G: Gate>(
     rt: &R,
@@ -50,7 +50,7 @@ pub fn drive<N: SpaceName + Send + Sync, R: Threads + Wait + Sync, G: Gate>(
     }
 }
 
-/// Runs all lines of a trace with one fresh pass, in order. Where memory is wanting, it has run a beginning of them.
+/// Runs all lines of a trace with one fresh pass, in order. Where memory runs out, it has run a beginning of them.
 pub fn in_order<N: SpaceName, R: Wait>(
     rt: &R,
     alloc: Global,
@@ -100,7 +100,7 @@ fn run_workers<N: SpaceName + Send + Sync, R: Threads + Wait + Sync, G: Gate>(
     thread::for_each_mut(rt, passes, threads, &worker);
 }
 
-/// Runs the lines of one caller with its pass, in order. Stops where memory is wanting.
+/// Runs the lines of one caller with its pass, in order. Stops where memory runs out.
 fn run_own<N: SpaceName, R: Threads + Wait + Sync, G: Gate>(
     rt: &R,
     alloc: Global,
@@ -129,7 +129,7 @@ fn run_own<N: SpaceName, R: Threads + Wait + Sync, G: Gate>(
     }
 }
 
-/// Runs one operation with a pass. Refused where memory is wanting, and then nothing was done.
+/// Runs one operation with a pass. Refused where memory runs out, and then nothing was done.
 fn run_op<N: SpaceName, R: Wait>(
     rt: &R,
     alloc: Global,

@@ -1,4 +1,4 @@
-//! The replayer: reads a trace, replays it against the model, and writes every reply and the final list of areas.
+//! The replayer: reads a trace, replays it over an address space, and writes every reply and the final list of areas.
 #![tactic(auto)]
 
 mod copying;

@@ -16,7 +16,7 @@ pub struct Replayed {
 }
 
 impl Replayed {
-    /// A replay that came to no output.
+    /// A replay without a whole output.
     pub(crate) fn failed(alloc: Global, status: Status) -> Replayed
         ensures { (result.status ≡ status) × (result.runs ≡ []) }
     {

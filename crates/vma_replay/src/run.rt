@@ -21,8 +21,8 @@ use std::thread::Threads;
 /// program's name: `serial` alone runs the lines in their order, and `threads` alone those of each thread of the trace in a thread of
 /// its own, where the gate is called before and after each line.
 ///
-/// On `Words`, `Trace` and `ReadFault` nothing is given to the sink. On `WriteFault` what was given is a front of an
-/// output, and not all of it; on `NoMemory` a front. Words that are not accepted leave the source untouched too.
+/// On `Words`, `Trace` and `ReadFault` nothing is given to the sink. On `WriteFault` what was given is a beginning of an
+/// output, and not all of it; on `NoMemory` a beginning. Words that are not accepted leave the source untouched too.
 /// On `Done` the run is handed out, and else none.
 pub fn replay<R: Threads + Wait + Sync, S: Source, K: Sink, G: Gate>(
     rt: &R,

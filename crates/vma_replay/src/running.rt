@@ -19,7 +19,7 @@ use std::sync::Wait;
 use std::thread::Threads;
 use trace_reader::Trace;
 
-/// Runs a trace over a new space, and closes it. Refused where memory is wanting.
+/// Runs a trace over a new space, and closes it. Refused where memory runs out.
 pub(crate) fn closed_run<R: Threads + Wait + Sync, G: Gate>(
     rt: &R,
     alloc: Global,

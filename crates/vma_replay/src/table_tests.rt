@@ -30,7 +30,7 @@ const MMAP: &[u8] = b"vmatrace 1\n\
       0 mmap 0x13000 4096 PROT_READ|PROT_WRITE MAP_PRIVATE|MAP_ANONYMOUS|MAP_FIXED -1 0\n\
       0 mmap 0x21000 4096 PROT_READ|PROT_WRITE MAP_PRIVATE 3 4096\n";
 
-/// What they come to.
+/// The replies and the list that they give.
 const MMAP_OUTPUT: &[u8] = b"L5 t0 v1 = 0x10000\n\
       L6 t0 v2 = -1 EINVAL\n\
       L7 t0 v3 = -1 EBADF\n\
@@ -67,7 +67,7 @@ const MUNMAP: &[u8] = b"vmatrace 1\n\
       0 munmap 0x50000 4096\n\
       0 munmap 0x13000 0xd001\n";
 
-/// What they come to.
+/// The replies and the list that they give.
 const MUNMAP_OUTPUT: &[u8] = b"L3 t0 v1 = 0x10000\n\
       L4 t0 v2 = 0x20000\n\
       L5 t0 v3 = -1 EINVAL\n\
@@ -98,7 +98,7 @@ const MPROTECT: &[u8] = b"vmatrace 1\n\
       0 mprotect 0x7ffffffff000 4096 PROT_NONE\n\
       0 mprotect 0x11000 4096 PROT_NONE\n";
 
-/// What they come to.
+/// The replies and the list that they give.
 const MPROTECT_OUTPUT: &[u8] = b"L4 t0 v1 = 0x10000\n\
       L5 t0 v2 = 0x14000\n\
       L6 t0 v3 = -1 EINVAL\n\
@@ -147,7 +147,7 @@ const MREMAP: &[u8] = b"vmatrace 1\n\
       0 mremap 0x10000 8192 12288 MREMAP_MAYMOVE\n\
       0 mremap 0x7ffff7ffc000 12288 4096 MREMAP_MAYMOVE|MREMAP_FIXED 0x13000\n";
 
-/// What they come to.
+/// The replies and the list that they give.
 const MREMAP_OUTPUT: &[u8] = b"L4 t0 v1 = 0x10000\n\
       L5 t0 v2 = 0x12000\n\
       L6 t0 v3 = 0x20000\n\

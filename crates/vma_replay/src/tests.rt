@@ -141,7 +141,7 @@ fn tells_each_fault_of_the_source(rt: HostRuntime) -> Result<(), Fail> {
 #[test]
 fn tells_each_fault_of_the_sink(rt: HostRuntime) -> Result<(), Fail> {
     let words = words(rt.alloc(), &["serial"])?;
-    // What each call that fails leaves given: nothing, a front, or all where it is not reached.
+    // What each call that fails leaves given: nothing, a beginning, or all where it is not reached.
     let runs: [(u64, &[u8], Status); 3] = [
         (0, b"", Status::WriteFault),
         (1, &TWO_PAGES_OUTPUT[..MOST_AT_A_CALL], Status::WriteFault),

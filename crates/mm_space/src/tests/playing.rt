@@ -94,7 +94,7 @@ fn play<N: SpaceName, R: Wait>(
     }
 }
 
-/// Makes one step. A list that memory is wanting for is left out.
+/// Makes one step. A list for which memory runs out is left out.
 fn make<N: SpaceName, R: Wait>(rt: &R, alloc: Global, space: &Space<N>, pass: &mut Pass, step: Step)
     requires pass { IsPassOf N.table N.config N.operations pass.old }
     requires left { 0 < pass.old.left }

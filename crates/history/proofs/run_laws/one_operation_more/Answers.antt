@@ -8,8 +8,8 @@ returns-clause-call c = λ old rest log entry caller none within own. ops_call c
 pub returns-clause-read : goal.returns-clause-read
 returns-clause-read c = λ old rest log read caller none within now. ops_read caller old rest log read none within now
 
-pub returns-clause-nothing : goal.returns-clause-nothing
-returns-clause-nothing c = λ old rest log caller none. own_same caller old rest log none
+pub returns-clause-idle : goal.returns-clause-idle
+returns-clause-idle c = λ old rest log caller none. own_same caller old rest log none
 
 pub returns-clause-none : goal.returns-clause-none
 returns-clause-none c = own_none

@@ -1,8 +1,8 @@
--- Where memory runs out, `push_front` has appended a front of its text.
+-- Where memory runs out, `push_front` has appended a beginning of its text.
 use Rattle.std.proofs.Common.{arith, ◌++◌, codes, append_assoc}
 use Rattle.std.proofs.lemmas.Grind.{common_steps}
 use Rattle.mm_types.specs.MapsText.{range_text, place_text, front_text}
-use Rattle.maps_print.proofs.Fronts.{on_err, front_of_parts, front_of_first}
+use Rattle.maps_print.proofs.Beginnings.{on_err, front_of_parts, front_of_first}
 use Rattle.maps_print.proofs.line.push_front.Goals as goal
 
 pub returns-in_err-push_range-clause-no_memory : goal.returns-in_err-push_range-clause-no_memory

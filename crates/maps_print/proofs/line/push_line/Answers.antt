@@ -1,8 +1,8 @@
--- Where memory runs out, `push_line` has appended a front of the line.
+-- Where memory runs out, `push_line` has appended a beginning of the line.
 use Rattle.std.proofs.Common.{◌∙◌, arith}
 use Rattle.std.proofs.lemmas.Grind.{common_steps}
 use Rattle.mm_types.specs.MapsText.{area_text}
-use Rattle.maps_print.proofs.Fronts.{on_err, front_of_first}
+use Rattle.maps_print.proofs.Beginnings.{on_err, front_of_first}
 use Rattle.maps_print.proofs.Lines.{before_name, front_in_name, front_after_name}
 use Rattle.maps_print.proofs.line.push_line.Goals as goal
 

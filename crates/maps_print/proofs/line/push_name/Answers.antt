@@ -1,11 +1,11 @@
--- A name that has bytes is set off by spaces; where memory runs out, a front of both has been appended.
+-- A name that has bytes is set off by spaces; where memory runs out, a beginning of both has been appended.
 use Rattle.std.proofs.Common.{◌++◌, List, ℕ, flat_map, replicate, sym, ap, ◌∙◌, subst, arith, append_assoc}
 use Rattle.std.proofs.lemmas.Grind.{common_steps}
 use Rattle.std.proofs.lemmas.Result.{on_ok_weaker, on_err_weaker}
 use Rattle.std.specs.Str.{byte}
 use Rattle.mm_types.specs.MapsText.{shown_byte, spaces_before}
 use Rattle.maps_print.specs.Appends.{AppendsFront}
-use Rattle.maps_print.proofs.Fronts.{front_of_second}
+use Rattle.maps_print.proofs.Beginnings.{front_of_second}
 use Rattle.maps_print.proofs.Names.{named, spaced}
 use Rattle.maps_print.proofs.line.push_name.Goals as goal
 

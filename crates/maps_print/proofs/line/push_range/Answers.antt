@@ -2,7 +2,7 @@
 use Rattle.std.proofs.Common.{refl, arith, ◌++◌, codes}
 use Rattle.std.proofs.lemmas.Grind.{common_steps}
 use Rattle.mm_types.specs.MapsText.{span_text, perms, range_text}
-use Rattle.maps_print.proofs.Fronts.{on_err, front_of_parts}
+use Rattle.maps_print.proofs.Beginnings.{on_err, front_of_parts}
 use Rattle.maps_print.proofs.line.push_range.Goals as goal
 
 pub returns-in_err-extend_from_slice-2-clause-no_memory : goal.returns-in_err-extend_from_slice-2-clause-no_memory

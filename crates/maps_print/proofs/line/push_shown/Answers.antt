@@ -1,5 +1,5 @@
 -- Where memory runs out, `push_shown` has appended the bytes before one, all shown.
-use Rattle.maps_print.proofs.Fronts.{on_err, front_of_loop, front_of_same}
+use Rattle.maps_print.proofs.Beginnings.{on_err, front_of_loop, front_of_same}
 use Rattle.maps_print.proofs.line.push_shown.Goals as goal
 
 pub returns-in_err-extend_from_slice-clause-no_memory :

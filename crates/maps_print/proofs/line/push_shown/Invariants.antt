@@ -1,7 +1,7 @@
 -- The loop of `push_shown`: the bytes so far are shown, and those from here on are left.
 use Rattle.std.proofs.Common.{drop, flat_map}
 use Rattle.mm_types.specs.MapsText.{shown_byte}
-use Rattle.maps_print.proofs.Fronts.{IsAppending}
+use Rattle.maps_print.proofs.Beginnings.{IsAppending}
 use Rattle.maps_print.proofs.line.push_shown.Given as goal
 
 abbrev pub invariant-loop-byte : goal.invariant-loop-byte

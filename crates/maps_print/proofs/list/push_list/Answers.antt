@@ -1,8 +1,8 @@
--- Where memory runs out, `push_list` has appended the lines of the areas before one, and a front of its line.
+-- Where memory runs out, `push_list` has appended the lines of the areas before one, and a beginning of its line.
 use Rattle.std.proofs.Common.{arith, ◌+◌, drop}
 use Rattle.std.proofs.lemmas.Grind.{common_steps}
 use Rattle.mm_types.specs.MapsText.{list_text}
-use Rattle.maps_print.proofs.Fronts.{on_err, front_after_loop}
+use Rattle.maps_print.proofs.Beginnings.{on_err, front_after_loop}
 use Rattle.maps_print.proofs.list.push_list.Goals as goal
 
 pub returns-in_err-push_line-clause-no_memory : goal.returns-in_err-push_line-clause-no_memory

@@ -1,7 +1,7 @@
 -- The loop of `push_list`: the areas so far have their lines, and those from here on are left.
 use Rattle.std.proofs.Common.{drop}
 use Rattle.mm_types.specs.MapsText.{list_text}
-use Rattle.maps_print.proofs.Fronts.{IsAppending}
+use Rattle.maps_print.proofs.Beginnings.{IsAppending}
 use Rattle.maps_print.proofs.list.push_list.Given as goal
 
 abbrev pub invariant-loop-area : goal.invariant-loop-area

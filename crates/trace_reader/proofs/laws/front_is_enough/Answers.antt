@@ -1,5 +1,5 @@
 -- For `front_is_enough`: its goals.
-use Rattle.trace_reader.proofs.Fronts.{trace_of-front}
+use Rattle.trace_reader.proofs.Beginnings.{trace_of-front}
 use Rattle.trace_reader.proofs.laws.front_is_enough.Goals as goal
 
 pub returns : goal.returns

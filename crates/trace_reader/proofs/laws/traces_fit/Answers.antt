@@ -1,5 +1,5 @@
 -- For `traces_fit`: its goals.
-use Rattle.trace_reader.proofs.Fronts.{trace_within}
+use Rattle.trace_reader.proofs.Beginnings.{trace_within}
 use Rattle.trace_reader.proofs.TraceValues.{trace_of-value}
 use Rattle.trace_reader.proofs.laws.traces_fit.Goals as goal
 

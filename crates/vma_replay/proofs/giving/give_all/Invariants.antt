@@ -3,7 +3,7 @@ use Rattle.std.proofs.Common.{◌≡◌, ◌-◌, ◌≤◌, length, take}
 use Rattle.std.specs.Io.KnownBytes.{Appends}
 use Rattle.vma_replay.proofs.giving.give_all.Given as goal
 
--- the front of the text was given so far, and no give failed
+-- the text before this place was given, and nothing else, and no give failed
 abbrev pub invariant-loop-given : goal.invariant-loop-given
 invariant-loop-given g l = record {
   moved : Appends (g.K.Sink.written l.fn.sink) (g.K.Sink.written l.sink) (take l.given l.text);

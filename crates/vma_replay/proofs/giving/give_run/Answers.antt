@@ -1,4 +1,4 @@
--- The proof of `give_run`: where memory is wanting before anything was given.
+-- The proof of `give_run`: where memory runs out before anything was given.
 use Rattle.vma_replay.proofs.RunTexts.{wants_memory}
 use Rattle.vma_replay.proofs.giving.give_run.Goals as goal
 

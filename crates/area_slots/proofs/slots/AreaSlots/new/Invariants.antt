@@ -1,3 +1,4 @@
+-- The proof of `new`: what its loop keeps, and that it ends.
 use Rattle.std.proofs.Common.{◌≡◌, ◌≤◌}
 use Rattle.std.specs.Vec.{vec_capacity}
 use Rattle.std.specs.List.{range_with_len}

@@ -1,3 +1,4 @@
+-- The proof of `seen`: what its loop keeps, and that it ends.
 use Rattle.std.proofs.Common.{◌≡◌, length}
 use Rattle.area_slots.proofs.Keeping.{Becomes}
 use Rattle.area_slots.proofs.slots.AreaSlots.seen.Given as goal

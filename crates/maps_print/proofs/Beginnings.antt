@@ -1,4 +1,4 @@
--- For `push_line`, `push_list`, `push_range` and what they call: where an append that stops leaves a front.
+-- For `push_line`, `push_list`, `push_range` and what they call: where an append that stops leaves a beginning of its text.
 use Rattle.std.proofs.Common.{◌≡◌, ℕ, ◌-◌, ◌+◌, ◌≤◌, List, [], ◌++◌, length, take, drop, append_assoc, append-nil, take-append-drop, sym, ap, ◌∙◌, refl, arith, length-append}
 use Rattle.std.proofs.Math.Seq.{take-append_seam, take-append-add}
 use Rattle.std.specs.Prelude.{Result, Ok, Err, OnErr}
@@ -25,16 +25,16 @@ front_of_none old new text same = front_of_parts old new [] text text (same ∙ 
 pub front_of_all : (old new text : List ℕ) → new ≡ old ++ text → AppendsFront old new text
 front_of_all old new text adds = front_of_parts old new text [] text adds (append-nil text)
 
--- a front that was added is still there
+-- a beginning that was added is still there
 pub front_of_same : (old mid new text : List ℕ) → new ≡ mid → AppendsFront old mid text → AppendsFront old new text
 front_of_same old mid new text same stopped = record { count = stopped.count; front = same ∙ stopped.front }
 
--- a front of the first part is a front of the whole
+-- a beginning of the first part is a beginning of the whole
 pub front_of_first : (old new a b : List ℕ) → AppendsFront old new a → AppendsFront old new (a ++ b)
 front_of_first old new a b stopped = front_of_parts old new (take stopped.count a) (drop stopped.count a ++ b) (a ++ b)
     stopped.front (sym (append_assoc (take stopped.count a) (drop stopped.count a) b) ∙ ap (λ first. first ++ b) (take-append-drop stopped.count a))
 
--- after the first part a front of the second is a front of the whole
+-- the first part and a beginning of the second are a beginning of the whole
 pub front_of_second : (old mid new a b : List ℕ) → mid ≡ old ++ a → AppendsFront mid new b → AppendsFront old new (a ++ b)
 front_of_second old mid new a b first stopped = front_of_parts old new (a ++ take stopped.count b) (drop stopped.count b) (a ++ b)
     (stopped.front ∙ ap (λ front. front ++ take stopped.count b) first ∙ append_assoc old a (take stopped.count b))
@@ -45,7 +45,7 @@ pub record IsAppending (old now left whole : List ℕ) : Type 0 where
   pub text : now ++ left ≡ old ++ whole
   pub longer : length old ≤ length now
 
--- where the loop stops, a front was added
+-- where the loop stops, a beginning was added
 pub front_of_loop : (old now left whole : List ℕ) → IsAppending old now left whole → AppendsFront old now whole
 front_of_loop old now left whole so_far = record {
   count = length now - length old;

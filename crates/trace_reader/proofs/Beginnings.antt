@@ -50,7 +50,7 @@ stops_in_first before number start bytes some past =
           ∙ stops before (raw_line number start bytes false) [] (omega (arith, position_or_len-le is_newline bytes))
     ]
 
--- the first newline of a front is that of the whole, where it is there
+-- the first newline of a beginning is that of the whole, where it is there
 place_in_front : (m : ℕ) (bytes : List ℕ) → position_or_len is_newline bytes < m → m ≤ length bytes
     → position_or_len is_newline (take m bytes) ≡ position_or_len is_newline bytes
 place_in_front m bytes within short =
@@ -80,7 +80,7 @@ IsSettled : ℕ → ℕ → ℕ → List ℕ → Type 0
 IsSettled m number start bytes = (before : SoFar) → after_lines before
     (lines_from number start (take m bytes)) ≡ after_lines before (lines_from number start bytes)
 
--- where the first line ends within the front, the rest of it settles the rest
+-- where the first line ends within the beginning, the rest of it settles the rest
 settled_line : (m number start : ℕ) (bytes : List ℕ) → m ≤ length bytes → position_or_len is_newline bytes < m
     → IsSettled (m - (position_or_len is_newline bytes + 1)) (number + 1)
     (start + position_or_len is_newline bytes + 1) (after_first is_newline bytes)
