@@ -7,11 +7,12 @@ use Rattle.mm_types.specs.Config.{IsValidConfig}
 use Rattle.area_model.specs.declared.placement.Bounds.{Bounds}
 use Rattle.area_model.specs.Stepped.{space_of}
 use Rattle.area_model.specs.Tables.{AddressSpace}
-use Rattle.area_model.specs.Steps.{step, opening, after, IsReady, IsLegalJournal}
+use Rattle.area_model.specs.Steps.{step, after, IsReady, IsLegalJournal}
 use Rattle.area_model.proofs.Journals.{after_ready, after-nil, after-push}
 use Rattle.lock_core.specs.Facts.{list_after}
 use Rattle.split_merge.specs.Plans.{Planned, applied, IsKept, IsPlanOf, Makes}
 use Rattle.split_merge.specs.Calls.{IsPlannedCall}
+use Rattle.sys_calls.proofs.Keeping.{opened_space}
 use Rattle.sys_map.specs.BinarySearch.{BeginsAscend}
 use Rattle.sys_map.proofs.InOrder.{begins_ascend}
 use Rattle.vma_lock.specs.Seats.{config_of, journal}
@@ -75,10 +76,5 @@ legal_nil config = record { replies = λ place entry there. cc }
 
 pub opening_space : (config : Config) (list : List Record) (objects : ℕ) (entries : List Entry) → list ≡ [] → objects ≡ length config.files → entries ≡ []
     → space_of list objects ≡ after config entries
-unfolding opening
-opening_space config list objects entries empty files none = ap (λ (areas : List Record). space_of areas objects) empty ∙ ap (space_of []) files
+opening_space config list objects entries empty files none = opened_space config list objects empty files
     ∙ sym (ap (after config) none ∙ after-nil config)
-
--- the parts of the space after the entry
-pub made_space : (list : List Record) (objects : ℕ) (outcome : AddressSpace) → list ≡ outcome.areas → objects ≡ outcome.objects → space_of list objects ≡ outcome
-made_space list objects outcome areas counter = ap (λ (l : List Record). space_of l objects) areas ∙ ap (space_of outcome.areas) counter

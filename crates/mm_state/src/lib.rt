@@ -3,7 +3,6 @@
 
 mod board;
 mod order;
-mod plans;
 mod state;
 
 pub use state::MmState;

@@ -10,13 +10,13 @@ ghost use Rattle.vma_lock.specs.Views.{slot_count, opened_view, look_at};
 ghost use Rattle.vma_lock.specs.Seats.{view, seen, stage, sight, HasTurn};
 
 use crate::board::Board;
-use crate::plans::plan_call;
 use area_model::area_verdict;
 use mm_types::{Access, AreaList, Call, Config, Entry, NoMemory, Page, Reply, Verdict};
 use split_merge::{Plan, area_at};
 use std::alloc::Global;
 use std::marker::Model;
 use std::sync::Wait;
+use sys_calls::plan_call;
 use sys_map::VecAreas;
 use vma_lock::{ReaderSeat, WriterSeat};
 

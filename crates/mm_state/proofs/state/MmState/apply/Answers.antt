@@ -7,12 +7,13 @@ use Rattle.area_model.specs.Tables.{AddressSpace}
 use Rattle.area_model.proofs.Journals.{legal-push}
 use Rattle.split_merge.specs.declared.plan.Change.{Change}
 use Rattle.split_merge.specs.Plans.{Planned, IsKept, applied}
+use Rattle.sys_calls.proofs.Keeping.{made_space}
 use Rattle.sys_map.specs.Stored.{Stored}
 use Rattle.vma_lock.specs.Seats.{config_of}
 use Rattle.mm_state.specs.Shelves.{areas_of}
 use Rattle.mm_state.specs.Boards.{IsEntered}
 use Rattle.mm_state.specs.States.{StateView}
-use Rattle.mm_state.proofs.Entering.{ready_now, space_after, entered, made_space}
+use Rattle.mm_state.proofs.Entering.{ready_now, space_after, entered}
 use Rattle.mm_state.proofs.state.MmState.apply.Goals as goal
 
 pub plan_call-called-requires-clause-ready : goal.plan_call-called-requires-clause-ready

@@ -13,7 +13,7 @@ use sys_mremap::plan_mremap;
 /// One call, planned. `objects` is how many objects were numbered before it. The reply, the counter and the list that the
 /// plan makes are those of the model.
 #[tactic(auto, unfolding(area_model::specs::Steps::step))]
-pub(crate) fn plan_call<A: Areas>(
+pub fn plan_call<A: Areas>(
     config: &Config,
     objects: u32,
     areas: &A,

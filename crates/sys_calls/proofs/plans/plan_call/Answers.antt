@@ -2,7 +2,7 @@
 use Rattle.std.proofs.Common.{sym}
 use Rattle.area_model.specs.Stepped.{space_of}
 use Rattle.area_model.proofs.Stepping.{others_number_none}
-use Rattle.mm_state.proofs.plans.plan_call.Goals as goal
+use Rattle.sys_calls.proofs.plans.plan_call.Goals as goal
 
 pub returns-in-Munmap-clause-counter : goal.returns-in-Munmap-clause-counter
 returns-in-Munmap-clause-counter g c = sym (others_number_none c.args.config.now (space_of (g.A.Areas.list c.args.areas.now) c.args.objects) c.args.call.now

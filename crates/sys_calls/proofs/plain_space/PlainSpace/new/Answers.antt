@@ -1,0 +1,31 @@
+-- The proof of `PlainSpace::new`: no area is mapped, and the files are numbered.
+use Rattle.std.proofs.Common.{◌≤◌, List, All, length, subst, sym, ap, arith}
+use Rattle.std.proofs.lemmas.List.Elements.{All-nil}
+use Rattle.mm_types.specs.declared.area.Record.{Record}
+use Rattle.area_model.specs.Tables.{AddressSpace}
+use Rattle.split_merge.specs.Plans.{Planned, IsKept}
+use Rattle.sys_map.specs.Stored.{Stored}
+use Rattle.sys_calls.specs.Plain.{PlainView}
+use Rattle.sys_calls.proofs.Keeping.{opened_space}
+use Rattle.sys_calls.proofs.plain_space.PlainSpace.new.Goals as goal
+
+pub invariant_of-result : goal.invariant_of-result
+invariant_of-result c =
+    let areas = c.in_ok-areas.ensures in
+    let plan = c.in_ok-plan.ensures in
+    record {
+      valid = c.requires;
+      bounds = ap (λ (s : Stored). s.bounds) areas;
+      most = ap (λ (s : Stored). s.most) areas;
+      kept = subst (λ (s : Stored). IsKept s.bounds s.most s.list) c.areas.view_is c.areas.invariant.kept;
+      files = omega (arith, ap length c.items.ensures);
+      counted = subst (λ (list : List Record). All (λ area. area.object ≤ length c.items.result.now) list) (sym (ap (λ (s : Stored). s.list) areas))
+          (All-nil (λ (area : Record). area.object ≤ length c.items.result.now));
+      fresh = record { empty = ap (λ (p : Planned). p.changes) plan; room = omega (arith, ap (λ (p : Planned). p.room) plan) };
+    }
+
+pub returns : goal.returns
+returns c =
+    let opened : AddressSpace → PlainView = λ space. record { config = c.args.config.now; space = space } in
+    ap opened (opened_space c.args.config.now c.in_ok-areas.areas.list (length c.items.result.now)
+    (ap (λ (s : Stored). s.list) c.in_ok-areas.ensures) (ap length c.items.ensures))
