@@ -1,0 +1,60 @@
+-- The text of a line of a trace, in the form that the reader of traces accepts.
+use Rattle.std.specs.Prelude.{ℕ, ◌*◌, false, List, [], ◌∷◌, ◌++◌, codes, nat_eq, bit_or, if◌then◌else◌}
+use Rattle.std.specs.Fmt.{digits, decimal, signed_decimal}
+use Rattle.std.specs.List.{join_with_byte}
+use Rattle.std.specs.Str.{byte}
+use Rattle.mm_types.specs.declared.area.Access.{Access}
+use Rattle.mm_types.specs.declared.area.Access.TheVariants.{Read, Write, Exec}
+use Rattle.mm_types.specs.declared.area.Prot.{Prot}
+use Rattle.mm_types.specs.declared.call.Call.{Call}
+use Rattle.mm_types.specs.declared.call.Call.TheVariants.{Mmap, Munmap, Mprotect, Mremap}
+use Rattle.mm_types.specs.declared.config.TheConstants.{PAGE_SIZE}
+use Rattle.mm_types.specs.declared.flags.TheConstants.{PROT_READ, PROT_WRITE, PROT_EXEC, MREMAP_FIXED}
+use Rattle.mm_types.specs.Flags.{has_flag}
+use Rattle.flag_table.specs.Tables.{prot_flags, map_flags, mremap_flags}
+use Rattle.flag_table.specs.Printing.{printed}
+use Rattle.trace_reader.specs.declared.trace.Op.{Op}
+use Rattle.trace_reader.specs.declared.trace.Op.TheVariants as ops
+use Rattle.trace_reader.specs.declared.trace.TraceLine.{TraceLine}
+
+-- an address: `0x` and its hexadecimal digits, or `0` for none
+unfoldable pub address_word : ℕ → List ℕ
+address_word address = if nat_eq address 0 then codes "0" else codes "0x" ++ digits 16 false address
+
+-- the bits of the accesses that a protection allows
+abbrev pub bits_of_prot : Prot → ℕ
+bits_of_prot prot = bit_or (if prot.read then PROT_READ else 0)
+    (bit_or (if prot.write then PROT_WRITE else 0) (if prot.exec then PROT_EXEC else 0))
+
+-- a protection, by the names of its bits
+unfoldable pub prot_word : Prot → List ℕ
+prot_word prot = printed prot_flags (bits_of_prot prot)
+
+-- what a page fault wants to do
+abbrev pub access_word : Access → List ℕ
+access_word Read = codes "r"
+access_word Write = codes "w"
+access_word Exec = codes "x"
+
+-- the words of a call
+unfoldable pub call_words : Call → List (List ℕ)
+call_words (Mmap args) = codes "mmap" ∷ address_word args.addr ∷ decimal args.len ∷ prot_word args.prot
+    ∷ printed map_flags args.flags ∷ signed_decimal args.fd ∷ decimal args.offset ∷ []
+call_words (Munmap addr len) = codes "munmap" ∷ address_word addr ∷ decimal len ∷ []
+call_words (Mprotect addr len prot) = codes "mprotect" ∷ address_word addr ∷ decimal len ∷ prot_word prot ∷ []
+call_words (Mremap old old_len new_len flags new) = codes "mremap" ∷ address_word old ∷ decimal old_len ∷ decimal new_len
+    ∷ printed mremap_flags flags ∷ (if has_flag flags MREMAP_FIXED then address_word new ∷ [] else [])
+
+-- the words of an operation: its name, and the words of its form
+unfoldable pub op_words : Op → List (List ℕ)
+op_words (ops.Call call) = call_words call
+op_words (ops.Fault page access) = codes "fault" ∷ address_word (PAGE_SIZE * page.0) ∷ access_word access ∷ []
+op_words ops.Maps = codes "maps" ∷ []
+
+-- the text of a line: its thread and the words of its operation, with a space between each two
+unfoldable pub text_of : TraceLine → List ℕ
+text_of line = join_with_byte (byte " ") (decimal line.thread ∷ op_words line.op)
+
+-- the bytes of a line: its text, and a newline
+abbrev pub line_text : TraceLine → List ℕ
+line_text line = text_of line ++ codes "\n"

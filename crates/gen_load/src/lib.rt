@@ -1,0 +1,17 @@
+//! Loads: traces of pseudo-random operations, each made from a number alone, so that the same number always makes the same
+//! trace.
+//!
+//! A linear congruential generator of 64 bits starts at the seed, and each line takes its next number. The upper 31 bits of
+//! that number are the draw of the line: its kind of operation, its thread of four, its page of 65,536, its length of 1 to 16
+//! pages, its protection, and for a move the new length of 1 to 8 pages.
+#![tactic(auto)]
+
+mod draw;
+mod laws;
+mod loading;
+#[cfg(test)]
+mod tests;
+
+pub use draw::{FIRST_ADDRESS, INCREMENT, MULTIPLIER};
+pub use laws::{flags_are_printed, generator_numbers, loads_are_traces};
+pub use loading::{MOST_OPERATIONS, load};
