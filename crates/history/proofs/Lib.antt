@@ -12,3 +12,6 @@ pub mod Labels
 pub mod Orders
 pub mod Merging
 pub mod Regrouping
+pub mod Placing
+pub mod Advances
+pub mod Walking

@@ -1,14 +1,15 @@
 -- For `Callers`: how many lines each thread has, and what follows of the callers and their lines.
 use Rattle.std.proofs.Common.{ℕ, zero, suc, ◌≡◌, ◌+◌, ◌-◌, ◌<◌, ◌≤◌, ◌∙◌, refl, sym, ap, subst, cond, Bool, true, false, ◌||◌, nat_eq, nat_lt, List, [], ◌∷◌, ◌++◌, length, get_or, set, take, replicate, filter, sum, count_by, All, arith, inl, inr, zero-add}
 use Rattle.std.specs.List.{list_any}
-use Rattle.std.proofs.lemmas.Bool.{cases_lt, cases_order, cases_eq, cond-false, lt-ltb, eq-eqb, ne_eqb}
+use Rattle.std.proofs.lemmas.Bool.{cases_lt, cases_order, cases_eq, cond-true, cond-false, lt-ltb, eq-eqb, ne_eqb}
 use Rattle.std.proofs.lemmas.Bool.Decides.{nat_tests}
 use Rattle.std.proofs.lemmas.List.{take-append-le, take_all, take_more, length-set, length-take, length-replicate, get_or-set_same, get_or-set_other, get_or_append_left, get_or-append_right, get_or-replicate, get_or_past, same_lists, length_push}
 use Rattle.std.proofs.lemmas.List.Elements.{All-head, All-tail, All-weaker}
 use Rattle.std.proofs.lemmas.List.Sums.{sum_by-cons, sum_by_push, length-filter, count_by-le-length}
 use Rattle.trace_reader.specs.declared.trace.TraceLine.{TraceLine}
 use Rattle.trace_reader.specs.Values.{IsLineValue}
-use Rattle.history.specs.Histories.{occurs, caller_of, lines_of}
+use Rattle.history.specs.declared.items.Item.{Item}
+use Rattle.history.specs.Histories.{occurs, caller_of, lines_of, items_of}
 use Rattle.history.specs.Threads.{lines_by, counts_below}
 use Rattle.history.proofs.CallerOrder.{caller_above, all_occur}
 
@@ -302,3 +303,39 @@ shared_lines lines counts each =
 -- the threads of a trace that was read are below 64
 pub threads_of_trace : (lines : List TraceLine) → All IsLineValue lines → All (λ line. line.thread < 64) lines
 threads_of_trace lines values = λ k d within. (values k d within).thread
+
+tally_full : {X : Type 0} (f : X → ℕ) (n : ℕ) (xs : List X) → All (λ x. f x < n) xs → tally f n xs ≡ length xs
+tally_full f n [] below = tally_none f n
+tally_full {X} f n (x ∷ xs) below =
+    let rest : tally f n xs ≡ length xs = tally_full f n xs (All-tail (λ (y : X). f y < n) x xs below) in
+    let more : tally f n (x ∷ xs) ≡ tally f n xs + cond (nat_lt (f x) n) 1 0 = tally_more f n x xs in
+    omega (arith, rest, more, one_below (f x) n (All-head (λ (y : X). f y < n) x xs below))
+  where
+    one_below : (m n : ℕ) → m < n → ◌≡◌ {A = ℕ} (cond (nat_lt m n) 1 0) 1
+    one_below m n below = cond-true (nat_lt m n) 1 0 (lt-ltb m n below)
+
+tally_rises : {X Y : Type 0} (f : X → ℕ) (g : Y → ℕ) (n : ℕ) (xs : List X) (ys : List Y)
+    → ((k : ℕ) → count_by (λ x. nat_eq (f x) k) xs ≤ count_by (λ y. nat_eq (g y) k) ys) → tally f n xs ≤ tally g n ys
+unfolding tally
+tally_rises f g zero xs ys each = omega arith
+tally_rises f g (suc n) xs ys each = omega (arith, tally_rises f g n xs ys each, each n)
+
+-- where each caller has no more items than lines, there are no more items than lines
+pub items_within : (lines : List TraceLine) (items : List Item) (callers : ℕ) → All (λ item. item.caller < callers) items
+    → ((caller : ℕ) → length (items_of items caller) ≤ length (lines_of lines caller)) → length items ≤ length lines
+unfolding items_of lines_of
+items_within lines items callers all few =
+    let rises : tally (λ (item : Item). item.caller) callers items ≤ tally (λ (line : TraceLine). caller_of lines line.thread) callers lines =
+    tally_rises (λ (item : Item). item.caller) (λ (line : TraceLine). caller_of lines line.thread) callers items lines
+    (λ k. omega (
+      arith,
+      few k,
+      length-filter (λ (item : Item). nat_eq item.caller k) items,
+      length-filter (λ (line : TraceLine). nat_eq (caller_of lines line.thread) k) lines,
+    )) in
+    omega (
+      arith,
+      rises,
+      tally_full (λ (item : Item). item.caller) callers items all,
+      tally_within (λ (line : TraceLine). caller_of lines line.thread) callers lines,
+    )

@@ -2,3 +2,6 @@ pub mod Histories
 pub mod Runs
 pub mod Labels
 pub mod Threads
+pub mod CallerPlaces
+pub mod Checking
+pub mod Walks

@@ -1,8 +1,10 @@
-ghost use Rattle.std.specs.Prelude.{◌≡◌};
-ghost use Rattle.history.specs.Histories.{is_call};
+ghost use Rattle.std.specs.Prelude.{◌≡◌, ◌↔◌, IsTrue, IsSomeAnd};
+ghost use Rattle.history.specs.Histories.{is_call, op_of};
 
+use crate::same::same_call;
 use mm_types::{Access, AreaList, Call, Page, Reply, Verdict};
 use std::marker::Model;
+use trace_reader::{Op, TraceLine};
 
 /// What happened: a call with its reply, a fault with its verdict, or a read of the list of areas.
 #[derive(Debug, Drop)]
@@ -32,6 +34,35 @@ impl Item {
         match self.content {
             Content::Called(_, _) => true,
             Content::Fault { .. } | Content::List(_) => false,
+        }
+    }
+
+    /// Whether there is a line, and it asks for this.
+    pub(crate) fn answers(&self, line: Option<TraceLine>) -> bool
+        ensures { IsTrue result ↔ IsSomeAnd line (λ line. line.op ≡ op_of self.now.content) }
+    {
+        match line {
+            Some(line) => self.is_asked(&line.op),
+            None => false,
+        }
+    }
+
+    /// Whether an operation asks for this.
+    fn is_asked(&self, op: &Op) -> bool
+        ensures { IsTrue result ↔ (op.now ≡ op_of self.now.content) }
+    {
+        match (op, &self.content) {
+            (Op::Call(wanted), Content::Called(call, _)) => same_call(wanted, call),
+            (
+                Op::Fault { page, access },
+                Content::Fault {
+                    page: found,
+                    access: made,
+                    ..
+                },
+            ) => { page == found && access == made }
+            (Op::Maps, Content::List(_)) => true,
+            _ => false,
         }
     }
 }

@@ -5,11 +5,13 @@ ghost use Rattle.std.specs.Prelude.{◌≡◌, ℕ, List, [], ◌++◌, map, tak
 ghost use Rattle.std.specs.List.Sorted.{IsStableByKey};
 ghost use Rattle.std.specs.Ordering.{nat_cmp};
 ghost use Rattle.mm_types.specs.declared.config.Config.{Config};
+ghost use Rattle.history.specs.declared.answers.BadEntry.{BadEntry};
 ghost use Rattle.history.specs.declared.items.Item.{Item};
 ghost use Rattle.trace_reader.specs.declared.trace.TraceLine.{TraceLine};
 ghost use Rattle.area_model.specs.Tables.{AddressSpace};
 ghost use Rattle.area_model.specs.Steps.{opening, after};
 ghost use Rattle.history.specs.Histories.{occurs, caller_of, asks_call, journal_of, line_of, IsLegalHistory, serial_history, space_after_all, sort_by_caller, leading_reads, after_reads, answered_by, answered};
+ghost use Rattle.history.specs.Checking.{IsRefused};
 
 /// The history of a trace in the order of its lines goes version by version: the reads before a call, by caller, and
 /// then the call. Each of its items answers the line that it stands with, and it ends in the address space after all
@@ -47,4 +49,10 @@ pub fn sort_by_caller_is_stable()
 /// The lines of a trace, run in their order, make a legal history of the trace.
 pub fn serial_history_is_legal()
     ensures { (config : Config) (lines : List TraceLine) → IsLegalHistory config lines (serial_history config lines) }
+{}
+
+/// A history that is refused is not legal, so `check` accepts exactly the legal histories.
+pub fn refused_is_not_legal()
+    ensures { (config : Config) (lines : List TraceLine) (items : List Item) (bad : BadEntry) → IsRefused config lines items bad
+        → IsLegalHistory config lines items → ⊥ }
 {}

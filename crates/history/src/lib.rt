@@ -2,21 +2,32 @@
 //! whose lines run in their order; and the history of a finished run, gathered from its journal and the logs of its callers.
 #![tactic(auto)]
 
+mod answers;
 mod callers;
+mod checking;
 mod gathering;
 mod items;
 mod labelling;
 mod laws;
 mod ordering;
+mod places;
+mod progress;
 mod run_laws;
+mod same;
 #[cfg(test)]
 mod tests;
 
+pub use answers::{Answer, BadEntry, CheckFault};
 pub use callers::{Callers, MOST_THREADS};
+pub use checking::check;
 pub use gathering::gather;
 pub use items::{Content, History, Item};
 pub use labelling::label;
-pub use laws::{serial_history_by_version, serial_history_is_legal, sort_by_caller_is_stable};
+pub use laws::{
+    refused_is_not_legal, serial_history_by_version, serial_history_is_legal,
+    sort_by_caller_is_stable,
+};
+pub use places::places_by_caller;
 pub use run_laws::{
     callers_share_the_lines, labels_make_the_serial_history, no_lines_past_the_callers,
     one_operation_more, run_makes_a_legal_history,

@@ -1,7 +1,11 @@
-//! Gathering and labelling, against lists worked out by hand.
-use crate::{Content, History, Item, gather, label};
-use mm_types::{Access, AreaList, Call, Config, Entry, Files, Page, Reply, Seen, Verdict};
+//! Gathering, labelling and checking, against lists worked out by hand.
+use crate::{Answer, CheckFault, Content, History, Item, MOST_THREADS, check, gather, label};
+use mm_types::{
+    Access, AreaList, Attr, Call, Config, Entry, Files, MAP_ANONYMOUS, MAP_PRIVATE, MmapArgs, Page,
+    Prot, Record, Reply, Seen, Span, Verdict,
+};
 use std::alloc::Global;
+use std::process::Abort;
 use std::test::Fail;
 use trace_reader::{Lines, Op, Trace, TraceLine};
 
@@ -133,5 +137,179 @@ fn lines_give_the_callers(rt: HostRuntime) -> Result<(), Fail> {
     ];
     let got = shorts(alloc, &history)?;
     assert_eq!(rt; got.as_slice(), wanted.as_slice());
+    Ok(())
+}
+
+/// Where a page is mapped first.
+const START: u64 = 0x7fff_f7ff_e000;
+
+/// A call that maps one page.
+fn mapping() -> Call {
+    Call::Mmap(MmapArgs {
+        addr: 0,
+        len: 4096,
+        prot: mapped_page().attr.prot,
+        flags: MAP_PRIVATE | MAP_ANONYMOUS,
+        fd: -1,
+        offset: 0,
+    })
+}
+
+/// A call that unmaps it.
+fn unmapping() -> Call {
+    Call::Munmap {
+        addr: START,
+        len: 4096,
+    }
+}
+
+/// The area of the page.
+fn mapped_page() -> Record {
+    let page = START / 4096;
+    Record {
+        span: Span {
+            lo: page,
+            hi: page + 1,
+        },
+        attr: Attr {
+            prot: Prot {
+                read: true,
+                write: true,
+                exec: false,
+            },
+            most: Prot {
+                read: true,
+                write: true,
+                exec: true,
+            },
+            shared: false,
+            grows: false,
+            sealed: false,
+            heap: false,
+        },
+        object: 0,
+        offset: 0,
+    }
+}
+
+fn item(caller: u32, version: u64, content: Content) -> Item {
+    Item {
+        caller,
+        version,
+        content,
+    }
+}
+
+/// A fault at the page, with its verdict.
+fn answered_fault(verdict: Verdict) -> Content {
+    Content::Fault {
+        page: Page(START / 4096),
+        access: Access::Read,
+        verdict,
+    }
+}
+
+/// The lower of two threads maps a page and reads the list; the other has a fault there and unmaps it.
+fn small_trace(alloc: Global) -> Result<Trace, Fail> {
+    let lines = vec![in alloc;
+        line(1, 4, Op::Call(mapping())),
+        fault_line(2, 9, START / 4096),
+        line(3, 4, Op::Maps),
+        line(4, 9, Op::Call(unmapping())),
+    ]?;
+    Ok(Trace {
+        config: Config::with_files(Files::of(Vec::new(alloc))),
+        lines: Lines::of(lines),
+    })
+}
+
+/// A legal history of it.
+fn small_history(alloc: Global) -> Result<Vec<Item>, Fail> {
+    let area = mapped_page();
+    let list = AreaList::of(vec![in alloc; area]?);
+    let mut items = Vec::new(alloc);
+    items.push(item(0, 1, Content::Called(mapping(), Reply::Addr(START))))?;
+    items.push(item(0, 1, Content::List(list)))?;
+    items.push(item(1, 1, answered_fault(Verdict::Served { area, index: 0 })))?;
+    items.push(item(1, 2, Content::Called(unmapping(), Reply::Zero)))?;
+    Ok(items)
+}
+
+/// What kind of answer it is.
+#[derive(Clone, Copy, Debug, PartialEq, Eq)]
+enum Kind {
+    Call,
+    Served,
+    NotServed,
+    List,
+    Nothing,
+}
+
+fn kind_of(answer: &Answer) -> Kind {
+    match answer {
+        Answer::Call(_, _) => Kind::Call,
+        Answer::Fault(Verdict::Served { .. }) => Kind::Served,
+        Answer::Fault(_) => Kind::NotServed,
+        Answer::List(_) => Kind::List,
+        Answer::Nothing => Kind::Nothing,
+    }
+}
+
+/// The place of the bad entry of a history of the small trace, if it has one, with what was expected there and what was found.
+fn bad_entry(
+    rt: &(impl Abort + AllocGlobal),
+    items: Vec<Item>,
+) -> Result<Option<(u64, Kind, Kind)>, Fail> {
+    let trace = small_trace(rt.alloc())?;
+    assert!(rt; trace.config.valid());
+    let lines = trace.lines.items();
+    assert!(rt; lines.len() <= 4);
+    assert!(rt; lines.iter().all(|line| line.thread < MOST_THREADS as u32));
+    match check(rt.alloc(), &trace, &History::of(items)) {
+        Ok(()) => Ok(None),
+        Err(CheckFault::Bad(bad)) => Ok(Some((
+            bad.place,
+            kind_of(&bad.expected),
+            kind_of(&bad.found),
+        ))),
+        Err(CheckFault::NoMemory) => Err("no memory".into()),
+    }
+}
+
+#[test]
+fn legal_histories_pass(rt: HostRuntime) -> Result<(), Fail> {
+    let items = small_history(rt.alloc())?;
+    assert_eq!(rt; bad_entry(&rt, items)?, None);
+    Ok(())
+}
+
+#[test]
+fn wrong_items_are_named(rt: HostRuntime) -> Result<(), Fail> {
+    let mut items = small_history(rt.alloc())?;
+    assert_eq!(rt; items.len(), 4);
+    items[2].content = answered_fault(Verdict::MapErr);
+    let wanted = (2, Kind::Served, Kind::NotServed);
+    assert_eq!(rt; bad_entry(&rt, items)?, Some(wanted));
+
+    let mut items = small_history(rt.alloc())?;
+    items.truncate(3);
+    let wanted = (3, Kind::Call, Kind::Nothing);
+    assert_eq!(rt; bad_entry(&rt, items)?, Some(wanted));
+    Ok(())
+}
+
+#[test]
+fn other_orders_are_refused(rt: HostRuntime) -> Result<(), Fail> {
+    let mut items = small_history(rt.alloc())?;
+    assert_eq!(rt; items.len(), 4);
+    items.swap(0, 3);
+    let wanted = (0, Kind::NotServed, Kind::Call);
+    assert_eq!(rt; bad_entry(&rt, items)?, Some(wanted));
+
+    let mut items = small_history(rt.alloc())?;
+    assert_eq!(rt; items.len(), 4);
+    items.swap(1, 2);
+    let wanted = (2, Kind::List, Kind::List);
+    assert_eq!(rt; bad_entry(&rt, items)?, Some(wanted));
     Ok(())
 }

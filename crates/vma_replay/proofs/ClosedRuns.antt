@@ -20,7 +20,8 @@ use Rattle.history.proofs.ThreadCounts.{no_lines_past}
 use Rattle.fault_path.specs.Passes.{PassView, caller, seen_by, made_by, IsPassOf, IsFresh, IsLater, ArePasses, AreFresh}
 use Rattle.mm_space.specs.Closing.{ClosedView, IsIn, Closes}
 use Rattle.vma_replay.specs.Driving.{done_by}
-use Rattle.vma_replay.specs.Sharing.{callers_of, AreShares}
+use Rattle.history.specs.CallerPlaces.{callers_of}
+use Rattle.vma_replay.specs.Sharing.{AreShares}
 use Rattle.vma_replay.proofs.Operations.{split, nothing, calls_append}
 
 -- what a pass did, by the whole journal

@@ -2,7 +2,6 @@ pub mod Given
 pub mod Taken
 pub mod CommandLine
 pub mod Telling
-pub mod Placing
 pub mod Operations
 pub mod Workers
 pub mod ClosedRuns

@@ -32,7 +32,7 @@ use Rattle.vma_replay.specs.declared.words.Mode.TheVariants as modes
 use Rattle.vma_replay.specs.Output.{output_text, serial_output}
 use Rattle.vma_replay.specs.Replaying.{IsRunOf, IsGivenFor, IsOutputOf, history_of_run}
 use Rattle.vma_replay.specs.Giving.{IsGivingRun}
-use Rattle.vma_replay.specs.Sharing.{callers_of}
+use Rattle.history.specs.CallerPlaces.{callers_of}
 use Rattle.vma_replay.proofs.ClosedRuns.{few_callers}
 
 -- the address space after the calls of items is that after what they were asked

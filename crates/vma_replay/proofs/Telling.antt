@@ -15,7 +15,7 @@ use Rattle.history.specs.declared.items.Item.{Item}
 use Rattle.trace_reader.specs.declared.trace.TraceLine.{TraceLine}
 use Rattle.history.specs.Histories.{lines_of, items_of, line_of, op_of, IsLegalHistory}
 use Rattle.vma_replay.specs.Output.{item_text, items_text}
-use Rattle.vma_replay.specs.CallerPlaces.{ArePlaces}
+use Rattle.history.specs.CallerPlaces.{ArePlaces}
 
 -- the first items were told: for each caller so many were, and their text and that of the others is the text of all
 pub record Told (files : List FileRow) (lines : List TraceLine) (items : List Item) (callers index : ℕ) (answered text : List ℕ) : Type 0 where

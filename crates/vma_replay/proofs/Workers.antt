@@ -12,7 +12,7 @@ use Rattle.atomic_table.specs.Seated.{TableId}
 use Rattle.history.specs.Histories.{lines_of}
 use Rattle.history.specs.Runs.{asked}
 use Rattle.fault_path.specs.Passes.{PassView, IsPassOf, IsLater, ArePasses, AreFresh}
-use Rattle.vma_replay.specs.CallerPlaces.{ArePlaces, StandAt}
+use Rattle.history.specs.CallerPlaces.{ArePlaces, StandAt}
 use Rattle.vma_replay.specs.Driving.{done_by, Does, DoesNoMore, Ran}
 use Rattle.vma_replay.specs.Sharing.{AreShares}
 use Rattle.vma_replay.proofs.Operations.{RanTo, fresh_did, ran_more, ran_no_more, ran_is}

@@ -1,4 +1,3 @@
-pub mod CallerPlaces
 pub mod Sharing
 pub mod Driving
 pub mod Output

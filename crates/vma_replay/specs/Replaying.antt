@@ -19,7 +19,7 @@ use Rattle.vma_replay.specs.declared.words.Mode.TheVariants as modes
 use Rattle.vma_replay.specs.declared.status.Status.{Status}
 use Rattle.vma_replay.specs.declared.status.Status.TheVariants as statuses
 use Rattle.vma_replay.specs.Output.{output_text, serial_output}
-use Rattle.vma_replay.specs.Sharing.{callers_of}
+use Rattle.history.specs.CallerPlaces.{callers_of}
 
 -- whether there is one word, and it is this one
 abbrev pub are_only : List ℕ → List (String Global) → Bool

@@ -5,12 +5,12 @@ ghost use Rattle.trace_reader.specs.Values.{IsTraceValue};
 ghost use Rattle.history.specs.Histories.{lines_of};
 ghost use Rattle.history.specs.Runs.{asked};
 ghost use Rattle.fault_path.specs.Passes.{PassView, IsPassOf, IsFresh, IsLater, ArePasses, AreFresh};
-ghost use Rattle.vma_replay.specs.CallerPlaces.{ArePlaces, StandAt};
+ghost use Rattle.history.specs.CallerPlaces.{ArePlaces, StandAt};
 ghost use Rattle.vma_replay.specs.Driving.{done_by, Does, DoesNoMore, Ran};
 ghost use Rattle.vma_replay.specs.Sharing.{AreShares};
 
-use crate::places::places_by_caller;
 use fault_path::Pass;
+use history::places_by_caller;
 use io_edge::Gate;
 use mm_space::{Space, SpaceName};
 use mm_types::NoMemory;

@@ -4,11 +4,10 @@ ghost use Rattle.lock_core.specs.Facts.{list_after};
 ghost use Rattle.trace_reader.specs.Values.{IsTraceValue};
 ghost use Rattle.history.specs.Histories.{IsLegalHistory, journal_of};
 ghost use Rattle.vma_replay.specs.Output.{content_text, item_text, output_text};
-ghost use Rattle.vma_replay.specs.CallerPlaces.{ArePlaces};
+ghost use Rattle.history.specs.CallerPlaces.{ArePlaces};
 ghost use Rattle.vma_replay.specs.Replaying.{IsRunOf, IsGivenFor, IsOutputOf, history_of_run};
 
 use crate::output::{push_maps, push_reply, push_start, push_verdict};
-use crate::places::places_by_caller;
 use crate::words::Mode;
 use history::{Content, History, Item, gather, label};
 use mm_space::Closed;

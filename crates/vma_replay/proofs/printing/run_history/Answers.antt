@@ -1,6 +1,6 @@
 -- The proof of `run_history`: the logs of a run are few.
 use Rattle.history.specs.Runs.{IsRun}
-use Rattle.vma_replay.specs.Sharing.{callers_of}
+use Rattle.history.specs.CallerPlaces.{callers_of}
 use Rattle.vma_replay.proofs.RunTexts.{few_logs}
 use Rattle.vma_replay.proofs.printing.run_history.Goals as goal
 

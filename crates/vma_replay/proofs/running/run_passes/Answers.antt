@@ -4,7 +4,8 @@ use Rattle.mm_types.specs.declared.config.Config.{Config}
 use Rattle.history.specs.Runs.{IsRun}
 use Rattle.fault_path.specs.Passes.{PassView, ArePasses}
 use Rattle.mm_space.specs.Closing.{Closes}
-use Rattle.vma_replay.specs.Sharing.{callers_of, AreShares}
+use Rattle.history.specs.CallerPlaces.{callers_of}
+use Rattle.vma_replay.specs.Sharing.{AreShares}
 use Rattle.vma_replay.proofs.ClosedRuns.{back, threads_run}
 use Rattle.vma_replay.proofs.running.run_passes.Goals as goal
 

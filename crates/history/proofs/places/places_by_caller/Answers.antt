@@ -2,8 +2,8 @@
 use Rattle.std.proofs.Common.{◌≡◌, arith}
 use Rattle.history.specs.declared.callers.TheConstants.{MOST_THREADS}
 use Rattle.history.specs.Histories.{caller_of}
-use Rattle.vma_replay.proofs.Placing.{placed_none, placed_more, caller_at, placed_all}
-use Rattle.vma_replay.proofs.places.places_by_caller.Goals as goal
+use Rattle.history.proofs.Placing.{placed_none, placed_more, caller_at, placed_all}
+use Rattle.history.proofs.places.places_by_caller.Goals as goal
 
 pub loop-place-init : goal.loop-place-init
 loop-place-init c =
@@ -12,7 +12,7 @@ loop-place-init c =
 
 pub index_mut-requires : goal.index_mut-requires
 index_mut-requires c =
-    caller_at c.args.lines.now c.loop-place.place _ _ _ c.loop-place-test.true c.requires.values
+    caller_at c.args.lines.now c.loop-place.place _ _ _ c.loop-place-test.true c.requires.threads
     (omega (arith, c.loop-place.places.ok.0, c.loop-place.invariant.all))
     (c.caller-caller.ensures.caller c.args.lines.now c.of-callers.ensures)
 
@@ -20,9 +20,9 @@ pub loop-place-preserved : goal.loop-place-preserved
 loop-place-preserved c =
     placed_more _ _ _ _ c.loop-place.invariant _ c.loop-place-test.true c.caller-caller.result
     (c.caller-caller.ensures.caller c.args.lines.now c.of-callers.ensures)
-    (caller_at c.args.lines.now c.loop-place.place _ _ _ c.loop-place-test.true c.requires.values c.loop-place.invariant.all
+    (caller_at c.args.lines.now c.loop-place.place _ _ _ c.loop-place-test.true c.requires.threads c.loop-place.invariant.all
     (c.caller-caller.ensures.caller c.args.lines.now c.of-callers.ensures))
     c.index_mut.result.now c.push.new.self c.index_mut.ensures.value c.in_ok-push.ensures.items
 
 pub returns : goal.returns
-returns c = placed_all c.args.lines.now _ _ c.loop-place.invariant c.loop-place-test.false c.requires.values
+returns c = placed_all c.args.lines.now _ _ c.loop-place.invariant c.loop-place-test.false c.requires.threads

@@ -1,8 +1,13 @@
--- No public clause cites what stands here: the lines of each caller, as places among the lines of a trace.
-use Rattle.std.specs.Prelude.{ℕ, ◌≡◌, ◌≤◌, List, [], map, length, slice_get, Some, Vec}
+-- The lines of each caller of a trace, as places among all its lines.
+use Rattle.std.specs.Prelude.{ℕ, ◌≡◌, ◌≤◌, max, List, [], map, length, slice_get, Some, Vec}
 use Rattle.std.specs.declared.alloc.Global.{Global}
 use Rattle.trace_reader.specs.declared.trace.TraceLine.{TraceLine}
-use Rattle.history.specs.Histories.{lines_of}
+use Rattle.history.specs.declared.callers.TheConstants.{MOST_THREADS}
+use Rattle.history.specs.Histories.{caller_of, lines_of}
+
+-- how many callers run the lines of a trace: as many as threads have a line, and one where none has
+abbrev pub callers_of : List TraceLine → ℕ
+callers_of lines = max 1 (caller_of lines MOST_THREADS)
 
 -- these lines stand at these places of the trace
 abbrev pub StandAt : List TraceLine → List ℕ → List TraceLine → Type 0

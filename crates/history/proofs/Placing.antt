@@ -1,4 +1,4 @@
--- Serves `places_by_caller` and `shares`: what their loops keep.
+-- For `places_by_caller`: what its loop keeps.
 use Rattle.std.proofs.Common.{ℕ, ◌≡◌, ◌+◌, ◌<◌, ◌≤◌, ◌∙◌, refl, sym, ap, subst, cond, max, Bool, true, false, nat_eq, List, [], ◌∷◌, ◌++◌, length, map, take, get_or, slice_get, set, filter, All, Some, arith, inl, inr}
 use Rattle.std.specs.Prelude.{Vec, vec_len}
 use Rattle.std.specs.declared.alloc.Global.{Global}
@@ -7,13 +7,11 @@ use Rattle.std.proofs.lemmas.List.{take_more, take_all, append-nil, length-set, 
 use Rattle.std.proofs.lemmas.List.Elements.{filter-append, All-get_or}
 use Rattle.std.proofs.lemmas.Option.{slice_get-get_or, slice_get_within, get_or_from_slice_get}
 use Rattle.trace_reader.specs.declared.trace.TraceLine.{TraceLine}
-use Rattle.trace_reader.specs.Values.{IsLineValue}
 use Rattle.history.specs.Histories.{caller_of, lines_of, occurs}
 use Rattle.history.specs.declared.callers.TheConstants.{MOST_THREADS}
 use Rattle.history.proofs.CallerOrder.{caller_above, all_occur}
 use Rattle.history.proofs.ThreadCounts.{no_lines_past}
-use Rattle.vma_replay.specs.CallerPlaces.{ArePlaces, StandAt}
-use Rattle.vma_replay.specs.Sharing.{callers_of}
+use Rattle.history.specs.CallerPlaces.{callers_of, ArePlaces, StandAt}
 
 -- of some lines of a trace those of a caller
 abbrev pub own_lines : List TraceLine → ℕ → List TraceLine → List TraceLine
@@ -54,12 +52,12 @@ caller_within lines threads index d within below =
     let above : caller_of lines line.thread < caller_of lines threads = caller_above lines line.thread threads there below in
     omega arith
 
-pub caller_at : (lines : List TraceLine) (index callers : ℕ) (d : TraceLine) (caller : ℕ) → index < length lines → All IsLineValue lines
+pub caller_at : (lines : List TraceLine) (index callers : ℕ) (d : TraceLine) (caller : ℕ) → index < length lines → All (λ line. line.thread < MOST_THREADS) lines
     → callers ≡ callers_of lines
     → caller ≡ caller_of lines (get_or lines index d).thread → caller < callers
-caller_at lines index callers d caller within values all is =
+caller_at lines index callers d caller within threads all is =
     let below : caller_of lines (get_or lines index d).thread < max 1 (caller_of lines MOST_THREADS) =
-    caller_within lines MOST_THREADS index d within (values index d within).thread in
+    caller_within lines MOST_THREADS index d within (threads index d within) in
     omega arith
 
 pub placed_more : (lines : List TraceLine) (index callers : ℕ) (places : List (Vec ℕ Global)) → Placed lines index callers places
@@ -105,10 +103,10 @@ placed_more lines index callers places placed d within caller is at old new was 
 
 -- past the last line
 pub placed_all : (lines : List TraceLine) (index : ℕ) (places : List (Vec ℕ Global)) → Placed lines index (callers_of lines) places
-    → length lines ≤ index → All IsLineValue lines → ArePlaces lines (callers_of lines) places
+    → length lines ≤ index → All (λ line. line.thread < MOST_THREADS) lines → ArePlaces lines (callers_of lines) places
 unfolding lines_of
-placed_all lines index places placed past values = record {
+placed_all lines index places placed past threads = record {
   all = placed.all;
   stand = λ caller own found. placed.stand caller own found ∙ ap (λ l. map Some (own_lines lines caller l)) (take_all index lines past);
-  no_lines = λ caller above. no_lines_past MOST_THREADS lines caller (λ i d within. (values i d within).thread) (omega arith);
+  no_lines = λ caller above. no_lines_past MOST_THREADS lines caller threads (omega arith);
 }

@@ -1,6 +1,6 @@
 -- The proof of `empty_places`: what its loop keeps.
 use Rattle.std.proofs.Common.{◌≡◌, vec_len, All}
-use Rattle.vma_replay.proofs.places.empty_places.Given as goal
+use Rattle.history.proofs.places.empty_places.Given as goal
 
 -- so many lists were made, and each is empty
 abbrev pub invariant-loop : goal.invariant-loop

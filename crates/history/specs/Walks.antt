@@ -1,0 +1,76 @@
+-- No public clause cites what stands here: what `check` keeps while it walks over the items of a history.
+use Rattle.std.specs.Prelude.{ℕ, ◌≡◌, ◌+◌, ◌-◌, ◌^◌, ◌<◌, ◌≤◌, false, if◌then◌else◌, List, length, take, slice_index, All, Option, Some, None, IsSomeAnd}
+use Rattle.std.specs.List.{last_or}
+use Rattle.mm_types.specs.declared.area.Record.{Record}
+use Rattle.mm_types.specs.declared.config.Config.{Config}
+use Rattle.trace_reader.specs.declared.trace.TraceLine.{TraceLine}
+use Rattle.area_model.specs.Tables.{AddressSpace}
+use Rattle.area_model.specs.Steps.{after}
+use Rattle.history.specs.declared.answers.Answer.{Answer}
+use Rattle.history.specs.declared.answers.Answer.TheVariants as answers
+use Rattle.history.specs.declared.answers.CheckFault.{CheckFault}
+use Rattle.history.specs.declared.answers.CheckFault.TheVariants as faults
+use Rattle.history.specs.declared.answers.Expected.{Expected}
+use Rattle.history.specs.declared.answers.Expected.TheVariants as expected
+use Rattle.history.specs.declared.checking.Walk.{Walk}
+use Rattle.history.specs.declared.items.Item.{Item}
+use Rattle.history.specs.declared.progress.Progress.{Progress}
+use Rattle.history.specs.Histories.{items_of, lines_of, journal_of, is_call, op_of, space_after}
+use Rattle.history.specs.CallerPlaces.{ArePlaces}
+use Rattle.history.specs.Checking.{AreGood, IsRefused}
+
+-- what is expected, where a list is this one
+abbrev pub shown : List Record → Expected → Answer
+shown areas (expected.Call call reply) = answers.Call call reply
+shown areas (expected.Fault verdict) = answers.Fault verdict
+shown areas expected.List = answers.List areas
+shown areas expected.Nothing = answers.Nothing
+
+-- the lowest caller that may read after an item
+abbrev pub lowest_after : Option Item → ℕ
+lowest_after None = 0
+lowest_after (Some prior) = if is_call prior.content then 0 else prior.caller
+
+-- the callers are as far as some items say, each of which is of a caller and answers one of its lines
+pub record IsProgress (lines : List TraceLine) (before : List Item) (progress : Progress) : Type 0 where
+  pub places : ArePlaces lines (length progress.places.items) progress.places.items
+  pub all : length progress.answered.items ≡ length progress.places.items
+  pub answered : (caller : ℕ) → caller < length progress.places.items → slice_index progress.answered.items caller ≡ length (items_of before caller)
+  pub version : progress.version ≡ length (journal_of before)
+  pub lowest : progress.lowest ≡ lowest_after (last_or None before)
+  pub few : (caller : ℕ) → length (items_of before caller) ≤ length (lines_of lines caller)
+  pub callers : All (λ item. item.caller < length progress.places.items) before
+
+-- an item can stand next, where this is the next line of its caller
+pub record IsNext (progress : Progress) (line : Option TraceLine) (item : Item) : Type 0 where
+  pub version : item.version ≡ progress.version + (if is_call item.content then 1 else 0)
+  pub order : is_call item.content ≡ false → progress.lowest ≤ item.caller
+  pub asked : IsSomeAnd line (λ line. line.op ≡ op_of item.content)
+
+-- no caller has a line left
+abbrev pub HasNoneLeft : List TraceLine → List Item → Type 0
+HasNoneLeft lines items = (caller : ℕ) → length (items_of items caller) ≡ length (lines_of lines caller)
+
+-- a caller has lines left, and no lower one has
+pub record IsLowestLeft (lines : List TraceLine) (items : List Item) (caller : ℕ) : Type 0 where
+  pub left : length (items_of items caller) < length (lines_of lines caller)
+  pub lowest : (lower : ℕ) → lower < caller → length (items_of items lower) ≡ length (lines_of lines lower)
+
+-- the address space after a line, if there is one
+abbrev pub space_after_line : Config → AddressSpace → Option TraceLine → AddressSpace
+space_after_line config space None = space
+space_after_line config space (Some line) = space_after config space line.op
+
+-- a walk has come to a place of a history, and each item before it is good
+pub record IsWalked (config : Config) (lines : List TraceLine) (items : List Item) (place : ℕ) (walk : Walk) : Type 0 where
+  pub progress : IsProgress lines (take place items) walk.progress
+  pub opened : walk.space.config ≡ config
+  pub space : walk.space.space ≡ after config (journal_of (take place items))
+  pub objects : walk.space.space.objects ≤ length config.files + walk.progress.version
+  pub room : length config.files + length lines < 2 ^ 32 - 1
+  pub good : AreGood config lines items place
+
+-- a history was refused rightly, or memory ran out
+abbrev pub IsTold : Config → List TraceLine → List Item → CheckFault → Type 0
+IsTold config lines items (faults.Bad bad) = IsRefused config lines items bad
+IsTold config lines items faults.NoMemory = Unit {0}

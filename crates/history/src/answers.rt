@@ -1,0 +1,129 @@
+//! What a history that is refused is told: the item that is bad, and what was expected there.
+ghost use Rattle.std.specs.Prelude.{◌≡◌, ◌↔◌, IsTrue, IfOk};
+ghost use Rattle.history.specs.Checking.{answer_in};
+ghost use Rattle.history.specs.Walks.{shown};
+
+use crate::items::Content;
+use crate::same::{same_call, same_list, same_reply, same_verdict};
+use mm_types::{AreaList, Call, NoMemory, Record, Reply, Verdict};
+use std::alloc::Global;
+
+/// What an item answers, or what was expected of it: a call with its reply, the verdict on a fault, a list of areas, or nothing where there
+/// is no item or no line.
+#[derive(Debug, Drop)]
+pub enum Answer {
+    Call(Call, Reply),
+    Fault(Verdict),
+    List(AreaList),
+    Nothing,
+}
+
+/// The first item of a history that is bad, or its end, where lines are left: its place, counted from 0, and what was expected there
+/// and what was found.
+#[derive(Debug, Drop)]
+pub struct BadEntry {
+    pub place: u64,
+    pub expected: Answer,
+    pub found: Answer,
+}
+
+/// Why a history was not accepted.
+#[derive(Debug, Drop)]
+pub enum CheckFault {
+    /// It is not a legal history of the trace.
+    Bad(BadEntry),
+    /// Out of memory.
+    NoMemory,
+}
+
+impl From<NoMemory> for CheckFault {
+    ghost use Rattle.std.specs.Prelude.{◌≡◌};
+    ghost use Rattle.history.specs.declared.answers.CheckFault.TheVariants as faults;
+
+    ghost from_gives = { λ _ fault. fault ≡ faults.NoMemory };
+
+    fn from(_error: NoMemory) -> CheckFault {
+        CheckFault::NoMemory
+    }
+}
+
+/// An answer, where a list is that of an address space.
+#[derive(Clone, Copy, Debug)]
+pub(crate) enum Expected {
+    Call(Call, Reply),
+    Fault(Verdict),
+    List,
+    Nothing,
+}
+
+impl Answer {
+    /// The answer of an item, with a copy of its list.
+    pub(crate) fn of(alloc: Global, content: &Content) -> Result<Answer, NoMemory>
+        ensures { IfOk result (λ answer. answer ≡ answer_in content.now) }
+    {
+        match content {
+            Content::Called(call, reply) => Ok(Answer::Call(*call, *reply)),
+            Content::Fault { verdict, .. } => Ok(Answer::Fault(*verdict)),
+            Content::List(areas) => Ok(Answer::List(copied(alloc, areas.items())?)),
+        }
+    }
+}
+
+impl Expected {
+    /// The answer, with a copy of the areas where it is the list.
+    pub(crate) fn answer(&self, alloc: Global, areas: &[Record]) -> Result<Answer, NoMemory>
+        ensures { IfOk result (λ answer. answer ≡ shown areas.now self.now) }
+    {
+        match self {
+            Expected::Call(call, reply) => Ok(Answer::Call(*call, *reply)),
+            Expected::Fault(verdict) => Ok(Answer::Fault(*verdict)),
+            Expected::List => Ok(Answer::List(copied(alloc, areas)?)),
+            Expected::Nothing => Ok(Answer::Nothing),
+        }
+    }
+
+    /// Whether an item answers this over these areas.
+    pub(crate) fn is_in(&self, areas: &[Record], content: &Content) -> bool
+        ensures { IsTrue result ↔ (shown areas.now self.now ≡ answer_in content.now) }
+    {
+        match content {
+            Content::Called(call, reply) => self.is_call(call, reply),
+            Content::Fault { verdict, .. } => self.is_verdict(verdict),
+            Content::List(list) => self.is_list() && same_list(list.items(), areas),
+        }
+    }
+
+    /// Whether it is this call with this reply.
+    fn is_call(&self, call: &Call, reply: &Reply) -> bool
+        ensures { IsTrue result ↔ (self.now ≡ Expected.Call call.now reply.now) }
+    {
+        match self {
+            Expected::Call(wanted, due) => same_call(wanted, call) && same_reply(due, reply),
+            Expected::Fault(_) | Expected::List | Expected::Nothing => false,
+        }
+    }
+
+    /// Whether it is this verdict.
+    fn is_verdict(&self, verdict: &Verdict) -> bool
+        ensures { IsTrue result ↔ (self.now ≡ Expected.Fault verdict.now) }
+    {
+        match self {
+            Expected::Fault(due) => same_verdict(due, verdict),
+            Expected::Call(_, _) | Expected::List | Expected::Nothing => false,
+        }
+    }
+
+    /// Whether it is the list.
+    fn is_list(&self) -> bool
+        ensures { IsTrue result ↔ (self.now ≡ Expected.List) }
+    {
+        matches!(self, Expected::List)
+    }
+}
+
+/// A copy of a list of areas.
+fn copied(alloc: Global, areas: &[Record]) -> Result<AreaList, NoMemory>
+    ensures { IfOk result (λ list. list ≡ areas.now) }
+{
+    Ok(AreaList::of(Vec::from_slice(alloc, areas)?))
+}
