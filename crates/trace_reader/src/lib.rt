@@ -36,7 +36,7 @@ pub use calls::call_of;
 pub use fault::{CallError, Cause, ReadError, TraceFault};
 pub use laws::{first_bad_line, front_is_enough, trace_limits, traces_fit};
 pub use limits::{LINE_LIMIT, MOST_LINES, MOST_MAPS, TRACE_LIMIT};
-pub use numbers::number_of;
+pub use numbers::{decimal_of, number_of};
 pub use reading::read;
 pub use trace::{Lines, Op, Trace, TraceLine};
 

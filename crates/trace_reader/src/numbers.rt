@@ -3,7 +3,7 @@
 ghost use Rattle.std.specs.Prelude.{◌≡◌, ◌≤◌};
 ghost use Rattle.std.specs.Char.{is_digit};
 ghost use Rattle.std.specs.List.{list_all};
-ghost use Rattle.trace_reader.specs.Numbers.{digits_of, number_of, thread_of};
+ghost use Rattle.trace_reader.specs.Numbers.{decimal_of, digits_of, number_of, thread_of};
 
 use crate::limits::GREATEST_THREAD;
 
@@ -17,6 +17,14 @@ pub fn number_of(word: &str) -> Option<u64>
         Some(digits) => digits_of(digits, 16, 16),
         None => digits_of(word, 10, 20),
     }
+}
+
+/// The number that a word of decimal digits is: 1 to 20 of them and nothing else, with a value below 2^64. There is none for any
+/// other word.
+pub fn decimal_of(word: &str) -> Option<u64>
+    ensures { result ≡ decimal_of word.now }
+{
+    digits_of(word, 10, 20)
 }
 
 /// The thread that a word is: 1 to 20 decimal digits with a value of 0 to 63.

@@ -1,19 +1,21 @@
--- Serves `mode_of`: what `clap` finds in words of which none begins with `-`.
-use Rattle.std.proofs.Common.{ap, refl, codes, true, false, map, fold, List, Some, None, [], ◌∷◌, ◌++◌, ◌≡◌, ◌∙◌, ◌==◌, ◌||◌, Bool, slice_index, string_bytes, sym, append_assoc, append-nil, arith}
-use Rattle.std.specs.Prelude.{String}
+-- For `job_of`: what `clap` finds in words of which none begins with `-`, and that other words name no job.
+use Rattle.std.proofs.Common.{ℕ, ap, refl, codes, true, false, map, fold, List, Option, Some, None, [], ◌∷◌, ◌++◌, ◌≡◌, ◌∙◌, ◌==◌, ◌||◌, Bool, slice_index, string_bytes, sym, append_assoc, append-nil, inl, inr, arith}
+use Rattle.std.specs.Prelude.{String, ◌&&◌, ◌⊎◌, length, nat_le, nat_lt, option_and_then, if◌then◌else◌}
 use Rattle.std.specs.declared.alloc.Global.{Global}
 use Rattle.std.specs.List.{list_any}
 use Rattle.std.specs.Str.{bytes_eq}
-use Rattle.std.proofs.lemmas.Bool.{false_from_ne_true}
+use Rattle.std.specs.Str.Parse.{digits_value}
+use Rattle.std.proofs.lemmas.Bool.{eqb-true, false_from_ne_true}
 use Rattle.std.proofs.lemmas.Slice.Eq.{bytes_eq-Decides}
 use Rattle.clap.specs.Lexer.{long_of, short_of}
 use Rattle.clap.specs.Simple.{built}
 use Rattle.clap.specs.Walk.{Rule, Text, Walk, finished, idle, is_empty, positional, nothing_held, settled_rows, walk_from, walked}
 use Rattle.clap.specs.Words.{matches_of, takes}
 use Rattle.clap.proofs.OnLiterals.{clap_on_literals}
-use Rattle.vma_replay.specs.declared.words.Mode.TheVariants as modes
-use Rattle.vma_replay.specs.Replaying.{are_only, mode_of_words}
-use Rattle.vma_replay.specs.CommandLine.{begins_with_dash, names_alone, words_command}
+use Rattle.trace_reader.specs.Numbers.{decimal_of, digits_of}
+use Rattle.vma_replay.specs.declared.words.Job.{Job}
+use Rattle.vma_replay.specs.Jobs.{job_of_words, named_job, operation_count}
+use Rattle.vma_replay.specs.CommandLine.{begins_with_dash, job_of_rows, words_command}
 
 -- a text that does not begin with `-`
 abbrev Plain : Text → Type 0
@@ -88,37 +90,34 @@ after_words t rest (w ∷ ws) none =
     ∙ after_words t (rest ++ string_bytes w ∷ []) ws plain.1
     ∙ ap (after_rest t) (append_assoc rest (string_bytes w ∷ []) (map string_bytes ws))
 
--- with no word after the mode the values are those of a list of one word where the mode is that word
-one_word : (name t : Text) → names_alone name (finished rules (after_mode t).held) ≡ bytes_eq t name
-unfolding clap_on_literals rules after_mode names_alone
-one_word name t = refl
+-- with no word after it the first word is all that is found
+one_word : (t : Text) → job_of_rows (finished rules (after_mode t).held) ≡ named_job t []
+unfolding clap_on_literals rules after_mode job_of_rows
+one_word t = refl
 
-not_empty : (u : Text) (rest : List Text) → is_empty (u ∷ rest) ≡ false
-not_empty u rest = grind arith
-
--- and with one they are not
-more_words : (name t u : Text) (rest : List Text) → names_alone name (finished rules (after_rest t (u ∷ rest)).held) ≡ false
-unfolding clap_on_literals rules after_rest names_alone
-more_words name t u rest = rw (not_empty u rest) refl
+-- and with more they are found as the rest
+more_words : (t u : Text) (rest : List Text) → job_of_rows (finished rules (after_rest t (u ∷ rest)).held) ≡ named_job t (u ∷ rest)
+unfolding clap_on_literals rules after_rest job_of_rows
+more_words t u rest = refl
 
 matches_walk : (texts : List Text) → matches_of words_command texts ≡ finished rules (fold (walked rules []) (walk_from nothing_held) texts).held
 unfolding rules words_command
 matches_walk texts = refl
 
-no_words : (name : Text) → names_alone name (matches_of words_command []) ≡ false
-unfolding clap_on_literals words_command names_alone
-no_words name = refl
+no_words : job_of_rows (matches_of words_command []) ≡ None
+unfolding clap_on_literals words_command job_of_rows
+no_words = refl
 
--- the values are those of a list of one word exactly where the words are that word alone
-named_words : (name : Text) (words : List (String Global)) → list_any begins_with_dash words ≡ false
-    → names_alone name (matches_of words_command (map string_bytes words)) ≡ are_only name words
-named_words name [] none = no_words name
-named_words name (w ∷ []) none =
+-- the values name the job that the words name
+pub named_by_words : (words : List (String Global)) → list_any begins_with_dash words ≡ false
+    → job_of_rows (matches_of words_command (map string_bytes words)) ≡ job_of_words words
+named_by_words [] none = no_words
+named_by_words (w ∷ []) none =
     let plain = neither (begins_with_dash w) false none in
-    ap (names_alone name) (matches_walk (string_bytes w ∷ [])
+    ap job_of_rows (matches_walk (string_bytes w ∷ [])
     ∙ ap (λ walk. finished rules walk.held) (after_first (string_bytes w) plain.0))
-    ∙ one_word name (string_bytes w)
-named_words name (w ∷ v ∷ ws) none =
+    ∙ one_word (string_bytes w)
+named_by_words (w ∷ v ∷ ws) none =
     let first = neither (begins_with_dash w) (list_any begins_with_dash (v ∷ ws)) none in
     let second = neither (begins_with_dash v) (list_any begins_with_dash ws) first.1 in
     let t = string_bytes w in
@@ -127,66 +126,80 @@ named_words name (w ∷ v ∷ ws) none =
     ap (λ walk. walked rules [] walk u) (after_first t first.0) ∙ after_second t u second.0 in
     let whole : fold (walked rules []) (walk_from nothing_held) (map string_bytes (w ∷ v ∷ ws)) ≡ after_rest t (u ∷ map string_bytes ws) =
     ap (λ walk. fold (walked rules []) walk (map string_bytes ws)) begun ∙ after_words t (u ∷ []) ws second.1 in
-    ap (names_alone name) (matches_walk _ ∙ ap (λ walk. finished rules walk.held) whole) ∙ more_words name t u (map string_bytes ws)
+    ap job_of_rows (matches_walk _ ∙ ap (λ walk. finished rules walk.held) whole) ∙ more_words t u (map string_bytes ws)
 
--- so they name the mode that the words name
-pub named_serial : (words : List (String Global)) → list_any begins_with_dash words ≡ false
-    → names_alone (codes "serial") (matches_of words_command (map string_bytes words)) ≡ true → mode_of_words words ≡ Some modes.Serial
-unfolding mode_of_words
-named_serial words none named = rw (sym (named_words (codes "serial") words none) ∙ named) refl
-
-pub named_threads : (words : List (String Global)) → list_any begins_with_dash words ≡ false
-    → names_alone (codes "serial") (matches_of words_command (map string_bytes words)) ≡ false
-    → names_alone (codes "threads") (matches_of words_command (map string_bytes words)) ≡ true → mode_of_words words ≡ Some modes.Threads
-unfolding mode_of_words
-named_threads words none other named =
-    rw (sym (named_words (codes "serial") words none) ∙ other, sym (named_words (codes "threads") words none) ∙ named) refl
-
--- or none
-pub named_none : (words : List (String Global)) → list_any begins_with_dash words ≡ false
-    → names_alone (codes "serial") (matches_of words_command (map string_bytes words)) ≡ false
-    → names_alone (codes "threads") (matches_of words_command (map string_bytes words)) ≡ false → mode_of_words words ≡ None
-unfolding mode_of_words
-named_none words none other another =
-    rw (sym (named_words (codes "serial") words none) ∙ other, sym (named_words (codes "threads") words none) ∙ another) refl
-
--- words that `clap` refuses name none
-only_taken : (name : Text) → takes words_command (name ∷ []) ≡ true → (words : List (String Global)) → are_only name words ≡ true
-    → takes words_command (map string_bytes words) ≡ true
-only_taken name taken [] only = cc
-only_taken name taken (w ∷ []) only = ap (λ t. takes words_command (t ∷ [])) ((bytes_eq-Decides (string_bytes w) name).0 only) ∙ taken
-only_taken name taken (w ∷ v ∷ ws) only = cc
-
-serial_taken : takes words_command (codes "serial" ∷ []) ≡ true
+-- `clap` takes a word alone, and one with two words after it
+one_taken : (t : Text) → Plain t → takes words_command (t ∷ []) ≡ true
 unfolding clap_on_literals words_command
-serial_taken = refl
+one_taken t plain = rw (no_dashes t plain, no_long t plain, no_short t plain) refl
 
-threads_taken : takes words_command (codes "threads" ∷ []) ≡ true
+three_taken : (t u v : Text) → Plain t → Plain u → Plain v → takes words_command (t ∷ u ∷ v ∷ []) ≡ true
 unfolding clap_on_literals words_command
-threads_taken = refl
+three_taken t u v first second third = rw (no_dashes t first, no_long t first, no_short t first, no_dashes u second, no_long u second, no_short u second,
+    no_dashes v third, no_long v third, no_short v third) refl
 
-neither_only : (words : List (String Global)) → are_only (codes "serial") words ≡ false → are_only (codes "threads") words ≡ false
-    → mode_of_words words ≡ None
-unfolding mode_of_words
-neither_only words other another = rw (other, another) refl
-
-pub refused : (words : List (String Global)) → (takes words_command (map string_bytes words) ≡ true → ⊥) → mode_of_words words ≡ None
-refused words refuses = neither_only words
-    (false_from_ne_true (are_only (codes "serial") words) (λ only. refuses (only_taken (codes "serial") serial_taken words only)))
-    (false_from_ne_true (are_only (codes "threads") words) (λ only. refuses (only_taken (codes "threads") threads_taken words only)))
+-- words that `clap` refuses name no job
+pub refused : (words : List (String Global)) → list_any begins_with_dash words ≡ false
+    → (takes words_command (map string_bytes words) ≡ true → ⊥) → job_of_words words ≡ None
+unfolding named_job
+refused [] none refuses = refl
+refused (w ∷ []) none refuses = absurd (refuses (one_taken (string_bytes w) (neither (begins_with_dash w) false none).0))
+refused (w ∷ v ∷ []) none refuses = refl
+refused (w ∷ v ∷ u ∷ []) none refuses =
+    let first = neither (begins_with_dash w) (list_any begins_with_dash (v ∷ u ∷ [])) none in
+    let second = neither (begins_with_dash v) (list_any begins_with_dash (u ∷ [])) first.1 in
+    let third = neither (begins_with_dash u) false second.1 in
+    absurd (refuses (three_taken (string_bytes w) (string_bytes v) (string_bytes u) first.0 second.0 third.0))
+refused (w ∷ v ∷ u ∷ x ∷ ws) none refuses = refl
 
 -- and so do words of which one begins with `-`
-other_text : (name t : Text) → (slice_index name 0 == 45 || false) ≡ false → (slice_index t 0 == 45 || false) ≡ true → bytes_eq t name ≡ false
-other_text name t plain dash = false_from_ne_true (bytes_eq t name) (λ same.
-    let other : (slice_index t 0 == 45 || false) ≡ false = ap (λ text. slice_index text 0 == 45 || false) ((bytes_eq-Decides t name).0 same)
-    ∙ plain in
+not_dash_named : (name t : Text) → (slice_index name 0 == 45) ≡ false → (slice_index t 0 == 45) ≡ true → bytes_eq t name ≡ false
+not_dash_named name t plain dash = false_from_ne_true (bytes_eq t name) (λ same.
+    let other : (slice_index t 0 == 45) ≡ false = ap (λ text. slice_index text 0 == 45) ((bytes_eq-Decides t name).0 same) ∙ plain in
     cc)
 
-other_words : (name : Text) → (slice_index name 0 == 45 || false) ≡ false → (words : List (String Global)) → list_any begins_with_dash words ≡ true
-    → are_only name words ≡ false
-other_words name plain [] dash = refl
-other_words name plain (w ∷ []) dash = other_text name (string_bytes w) plain dash
-other_words name plain (w ∷ v ∷ ws) dash = refl
+-- a word that begins with `-` is no number
+never : (a b : Bool) (n : ℕ) → (if a && (b && false) then Some n else None) ≡ None
+never true true n = refl
+never true false n = refl
+never false b n = refl
 
-pub dash_refused : (words : List (String Global)) → list_any begins_with_dash words ≡ true → mode_of_words words ≡ None
-dash_refused words dash = neither_only words (other_words (codes "serial") refl words dash) (other_words (codes "threads") refl words dash)
+no_decimal : (t : Text) → (slice_index t 0 == 45) ≡ true → decimal_of t ≡ None
+unfolding digits_of
+no_decimal [] dash = absurd (cc)
+no_decimal (c ∷ t) dash =
+    let is : c ≡ 45 = eqb-true c 45 dash in
+    rw is (never (nat_lt 0 (length (45 ∷ t))) (nat_le (length (45 ∷ t)) 20) (digits_value 10 (45 ∷ t)))
+
+either : (a b : Bool) → (a || b) ≡ true → (a ≡ true) ⊎ (b ≡ true)
+either true b some = inl refl
+either false b some = inr some
+
+pub dash_refused : (words : List (String Global)) → list_any begins_with_dash words ≡ true → job_of_words words ≡ None
+unfolding named_job
+dash_refused [] dash = refl
+dash_refused (w ∷ []) dash = elim (either (begins_with_dash w) false dash) [
+  | inl first ↦ rw (not_dash_named (codes "serial") (string_bytes w) refl first, not_dash_named (codes "threads") (string_bytes w) refl first) refl
+  | inr none ↦ absurd (cc)
+]
+dash_refused (w ∷ v ∷ []) dash = refl
+dash_refused (w ∷ v ∷ u ∷ []) dash = elim (either (begins_with_dash w) (list_any begins_with_dash (v ∷ u ∷ [])) dash) [
+  | inl first ↦ rw (not_dash_named (codes "generate") (string_bytes w) refl first) refl
+  | inr later ↦ elim (either (begins_with_dash v) (list_any begins_with_dash (u ∷ [])) later) [
+    | inl second ↦ rw (no_decimal (string_bytes v) second) (no_count None (bytes_eq (string_bytes w) (codes "generate")))
+    | inr last ↦ elim (either (begins_with_dash u) false last) [
+      | inl third ↦ rw (no_decimal (string_bytes u) third) (no_seed None refl (bytes_eq (string_bytes w) (codes "generate")) (operation_count (string_bytes v)))
+      | inr none ↦ absurd (cc)
+    ]
+  ]
+]
+  where
+    no_count : (none : Option Job) (b : Bool) → (if b then none else none) ≡ none
+    no_count none true = refl
+    no_count none false = refl
+    no_seed : (none : Option Job) → none ≡ None → (b : Bool) (count : Option ℕ)
+        → (if b then option_and_then (λ operations. none) count else none) ≡ none
+    no_seed none is true None = sym is
+    no_seed none is true (Some count) = refl
+    no_seed none is false count = refl
+dash_refused (w ∷ v ∷ u ∷ x ∷ ws) dash = refl

@@ -6,3 +6,4 @@ pub mod Operations
 pub mod Workers
 pub mod ClosedRuns
 pub mod RunTexts
+pub mod Summaries

@@ -68,7 +68,7 @@ all_own (item ∷ items) all =
     ∙ ap (λ (l : List Item). item ∷ l) (all_own items (All-tail (λ (item : Item). item.caller < 1) item items all))
 
 -- what the one caller of a serial run did is its history
-serial_own : (config : Config) (lines : List TraceLine) (journal : List Entry) (log : List Seen) → IsSerialRun config lines journal log
+pub serial_own : (config : Config) (lines : List TraceLine) (journal : List Entry) (log : List Seen) → IsSerialRun config lines journal log
     → history_of journal (log ∷ []) ≡ own_of 0 journal log
 unfolding history_of own_of logs_items
 serial_own config lines journal log run =
@@ -148,7 +148,7 @@ some_output modes.Threads trace = (serial_history trace.config trace.lines, seri
 some_output modes.Serial trace = refl
 
 -- of which nothing was given so far
-none_given : (old : Option (List ℕ)) (text : List ℕ) → Appends old old (take 0 text)
+pub none_given : (old : Option (List ℕ)) (text : List ℕ) → Appends old old (take 0 text)
 none_given None text = tt
 none_given (Some xs) text = sym (append-nil xs)
 

@@ -1,11 +1,11 @@
 -- No public clause cites what stands here: the words after the program's name, as `clap` reads them.
-use Rattle.std.specs.Prelude.{ℕ, ◌==◌, ◌&&◌, Bool, false, true, List, [], Some, codes, slice_index, string_bytes, String, unwrap_or}
+use Rattle.std.specs.Prelude.{ℕ, ◌==◌, Bool, true, List, [], Option, Some, option_and_then, codes, slice_index, string_bytes, String, unwrap_or}
 use Rattle.std.specs.declared.alloc.Global.{Global}
-use Rattle.std.specs.Option.{option_map_or}
-use Rattle.std.specs.Str.{bytes_eq}
 use Rattle.clap.specs.Lexer.{usize_max}
 use Rattle.clap.specs.Simple.{App, new_app, new_rule, on_top, with_rule}
-use Rattle.clap.specs.Walk.{Row, Rule, all_of, first_of, is_empty}
+use Rattle.clap.specs.Walk.{Row, Rule, all_of, first_of}
+use Rattle.vma_replay.specs.declared.words.Job.{Job}
+use Rattle.vma_replay.specs.Jobs.{named_job}
 
 -- the character `-`
 abbrev pub dash : ℕ
@@ -28,7 +28,6 @@ unfoldable pub words_command : App
 words_command = with_rule (with_rule (on_top (λ top. record top { no_binary_name = true; disable_help_flag = true; disable_version_flag = true })
     (new_app (codes "replay"))) mode_rule) rest_rule
 
--- the values are those of a list of this word alone: it is the mode, and nothing is after it
-unfoldable pub names_alone : List ℕ → List Row → Bool
-names_alone name rows = is_empty (unwrap_or (all_of (codes "rest") rows) [])
-    && option_map_or (λ mode. bytes_eq mode name) (first_of (codes "mode") rows) false
+-- the job that the values name
+unfoldable pub job_of_rows : List Row → Option Job
+job_of_rows rows = option_and_then (λ name. named_job name (unwrap_or (all_of (codes "rest") rows) [])) (first_of (codes "mode") rows)

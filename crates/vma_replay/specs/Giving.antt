@@ -6,7 +6,8 @@ use Rattle.trace_reader.specs.declared.trace.Trace.{Trace}
 use Rattle.vma_replay.specs.declared.status.Status.{Status}
 use Rattle.vma_replay.specs.declared.status.Status.TheVariants as statuses
 use Rattle.vma_replay.specs.declared.words.Mode.{Mode}
-use Rattle.vma_replay.specs.Replaying.{IsGivenFor, IsOutputOf}
+use Rattle.vma_replay.specs.Replaying.{GivesSummary, IsGivenFor, IsOutputOf}
+use Rattle.vma_replay.specs.Summaries.{summary_text}
 
 -- What giving a text results in, by what was written and the sink's count of faults, before and after: all of it was
 -- given, or a beginning of it.
@@ -30,3 +31,14 @@ IsGivingRun mode trace old new before now statuses.NoMemory runs = (now ≡ befo
 IsGivingRun mode trace old new before now statuses.Words runs = ⊥
 IsGivingRun mode trace old new before now (statuses.Trace line cause) runs = ⊥
 IsGivingRun mode trace old new before now statuses.ReadFault runs = ⊥
+
+-- What running the generated trace of so many operations and a seed, and giving its summary results in, by the same.
+abbrev pub IsGivingSummary : ℕ → ℕ → Option (List ℕ) → Option (List ℕ) → ℕ → ℕ → Status → List ClosedView → Type 0
+IsGivingSummary count seed old new before now statuses.Done runs = (now ≡ before) × GivesSummary count seed runs old new
+IsGivingSummary count seed old new before now statuses.WriteFault runs = (before < now) × (runs ≡ [])
+    × (given : ℕ) × (given < length (summary_text count seed)) × Appends old new (take given (summary_text count seed))
+IsGivingSummary count seed old new before now statuses.NoMemory runs = (now ≡ before) × (runs ≡ [])
+    × (given : ℕ) × Appends old new (take given (summary_text count seed))
+IsGivingSummary count seed old new before now statuses.Words runs = ⊥
+IsGivingSummary count seed old new before now (statuses.Trace line cause) runs = ⊥
+IsGivingSummary count seed old new before now statuses.ReadFault runs = ⊥

@@ -2,7 +2,10 @@ pub mod Sharing
 pub mod Driving
 pub mod Output
 pub mod Statuses
+pub mod Jobs
+pub mod Summaries
 pub mod Replaying
 pub mod Reading
 pub mod Giving
+pub mod Tallies
 pub mod CommandLine

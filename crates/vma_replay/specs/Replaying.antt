@@ -1,6 +1,5 @@
--- What the promises of `replay` say of its words, what it takes, runs, gives and answers.
-use Rattle.std.specs.Prelude.{ℕ, ◌≡◌, ◌<◌, ◌≤◌, ◌+◌, ◌⊎◌, Bool, false, List, [], ◌∷◌, length, take, codes, bytes_eq, string_bytes, String, Option, Some, None, is_some, unwrap_or, slice_get, if◌then◌else◌, Result, Ok, Err, IsOkAnd}
-use Rattle.std.specs.declared.alloc.Global.{Global}
+-- What the promises of `replay` say of what it takes, runs, gives and answers.
+use Rattle.std.specs.Prelude.{ℕ, ◌≡◌, ◌<◌, ◌≤◌, ◌+◌, ◌⊎◌, List, [], ◌∷◌, length, take, Option, IfSome, unwrap_or, slice_get, Result, Ok, Err, IsOkAnd}
 use Rattle.std.specs.Io.KnownBytes.{Appends, Consumes, IsAtEnd}
 use Rattle.mm_types.specs.declared.call.Seen.{Seen}
 use Rattle.lock_core.specs.Facts.{list_after}
@@ -14,26 +13,16 @@ use Rattle.trace_reader.specs.declared.fault.TraceFault.{TraceFault}
 use Rattle.trace_reader.specs.declared.trace.Trace.{Trace}
 use Rattle.trace_reader.specs.Grammar.{trace_of}
 use Rattle.trace_reader.specs.Lines.{trace_limit}
+use Rattle.gen_load.specs.Loads.{load_trace}
+use Rattle.vma_replay.specs.declared.words.Job.{Job}
+use Rattle.vma_replay.specs.declared.words.Job.TheVariants as jobs
 use Rattle.vma_replay.specs.declared.words.Mode.{Mode}
 use Rattle.vma_replay.specs.declared.words.Mode.TheVariants as modes
 use Rattle.vma_replay.specs.declared.status.Status.{Status}
 use Rattle.vma_replay.specs.declared.status.Status.TheVariants as statuses
 use Rattle.vma_replay.specs.Output.{output_text, serial_output}
 use Rattle.history.specs.CallerPlaces.{callers_of}
-
--- whether there is one word, and it is this one
-abbrev pub are_only : List ℕ → List (String Global) → Bool
-are_only name (word ∷ []) = bytes_eq (string_bytes word) name
-are_only name _ = false
-
--- the mode that words name: there are two accepted lists, `serial` and `threads`, each alone
-unfoldable pub mode_of_words : List (String Global) → Option Mode
-mode_of_words words = if are_only (codes "serial") words then Some modes.Serial
-    else if are_only (codes "threads") words then Some modes.Threads else None
-
--- whether the words are an accepted list
-abbrev pub are_accepted : List (String Global) → Bool
-are_accepted words = is_some (mode_of_words words)
+use Rattle.vma_replay.specs.Summaries.{summary_text}
 
 -- A closed run of the lines of a trace: in `threads` by the trace's callers, each its own lines; in `serial` by one caller all lines,
 -- one after the other.
@@ -78,6 +67,29 @@ GivesFront mode input old new = IsOkAnd (trace_of input) (λ trace. (text : List
 abbrev pub GivesProperFront : Mode → List ℕ → Option (List ℕ) → Option (List ℕ) → Type 0
 GivesProperFront mode input old new = IsOkAnd (trace_of input) (λ trace. (text : List ℕ) × IsOutputOf mode trace text
     × (count : ℕ) × (count < length text) × Appends old new (take count text))
+
+-- The generated trace of so many operations and a seed was run once, in the order of its lines, with the list of the run after it,
+-- and what was given is the summary of that trace.
+abbrev pub GivesSummary : ℕ → ℕ → List ClosedView → Option (List ℕ) → Option (List ℕ) → Type 0
+GivesSummary count seed runs old new = (run : ClosedView) × (runs ≡ run ∷ []) × IsRunOf modes.Serial (load_trace count seed) run
+    × (run.list ≡ list_after (load_trace count seed).config run.journal) × Appends old new (summary_text count seed)
+
+-- What was given by a job that is done, by what its source had left: in a mode the output of the trace that was read, in `generate`
+-- the summary of the generated one.
+abbrev pub GivesAll : Job → Option (List ℕ) → List ClosedView → Option (List ℕ) → Option (List ℕ) → Type 0
+GivesAll (jobs.Replay mode) left runs old new = IfSome left (λ input. GivesOutput mode input runs old new)
+GivesAll (jobs.Generate count seed) left runs old new = GivesSummary count seed runs old new
+
+-- a beginning of it was given
+abbrev pub GivesBeginning : Job → Option (List ℕ) → Option (List ℕ) → Option (List ℕ) → Type 0
+GivesBeginning (jobs.Replay mode) left old new = IfSome left (λ input. GivesFront mode input old new)
+GivesBeginning (jobs.Generate count seed) left old new = (given : ℕ) × Appends old new (take given (summary_text count seed))
+
+-- a beginning of it that is not all of it was given
+abbrev pub GivesProperBeginning : Job → Option (List ℕ) → Option (List ℕ) → Option (List ℕ) → Type 0
+GivesProperBeginning (jobs.Replay mode) left old new = IfSome left (λ input. GivesProperFront mode input old new)
+GivesProperBeginning (jobs.Generate count seed) left old new = (given : ℕ) × (given < length (summary_text count seed))
+    × Appends old new (take given (summary_text count seed))
 
 -- the answer to accepted words and an input, where neither memory nor the outside fails
 abbrev pub status_of : Result Trace TraceFault → Status

@@ -46,7 +46,7 @@ pub(crate) fn give_run<R: Threads + Wait + Sync, K: Sink, G: Gate>(
 }
 
 /// Gives all of a text to a sink.
-fn give_all<K: Sink>(sink: &mut K, text: &[u8]) -> Status
+pub(crate) fn give_all<K: Sink>(sink: &mut K, text: &[u8]) -> Status
     requires { K.faults sink.old < 2 ^ 64 - 1 }
     ensures { IsGiving text.now (K.written sink.old) (K.written sink.new) (K.faults sink.old) (K.faults sink.new) result }
 {

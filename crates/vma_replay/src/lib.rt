@@ -1,9 +1,13 @@
-//! The replayer: reads a trace, replays it over an address space, and writes every reply and the final list of areas.
+//! The replayer: reads a trace, replays it over an address space, and writes every reply and the final list of areas; or replays a
+//! generated trace, and writes a summary of what it did.
 #![tactic(auto)]
 
 mod copying;
 mod driving;
+mod generating;
 mod giving;
+#[cfg(test)]
+mod load_tests;
 mod output;
 mod places;
 mod printing;
@@ -12,6 +16,7 @@ mod replayed;
 mod run;
 mod running;
 mod status;
+mod summary;
 #[cfg(test)]
 mod table_tests;
 #[cfg(test)]
@@ -26,5 +31,6 @@ pub use printing::history_text;
 pub use replayed::{Replayed, Runs};
 pub use run::replay;
 pub use status::{Status, status_line, status_number};
+pub use summary::Summary;
 pub use trace_reader::Cause;
-pub use words::Mode;
+pub use words::{Job, Mode};

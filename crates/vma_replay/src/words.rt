@@ -1,12 +1,15 @@
-ghost use Rattle.std.specs.Prelude.{◌≡◌, IfErr, IfOk, Err, None, Some, map, string_bytes, true};
+ghost use Rattle.std.specs.Prelude.{◌≡◌, ◌≤◌, IfErr, IfOk, IfSome, Err, None, Some, map, string_bytes, true};
 ghost use Rattle.std.specs.List.{list_any};
 ghost use Rattle.clap.specs.Words.{app_of, found_of, matches_of, rows_of, takes};
-ghost use Rattle.vma_replay.specs.Replaying.{mode_of_words};
-ghost use Rattle.vma_replay.specs.CommandLine.{begins_with_dash, names_alone, words_command};
+ghost use Rattle.vma_replay.specs.Jobs.{generate_job, job_of_words, named_job, named_mode, operation_count};
+ghost use Rattle.vma_replay.specs.CommandLine.{begins_with_dash, job_of_rows, words_command};
+ghost use Rattle.vma_replay.specs.Tallies.{IsInLimits};
 
 use clap::error::ErrorKind;
 use clap::{Arg, ArgMatches, Command};
+use gen_load::MOST_OPERATIONS;
 use std::alloc::{AllocError, Global};
+use trace_reader::decimal_of;
 
 /// The name of the argument that is the mode.
 const MODE: &str = "mode";
@@ -23,7 +26,16 @@ pub enum Mode {
     Threads,
 }
 
-/// Why words name no mode.
+/// What the words after the program's name ask for.
+#[derive(Clone, Copy, Debug, PartialEq, Eq)]
+pub enum Job {
+    /// To read a trace, run its lines in a mode, and give all replies and the final list of areas.
+    Replay(Mode),
+    /// To run the generated trace of so many operations and a seed in the order of its lines, and give its summary.
+    Generate { count: u32, seed: u64 },
+}
+
+/// Why words name no job.
 #[derive(Clone, Copy, Debug, PartialEq, Eq)]
 pub(crate) enum WordsFault {
     /// They are none of the accepted lists.
@@ -32,23 +44,21 @@ pub(crate) enum WordsFault {
     NoMemory,
 }
 
-/// The mode that words name: `serial` alone and `threads` alone name one. No word may begin with `-`, so there are no
-/// options and no `--`.
-#[tactic(auto, using(crate::proofs::CommandLine::named_serial, crate::proofs::CommandLine::named_threads, crate::proofs::CommandLine::named_none, crate::proofs::CommandLine::refused, crate::proofs::CommandLine::dash_refused))]
-pub(crate) fn mode_of(alloc: Global, words: &[String]) -> Result<Mode, WordsFault>
-    ensures mode { IfOk result (λ mode. mode_of_words words.now ≡ Some mode) }
-    ensures words { result ≡ Err WordsFault.Words → mode_of_words words.now ≡ None }
+/// The job that words name: `serial` alone, `threads` alone, and `generate` with a count of operations and a seed name one. No word
+/// may begin with `-`, so there are no options and no `--`.
+#[tactic(auto, using(crate::proofs::CommandLine::named_by_words, crate::proofs::CommandLine::refused, crate::proofs::CommandLine::dash_refused))]
+pub(crate) fn job_of(alloc: Global, words: &[String]) -> Result<Job, WordsFault>
+    ensures job { IfOk result (λ job. job_of_words words.now ≡ Some job) }
+    ensures limits { IfOk result IsInLimits }
+    ensures words { result ≡ Err WordsFault.Words → job_of_words words.now ≡ None }
 {
     if has_dash_word(words) {
         return Err(WordsFault::Words);
     }
     let matches = parse(alloc, words)?;
-    if names_alone(&matches, "serial") {
-        Ok(Mode::Serial)
-    } else if names_alone(&matches, "threads") {
-        Ok(Mode::Threads)
-    } else {
-        Err(WordsFault::Words)
+    match job_of_matches(&matches) {
+        Some(job) => Ok(job),
+        None => Err(WordsFault::Words),
     }
 }
 
@@ -74,16 +84,63 @@ fn parse<'a>(alloc: Global, words: &'a [String]) -> Result<ArgMatches<'a>, Words
     }
 }
 
-/// Whether the values are those of the list of this word alone.
-#[tactic(auto, unfolding(crate::specs::CommandLine::names_alone))]
-fn names_alone(matches: &ArgMatches<'_>, word: &str) -> bool
-    ensures { result ≡ names_alone word.now (rows_of (found_of matches.now)) }
+/// The job that the values name.
+#[tactic(auto, unfolding(crate::specs::CommandLine::job_of_rows))]
+fn job_of_matches(matches: &ArgMatches<'_>) -> Option<Job>
+    ensures job { result ≡ job_of_rows (rows_of (found_of matches.now)) }
+    ensures limits { IfSome result IsInLimits }
 {
+    let name = matches.get_str(MODE)?;
     let rest = matches.get_strs(REST).unwrap_or(&[]);
-    rest.is_empty() && matches.get_str(MODE) == Some(word)
+    named_job(name, rest)
 }
 
-/// The command line: a mode, and any number of words after it.
+/// The job that a first word and the words after it name.
+#[tactic(auto, unfolding(crate::specs::Jobs::named_job))]
+fn named_job(name: &str, rest: &[&str]) -> Option<Job>
+    ensures job { result ≡ named_job name.now (map (λ word. word.now) rest.now) }
+    ensures limits { IfSome result IsInLimits }
+{
+    match rest {
+        [] => Some(Job::Replay(named_mode(name)?)),
+        [count, seed] if name == "generate" => generate_job(count, seed),
+        _ => None,
+    }
+}
+
+/// The mode that one word names.
+fn named_mode(name: &str) -> Option<Mode>
+    ensures { result ≡ named_mode name.now }
+{
+    match name {
+        "serial" => Some(Mode::Serial),
+        "threads" => Some(Mode::Threads),
+        _ => None,
+    }
+}
+
+/// The job of a count and a seed: each has 1 to 20 decimal digits and nothing else, the count is at most 400,000, and the seed below 2^64.
+fn generate_job(count: &str, seed: &str) -> Option<Job>
+    ensures job { result ≡ generate_job count.now seed.now }
+    ensures limits { IfSome result IsInLimits }
+{
+    let count = operation_count(count)?;
+    let seed = decimal_of(seed)?;
+    Some(Job::Generate { count, seed })
+}
+
+/// How many operations are to be generated.
+fn operation_count(word: &str) -> Option<u32>
+    ensures count { result ≡ operation_count word.now }
+    ensures limit { IfSome result (λ count. count ≤ MOST_OPERATIONS) }
+{
+    match decimal_of(word) {
+        Some(count) if count <= u64::from(MOST_OPERATIONS) => Some(count as u32),
+        _ => None,
+    }
+}
+
+/// The command line: a first word, which names a mode, and any number of words after it.
 fn command<'a>(alloc: Global) -> Result<Command<'a>, AllocError>
     ensures { IfOk result (λ command. app_of command ≡ words_command) }
 {

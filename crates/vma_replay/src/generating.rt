@@ -1,0 +1,81 @@
+//! A run of a generated trace, and its summary.
+ghost use Rattle.std.specs.Prelude.{◌≡◌, ◌≤◌, ◌<◌, ◌^◌, ◌-◌, IfOk};
+ghost use Rattle.gen_load.specs.Loads.{load_trace};
+ghost use Rattle.lock_core.specs.Facts.{list_after};
+ghost use Rattle.trace_reader.specs.Values.{IsTraceValue};
+ghost use Rattle.vma_replay.specs.declared.words.Mode.TheVariants.{Serial};
+ghost use Rattle.vma_replay.specs.Giving.{IsGivingSummary};
+ghost use Rattle.vma_replay.specs.Replaying.{IsRunOf};
+
+use crate::giving::give_all;
+use crate::replayed::{Replayed, Runs};
+use crate::running::run_serial;
+use crate::status::Status;
+use crate::summary::Summary;
+use gen_load::{MOST_OPERATIONS, load};
+use io_edge::Sink;
+use mm_space::Closed;
+use mm_types::NoMemory;
+use std::alloc::Global;
+use std::sync::Wait;
+use trace_reader::{Trace, read};
+
+/// Runs the generated trace of so many operations and a seed in the order of its lines, and gives a sink its summary. The room for the
+/// run that is kept is taken first.
+pub(crate) fn give_summary<R: Wait, K: Sink>(
+    rt: &R,
+    alloc: Global,
+    count: u32,
+    seed: u64,
+    sink: &mut K,
+) -> Replayed
+    requires count { count ≤ MOST_OPERATIONS }
+    requires sink { K.faults sink.old < 2 ^ 64 - 1 }
+    ensures { IsGivingSummary count seed (K.written sink.old) (K.written sink.new) (K.faults sink.old) (K.faults sink.new) result.status result.runs }
+{
+    let Ok(room) = Vec::with_capacity(alloc, 1) else {
+        return Replayed::failed(alloc, Status::NoMemory);
+    };
+    let Ok(run) = generated_run(rt, alloc, count, seed) else {
+        return Replayed::failed(alloc, Status::NoMemory);
+    };
+    let Ok(text) = Summary::of(&run).text(alloc) else {
+        return Replayed::failed(alloc, Status::NoMemory);
+    };
+    match give_all(sink, &text) {
+        Status::Done => Replayed {
+            status: Status::Done,
+            runs: Runs::one(room, run),
+        },
+        status => Replayed::failed(alloc, status),
+    }
+}
+
+/// Runs the generated trace in the order of its lines over a new space, and closes it.
+fn generated_run<R: Wait>(
+    rt: &R,
+    alloc: Global,
+    count: u32,
+    seed: u64,
+) -> Result<Closed, NoMemory>
+    requires { count ≤ MOST_OPERATIONS }
+    ensures run { IfOk result (λ run. IsRunOf Serial (load_trace count seed) run) }
+    ensures list { IfOk result (λ run. run.list ≡ list_after (load_trace count seed).config run.journal) }
+{
+    let trace = generated_trace(alloc, count, seed)?;
+    run_serial(rt, alloc, &trace)
+}
+
+/// The generated trace, as the reader of traces reads its text.
+fn generated_trace(alloc: Global, count: u32, seed: u64) -> Result<Trace, NoMemory>
+    requires { count ≤ MOST_OPERATIONS }
+    ensures trace { IfOk result (λ trace. trace ≡ load_trace count seed) }
+    ensures value { IfOk result IsTraceValue }
+{
+    let text = load(alloc, count, seed)?;
+    match read(alloc, &text) {
+        Ok(trace) => Ok(trace),
+        // A generated text is a trace, so it is refused only where memory runs out.
+        Err(_) => Err(NoMemory),
+    }
+}
