@@ -25,7 +25,7 @@ struct Walk<'a> {
 }
 
 /// Judges a history: `Ok` exactly where it is legal and of the trace, and else the first item that is bad, or its end, where lines are
-/// left. Its cost is that of its calls, of which each is made once, and of a comparison for each item. Fails only where memory runs out.
+/// left. Each call is made once, and each item is compared once. The only other error is out of memory.
 pub fn check(alloc: Global, trace: &Trace, history: &History) -> Result<(), CheckFault>
     requires valid { IsValidConfig trace.now.config }
     requires few { length trace.now.lines ≤ MOST_LINES }

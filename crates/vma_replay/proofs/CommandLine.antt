@@ -135,8 +135,17 @@ one_taken t plain = rw (no_dashes t plain, no_long t plain, no_short t plain) re
 
 three_taken : (t u v : Text) → Plain t → Plain u → Plain v → takes words_command (t ∷ u ∷ v ∷ []) ≡ true
 unfolding clap_on_literals words_command
-three_taken t u v first second third = rw (no_dashes t first, no_long t first, no_short t first, no_dashes u second, no_long u second, no_short u second,
-    no_dashes v third, no_long v third, no_short v third) refl
+three_taken t u v first second third = rw (
+  no_dashes t first,
+  no_long t first,
+  no_short t first,
+  no_dashes u second,
+  no_long u second,
+  no_short u second,
+  no_dashes v third,
+  no_long v third,
+  no_short v third,
+) refl
 
 -- words that `clap` refuses name no job
 pub refused : (words : List (String Global)) → list_any begins_with_dash words ≡ false
@@ -197,6 +206,7 @@ dash_refused (w ∷ v ∷ u ∷ []) dash = elim (either (begins_with_dash w) (li
     no_count : (none : Option Job) (b : Bool) → (if b then none else none) ≡ none
     no_count none true = refl
     no_count none false = refl
+
     no_seed : (none : Option Job) → none ≡ None → (b : Bool) (count : Option ℕ)
         → (if b then option_and_then (λ operations. none) count else none) ≡ none
     no_seed none is true None = sym is

@@ -144,20 +144,29 @@ calls_counted config lines journal log run =
 refusals_counted : (config : Config) (lines : List TraceLine) (journal : List Entry) (log : List Seen) → IsSerialRun config lines journal log
     → count_of is_refused (serial_history config lines) ≡ count_by (λ (e : Entry). is_refused (contents.Called e.call e.reply)) journal
 refusals_counted config lines journal log run =
-    omega (arith, count_serial is_refused config lines journal log run,
-    count_none (λ (read : Seen). is_refused (content_of read)) never_refused log)
+    omega (
+      arith,
+      count_serial is_refused config lines journal log run,
+      count_none (λ (read : Seen). is_refused (content_of read)) never_refused log,
+    )
 
 faults_counted : (config : Config) (lines : List TraceLine) (journal : List Entry) (log : List Seen) → IsSerialRun config lines journal log
     → count_of is_fault (serial_history config lines) ≡ count_by (λ (read : Seen). is_fault (content_of read)) log
 faults_counted config lines journal log run =
-    omega (arith, count_serial is_fault config lines journal log run,
-    count_none (λ (e : Entry). is_fault (contents.Called e.call e.reply)) (λ e. refl) journal)
+    omega (
+      arith,
+      count_serial is_fault config lines journal log run,
+      count_none (λ (e : Entry). is_fault (contents.Called e.call e.reply)) (λ e. refl) journal,
+    )
 
 services_counted : (config : Config) (lines : List TraceLine) (journal : List Entry) (log : List Seen) → IsSerialRun config lines journal log
     → count_of is_served (serial_history config lines) ≡ count_by (λ (read : Seen). is_served (content_of read)) log
 services_counted config lines journal log run =
-    omega (arith, count_serial is_served config lines journal log run,
-    count_none (λ (e : Entry). is_served (contents.Called e.call e.reply)) (λ e. refl) journal)
+    omega (
+      arith,
+      count_serial is_served config lines journal log run,
+      count_none (λ (e : Entry). is_served (contents.Called e.call e.reply)) (λ e. refl) journal,
+    )
 
 version_counted : (items : List Item) → length (journal_of items) ≡ count_of is_call items
 unfolding count_of

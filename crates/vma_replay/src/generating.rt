@@ -52,7 +52,7 @@ pub(crate) fn give_summary<R: Wait, K: Sink>(
 }
 
 /// Runs the generated trace in the order of its lines over a new space, and closes it.
-fn generated_run<R: Wait>(
+pub(crate) fn generated_run<R: Wait>(
     rt: &R,
     alloc: Global,
     count: u32,
@@ -67,7 +67,7 @@ fn generated_run<R: Wait>(
 }
 
 /// The generated trace, as the reader of traces reads its text.
-fn generated_trace(alloc: Global, count: u32, seed: u64) -> Result<Trace, NoMemory>
+pub(crate) fn generated_trace(alloc: Global, count: u32, seed: u64) -> Result<Trace, NoMemory>
     requires { count ≤ MOST_OPERATIONS }
     ensures trace { IfOk result (λ trace. trace ≡ load_trace count seed) }
     ensures value { IfOk result IsTraceValue }

@@ -1,10 +1,19 @@
 //! Runs of generated traces. The summaries are worked by hand from the first numbers of the generator: seed 0 begins with a write fault of
 //! memory without an area, and seed 4 with a mapping of six pages.
 
+use crate::generating::{generated_run, generated_trace};
+use crate::printing::run_history;
+use crate::running::closed_run;
+use crate::summary::Summary;
+use crate::words::Mode;
 use crate::{Status, replay};
+use history::check;
 use io_edge::{PlainGate, Source, SureSink, SureSource};
 use std::alloc::{AllocError, Global};
+use std::process::Abort;
+use std::sync::Wait;
 use std::test::Fail;
+use std::thread::Threads;
 
 /// What the source has, of which nothing is to be read.
 const SOURCE: &[u8] = b"vmatrace 1\n";
@@ -68,5 +77,30 @@ fn accepts_a_count_and_a_seed_within_limits(rt: HostRuntime) -> Result<(), Fail>
         assert!(rt; sink.bytes().is_empty());
         assert_eq!(rt; source.take(&mut [0; 16]), Ok(SOURCE.len()));
     }
+    Ok(())
+}
+
+/// Runs a generated trace in a mode, and has the history of the run judged.
+fn judge<R: Threads + Wait + Sync + Abort>(rt: &R, alloc: Global, mode: Mode) -> Result<(), Fail> {
+    let trace = generated_trace(alloc, 2000, 1)?;
+    let run = closed_run(rt, alloc, mode, &trace, &PlainGate)?;
+    let history = run_history(alloc, mode, &trace, &run)?;
+    assert!(rt; check(alloc, &trace, &history).is_ok());
+    Ok(())
+}
+
+#[test]
+fn histories_of_both_modes_are_judged_legal(rt: HostRuntime) -> Result<(), Fail> {
+    judge(&rt, rt.alloc(), Mode::Serial)?;
+    judge(&rt, rt.alloc(), Mode::Threads)
+}
+
+#[test]
+fn two_runs_of_a_generated_trace_are_equal(rt: HostRuntime) -> Result<(), Fail> {
+    let first = Summary::of(&generated_run(&rt, rt.alloc(), 2000, 1)?);
+    let second = Summary::of(&generated_run(&rt, rt.alloc(), 2000, 1)?);
+    assert_eq!(rt; first, second);
+    assert_eq!(rt; first.calls.checked_add(first.faults), Some(2000));
+    assert_eq!(rt; first.version, first.calls);
     Ok(())
 }

@@ -9,7 +9,7 @@ ghost use Rattle.vma_replay.specs.Replaying.{IsRunOf, IsGivenFor, IsOutputOf, hi
 
 use crate::output::{push_maps, push_reply, push_start, push_verdict};
 use crate::words::Mode;
-use history::{Content, History, Item, gather, label};
+use history::{Content, History, Item, gather, label, places_by_caller};
 use mm_space::Closed;
 use mm_types::{Files, NoMemory, Record};
 use std::alloc::Global;
@@ -33,7 +33,12 @@ pub(crate) fn run_text(
 }
 
 /// The history that a closed run stands for.
-fn run_history(alloc: Global, mode: Mode, trace: &Trace, run: &Closed) -> Result<History, NoMemory>
+pub(crate) fn run_history(
+    alloc: Global,
+    mode: Mode,
+    trace: &Trace,
+    run: &Closed,
+) -> Result<History, NoMemory>
     requires trace { IsTraceValue trace.now }
     requires run { IsRunOf mode trace.now run.now }
     ensures { IfOk result (λ history. history ≡ history_of_run mode trace.now run.now) }

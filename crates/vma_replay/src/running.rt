@@ -38,11 +38,7 @@ pub(crate) fn closed_run<R: Threads + Wait + Sync, G: Gate>(
 }
 
 /// Runs the lines one after the other, with one pass.
-pub(crate) fn run_serial<R: Wait>(
-    rt: &R,
-    alloc: Global,
-    trace: &Trace,
-) -> Result<Closed, NoMemory>
+pub(crate) fn run_serial<R: Wait>(rt: &R, alloc: Global, trace: &Trace) -> Result<Closed, NoMemory>
     requires { IsTraceValue trace.now }
     ensures run { IfOk result (λ run. IsRunOf Serial trace.now run) }
     ensures list { IfOk result (λ run. run.list ≡ list_after trace.now.config run.journal) }
