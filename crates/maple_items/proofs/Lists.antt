@@ -1,0 +1,281 @@
+-- For `item_at` and all laws of items: which items end up to a page, which end above it, and which has it.
+use Rattle.std.proofs.Common.{ℕ, suc, ◌≡◌, ◌<◌, ◌≤◌, ◌+◌, Bool, true, false, List, [], ◌∷◌, ◌++◌, length, take, Some, None, refl, sym, ap, subst, ◌∙◌, arith, inl, inr, length-append}
+use Rattle.std.proofs.lemmas.List.{length-take-le}
+use Rattle.std.specs.Prelude.{nat_lt, nat_le}
+use Rattle.std.proofs.lemmas.Bool.{cases_lt}
+use Rattle.std.proofs.lemmas.Bool.Decides.{nat_tests}
+use Rattle.maple_node.specs.declared.item.Item.{Item}
+use Rattle.maple_node.specs.Nodes.{end_of, Ascends, IsPlain}
+use Rattle.maple_node.specs.Levels.{item_at, AllFrom}
+use Rattle.maple_node.proofs.Lists.{ends_above}
+use Rattle.maple_items.specs.Splices.{upto, beyond}
+
+-- an item that ends up to a page, or above it, before others
+pub upto-first : (page : ℕ) (x : Item) (xs : List Item) → x.end ≤ page → upto page (x ∷ xs) ≡ x ∷ upto page xs
+upto-first page x xs ends = let test : nat_le x.end page ≡ true = grind (arith, nat_tests) in rw test refl
+
+pub upto-later : (page : ℕ) (x : Item) (xs : List Item) → page < x.end → upto page (x ∷ xs) ≡ upto page xs
+upto-later page x xs ends = let test : nat_le x.end page ≡ false = grind (arith, nat_tests) in rw test refl
+
+pub beyond-first : (page : ℕ) (x : Item) (xs : List Item) → page < x.end → beyond page (x ∷ xs) ≡ x ∷ beyond page xs
+beyond-first page x xs ends = let test : nat_lt page x.end ≡ true = grind (arith, nat_tests) in rw test refl
+
+pub beyond-later : (page : ℕ) (x : Item) (xs : List Item) → x.end ≤ page → beyond page (x ∷ xs) ≡ beyond page xs
+beyond-later page x xs ends = let test : nat_lt page x.end ≡ false = grind (arith, nat_tests) in rw test refl
+
+pub item_at-first : (page : ℕ) (x : Item) (xs : List Item) → page < x.end → item_at page (x ∷ xs) ≡ Some x
+item_at-first page x xs ends = let test : nat_lt page x.end ≡ true = grind (arith, nat_tests) in rw test refl
+
+pub item_at-later : (page : ℕ) (x : Item) (xs : List Item) → x.end ≤ page → item_at page (x ∷ xs) ≡ item_at page xs
+item_at-later page x xs ends = let test : nat_lt page x.end ≡ false = grind (arith, nat_tests) in rw test refl
+
+-- parts of items that ascend
+pub Ascends-left : (start : ℕ) (xs ys : List Item) → Ascends start (xs ++ ys) → Ascends start xs
+Ascends-left start [] ys ascends = tt
+Ascends-left start (x ∷ xs) ys ascends = (ascends.0, Ascends-left x.end xs ys ascends.1)
+
+pub Ascends-right : (start : ℕ) (xs ys : List Item) → Ascends start (xs ++ ys) → Ascends (end_of start xs) ys
+Ascends-right start [] ys ascends = ascends
+Ascends-right start (x ∷ xs) ys ascends = Ascends-right x.end xs ys ascends.1
+
+-- what holds of each of joined items and the page where it begins
+pub AllFrom-left : (P : ℕ → Item → Type 0) (start : ℕ) (xs ys : List Item) → AllFrom P start (xs ++ ys) → AllFrom P start xs
+AllFrom-left P start [] ys all = tt
+AllFrom-left P start (x ∷ xs) ys all = (all.0, AllFrom-left P x.end xs ys all.1)
+
+pub AllFrom-right : (P : ℕ → Item → Type 0) (start : ℕ) (xs ys : List Item) → AllFrom P start (xs ++ ys) → AllFrom P (end_of start xs) ys
+AllFrom-right P start [] ys all = all
+AllFrom-right P start (x ∷ xs) ys all = AllFrom-right P x.end xs ys all.1
+
+pub AllFrom-append : (P : ℕ → Item → Type 0) (start : ℕ) (xs ys : List Item) → AllFrom P start xs → AllFrom P (end_of start xs) ys
+    → AllFrom P start (xs ++ ys)
+AllFrom-append P start [] ys left right = right
+AllFrom-append P start (x ∷ xs) ys left right = (left.0, AllFrom-append P x.end xs ys left.1 right)
+
+-- joined entries keep no gap where both parts keep none
+pub IsPlain-left : (leaf : Bool) (xs ys : List Item) → IsPlain leaf (xs ++ ys) → IsPlain leaf xs
+IsPlain-left leaf [] ys plain = tt
+IsPlain-left true (x ∷ xs) ys plain = (plain.0, IsPlain-left true xs ys plain.1)
+IsPlain-left false (x ∷ xs) ys plain = IsPlain-left false xs ys plain
+
+pub IsPlain-right : (leaf : Bool) (xs ys : List Item) → IsPlain leaf (xs ++ ys) → IsPlain leaf ys
+IsPlain-right leaf [] ys plain = plain
+IsPlain-right true (x ∷ xs) ys plain = IsPlain-right true xs ys plain.1
+IsPlain-right false (x ∷ xs) ys plain = IsPlain-right false xs ys plain
+
+pub IsPlain-append : (leaf : Bool) (xs ys : List Item) → IsPlain leaf xs → IsPlain leaf ys → IsPlain leaf (xs ++ ys)
+IsPlain-append leaf [] ys left right = right
+IsPlain-append true (x ∷ xs) ys left right = (left.0, IsPlain-append true xs ys left.1 right)
+IsPlain-append false (x ∷ xs) ys left right = IsPlain-append false xs ys left right
+
+pub IsPlain-upto : (leaf : Bool) (page : ℕ) (xs : List Item) → IsPlain leaf xs → IsPlain leaf (upto page xs)
+IsPlain-upto leaf page [] plain = tt
+IsPlain-upto true page (x ∷ xs) plain = elim (cases_lt page x.end) as (λ _. IsPlain true (upto page (x ∷ xs))) [
+  | inl above ↦ rw (upto-later page x xs above) (IsPlain-upto true page xs plain.1)
+  | inr within ↦ rw (upto-first page x xs within) (plain.0, IsPlain-upto true page xs plain.1)
+]
+IsPlain-upto false page (x ∷ xs) plain = elim (cases_lt page x.end) as (λ _. IsPlain false (upto page (x ∷ xs))) [
+  | inl above ↦ rw (upto-later page x xs above) (IsPlain-upto false page xs plain)
+  | inr within ↦ rw (upto-first page x xs within) (IsPlain-upto false page xs plain)
+]
+
+pub IsPlain-beyond : (leaf : Bool) (page : ℕ) (xs : List Item) → IsPlain leaf xs → IsPlain leaf (beyond page xs)
+IsPlain-beyond leaf page [] plain = tt
+IsPlain-beyond true page (x ∷ xs) plain = elim (cases_lt page x.end) as (λ _. IsPlain true (beyond page (x ∷ xs))) [
+  | inl above ↦ rw (beyond-first page x xs above) (plain.0, IsPlain-beyond true page xs plain.1)
+  | inr within ↦ rw (beyond-later page x xs within) (IsPlain-beyond true page xs plain.1)
+]
+IsPlain-beyond false page (x ∷ xs) plain = elim (cases_lt page x.end) as (λ _. IsPlain false (beyond page (x ∷ xs))) [
+  | inl above ↦ rw (beyond-first page x xs above) (IsPlain-beyond false page xs plain)
+  | inr within ↦ rw (beyond-later page x xs within) (IsPlain-beyond false page xs plain)
+]
+
+-- items that end up to a page, or begin there or above it
+pub upto_all : (start page : ℕ) (xs : List Item) → Ascends start xs → end_of start xs ≤ page → upto page xs ≡ xs
+upto_all start page [] ascends ends = refl
+upto_all start page (x ∷ xs) ascends ends =
+    let later = ends_above x.end xs ascends.1 in
+    rw (upto-first page x xs (omega arith)) (ap (λ (ys : List Item). x ∷ ys) (upto_all x.end page xs ascends.1 ends))
+
+pub beyond_none : (start page : ℕ) (xs : List Item) → Ascends start xs → end_of start xs ≤ page → beyond page xs ≡ []
+beyond_none start page [] ascends ends = refl
+beyond_none start page (x ∷ xs) ascends ends =
+    let later = ends_above x.end xs ascends.1 in
+    rw (beyond-later page x xs (omega arith)) (beyond_none x.end page xs ascends.1 ends)
+
+pub item_at-past : (start page : ℕ) (xs : List Item) → Ascends start xs → end_of start xs ≤ page → item_at page xs ≡ None
+item_at-past start page [] ascends ends = refl
+item_at-past start page (x ∷ xs) ascends ends =
+    let later = ends_above x.end xs ascends.1 in
+    rw (item_at-later page x xs (omega arith)) (item_at-past x.end page xs ascends.1 ends)
+
+pub upto_none : (start page : ℕ) (xs : List Item) → Ascends start xs → page ≤ start → upto page xs ≡ []
+upto_none start page [] ascends begins = refl
+upto_none start page (x ∷ xs) ascends begins =
+    let first = ascends.0 in
+    rw (upto-later page x xs (omega arith)) (upto_none x.end page xs ascends.1 (omega arith))
+
+pub beyond_all : (start page : ℕ) (xs : List Item) → Ascends start xs → page ≤ start → beyond page xs ≡ xs
+beyond_all start page [] ascends begins = refl
+beyond_all start page (x ∷ xs) ascends begins =
+    let first = ascends.0 in
+    rw (beyond-first page x xs (omega arith)) (ap (λ (ys : List Item). x ∷ ys) (beyond_all x.end page xs ascends.1 (omega arith)))
+
+-- the first item ends above the page
+pub upto_first : (start page : ℕ) (x : Item) (xs : List Item) → Ascends start (x ∷ xs) → page < x.end → upto page (x ∷ xs) ≡ []
+upto_first start page x xs ascends above = rw (upto-later page x xs above) (upto_none x.end page xs ascends.1 (omega arith))
+
+pub beyond_first : (start page : ℕ) (x : Item) (xs : List Item) → Ascends start (x ∷ xs) → page < x.end → beyond page (x ∷ xs) ≡ x ∷ xs
+beyond_first start page x xs ascends above =
+    rw (beyond-first page x xs above) (ap (λ (ys : List Item). x ∷ ys) (beyond_all x.end page xs ascends.1 (omega arith)))
+
+-- those that end up to a page are followed by those that end above it
+pub upto-beyond : (start page : ℕ) (xs : List Item) → Ascends start xs → upto page xs ++ beyond page xs ≡ xs
+upto-beyond start page [] ascends = refl
+upto-beyond start page (x ∷ xs) ascends = elim (cases_lt page x.end) as (λ _. upto page (x ∷ xs) ++ beyond page (x ∷ xs) ≡ x ∷ xs) [
+  | inl above ↦ rw (upto_first start page x xs ascends above, beyond_first start page x xs ascends above) refl
+  | inr within ↦ rw (upto-first page x xs within, beyond-later page x xs within)
+      (ap (λ (ys : List Item). x ∷ ys) (upto-beyond x.end page xs ascends.1))
+]
+
+-- they end up to the page
+pub upto_below : (start page : ℕ) (xs : List Item) → start ≤ page → end_of start (upto page xs) ≤ page
+upto_below start page [] begins = begins
+upto_below start page (x ∷ xs) begins = elim (cases_lt page x.end) as (λ _. end_of start (upto page (x ∷ xs)) ≤ page) [
+  | inl above ↦ rw (upto-later page x xs above) (upto_below start page xs begins)
+  | inr within ↦ rw (upto-first page x xs within) (upto_below x.end page xs within)
+]
+
+-- and where they begin or above it
+pub end_upto : (start page : ℕ) (xs : List Item) → Ascends start xs → start ≤ end_of start (upto page xs)
+end_upto start page xs ascends =
+    let joined : Ascends start (upto page xs ++ beyond page xs) =
+    let whole : List Item → Type 0 = λ ys. Ascends start ys in subst whole (sym (upto-beyond start page xs ascends)) ascends in
+    ends_above start (upto page xs) (Ascends-left start (upto page xs) (beyond page xs) joined)
+
+-- a part of items, filtered, is no longer than the items
+pub length-upto : (page : ℕ) (xs : List Item) → length (upto page xs) ≤ length xs
+length-upto page [] = omega arith
+length-upto page (x ∷ xs) =
+    let later = length-upto page xs in
+    elim (cases_lt page x.end) as (λ _. length (upto page (x ∷ xs)) ≤ suc (length xs)) [
+      | inl above ↦ rw (upto-later page x xs above) (omega arith)
+      | inr within ↦ rw (upto-first page x xs within) (omega arith)
+    ]
+
+pub length-beyond : (page : ℕ) (xs : List Item) → length (beyond page xs) ≤ length xs
+length-beyond page [] = omega arith
+length-beyond page (x ∷ xs) =
+    let later = length-beyond page xs in
+    elim (cases_lt page x.end) as (λ _. length (beyond page (x ∷ xs)) ≤ suc (length xs)) [
+      | inl above ↦ rw (beyond-first page x xs above) (omega arith)
+      | inr within ↦ rw (beyond-later page x xs within) (omega arith)
+    ]
+
+-- there is room for one more of the items that are left
+pub room_left : (place : ℕ) (before list some items : List Item) → list ≡ before ++ some → length some ≤ length (take place items)
+    → place < length items → length before + length items ≤ 40 → length list < 40
+room_left place before list some items is short there room =
+    let joined : length list ≡ length before + length some = ap length is ∙ length-append before some in
+    omega (arith, length-take-le place items (omega arith))
+
+-- the item that has a page is the first of those that end above it
+pub record Stands (start page : ℕ) (xs : List Item) (item : Item) : Type 0 where
+  pub above : page < item.end
+  pub within : item.end ≤ end_of start xs
+  pub beyond : beyond page xs ≡ item ∷ beyond item.end xs
+
+pub stands : (start page : ℕ) (xs : List Item) (item : Item) → Ascends start xs → item_at page xs ≡ Some item → Stands start page xs item
+stands start page [] item ascends found = absurd (cc)
+stands start page (x ∷ xs) item ascends found = elim (cases_lt page x.end) as (λ _. Stands start page (x ∷ xs) item) [
+  | inl above ↦
+      let first : Some x ≡ Some item = sym (item_at-first page x xs above) ∙ found in
+      let same : x ≡ item = cc in
+      let Here : Item → Type 0 = λ y. Stands start page (x ∷ xs) y in
+      subst Here same (record {
+        above = above;
+        within = ends_above x.end xs ascends.1;
+        beyond = rw (beyond_first start page x xs ascends above, beyond-later x.end x xs (omega arith), beyond_all x.end x.end xs ascends.1 (omega arith)) refl;
+      })
+  | inr within ↦
+      let deep = stands x.end page xs item ascends.1 (sym (item_at-later page x xs within) ∙ found) in
+      let high = deep.above in
+      record {
+        above = deep.above;
+        within = deep.within;
+        beyond = rw (beyond-later page x xs within, beyond-later item.end x xs (omega arith)) deep.beyond;
+      }
+]
+
+-- no item has a page where they end or above that
+pub item_at-none : (start page : ℕ) (xs : List Item) → item_at page xs ≡ None → start ≤ page → end_of start xs ≤ page
+item_at-none start page [] none begins = begins
+item_at-none start page (x ∷ xs) none begins = elim (cases_lt page x.end) as (λ _. end_of start (x ∷ xs) ≤ page) [
+  | inl above ↦ let first = sym (item_at-first page x xs above) ∙ none in absurd (cc)
+  | inr within ↦ item_at-none x.end page xs (sym (item_at-later page x xs within) ∙ none) within
+]
+
+-- and one has each page below that
+pub record Found (page : ℕ) (xs : List Item) : Type 0 where
+  pub item : Item
+  pub is : item_at page xs ≡ Some item
+
+pub found_at : (start page : ℕ) (xs : List Item) → start ≤ page → page < end_of start xs → Found page xs
+found_at start page [] begins within = absurd (omega arith)
+found_at start page (x ∷ xs) begins within = elim (cases_lt page x.end) as (λ _. Found page (x ∷ xs)) [
+  | inl above ↦ record { item = x; is = item_at-first page x xs above }
+  | inr later ↦ let deep = found_at x.end page xs later within in
+      record { item = deep.item; is = item_at-later page x xs later ∙ deep.is }
+]
+
+-- it is among the first ones where these end above the page, and otherwise among the others
+pub item_at-left : (start page : ℕ) (xs ys : List Item) → start ≤ page → page < end_of start xs → item_at page (xs ++ ys) ≡ item_at page xs
+item_at-left start page [] ys begins within = absurd (omega arith)
+item_at-left start page (x ∷ xs) ys begins within = elim (cases_lt page x.end) as (λ _. item_at page (x ∷ (xs ++ ys)) ≡ item_at page (x ∷ xs)) [
+  | inl above ↦ item_at-first page x (xs ++ ys) above ∙ sym (item_at-first page x xs above)
+  | inr later ↦ item_at-later page x (xs ++ ys) later ∙ item_at-left x.end page xs ys later within ∙ sym (item_at-later page x xs later)
+]
+
+pub item_at-right : (start page : ℕ) (xs ys : List Item) → Ascends start xs → end_of start xs ≤ page → item_at page (xs ++ ys) ≡ item_at page ys
+item_at-right start page [] ys ascends ends = refl
+item_at-right start page (x ∷ xs) ys ascends ends =
+    let later = ends_above x.end xs ascends.1 in
+    item_at-later page x (xs ++ ys) (omega arith) ∙ item_at-right x.end page xs ys ascends.1 ends
+
+-- what holds of each item and the page where it begins holds of the one that has a page
+pub AllFrom-at : (P : ℕ → Item → Type 0) (start page : ℕ) (xs : List Item) (item : Item) → Ascends start xs → AllFrom P start xs
+    → item_at page xs ≡ Some item → P (end_of start (upto page xs)) item
+AllFrom-at P start page [] item ascends all found = absurd (cc)
+AllFrom-at P start page (x ∷ xs) item ascends all found =
+    let Holds : List Item → Type 0 = λ ys. P (end_of start ys) item in
+    elim (cases_lt page x.end) as (λ _. Holds (upto page (x ∷ xs))) [
+      | inl above ↦
+          let first : Some x ≡ Some item = sym (item_at-first page x xs above) ∙ found in
+          let same : x ≡ item = cc in
+          let Of : Item → Type 0 = λ y. P start y in
+          rw (upto_first start page x xs ascends above) (subst Of same all.0)
+      | inr within ↦
+          rw (upto-first page x xs within) (AllFrom-at P x.end page xs item ascends.1 all.1 (sym (item_at-later page x xs within) ∙ found))
+    ]
+
+-- the items that end above a page ascend from it, and end where all do
+pub beyond-ascends : (start page : ℕ) (xs : List Item) → Ascends start xs → start ≤ page → Ascends page (beyond page xs)
+beyond-ascends start page [] ascends begins = tt
+beyond-ascends start page (x ∷ xs) ascends begins = elim (cases_lt page x.end) as (λ _. Ascends page (beyond page (x ∷ xs))) [
+  | inl above ↦ rw (beyond_first start page x xs ascends above) (above, ascends.1)
+  | inr within ↦ rw (beyond-later page x xs within) (beyond-ascends x.end page xs ascends.1 within)
+]
+
+pub beyond-ends : (start page : ℕ) (xs : List Item) → Ascends start xs → start ≤ page → page ≤ end_of start xs
+    → end_of page (beyond page xs) ≡ end_of start xs
+beyond-ends start page [] ascends begins within = omega arith
+beyond-ends start page (x ∷ xs) ascends begins within = elim (cases_lt page x.end) as (λ _. end_of page (beyond page (x ∷ xs)) ≡ end_of x.end xs) [
+  | inl above ↦ rw (beyond_first start page x xs ascends above) refl
+  | inr later ↦ rw (beyond-later page x xs later) (beyond-ends x.end page xs ascends.1 later within)
+]
+
+-- those that end up to a page ascend
+pub upto-ascends : (start page : ℕ) (xs : List Item) → Ascends start xs → Ascends start (upto page xs)
+upto-ascends start page xs ascends =
+    let Whole : List Item → Type 0 = λ ys. Ascends start ys in
+    Ascends-left start (upto page xs) (beyond page xs) (subst Whole (sym (upto-beyond start page xs ascends)) ascends)

@@ -1,0 +1,26 @@
+-- Pairs with some pages overwritten.
+use Rattle.std.specs.Prelude.{ℕ, min, max, Bool, ◌&&◌, List, [], ◌∷◌, ◌++◌, Option, if◌then◌else◌, nat_lt, nat_le}
+use Rattle.std.specs.List.{flat_map, find}
+use Rattle.std.specs.Option.{option_map}
+use Rattle.maple_node.specs.Trees.{Pair, pair_of}
+
+-- the part of a pair below a page
+abbrev pub lower_part : ℕ → Pair → List Pair
+lower_part page pair = if nat_lt pair.lo page then (record { lo = pair.lo; hi = min pair.hi page; slot = pair.slot } ∷ []) else []
+
+-- the part of a pair from a page on
+abbrev pub upper_part : ℕ → Pair → List Pair
+upper_part page pair = if nat_lt page pair.hi then (record { lo = max pair.lo page; hi = pair.hi; slot = pair.slot } ∷ []) else []
+
+-- pairs with the pages from `lo` up to `hi` overwritten by the slot that a word tells, or by none
+abbrev pub overwritten : ℕ → ℕ → ℕ → List Pair → List Pair
+overwritten lo hi word pairs = flat_map (lower_part lo) pairs
+    ++ (pair_of lo (record { end = hi; word = word; gap = 0 }) ++ flat_map (upper_part hi) pairs)
+
+-- whether a pair has a page
+abbrev pub has_page : ℕ → Pair → Bool
+has_page page pair = nat_le pair.lo page && nat_lt page pair.hi
+
+-- the slot that pairs give a page, or none
+abbrev pub slot_at : ℕ → List Pair → Option ℕ
+slot_at page pairs = option_map (λ pair. pair.slot) (find (has_page page) pairs)

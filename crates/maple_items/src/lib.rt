@@ -1,0 +1,15 @@
+//! Items of nodes as short lists: the node at a page, the words of a node, how items are shared out among nodes, and what
+//! becomes of entries where some pages get a slot or become a gap.
+#![tactic(auto)]
+
+mod laws;
+mod list;
+mod node;
+mod place;
+
+pub use laws::{
+    gaps_stay_apart, overwriting_replaces_pairs, overwritten_pages, written_items_are_read,
+};
+pub use list::ItemList;
+pub use node::{gap_of, least, most, node_items, node_words, share};
+pub use place::{Place, item_at};
