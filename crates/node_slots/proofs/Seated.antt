@@ -26,10 +26,10 @@ root_there slots shown is =
     let rows = shown_rows shown in
     lt-ltb 0 (times shown.root.row.0 rows) (elim (cases_lt 0 shown.root.tree) [
       | inl some ↦
-          let once = (root-once (at_of shown.words) slots rows (tree_of (at_of shown.words) shown.root) (is.later some)).1 in
+          let once = (root-once (at_of shown.words) slots rows (tree_of (at_of shown.words) shown.root) (is.tree.later some)).1 in
           omega (arith, once, times_same shown.root.row.0 rows)
       | inr none ↦
-          let first = is.first (omega arith) in
+          let first = is.tree.first (omega arith) in
           let named = ap (λ (root : Root). times root.row.0 rows) first.named in
           let zeroth = ap (times 0) first.row in
           omega (arith, named, zeroth, times_first 0 0 [], one_if 0 0 refl)

@@ -41,8 +41,11 @@ first_rows rows some = first-rows (at_of (first_tree rows).words) (0 ∷ []) fir
 -- and meets the layout
 first_shown : (rows slots : ℕ) → 1 ≤ rows → IsShown slots (first_tree rows)
 first_shown rows slots some = record {
-  first = λ zeroth. let is = is_first rows some in record { named = is.named; words = is.words; row = first_rows rows some };
-  later = λ later. absurd (omega arith);
+  tree = record {
+    first = λ zeroth. let is = is_first rows some in record { named = is.named; words = is.words; row = first_rows rows some };
+    later = λ later. absurd (omega arith);
+  };
+  low = omega arith;
 }
 
 -- row 0 is of tree 0

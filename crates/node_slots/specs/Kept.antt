@@ -22,11 +22,12 @@ pub record IsSize (size : Size) : Type 0 where
   pub some_readers : 1 ≤ size.readers
   pub few_readers : size.readers ≤ 64
 
--- a table has the size that its rule speaks of, and a word for each place
+-- a table has the size that its rule speaks of, whose slots have numbers of 32 bits, and a word for each place
 pub record IsSized (size key : Size) (words : ℕ) : Type 0 where
   pub size_is : size ≡ key
   pub words_are : words ≡ word_count size
   pub fits : IsSize size
+  pub few_slots : size.slots < 2 ^ 32
 
 -- what a reader's seat knows beside its view
 pub record ReaderKept (reader walks words : ℕ) (me : Me (Unit {0}) NodeView) : Type 0 where

@@ -6,4 +6,5 @@ pub mod Plays
 pub mod Opening
 pub mod Kept
 pub mod Seats
+pub mod Built
 pub mod Leaves

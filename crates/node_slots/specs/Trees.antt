@@ -1,5 +1,5 @@
 -- Trees of the table.
-use Rattle.std.specs.Prelude.{ℕ, List, replicate}
+use Rattle.std.specs.Prelude.{ℕ, ◌≤◌, List, replicate}
 use Rattle.grace_core.specs.Core as grace
 use Rattle.maple_node.specs.declared.root.Root.{Root}
 use Rattle.maple_node.specs.Levels.{at_of}
@@ -14,9 +14,12 @@ shown_rows shown = tree_rows (at_of shown.words) (tree_of (at_of shown.words) sh
 abbrev pub grace_tree : Shown → grace.Tree
 grace_tree shown = record { number = shown.root.tree; rows = shown_rows shown; words = shown.words }
 
--- the tree meets the layout of nodes, and pairs only slots below this number
-abbrev pub IsShown : ℕ → Shown → Type 0
-IsShown slots shown = IsTree (at_of shown.words) slots (shown_rows shown) shown.root
+-- a tree that readers can load
+pub record IsShown (slots : ℕ) (shown : Shown) : Type 0 where
+  -- it meets the layout of nodes, and pairs only slots below this number
+  pub tree : IsTree (at_of shown.words) slots (shown_rows shown) shown.root
+  -- it has at most nine levels
+  pub low : shown.root.height ≤ 9
 
 -- the root of tree 0
 abbrev pub first_root : Root

@@ -9,11 +9,13 @@ mod reading;
 mod rows;
 mod rule;
 mod seats;
+mod tree;
 mod view;
 mod writing;
 
 pub use left::Left;
 pub use seats::{NodeSeat, NodeTable, NodeWriter, WriterSeat};
+pub use tree::Tree;
 pub use view::{Known, NodeView, SeatKind, SeenDesk, SeenTree, Shown, Size};
 
 #[cfg(test)]

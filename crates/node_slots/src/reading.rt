@@ -35,8 +35,8 @@ impl NodeTable {
             .fetch_add::<Opened>(&mut seat.seat, place, 1);
     }
 
-    /// Loads the root of the present tree, which is the reader's snapshot from then on. The tree meets the layout, and its rows
-    /// exist.
+    /// Loads the root of the present tree, which is the reader's snapshot from then on. The tree meets the layout and has at most
+    /// nine levels, and its rows exist.
     pub fn root(&self, seat: &mut NodeSeat) -> Root
         requires table { IsOf seat.old self.now }
         requires open { IsOpen seat.old }

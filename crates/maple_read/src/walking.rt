@@ -1,0 +1,70 @@
+ghost use Rattle.std.specs.Prelude.{◌≡◌, ◌≢◌, ◌≤◌, ◌+◌, ◌*◌, ℕ, List, Some, true, false};
+ghost use Rattle.std.specs.Option.{option_map};
+ghost use Rattle.maple_node.specs.Levels.{at_of, read, item_at};
+ghost use Rattle.node_slots.specs.declared.view.Shown.{Shown};
+ghost use Rattle.node_slots.specs.Seats.{IsOf, IsOpen, view};
+ghost use Rattle.maple_read.specs.Walks.{HasLoaded, HasNode, slot_at, width_of};
+
+use maple_node::Root;
+use mm_types::{Page, Row, Slot};
+use node_slots::{NodeSeat, NodeTable};
+
+/// The words of a row.
+const ROW: u32 = 32;
+
+/// The slot that the loaded tree pairs with a page, or none where no pair has it. It reads at most 11 words of each inner node
+/// on the way, and 17 of a leaf.
+pub fn walk(nodes: &NodeTable, seat: &mut NodeSeat, root: Root, page: Page) -> Option<Slot>
+    requires table { IsOf seat.old nodes.now }
+    requires open { IsOpen seat.old }
+    requires loaded { HasLoaded (view seat.old) root }
+    ensures table { IsOf seat.new nodes.now }
+    ensures slot { (shown : Shown) → (view seat.old).snapshot ≡ Some shown → option_map (λ slot. slot.0) result ≡ slot_at page.0 shown }
+    ensures view { (reads : ℕ) × (reads ≤ 105) × (view seat.new ≡ record (view seat.old) { words = (view seat.old).words + reads }) }
+{
+    let mut row = root.row;
+    for _depth in 1..root.height {
+        let child = item_word(nodes, seat, row, false, page)?;
+        row = Row(child as u32);
+    }
+    let number = item_word(nodes, seat, row, true, page)?.checked_sub(1)?;
+    Some(Slot(number as u32))
+}
+
+/// The second word of the place of a node that has a page: of a child its row, and of an entry its slot's number plus 1, or 0
+/// for a gap. None where no place has the page.
+fn item_word(
+    nodes: &NodeTable,
+    seat: &mut NodeSeat,
+    row: Row,
+    leaf: bool,
+    page: Page,
+) -> Option<u64>
+    requires table { IsOf seat.old nodes.now }
+    requires node { HasNode (view seat.old) row.0 }
+    ensures table { IsOf seat.new nodes.now }
+    ensures word { (shown : Shown) → (view seat.old).snapshot ≡ Some shown
+        → option_map (λ item. item.word) (item_at page.0 (read (at_of shown.words) leaf row.0)) ≡ result }
+    ensures view { (reads : ℕ) × (width_of leaf * reads ≤ 32 + width_of leaf) × (view seat.new ≡ record (view seat.old) { words = (view seat.old).words + reads }) }
+{
+    let width = item_width(leaf);
+    let mut place = 0;
+    while place + width <= ROW {
+        let end = nodes.word(seat, row, place);
+        if end == 0 {
+            return None;
+        }
+        if page.0 < end {
+            return Some(nodes.word(seat, row, place + 1));
+        }
+        place += width;
+    }
+    None
+}
+
+/// How many words an item has in its node: an entry two, and a child three.
+fn item_width(leaf: bool) -> u32
+    ensures { result ≡ width_of leaf }
+{
+    if leaf { 2 } else { 3 }
+}
