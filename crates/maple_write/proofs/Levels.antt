@@ -1,0 +1,247 @@
+-- For `find`, `rise` and others: going down a level of a tree.
+use Rattle.std.proofs.Common.{ℕ, zero, suc, ◌≡◌, ◌<◌, ◌≤◌, ◌+◌, ◌-◌, Bool, true, false, List, [], ◌∷◌, ◌++◌, length, Some, refl, sym, ap, subst, ◌∙◌, arith, inl, inr, append_assoc}
+use Rattle.std.proofs.lemmas.Bool.{cases_lt}
+use Rattle.std.proofs.lemmas.List.{get_or_past}
+use Rattle.std.proofs.lemmas.List.Elements.{filter-append}
+use Rattle.std.specs.Prelude.{nat_lt, nat_le}
+use Rattle.maple_node.specs.declared.item.Item.{Item}
+use Rattle.maple_node.specs.Nodes.{items_of, leaf_items, inner_items, end_of}
+use Rattle.maple_node.specs.Levels.{is_leaf, at_of, read, below, item_at, AllFrom, IsNode, level_of, IsTower}
+use Rattle.maple_node.proofs.Lists.{end_of-append}
+use Rattle.maple_node.proofs.Levels.{nodes-ascend, end_of-below, below-ascends}
+use Rattle.maple_items.specs.Splices.{upto, beyond}
+use Rattle.maple_items.proofs.Lists.{upto-first, beyond-later, item_at-first, item_at-later, upto_all, upto_none, upto_first, beyond_all, beyond_none, stands, item_at-left, item_at-right, AllFrom-at, upto_below}
+
+-- nodes, of which the first begins at a page
+abbrev pub AreNodes : (ℕ → List ℕ) → Bool → ℕ → ℕ → List Item → Type 0
+AreNodes at leaf limit start items = AllFrom (IsNode at leaf limit) start items
+
+-- parts of joined items
+pub upto-append : (page : ℕ) (xs ys : List Item) → upto page (xs ++ ys) ≡ upto page xs ++ upto page ys
+upto-append page xs ys = filter-append (λ (item : Item). nat_le item.end page) xs ys
+
+pub beyond-append : (page : ℕ) (xs ys : List Item) → beyond page (xs ++ ys) ≡ beyond page xs ++ beyond page ys
+beyond-append page xs ys = filter-append (λ (item : Item). nat_lt page item.end) xs ys
+
+-- the item that is found first is the first, where it ends above the page
+found_first : (page : ℕ) (x item : Item) (xs : List Item) → page < x.end → item_at page (x ∷ xs) ≡ Some item → x ≡ item
+found_first page x item xs above found = let same : Some x ≡ Some item = sym (item_at-first page x xs above) ∙ found in cc
+
+found_later : (page : ℕ) (x item : Item) (xs : List Item) → x.end ≤ page → item_at page (x ∷ xs) ≡ Some item → item_at page xs ≡ Some item
+found_later page x item xs past found = sym (item_at-later page x xs past) ∙ found
+
+-- what ends up to a page in the level below
+pub upto-below : (at : ℕ → List ℕ) (leaf : Bool) (limit start page : ℕ) (items : List Item) (left : Item) → AreNodes at leaf limit start items
+    → item_at page items ≡ Some left
+    → upto page (below at leaf items) ≡ below at leaf (upto page items) ++ upto page (read at leaf left.word)
+upto-below at leaf limit start page [] left nodes found = absurd (cc)
+upto-below at leaf limit start page (x ∷ xs) left nodes found =
+    let deep = below at leaf xs in
+    let Goal : Type 0 = upto page (read at leaf x.word ++ deep) ≡ below at leaf (upto page (x ∷ xs)) ++ upto page (read at leaf left.word) in
+    elim (cases_lt page x.end) as (λ _. Goal) [
+      | inl above ↦
+          let same = found_first page x left xs above found in
+          let none : upto page deep ≡ [] = upto_none x.end page deep (below-ascends at leaf limit x.end xs nodes.1) (omega arith) in
+          let first : upto page (x ∷ xs) ≡ [] = upto_first start page x xs (nodes-ascend at leaf limit start (x ∷ xs) nodes) above in
+          upto-append page (read at leaf x.word) deep ∙ ap (λ (ys : List Item). upto page (read at leaf x.word) ++ ys) none
+          ∙ whole (upto page (read at leaf x.word)) ∙ ap (λ (y : Item). upto page (read at leaf y.word)) same
+          ∙ sym (ap (λ (ys : List Item). below at leaf ys ++ upto page (read at leaf left.word)) first)
+      | inr past ↦
+          let all : upto page (read at leaf x.word) ≡ read at leaf x.word =
+          upto_all start page (read at leaf x.word) nodes.0.ascends (let until = nodes.0.until in omega arith) in
+          let rest = upto-below at leaf limit x.end page xs left nodes.1 (found_later page x left xs past found) in
+          upto-append page (read at leaf x.word) deep
+          ∙ ap (λ (ys : List Item). ys ++ upto page deep) all ∙ ap (λ (ys : List Item). read at leaf x.word ++ ys) rest
+          ∙ sym (append_assoc (read at leaf x.word) (below at leaf (upto page xs)) (upto page (read at leaf left.word)))
+          ∙ sym (ap (λ (ys : List Item). below at leaf ys ++ upto page (read at leaf left.word)) (upto-first page x xs past))
+    ] where
+      whole : (ys : List Item) → ys ++ [] ≡ ys
+      whole [] = refl
+      whole (y ∷ ys) = ap (λ (zs : List Item). y ∷ zs) (whole ys)
+
+-- what ends above a page in the level below, where the page before is in a node
+pub beyond-below : (at : ℕ → List ℕ) (leaf : Bool) (limit start page last : ℕ) (items : List Item) (right : Item) → AreNodes at leaf limit start items
+    → last + 1 ≡ page → item_at last items ≡ Some right
+    → beyond page (below at leaf items) ≡ beyond page (read at leaf right.word) ++ below at leaf (beyond right.end items)
+beyond-below at leaf limit start page last [] right nodes next found = absurd (cc)
+beyond-below at leaf limit start page last (x ∷ xs) right nodes next found =
+    let deep = below at leaf xs in
+    let here = read at leaf x.word in
+    let ascends = nodes-ascend at leaf limit start (x ∷ xs) nodes in
+    let Goal : Type 0 = beyond page (here ++ deep) ≡ beyond page (read at leaf right.word) ++ below at leaf (beyond right.end (x ∷ xs)) in
+    elim (cases_lt last x.end) as (λ _. Goal) [
+      | inl above ↦
+          let same = found_first last x right xs above found in
+          let all : beyond page deep ≡ deep = beyond_all x.end page deep (below-ascends at leaf limit x.end xs nodes.1) (omega arith) in
+          let rest : beyond x.end (x ∷ xs) ≡ xs = beyond-later x.end x xs (omega arith) ∙ beyond_all x.end x.end xs ascends.1 (omega arith) in
+          beyond-append page here deep ∙ ap (λ (ys : List Item). beyond page here ++ ys) all
+          ∙ sym (ap (λ (ys : List Item). beyond page here ++ below at leaf ys) rest)
+          ∙ ap (λ (y : Item). beyond page (read at leaf y.word) ++ below at leaf (beyond y.end (x ∷ xs))) same
+      | inr past ↦
+          let until = nodes.0.until in
+          let none : beyond page here ≡ [] = beyond_none start page here nodes.0.ascends (omega arith) in
+          let later = found_later last x right xs past found in
+          let high = (stands x.end last xs right ascends.1 later).above in
+          beyond-append page here deep ∙ ap (λ (ys : List Item). ys ++ beyond page deep) none
+          ∙ beyond-below at leaf limit x.end page last xs right nodes.1 next later
+          ∙ sym (ap (λ (ys : List Item). beyond page (read at leaf right.word) ++ below at leaf ys) (beyond-later right.end x xs (omega arith)))
+    ]
+
+-- the item that has a page in the level below is the one in the node that has it
+pub item_at-below : (at : ℕ → List ℕ) (leaf : Bool) (limit start page : ℕ) (items : List Item) (item : Item) → AreNodes at leaf limit start items
+    → start ≤ page → item_at page items ≡ Some item → item_at page (read at leaf item.word) ≡ item_at page (below at leaf items)
+item_at-below at leaf limit start page [] item nodes begins found = absurd (cc)
+item_at-below at leaf limit start page (x ∷ xs) item nodes begins found =
+    let here = read at leaf x.word in
+    let deep = below at leaf xs in
+    let until = nodes.0.until in
+    let Goal : Type 0 = item_at page (read at leaf item.word) ≡ item_at page (here ++ deep) in
+    elim (cases_lt page x.end) as (λ _. Goal) [
+      | inl above ↦
+          let same = found_first page x item xs above found in
+          ap (λ (y : Item). item_at page (read at leaf y.word)) (sym same) ∙ sym (item_at-left start page here deep begins (omega arith))
+      | inr past ↦
+          item_at-below at leaf limit x.end page xs item nodes.1 past (found_later page x item xs past found)
+          ∙ sym (item_at-right start page here deep nodes.0.ascends (omega arith))
+    ]
+
+-- the nodes that end up to a page
+pub nodes-upto : (at : ℕ → List ℕ) (leaf : Bool) (limit start page : ℕ) (items : List Item) → AreNodes at leaf limit start items
+    → AreNodes at leaf limit start (upto page items)
+nodes-upto at leaf limit start page [] nodes = tt
+nodes-upto at leaf limit start page (x ∷ xs) nodes = elim (cases_lt page x.end) as (λ _. AreNodes at leaf limit start (upto page (x ∷ xs))) [
+  | inl above ↦ rw (upto_first start page x xs (nodes-ascend at leaf limit start (x ∷ xs) nodes) above) tt
+  | inr past ↦ rw (upto-first page x xs past) (nodes.0, nodes-upto at leaf limit x.end page xs nodes.1)
+]
+
+-- what is so of the node that has a page, and of the item in it that has the page
+pub record Descent (at : ℕ → List ℕ) (leaf : Bool) (limit start page : ℕ) (items : List Item) (item : Item) : Type 0 where
+  pub node : IsNode at leaf limit (end_of start (upto page items)) item
+  pub within : page < item.end
+  pub begins : end_of start (upto page items) ≤ page
+  pub found : item_at page (below at leaf items) ≡ item_at page (read at leaf item.word)
+  pub front : end_of start (upto page (below at leaf items)) ≡ end_of (end_of start (upto page items)) (upto page (read at leaf item.word))
+
+pub descend : (at : ℕ → List ℕ) (leaf : Bool) (limit start page : ℕ) (items : List Item) (item : Item) → AreNodes at leaf limit start items
+    → start ≤ page → item_at page items ≡ Some item → Descent at leaf limit start page items item
+descend at leaf limit start page items item nodes begins found =
+    let ascends = nodes-ascend at leaf limit start items nodes in
+    record {
+      node = AllFrom-at (IsNode at leaf limit) start page items item ascends nodes found;
+      within = (stands start page items item ascends found).above;
+      begins = upto_below start page items begins;
+      found = sym (item_at-below at leaf limit start page items item nodes begins found);
+      front = ap (end_of start) (upto-below at leaf limit start page items item nodes found)
+          ∙ end_of-append start (below at leaf (upto page items)) (upto page (read at leaf item.word))
+          ∙ ap (λ (p : ℕ). end_of p (upto page (read at leaf item.word))) (ends_upto nodes);
+    } where
+      ends_upto : AreNodes at leaf limit start items → end_of start (below at leaf (upto page items)) ≡ end_of start (upto page items)
+      ends_upto nodes = end_of-below at leaf limit start (upto page items) (nodes-upto at leaf limit start page items nodes)
+
+-- a level is the one below the next one up
+pub level_of-down : (at : ℕ → List ℕ) (low up : ℕ) (items : List Item)
+    → level_of at low (suc up) items ≡ below at (is_leaf low) (level_of at (suc low) up items)
+unfolding level_of
+level_of-down at low zero items = let e : low + 0 ≡ low = omega arith in ap (λ (n : ℕ). below at (is_leaf n) items) e
+level_of-down at low (suc up) items =
+    let e : low + suc up ≡ suc low + up = omega arith in
+    level_of-down at low up (below at (is_leaf (low + suc up)) items)
+    ∙ ap (λ (n : ℕ). below at (is_leaf low) (level_of at (suc low) up (below at (is_leaf n) items))) e
+
+-- a tower is one above its lowest nodes, and these
+pub record Lowest (at : ℕ → List ℕ) (limit low up : ℕ) (items : List Item) : Type 0 where
+  pub above : IsTower at limit (suc low) up items
+  pub here : AreNodes at (is_leaf low) limit 0 (level_of at (suc low) up items)
+
+pub lowest : (at : ℕ → List ℕ) (limit low up : ℕ) (items : List Item) → IsTower at limit low (suc up) items → Lowest at limit low up items
+unfolding IsTower level_of
+lowest at limit low zero items tower =
+    let e : low + 0 ≡ low = omega arith in
+    record { above = tt; here = subst (λ (n : ℕ). AreNodes at (is_leaf n) limit 0 items) e tower.0 }
+lowest at limit low (suc up) items tower =
+    let e : low + suc up ≡ suc low + up = omega arith in
+    let deep = lowest at limit low up (below at (is_leaf (low + suc up)) items) tower.1 in
+    record {
+      above = (
+        subst (λ (n : ℕ). AreNodes at (is_leaf n) limit 0 items) e tower.0,
+        subst (λ (n : ℕ). IsTower at limit (suc low) up (below at (is_leaf n) items)) e deep.above,
+      );
+      here = subst (λ (n : ℕ). AreNodes at (is_leaf low) limit 0 (level_of at (suc low) up (below at (is_leaf n) items))) e deep.here;
+    }
+
+pub with_lowest : (at : ℕ → List ℕ) (limit low up : ℕ) (items : List Item) → Lowest at limit low up items → IsTower at limit low (suc up) items
+unfolding IsTower level_of
+with_lowest at limit low zero items both =
+    let e : low ≡ low + 0 = omega arith in
+    (subst (λ (n : ℕ). AreNodes at (is_leaf n) limit 0 items) e both.here, tt)
+with_lowest at limit low (suc up) items both =
+    let e : suc low + up ≡ low + suc up = omega arith in
+    let tower = both.above in (
+      subst (λ (n : ℕ). AreNodes at (is_leaf n) limit 0 items) e tower.0,
+      with_lowest at limit low up (below at (is_leaf (low + suc up)) items) (record {
+        above = subst (λ (n : ℕ). IsTower at limit (suc low) up (below at (is_leaf n) items)) e tower.1;
+        here = subst (λ (n : ℕ). AreNodes at (is_leaf low) limit 0 (level_of at (suc low) up (below at (is_leaf n) items))) e both.here;
+      }),
+    )
+
+-- the part of a tower from a level up
+tower_up : (at : ℕ → List ℕ) (limit k low level up total : ℕ) (items : List Item) → low + k ≡ level → k + up ≡ total
+    → IsTower at limit low total items → IsTower at limit level up items
+tower_up at limit zero low level up total items here all tower =
+    let e : low ≡ level = omega arith in
+    let e' : total ≡ up = omega arith in
+    subst (λ (n : ℕ). IsTower at limit n up items) e (subst (λ (n : ℕ). IsTower at limit low n items) e' tower)
+tower_up at limit (suc k) low level up total items here all tower =
+    let e : total ≡ suc (k + up) = omega arith in
+    let low_one = lowest at limit low (k + up) items (subst (λ (n : ℕ). IsTower at limit low n items) e tower) in
+    tower_up at limit k (suc low) level up (k + up) items (omega arith) refl low_one.above
+
+pub tower_from : (at : ℕ → List ℕ) (limit height low level : ℕ) (items : List Item) → low ≤ level → level ≤ height
+    → IsTower at limit low (height - low) items → IsTower at limit level (height - level) items
+tower_from at limit height low level items above within tower =
+    tower_up at limit (level - low) low level (height - level) (height - low) items (omega arith) (omega arith) tower
+
+-- no words list no items
+no_items : (leaf : Bool) → items_of leaf [] ≡ []
+unfolding leaf_items inner_items
+no_items true = refl
+no_items false = refl
+
+-- a node lies in a row of the table
+pub row_there : (rows : List (List ℕ)) (leaf : Bool) (limit start : ℕ) (item : Item) → IsNode (at_of rows) leaf limit start item
+    → item.word < length rows
+row_there rows leaf limit start item node = elim (cases_lt item.word (length rows)) as (λ _. item.word < length rows) [
+  | inl within ↦ within
+  | inr past ↦
+      let none : read (at_of rows) leaf item.word ≡ [] = ap (items_of leaf) (get_or_past rows item.word [] past) ∙ no_items leaf in
+      let long = ap (λ (xs : List Item). length xs) none in
+      let some = node.some in
+      absurd (omega arith)
+]
+
+-- one step down from a level of a tree
+pub record Step (at : ℕ → List ℕ) (limit height level next : ℕ) (top : Item) : Type 0 where
+  pub nodes : AreNodes at (is_leaf next) limit 0 (level_of at level (height - level) (top ∷ []))
+  pub down : level_of at next (height - next) (top ∷ []) ≡ below at (is_leaf next) (level_of at level (height - level) (top ∷ []))
+  pub above : IsTower at limit level (height - level) (top ∷ [])
+
+pub step_down : (at : ℕ → List ℕ) (limit height low level next : ℕ) (top : Item) → IsTower at limit low (height - low) (top ∷ [])
+    → low ≤ next → next + 1 ≡ level → level ≤ height → Step at limit height level next top
+step_down at limit height low level next top tower order one within =
+    let here = tower_from at limit height low next (top ∷ []) order (omega arith) tower in
+    let up : height - next ≡ suc (height - level) = omega arith in
+    let e : suc next ≡ level = omega arith in
+    let both = lowest at limit next (height - level) (top ∷ []) (subst (λ (n : ℕ). IsTower at limit next n (top ∷ [])) up here) in
+    record {
+      nodes = subst (λ (n : ℕ). AreNodes at (is_leaf next) limit 0 (level_of at n (height - level) (top ∷ []))) e both.here;
+      down = ap (λ (n : ℕ). level_of at next n (top ∷ [])) up ∙ level_of-down at next (height - level) (top ∷ [])
+          ∙ ap (λ (n : ℕ). below at (is_leaf next) (level_of at n (height - level) (top ∷ []))) e;
+      above = subst (λ (n : ℕ). IsTower at limit n (height - level) (top ∷ [])) e both.above;
+    }
+
+-- the highest level has the root alone
+pub level_of-top : (at : ℕ → List ℕ) (height low : ℕ) (items : List Item) → height ≤ low → level_of at low (height - low) items ≡ items
+unfolding level_of
+level_of-top at height low items top =
+    let none : height - low ≡ 0 = omega arith in
+    ap (λ (n : ℕ). level_of at low n items) none

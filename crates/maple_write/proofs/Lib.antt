@@ -1,0 +1,13 @@
+pub mod Levels
+pub mod Times
+pub mod Blocks
+pub mod Steps
+pub mod Rising
+pub mod Writers
+pub mod Waiting
+pub mod Packing
+pub mod Finding
+pub mod Crowns
+pub mod Stores
+pub mod Sizes
+pub mod Blanks

@@ -1,0 +1,238 @@
+-- For `rise`: a level that is built anew stands in place of the old one.
+use Rattle.std.proofs.Common.{ℕ, suc, ◌≡◌, ◌<◌, ◌≤◌, ◌+◌, ◌-◌, nat_lt, cond, List, [], ◌∷◌, ◌++◌, length, sym, ap, subst, ◌∙◌, arith}
+use Rattle.std.proofs.lemmas.Grind.{flat_map-append}
+use Rattle.maple_node.specs.declared.item.Item.{Item}
+use Rattle.maple_node.specs.Nodes.{end_of, Ascends, IsPlain}
+use Rattle.maple_node.specs.Levels.{is_leaf, at_of, read, below, IsNode, level_of, IsTower, rows_of, times, Agree}
+use Rattle.maple_node.proofs.Levels.{nodes-ascend, end_of-below}
+use Rattle.maple_node.proofs.Frames.{times-append, below-agree}
+use Rattle.maple_items.specs.Splices.{upto, beyond, spliced}
+use Rattle.maple_items.proofs.Lists.{AllFrom-append, AllFrom-right, upto-beyond}
+use Rattle.maple_write.specs.Tables.{Table, rows_in, gone}
+use Rattle.maple_write.specs.Stores.{old_level, new_level, new_entries, Partly, Cut}
+use Rattle.maple_write.proofs.Levels.{AreNodes, nodes-upto}
+use Rattle.maple_write.proofs.Times.{times-rows_in, kept-nodes, Kept, kept-tower, times-lowest}
+use Rattle.maple_write.proofs.Blocks.{inner-plain, times-parts}
+use Rattle.maple_write.proofs.Steps.{upper_of, raised, inner_level, counts}
+
+-- how often a row stands in the old tree above a level, and in the nodes of the level
+pub record Counted (table : Table) (top : Item) (height level lo hi : ℕ) (new : List Item) (row : ℕ) : Type 0 where
+  pub all : times row (rows_of (at_of table.rows) (level + 1) (height - (level + 1)) (top ∷ []))
+      + times row (rows_in (old_level table top height (level + 1)))
+      + times row (rows_of (at_of table.rows) 0 level (new_level table top height level lo hi new))
+      + gone table row
+      ≡ cond (nat_lt row (length table.rows)) 1 0
+
+pub counted : (table : Table) (top : Item) (height level lo hi : ℕ) (new : List Item) (row : ℕ) → Partly table top height level lo hi new
+    → level < height → Counted table top height level lo hi new row
+counted table top height level lo hi new row partly less =
+    let at = at_of table.rows in
+    let here = new_level table top height level lo hi new in
+    let up : height - level ≡ suc (height - (level + 1)) = omega arith in
+    let e : suc level ≡ level + 1 = omega arith in
+    let split = times-append row (rows_of at level (height - level) (top ∷ [])) (rows_of at 0 level here) in
+    let first = ap (λ (n : ℕ). times row (rows_of at level n (top ∷ []))) up in
+    let second = times-lowest at row level (height - (level + 1)) (top ∷ []) in
+    let third = ap (λ (n : ℕ). times row (rows_of at n (height - (level + 1)) (top ∷ []))) e in
+    let fourth = ap (λ (n : ℕ). times row (rows_in (level_of at n (height - (level + 1)) (top ∷ [])))) e in
+    let stand = partly.stand.each row in
+    record { all = omega arith }
+
+-- the rows that the level's nodes and the tree above have keep their words while free rows are filled
+pub record Frame (old : Table) (at : ℕ → List ℕ) (top : Item) (height level lo hi end : ℕ) (new : List Item) : Type 0 where
+  pub above : Agree (at_of old.rows) at (rows_of (at_of old.rows) (level + 1) (height - (level + 1)) (top ∷ []))
+  pub built : Agree (at_of old.rows) at (rows_of (at_of old.rows) 0 level (new_level old top height level lo hi new))
+  pub before : Agree (at_of old.rows) at (rows_in (upto lo (old_level old top height (level + 1))))
+  pub after : Agree (at_of old.rows) at (rows_in (beyond end (old_level old top height (level + 1))))
+
+pub framed : (old : Table) (at : ℕ → List ℕ) (top : Item) (height level lo hi end : ℕ) (new : List Item) → Partly old top height level lo hi new
+    → level < height → lo ≤ end → ((row : ℕ) → times row old.free ≡ 0 → at row ≡ at_of old.rows row)
+    → Frame old at top height level lo hi end new
+framed old at top height level lo hi end new partly less order kept =
+    let upper = old_level old top height (level + 1) in
+    let free : (row : ℕ) (n : ℕ) → n + gone old row ≤ cond (nat_lt row (length old.rows)) 1 0 → 1 ≤ n → at_of old.rows row ≡ at row =
+    λ row n few some. let least = (counts row (length old.rows) (n + gone old row) few).0 in sym (kept row (omega arith)) in
+    record {
+      above = λ row some. let c = (counted old top height level lo hi new row partly less).all in
+          free row (times row (rows_of (at_of old.rows) (level + 1) (height - (level + 1)) (top ∷ []))) (omega arith) some;
+      built = λ row some. let c = (counted old top height level lo hi new row partly less).all in
+          free row (times row (rows_of (at_of old.rows) 0 level (new_level old top height level lo hi new))) (omega arith) some;
+      before = λ row some. let c = (counted old top height level lo hi new row partly less).all in
+          let p = times-parts row lo end upper order in
+          free row (times row (rows_in (upto lo upper))) (omega arith) some;
+      after = λ row some. let c = (counted old top height level lo hi new row partly less).all in
+          let p = times-parts row lo end upper order in
+          free row (times row (rows_in (beyond end upper))) (omega arith) some;
+    }
+
+-- the old level above, in a table whose free rows were filled
+pub kept_level : (old : Table) (after : Table) (top : Item) (height level lo hi : ℕ) (new : List Item) → Partly old top height level lo hi new
+    → level < height → ((row : ℕ) → times row old.free ≡ 0 → at_of after.rows row ≡ at_of old.rows row)
+    → Kept (at_of old.rows) (at_of after.rows) top.end (level + 1) (height - (level + 1)) (top ∷ [])
+kept_level old after top height level lo hi new partly less kept =
+    let frame = framed old (at_of after.rows) top height level lo hi lo new partly less (omega arith) kept in
+    let step = upper_of old top height level lo hi new partly less in
+    kept-tower (at_of old.rows) (at_of after.rows) top.end (level + 1) (height - (level + 1)) (top ∷ []) frame.above step.above
+
+-- what is so of the nodes that a level has then
+record Level (old after : Table) (top : Item) (height level lo hi : ℕ) (new : List Item) (end : ℕ) (nodes : List Item) : Type 0 where
+  pub same : old_level after top height (level + 1) ≡ old_level old top height (level + 1)
+  pub upper : new_level after top height (level + 1) lo end nodes ≡ spliced lo end nodes (old_level old top height (level + 1))
+  pub all : AreNodes (at_of after.rows) (is_leaf level) top.end 0 (spliced lo end nodes (old_level old top height (level + 1)))
+  pub under : below (at_of after.rows) (is_leaf level) (spliced lo end nodes (old_level old top height (level + 1))) ≡ new_level old top height level lo hi new
+  pub built : Kept (at_of old.rows) (at_of after.rows) top.end 0 level (new_level old top height level lo hi new)
+  pub front : end_of (end_of 0 (upto lo (old_level old top height (level + 1)))) nodes ≡ end
+
+level_of_nodes : (old after : Table) (top : Item) (height level lo hi begin end : ℕ) (new items nodes : List Item)
+    → Partly old top height level lo hi new → level < height
+    → Cut old top height level lo hi new begin end items
+    → ((row : ℕ) → times row old.free ≡ 0 → at_of after.rows row ≡ at_of old.rows row)
+    → AreNodes (at_of after.rows) (is_leaf level) top.end begin nodes → below (at_of after.rows) (is_leaf level) nodes ≡ items
+    → Level old after top height level lo hi new end nodes
+level_of_nodes old after top height level lo hi begin end new items nodes partly less cut kept are under =
+    let at = at_of old.rows in
+    let at' = at_of after.rows in
+    let leaf = is_leaf level in
+    let upper = old_level old top height (level + 1) in
+    let step = upper_of old top height level lo hi new partly less in
+    let above = cut.above in
+    let frame = framed old at' top height level lo hi end new partly less (omega arith) kept in
+    let lev = kept_level old after top height level lo hi new partly less kept in
+    let front = upto lo upper in
+    let back = beyond end upper in
+    let ascends = nodes-ascend at leaf top.end 0 upper step.nodes in
+    let whole : AreNodes at leaf top.end 0 (upto end upper ++ back) =
+    subst (λ (xs : List Item). AreNodes at leaf top.end 0 xs) (sym (upto-beyond 0 end upper ascends)) step.nodes in
+    let right : AreNodes at leaf top.end end back =
+    subst (λ (p : ℕ). AreNodes at leaf top.end p back) cut.edge (AllFrom-right (IsNode at leaf top.end) 0 (upto end upper) back whole) in
+    let left' : AreNodes at' leaf top.end 0 front = kept-nodes at at' leaf top.end 0 front frame.before (nodes-upto at leaf top.end 0 lo upper step.nodes) in
+    let right' : AreNodes at' leaf top.end end back = kept-nodes at at' leaf top.end end back frame.after right in
+    let start = cut.start in
+    let ends : end_of begin nodes ≡ end =
+    sym (end_of-below at' leaf top.end begin nodes are) ∙ ap (end_of begin) under ∙ cut.ending in
+    let middle : AreNodes at' leaf top.end (end_of 0 front) nodes = subst (λ (p : ℕ). AreNodes at' leaf top.end p nodes) start are in
+    let ends' : end_of (end_of 0 front) nodes ≡ end = ap (λ (p : ℕ). end_of p nodes) (sym start) ∙ ends in
+    record {
+      same = lev.level;
+      upper = ap (λ (xs : List Item). spliced lo end nodes xs) lev.level;
+      all = AllFrom-append (IsNode at' leaf top.end) 0 front (nodes ++ back) left'
+          (AllFrom-append (IsNode at' leaf top.end) (end_of 0 front) nodes back middle
+          (subst (λ (p : ℕ). AreNodes at' leaf top.end p back) (sym ends') right'));
+      under = flat_map-append (λ (item : Item). read at' leaf item.word) front (nodes ++ back)
+          ∙ ap (λ (xs : List Item). below at' leaf front ++ xs) (flat_map-append (λ (item : Item). read at' leaf item.word) nodes back)
+          ∙ ap (λ (xs : List Item). xs ++ (below at' leaf nodes ++ below at' leaf back)) (sym (below-agree at at' leaf front frame.before))
+          ∙ ap (λ (xs : List Item). below at leaf front ++ (xs ++ below at' leaf back)) under
+          ∙ ap (λ (xs : List Item). below at leaf front ++ (items ++ xs)) (sym (below-agree at at' leaf back frame.after))
+          ∙ sym cut.split;
+      built = kept-tower at at' top.end 0 level (new_level old top height level lo hi new) frame.built partly.built;
+      front = ends';
+    }
+
+-- the step of a store: the level is built, and the old nodes in its place are left
+pub record Rose (old after : Table) (top : Item) (height level lo hi : ℕ) (new : List Item) (begin end : ℕ) (nodes : List Item) : Type 0 where
+  pub partly : Partly after top height (level + 1) lo end nodes
+  pub starts : begin ≡ end_of 0 (upto lo (old_level after top height (level + 1)))
+  pub entries : new_entries after top height (level + 1) lo end nodes ≡ new_entries old top height level lo hi new
+  pub under : below (at_of after.rows) (is_leaf level) (new_level after top height (level + 1) lo end nodes) ≡ new_level old top height level lo hi new
+
+pub rose : (old packed after : Table) (top : Item) (height level lo hi begin end : ℕ) (new items nodes : List Item)
+    → Partly old top height level lo hi new → level < height
+    → Cut old top height level lo hi new begin end items
+    → AreNodes (at_of packed.rows) (is_leaf level) top.end begin nodes → below (at_of packed.rows) (is_leaf level) nodes ≡ items
+    → 1 ≤ length nodes → length nodes ≤ 3
+    → ((row : ℕ) → times row old.free ≡ 0 → at_of packed.rows row ≡ at_of old.rows row)
+    → length packed.rows ≡ length old.rows
+    → ((row : ℕ) → times row old.free ≡ times row packed.free + times row (rows_in nodes))
+    → length old.free ≡ length packed.free + length nodes
+    → packed.left ≡ old.left
+    → after.rows ≡ packed.rows → length packed.free ≤ length after.free
+    → ((row : ℕ) → gone after row ≡ gone packed row + times row (rows_in (upto end (beyond lo (old_level packed top height (level + 1))))))
+    → Rose old after top height level lo hi new begin end nodes
+rose old packed after top height level lo hi begin end new items nodes partly less cut are under some few kept long taken room left rows more left_now =
+    let at = at_of old.rows in
+    let at' = at_of after.rows in
+    let leaf = is_leaf level in
+    let upper = old_level old top height (level + 1) in
+    let made = spliced lo end nodes upper in
+    let kept' : (row : ℕ) → times row old.free ≡ 0 → at' row ≡ at row = λ row none.
+    subst (λ (rs : List (List ℕ)). at_of rs row ≡ at row) (sym rows) (kept row none) in
+    let are' : AreNodes at' leaf top.end begin nodes = subst (λ (rs : List (List ℕ)). AreNodes (at_of rs) leaf top.end begin nodes) (sym rows) are in
+    let under' : below at' leaf nodes ≡ items = ap (λ (rs : List (List ℕ)). below (at_of rs) leaf nodes) rows ∙ under in
+    let is = level_of_nodes old after top height level lo hi begin end new items nodes partly less cut kept' are' under' in
+    let lev = kept_level old after top height level lo hi new partly less kept' in
+    let lev_packed = kept_level old packed top height level lo hi new partly less kept in
+    let up = raised at' top.end level made (new_level old top height level lo hi new) is.all is.under is.built.tower in
+    let above = cut.above in
+    record {
+      partly = record {
+        within = omega arith;
+        some = some;
+        few = few;
+        pages = above;
+        limit = cut.limit;
+        tower = lev.tower;
+        built = subst (λ (xs : List Item). IsTower at' top.end 0 (level + 1) xs) (sym is.upper) up.tower;
+        ascends = subst (λ (xs : List Item). Ascends 0 xs) (sym is.upper) (nodes-ascend at' leaf top.end 0 made is.all);
+        ending = ap (λ (xs : List Item). end_of (end_of 0 (upto lo xs)) nodes) is.same ∙ is.front;
+        edge = λ inner. ap (λ (xs : List Item). end_of 0 (upto end xs)) is.same ∙ cut.edge;
+        plain = subst (λ b. IsPlain b nodes) (sym (inner_level level)) (inner-plain nodes);
+        stand = record {
+          each = λ row.
+              let before = (counted old top height level lo hi new row partly less).all in
+              let parts = times-parts row lo end upper (omega arith) in
+              let join = times-append row (rows_of at' (level + 1) (height - (level + 1)) (top ∷ []))
+              (rows_of at' 0 (level + 1) (new_level after top height (level + 1) lo end nodes)) in
+              let first = ap (times row) lev.rows in
+              let second : times row (rows_of at' 0 (level + 1) (new_level after top height (level + 1) lo end nodes)) ≡ times row (rows_of at' 0 (level + 1) made) =
+              ap (λ (xs : List Item). times row (rows_of at' 0 (level + 1) xs)) is.upper in
+              let third = up.rows row in
+              let fourth = ap (times row) is.built.rows in
+              let fifth = times-rows_in row (upto lo upper) (nodes ++ beyond end upper) in
+              let sixth = times-rows_in row nodes (beyond end upper) in
+              let seventh = left_now row in
+              let eighth : times row (rows_in (upto end (beyond lo (old_level packed top height (level + 1))))) ≡ times row (rows_in (upto end (beyond lo upper))) =
+              ap (λ (xs : List Item). times row (rows_in (upto end (beyond lo xs)))) lev_packed.level in
+              let ninth = taken row in
+              let tenth = ap (times row) left in
+              let rows_long : length after.rows ≡ length old.rows = ap (λ (rs : List (List ℕ)). length rs) rows ∙ long in
+              let bound : cond {A = ℕ} (nat_lt row (length after.rows)) 1 0 ≡ cond (nat_lt row (length old.rows)) 1 0 =
+              ap (λ (n : ℕ). cond {A = ℕ} (nat_lt row n) 1 0) rows_long in
+              omega arith;
+        };
+        free = let f = partly.free in omega arith;
+      };
+      starts = cut.start ∙ sym (ap (λ (xs : List Item). end_of 0 (upto lo xs)) is.same);
+      entries = ap (level_of at' 0 (level + 1)) is.upper ∙ up.entries ∙ is.built.level;
+      under = ap (below at' leaf) is.upper ∙ is.under;
+    }
+
+-- what leaving the old nodes of the level asks for
+pub record Ready (packed : Table) (top : Item) (height level lo end : ℕ) : Type 0 where
+  pub tower : IsTower (at_of packed.rows) top.end level (height - level) (top ∷ [])
+  pub edge : end_of 0 (upto end (old_level packed top height level)) ≡ end
+  pub apart : (row : ℕ) → gone packed row + times row (rows_in (upto end (beyond lo (old_level packed top height level))))
+      ≤ cond (nat_lt row (length packed.rows)) 1 0
+
+pub ready : (old packed : Table) (top : Item) (height level lo hi begin end : ℕ) (new items : List Item) → Partly old top height level lo hi new
+    → level < height → Cut old top height level lo hi new begin end items
+    → ((row : ℕ) → times row old.free ≡ 0 → at_of packed.rows row ≡ at_of old.rows row) → length packed.rows ≡ length old.rows
+    → packed.left ≡ old.left → ((row : ℕ) → times row packed.free ≤ times row old.free)
+    → Ready packed top height (level + 1) lo end
+ready old packed top height level lo hi begin end new items partly less cut kept long left fewer =
+    let lev = kept_level old packed top height level lo hi new partly less kept in
+    let upper = old_level old top height (level + 1) in
+    let above = cut.above in
+    record {
+      tower = lev.tower;
+      edge = ap (λ (xs : List Item). end_of 0 (upto end xs)) lev.level ∙ cut.edge;
+      apart = λ row.
+          let before = (counted old top height level lo hi new row partly less).all in
+          let parts = times-parts row lo end upper (omega arith) in
+          let same : times row (rows_in (upto end (beyond lo (old_level packed top height (level + 1))))) ≡ times row (rows_in (upto end (beyond lo upper))) =
+          ap (λ (xs : List Item). times row (rows_in (upto end (beyond lo xs)))) lev.level in
+          let lists = ap (times row) left in
+          let less_free = fewer row in
+          let bound : cond {A = ℕ} (nat_lt row (length packed.rows)) 1 0 ≡ cond (nat_lt row (length old.rows)) 1 0 =
+          ap (λ (n : ℕ). cond {A = ℕ} (nat_lt row n) 1 0) long in
+          omega arith;
+    }

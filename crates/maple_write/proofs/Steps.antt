@@ -1,0 +1,210 @@
+-- For `cut`, `stretched` and `rise`: one level of a store, from the items that stand anew to the nodes that list them.
+use Rattle.std.proofs.Common.{ℕ, suc, ◌≡◌, ◌<◌, ◌≤◌, ◌+◌, ◌-◌, Bool, true, false, nat_eq, nat_lt, cond, List, [], ◌∷◌, ◌++◌, length, Some, refl, sym, ap, subst, ◌∙◌, arith, inl, inr, append_assoc, length-append}
+use Rattle.std.proofs.lemmas.Bool.{cases_lt}
+use Rattle.std.proofs.lemmas.Bool.Decides.{nat_tests}
+use Rattle.maple_node.specs.declared.item.Item.{Item}
+use Rattle.maple_node.specs.Nodes.{most, least, end_of, Ascends}
+use Rattle.maple_node.specs.Levels.{is_leaf, at_of, read, below, item_at, IsNode, level_of, IsTower, rows_of, times}
+use Rattle.maple_node.proofs.Lists.{end_of-append, Ascends-append}
+use Rattle.maple_node.proofs.Levels.{nodes-ascend, end_of-below, level-ends}
+use Rattle.maple_node.proofs.Frames.{times-append}
+use Rattle.maple_items.specs.Splices.{upto, beyond}
+use Rattle.maple_items.proofs.Lists.{Ascends-left, Ascends-right, IsPlain-append, IsPlain-upto, IsPlain-beyond, stands, AllFrom-at, beyond-ends}
+use Rattle.maple_write.specs.Tables.{Table, rows_in, gone, Stand}
+use Rattle.maple_write.specs.Stores.{old_level, new_level, Partly, Cut}
+use Rattle.maple_write.proofs.Levels.{AreNodes, upto-below, beyond-below, descend, nodes-upto, row_there, Step, step_down}
+use Rattle.maple_write.proofs.Blocks.{item_edge, items-plain, length-upto, length-beyond}
+
+-- the nodes of the level above, and how it is told from the level itself
+pub upper_of : (table : Table) (top : Item) (height level lo hi : ℕ) (new : List Item) → Partly table top height level lo hi new → level < height
+    → Step (at_of table.rows) top.end height (level + 1) level top
+upper_of table top height level lo hi new partly less =
+    step_down (at_of table.rows) top.end height level (level + 1) level top partly.tower (omega arith) refl (omega arith)
+
+pub ends_at : (table : Table) (top : Item) (height level lo hi : ℕ) (new : List Item) → Partly table top height level lo hi new → level < height
+    → end_of 0 (old_level table top height (level + 1)) ≡ top.end
+ends_at table top height level lo hi new partly less =
+    level-ends (at_of table.rows) top.end (level + 1) (height - (level + 1)) (top ∷ []) (upper_of table top height level lo hi new partly less).above
+
+-- the node that has a page
+pub record There (table : Table) (limit level begin : ℕ) (item : Item) : Type 0 where
+  pub row : item.word < length table.rows
+  pub few : length (read (at_of table.rows) (is_leaf level) item.word) ≤ most (is_leaf level)
+  pub node : IsNode (at_of table.rows) (is_leaf level) limit begin item
+
+pub there_at : (table : Table) (top : Item) (height level lo hi page : ℕ) (new : List Item) (item : Item)
+    → Partly table top height level lo hi new → level < height → item_at page (old_level table top height (level + 1)) ≡ Some item
+    → There table top.end level (end_of 0 (upto page (old_level table top height (level + 1)))) item
+there_at table top height level lo hi page new item partly less found =
+    let step = upper_of table top height level lo hi new partly less in
+    let upper = old_level table top height (level + 1) in
+    let node = AllFrom-at (IsNode (at_of table.rows) (is_leaf level) top.end) 0 page upper item
+    (nodes-ascend (at_of table.rows) (is_leaf level) top.end 0 upper step.nodes) step.nodes found in
+    record {
+      row = row_there table.rows (is_leaf level) top.end (end_of 0 (upto page upper)) item node;
+      few = node.most;
+      node = node;
+    }
+
+-- new items between the beginning of one node and the end of another
+joined_parts : (a b c d e : List Item) → (a ++ b) ++ (c ++ (d ++ e)) ≡ a ++ ((b ++ (c ++ d)) ++ e)
+joined_parts a b c d e = simp append_assoc
+
+pub cut_of : (table : Table) (top : Item) (height level lo hi last begin : ℕ) (new : List Item) (left right : Item)
+    → Partly table top height level lo hi new → level < height
+    → item_at lo (old_level table top height (level + 1)) ≡ Some left → last + 1 ≡ hi → item_at last (old_level table top height (level + 1)) ≡ Some right
+    → begin ≡ end_of 0 (upto lo (old_level table top height (level + 1)))
+    → Cut table top height level lo hi new begin right.end (upto lo (read (at_of table.rows) (is_leaf level) left.word)
+    ++ (new ++ beyond hi (read (at_of table.rows) (is_leaf level) right.word)))
+cut_of table top height level lo hi last begin new left right partly less found next found' begins =
+    let at = at_of table.rows in
+    let leaf = is_leaf level in
+    let upper = old_level table top height (level + 1) in
+    let lower = old_level table top height level in
+    let step = upper_of table top height level lo hi new partly less in
+    let nodes = step.nodes in
+    let ascends = nodes-ascend at leaf top.end 0 upper nodes in
+    let ends = ends_at table top height level lo hi new partly less in
+    let front = upto lo (read at leaf left.word) in
+    let back = beyond hi (read at leaf right.word) in
+    let before = below at leaf (upto lo upper) in
+    let after = below at leaf (beyond right.end upper) in
+    let items = front ++ (new ++ back) in
+    let low : upto lo lower ≡ before ++ front = ap (upto lo) step.down ∙ upto-below at leaf top.end 0 lo upper left nodes found in
+    let high : beyond hi lower ≡ back ++ after = ap (beyond hi) step.down ∙ beyond-below at leaf top.end 0 hi last upper right nodes next found' in
+    let split : new_level table top height level lo hi new ≡ before ++ (items ++ after) =
+    ap (λ (xs : List Item). xs ++ (new ++ beyond hi lower)) low ∙ ap (λ (xs : List Item). (before ++ front) ++ (new ++ xs)) high
+    ∙ joined_parts before front new back after in
+    let here = descend at leaf top.end 0 lo upper left nodes (omega arith) found in
+    let there = descend at leaf top.end 0 last upper right nodes (omega arith) found' in
+    let is = stands 0 last upper right ascends found' in
+    let front_end : end_of begin front ≡ end_of 0 (upto lo lower) =
+    ap (λ (p : ℕ). end_of p front) begins ∙ sym here.front ∙ sym (ap (λ (xs : List Item). end_of 0 (upto lo xs)) step.down) in
+    let inside = there.within in
+    let outside = there.begins in
+    let until = there.node.until in
+    let back_end : end_of hi back ≡ right.end =
+    beyond-ends (end_of 0 (upto last upper)) hi (read at leaf right.word) there.node.ascends (omega arith) (omega arith) ∙ until in
+    let before_end : end_of 0 before ≡ begin = end_of-below at leaf top.end 0 (upto lo upper) (nodes-upto at leaf top.end 0 lo upper nodes) ∙ sym begins in
+    let pages = partly.pages in
+    let whole : Ascends 0 (before ++ (items ++ after)) = subst (λ (xs : List Item). Ascends 0 xs) split partly.ascends in
+    let rest : Ascends begin (items ++ after) = subst (λ (p : ℕ). Ascends p (items ++ after)) before_end (Ascends-right 0 before (items ++ after) whole) in
+    let most_left = here.node.most in
+    let most_right = there.node.most in
+    record {
+      split = split;
+      start = begins;
+      ending = end_of-append begin front (new ++ back) ∙ end_of-append (end_of begin front) new back
+          ∙ ap (λ (p : ℕ). end_of (end_of p new) back) front_end ∙ ap (λ (p : ℕ). end_of p back) partly.ending ∙ back_end;
+      ascends = Ascends-left begin items after rest;
+      plain = IsPlain-append leaf front (new ++ back) (IsPlain-upto leaf lo (read at leaf left.word) (items-plain leaf (at left.word)))
+          (IsPlain-append leaf new back partly.plain (IsPlain-beyond leaf hi (read at leaf right.word) (items-plain leaf (at right.word))));
+      some = let l1 = length-append front (new ++ back) in let l2 = length-append new back in let s = partly.some in omega arith;
+      few = let l1 = length-append front (new ++ back) in let l2 = length-append new back in let s = partly.few in
+          let f1 = length-upto lo (read at leaf left.word) in let f2 = length-beyond hi (read at leaf right.word) in omega arith;
+      edge = item_edge 0 last upper right ascends found';
+      above = omega arith;
+      limit = let w = is.within in omega arith;
+    }
+
+-- the next node whole, where they are too few for a node
+least_less : (leaf : Bool) → least leaf ≤ most leaf
+least_less true = omega arith
+least_less false = omega arith
+
+pub cut_more : (table : Table) (top : Item) (height level lo hi begin end : ℕ) (new items : List Item) (next : Item)
+    → Partly table top height level lo hi new → level < height
+    → Cut table top height level lo hi new begin end items → item_at end (old_level table top height (level + 1)) ≡ Some next
+    → length items < least (is_leaf level)
+    → Cut table top height level lo hi new begin next.end (items ++ read (at_of table.rows) (is_leaf level) next.word)
+cut_more table top height level lo hi begin end new items next partly less cut found short =
+    let at = at_of table.rows in
+    let leaf = is_leaf level in
+    let upper = old_level table top height (level + 1) in
+    let step = upper_of table top height level lo hi new partly less in
+    let ascends = nodes-ascend at leaf top.end 0 upper step.nodes in
+    let ends = ends_at table top height level lo hi new partly less in
+    let is = stands 0 end upper next ascends found in
+    let there = there_at table top height level lo hi end new next partly less found in
+    let node : IsNode at leaf top.end end next = subst (λ (p : ℕ). IsNode at leaf top.end p next) cut.edge there.node in
+    let before = below at leaf (upto lo upper) in
+    let after = below at leaf (beyond next.end upper) in
+    let more = read at leaf next.word in
+    let rest : below at leaf (beyond end upper) ≡ more ++ after = ap (below at leaf) is.beyond in
+    let long = length-append items more in
+    let fits = least_less leaf in
+    let some = cut.some in
+    let most_more = node.most in
+    let above = cut.above in
+    let past = is.above in
+    record {
+      split = cut.split ∙ ap (λ (xs : List Item). before ++ (items ++ xs)) rest
+          ∙ ap (λ (xs : List Item). before ++ xs) (sym (append_assoc items more after));
+      start = cut.start;
+      ending = end_of-append begin items more ∙ ap (λ (p : ℕ). end_of p more) cut.ending ∙ node.until;
+      ascends = Ascends-append begin items more cut.ascends (subst (λ (p : ℕ). Ascends p more) (sym cut.ending) node.ascends);
+      plain = IsPlain-append leaf items more cut.plain (items-plain leaf (at next.word));
+      some = omega arith;
+      few = omega arith;
+      edge = item_edge 0 end upper next ascends found;
+      above = omega arith;
+      limit = let w = is.within in omega arith;
+    }
+
+-- then they are enough: the node has enough, or ends at the limit
+pub cut_enough : (table : Table) (top : Item) (height level lo hi begin end : ℕ) (new items : List Item) (next : Item)
+    → Partly table top height level lo hi new → level < height
+    → Cut table top height level lo hi new begin end items → item_at end (old_level table top height (level + 1)) ≡ Some next
+    → next.end < top.end → least (is_leaf level) ≤ length (items ++ read (at_of table.rows) (is_leaf level) next.word)
+cut_enough table top height level lo hi begin end new items next partly less cut found inner =
+    let there = there_at table top height level lo hi end new next partly less found in
+    let enough = there.node.least inner in
+    let long = length-append items (read (at_of table.rows) (is_leaf level) next.word) in
+    omega arith
+
+-- a level more under a tower
+pub record Raised (at : ℕ → List ℕ) (limit level : ℕ) (upper lower : List Item) : Type 0 where
+  pub tower : IsTower at limit 0 (level + 1) upper
+  pub entries : level_of at 0 (level + 1) upper ≡ level_of at 0 level lower
+  pub rows : (row : ℕ) → times row (rows_of at 0 (level + 1) upper) ≡ times row (rows_in upper) + times row (rows_of at 0 level lower)
+
+pub raised : (at : ℕ → List ℕ) (limit level : ℕ) (upper lower : List Item) → AreNodes at (is_leaf level) limit 0 upper
+    → below at (is_leaf level) upper ≡ lower → IsTower at limit 0 level lower → Raised at limit level upper lower
+unfolding IsTower level_of rows_of
+raised at limit level upper lower nodes under tower =
+    let e : suc level ≡ level + 1 = omega arith in
+    let z : level ≡ 0 + level = omega arith in
+    let z' : 0 + level ≡ level = omega arith in
+    let down : below at (is_leaf (0 + level)) upper ≡ lower = ap (λ (n : ℕ). below at (is_leaf n) upper) z' ∙ under in
+    let one : IsTower at limit 0 (suc level) upper = (
+      subst (λ (n : ℕ). AreNodes at (is_leaf n) limit 0 upper) z nodes,
+      subst (λ (xs : List Item). IsTower at limit 0 level xs) (sym down) tower,
+    ) in
+    record {
+      tower = subst (λ (n : ℕ). IsTower at limit 0 n upper) e one;
+      entries = sym (ap (λ (n : ℕ). level_of at 0 n upper) e) ∙ ap (level_of at 0 level) down;
+      rows = λ row. sym (ap (λ (n : ℕ). times row (rows_of at 0 n upper)) e)
+          ∙ times-append row (rows_in upper) (rows_of at 0 level (below at (is_leaf (0 + level)) upper))
+          ∙ ap (λ (xs : List Item). times row (rows_in upper) + times row (rows_of at 0 level xs)) down;
+    }
+
+-- a level above the leaves
+pub inner_level : (level : ℕ) → is_leaf (level + 1) ≡ false
+inner_level level = let test : nat_eq (level + 1) 0 ≡ false = grind (arith, nat_tests) in test
+
+-- a count that is a test's
+pub counts : (a b n : ℕ) → n ≤ cond (nat_lt a b) 1 0 → (n ≤ 1) × (1 ≤ n → a < b)
+counts a b n few = elim (cases_lt a b) as (λ _. (n ≤ 1) × (1 ≤ n → a < b)) [
+  | inl less ↦ let test : nat_lt a b ≡ true = grind (arith, nat_tests) in
+      let one : n ≤ 1 = subst (λ t. n ≤ cond t 1 0) test few in (one, λ some. less)
+  | inr past ↦ let test : nat_lt a b ≡ false = grind (arith, nat_tests) in
+      let none : n ≤ 0 = subst (λ t. n ≤ cond t 1 0) test few in (omega arith, λ some. absurd (omega arith))
+]
+
+-- a row that stands among others is not free
+pub kept_rows : (table : Table) (rows : List ℕ) → Stand table rows → (row : ℕ) → 1 ≤ times row rows → gone table row ≡ 0
+kept_rows table rows stand row some =
+    let each = stand.each row in
+    let all : times row rows + gone table row ≤ cond (nat_lt row (length table.rows)) 1 0 = omega arith in
+    let few = (counts row (length table.rows) (times row rows + gone table row) all).0 in
+    omega arith

@@ -1,0 +1,483 @@
+-- For `store`, `publish_tree` and what they call: the entries of a store, and the writer's view before and after it.
+use Rattle.std.proofs.Common.{ℕ, zero, suc, ◌≡◌, ◌≢◌, ◌<◌, ◌≤◌, ◌+◌, ◌-◌, ◌^◌, Bool, true, false, nat_eq, nat_lt, cond, ◌&&◌, List, [], ◌∷◌, ◌++◌, length, get_or, set, replicate, All, Some, refl, sym, ap, subst, ◌∙◌, arith, inl, inr, if◌then◌else◌, length-append}
+use Rattle.std.proofs.lemmas.Bool.{cases_lt}
+use Rattle.std.proofs.lemmas.Bool.Decides.{nat_tests}
+use Rattle.std.proofs.lemmas.List.{length-set, length-map}
+use Rattle.grace_core.specs.Core as grace
+use Rattle.grace_core.specs.Core.{row_at}
+use Rattle.maple_node.specs.declared.item.Item.{Item}
+use Rattle.maple_node.specs.Nodes.{leaf_items, least, end_of, Ascends, IsPlain, gap_of}
+use Rattle.maple_node.specs.Levels.{is_leaf, at_of, read, item_at, IsNode, level_of, IsTower, rows_of, times}
+use Rattle.maple_node.specs.Trees.{Tree, Pair, top_of, entries_of, tree_rows, pairs_from, pairs_of, ApartFrom, IsLayout}
+use Rattle.maple_node.proofs.Trees.{root-named, limit_above}
+use Rattle.maple_items.specs.Splices.{upto, beyond, piece_of, overwrite, gap_end, widened_lo, widened_hi}
+use Rattle.maple_items.specs.Pairs.{overwritten}
+use Rattle.maple_items.proofs.Lists.{item_at-past, item_at-first, upto-later}
+use Rattle.maple_items.proofs.Entries.{overwrite-pairs, overwrite-words}
+use Rattle.maple_items.proofs.Gaps.{widened, stored-apart}
+use Rattle.node_slots.specs.declared.tree.Tree.{Tree as View}
+use Rattle.node_slots.specs.declared.view.Size.{Size}
+use Rattle.node_slots.specs.declared.view.NodeView.{NodeView}
+use Rattle.node_slots.specs.declared.seats.NodeWriter.{NodeWriter}
+use Rattle.node_slots.specs.Seats.{sight, desk, row_count, free_of, left_of, is_kept, count_of}
+use Rattle.node_slots.specs.Built.{words_at, built, built_rows, IsBuilt, IsWriters, pairs_now}
+use Rattle.node_slots.proofs.Listing.{gone_few}
+use Rattle.maple_write.specs.declared.rows.Rooted.{Rooted}
+use Rattle.maple_write.specs.Tables.{Table, table_at, gone, FillsRows}
+use Rattle.maple_write.specs.Stores.{old_level, IsShaped, IsWhole, IsBare, Finds, tree_under, all_gap}
+use Rattle.maple_write.proofs.Levels.{AreNodes, row_there, step_down, level_of-top}
+use Rattle.maple_write.proofs.Times.{whole_list}
+use Rattle.maple_write.proofs.Steps.{counts}
+use Rattle.maple_write.proofs.Packing.{last_end}
+use Rattle.maple_write.proofs.Writers.{rows_counted, kept_counts, is_kept_from}
+use Rattle.maple_write.proofs.Crowns.{full, first_entries}
+use Rattle.maple_write.proofs.Blocks.{length-beyond}
+
+-- the entries of a tree have all its pages
+pub record Covers (table : Table) (tree : Tree) : Type 0 where
+  pub ascends : Ascends 0 (entries_of (at_of table.rows) tree)
+  pub ends : end_of 0 (entries_of (at_of table.rows) tree) ≡ tree.top.end
+
+pub covers : (table : Table) (tree : Tree) → IsShaped table tree → Covers table tree
+covers table tree shaped =
+    let at = at_of table.rows in
+    let top = tree.top in
+    let e : tree.height ≡ tree.height - 0 = omega arith in
+    let is = full table top tree.height 0 (subst (λ (n : ℕ). IsTower at top.end 0 n (top ∷ [])) e shaped.tower) shaped.limit in
+    record {
+      ascends = subst (λ (n : ℕ). Ascends 0 (level_of at 0 n (top ∷ []))) (sym e) is.ascends;
+      ends = ap (λ (n : ℕ). end_of 0 (level_of at 0 n (top ∷ []))) e ∙ is.ends;
+    }
+
+-- what was found at the lowest level is an entry
+pub entry_found : (table : Table) (tree : Tree) (page : ℕ) (item : Item) → item_at page (old_level table tree.top tree.height 0) ≡ Some item
+    → item_at page (entries_of (at_of table.rows) tree) ≡ Some item
+entry_found table tree page item found =
+    let e : tree.height ≡ tree.height - 0 = omega arith in
+    ap (λ (n : ℕ). item_at page (level_of (at_of table.rows) 0 n (tree.top ∷ []))) e ∙ found
+
+pub entry_begins : (table : Table) (tree : Tree) (page start : ℕ) → start ≡ end_of 0 (upto page (old_level table tree.top tree.height 0))
+    → start ≡ end_of 0 (upto page (entries_of (at_of table.rows) tree))
+entry_begins table tree page start begins =
+    let e : tree.height - 0 ≡ tree.height = omega arith in
+    begins ∙ ap (λ (n : ℕ). end_of 0 (upto page (level_of (at_of table.rows) 0 n (tree.top ∷ [])))) e
+
+-- the tower that `find` asks for
+pub tower_down : (table : Table) (tree : Tree) → IsShaped table tree → IsTower (at_of table.rows) tree.top.end 0 (tree.height - 0) (tree.top ∷ [])
+tower_down table tree shaped =
+    let e : tree.height ≡ tree.height - 0 = omega arith in
+    subst (λ (n : ℕ). IsTower (at_of table.rows) tree.top.end 0 n (tree.top ∷ [])) e shaped.tower
+
+-- the root is a node in a row of the table
+root_is : (at : ℕ → List ℕ) (limit height : ℕ) (top : Item) → 1 ≤ height → IsTower at limit 0 height (top ∷ []) → IsNode at (is_leaf (height - 1)) limit 0 top
+root_is at limit height top tall tower =
+    let e : height ≡ height - 0 = omega arith in
+    let step = step_down at limit height 0 height (height - 1) top (subst (λ (n : ℕ). IsTower at limit 0 n (top ∷ [])) e tower) (omega arith) (omega arith)
+    (omega arith) in
+    let whole = level_of-top at height height (top ∷ []) (omega arith) in
+    (subst (λ (xs : List Item). AreNodes at (is_leaf (height - 1)) limit 0 xs) whole step.nodes).0
+
+pub root_there : (table : Table) (tree : Tree) → IsShaped table tree → tree.top.word < length table.rows
+root_there table tree shaped =
+    let node = root_is (at_of table.rows) tree.top.end tree.height tree.top shaped.tall shaped.tower in
+    row_there table.rows (is_leaf (tree.height - 1)) tree.top.end 0 tree.top node
+
+-- where a gap begins that has the page before a page
+pub lo_zero : (page : ℕ) (xs : List Item) → page ≡ 0 → 0 ≡ widened_lo page xs
+unfolding widened_lo
+lo_zero page xs none = let test : nat_eq page 0 ≡ true = grind (arith, nat_tests) in rw test refl
+
+pub lo_gap : (page start : ℕ) (item : Item) (xs : List Item) → page ≢ 0 → item_at (page - 1) xs ≡ Some item
+    → start ≡ end_of 0 (upto (page - 1) xs) → item.word ≡ 0 → start ≡ widened_lo page xs
+unfolding widened_lo
+lo_gap page start item xs some found begins gap =
+    let test : nat_eq page 0 ≡ false = grind (arith, nat_tests) in
+    let is : nat_eq item.word 0 ≡ true = grind (arith, nat_tests) in
+    rw (test, found, is) begins
+
+pub lo_slot : (page : ℕ) (item : Item) (xs : List Item) → page ≢ 0 → item_at (page - 1) xs ≡ Some item → item.word ≢ 0 → page ≡ widened_lo page xs
+unfolding widened_lo
+lo_slot page item xs some found slot =
+    let test : nat_eq page 0 ≡ false = grind (arith, nat_tests) in
+    let is : nat_eq item.word 0 ≡ false = grind (arith, nat_tests) in
+    rw (test, found, is) refl
+
+-- where a gap ends that has a page
+pub hi_none : (page : ℕ) (xs : List Item) → Ascends 0 xs → end_of 0 xs ≤ page → page ≡ widened_hi page xs
+unfolding widened_hi
+hi_none page xs ascends ends = sym (ap (gap_end page) (item_at-past 0 page xs ascends ends))
+
+pub hi_gap : (page : ℕ) (item : Item) (xs : List Item) → item_at page xs ≡ Some item → item.word ≡ 0 → item.end ≡ widened_hi page xs
+unfolding widened_hi
+hi_gap page item xs found gap = let is : nat_eq item.word 0 ≡ true = grind (arith, nat_tests) in rw (found, is) refl
+
+pub hi_slot : (page : ℕ) (item : Item) (xs : List Item) → item_at page xs ≡ Some item → item.word ≢ 0 → page ≡ widened_hi page xs
+unfolding widened_hi
+hi_slot page item xs found slot = let is : nat_eq item.word 0 ≡ false = grind (arith, nat_tests) in rw (found, is) refl
+
+-- what a store makes of the entries
+pub record Stored (after : Table) (slots : ℕ) (new : Tree) (pairs : List Pair) : Type 0 where
+  pub whole : IsWhole after slots new
+  pub pairs_are : pairs_of (at_of after.rows) new ≡ pairs
+
+-- by a slot
+pub slot_stored : (after : Table) (slots lo hi word : ℕ) (new : Tree) (xs : List Item) → Ascends 0 xs → ApartFrom 1 xs
+    → All (λ (entry : Item). entry.word ≤ slots) xs → lo < hi → hi ≤ end_of 0 xs → word ≤ slots → word ≢ 0 → IsShaped after new
+    → entries_of (at_of after.rows) new ≡ overwrite lo hi word xs → Stored after slots new (overwritten lo hi word (pairs_from 0 xs))
+slot_stored after slots lo hi word new xs ascends apart numbered some limit fits slot shaped entries =
+    let back = sym entries in
+    record {
+      whole = record {
+        shaped = shaped;
+        apart = subst (λ (ys : List Item). ApartFrom 1 ys) back (stored-apart lo hi word xs ascends apart some limit slot);
+        numbered = subst (λ (ys : List Item). All (λ (entry : Item). entry.word ≤ slots) ys) back (overwrite-words lo hi word slots xs numbered fits);
+      };
+      pairs_are = ap (pairs_from 0) entries ∙ overwrite-pairs lo hi word xs ascends some limit;
+    }
+
+-- by a gap, which takes in those beside it
+pub gap_stored : (after : Table) (slots lo hi low high : ℕ) (new : Tree) (xs : List Item) → Ascends 0 xs → ApartFrom 1 xs
+    → All (λ (entry : Item). entry.word ≤ slots) xs → lo < hi → hi ≤ end_of 0 xs → IsShaped after new
+    → low ≡ widened_lo lo xs → high ≡ widened_hi hi xs
+    → entries_of (at_of after.rows) new ≡ overwrite low high 0 xs → Stored after slots new (overwritten lo hi 0 (pairs_from 0 xs))
+gap_stored after slots lo hi low high new xs ascends apart numbered some limit shaped begins ends entries =
+    let is = widened lo hi xs ascends apart some limit in
+    let same : entries_of (at_of after.rows) new ≡ overwrite (widened_lo lo xs) (widened_hi hi xs) 0 xs =
+    entries ∙ ap (λ (p : ℕ). overwrite p high 0 xs) begins ∙ ap (λ (p : ℕ). overwrite (widened_lo lo xs) p 0 xs) ends in
+    let back = sym same in
+    record {
+      whole = record {
+        shaped = shaped;
+        apart = subst (λ (ys : List Item). ApartFrom 1 ys) back is.apart;
+        numbered = subst (λ (ys : List Item). All (λ (entry : Item). entry.word ≤ slots) ys) back
+            (overwrite-words (widened_lo lo xs) (widened_hi hi xs) 0 slots xs numbered (omega arith));
+      };
+      pairs_are = ap (pairs_from 0) same ∙ is.pairs;
+    }
+
+-- one gap with all pages
+pub record Gap (limit : ℕ) : Type 0 where
+  pub ascends : Ascends 0 (all_gap limit)
+  pub apart : ApartFrom 1 (all_gap limit)
+  pub plain : IsPlain true (all_gap limit)
+
+pub gap_is : (limit : ℕ) → 0 < limit → Gap limit
+gap_is limit some = record { ascends = (some, tt); apart = ((λ one zero. absurd (omega arith)), tt); plain = (refl, tt) }
+
+pub gap_numbered : (limit slots : ℕ) → All (λ (entry : Item). entry.word ≤ slots) (all_gap limit)
+gap_numbered limit slots zero d within = omega arith
+gap_numbered limit slots (suc k) d within = absurd (omega arith)
+
+-- the first leaf of a tree
+pub record Planted (after : Table) (limit : ℕ) (items : List Item) (top : Item) : Type 0 where
+  pub shaped : IsShaped after (record { top = top; height = 1 })
+  pub entries : entries_of (at_of after.rows) (record { top = top; height = 1 }) ≡ items
+
+zero_once : (row : ℕ) → times row (0 ∷ []) ≡ cond (nat_eq row 0) 1 0
+zero_once zero = refl
+zero_once (suc row) =
+    let a : nat_eq 0 (suc row) ≡ false = grind (arith, nat_tests) in
+    let b : nat_eq (suc row) 0 ≡ false = grind (arith, nat_tests) in
+    rw (a, b) refl
+
+pub leaf_planted : (old made after : Table) (limit : ℕ) (items : List Item) (top : Item) (words : List ℕ)
+    → ((row : ℕ) → gone old row + cond (nat_eq row 0) 1 0 ≡ cond (nat_lt row (length old.rows)) 1 0)
+    → 0 < limit → end_of 0 items ≡ limit
+    → ((most : ℕ) → (end_of 0 items < most → least true ≤ length items) → IsNode (at_of made.rows) true most 0 top)
+    → read (at_of made.rows) true top.word ≡ items → top.end ≡ end_of 0 items
+    → made.rows ≡ set old.rows top.word words → old.free ≡ top.word ∷ made.free → made.left ≡ old.left
+    → after.rows ≡ made.rows → ((row : ℕ) → gone after row ≡ gone made row + times row (0 ∷ []))
+    → Planted after limit items top
+unfolding IsTower rows_of level_of
+leaf_planted old made after limit items top words kept some ends node reads until rows free left rows' gone' =
+    let at = at_of after.rows in
+    let back = sym rows' in
+    let is : IsNode at true top.end 0 top =
+    subst (λ (rs : List (List ℕ)). IsNode (at_of rs) true top.end 0 top) back (node top.end (λ less. absurd (omega arith))) in
+    let items_are : read at true top.word ≡ items = ap (λ (rs : List (List ℕ)). read (at_of rs) true top.word) rows' ∙ reads in
+    record {
+      shaped = record {
+        tall = omega arith;
+        limit = omega arith;
+        tower = ((is, tt), tt);
+        wide = λ high. absurd (omega arith);
+        stand = record {
+          each = λ row.
+              let a = kept row in
+              let b = gone' row in
+              let d = ap (times row) free in
+              let e = ap (times row) left in
+              let f = zero_once row in
+              let long : length after.rows ≡ length old.rows =
+              ap (λ (rs : List (List ℕ)). length rs) (rows' ∙ rows) ∙ length-set old.rows top.word words in
+              let bound = ap (λ (n : ℕ). cond {A = ℕ} (nat_lt row n) 1 0) long in
+              omega arith;
+        };
+      };
+      entries = whole_list (read at true top.word) ∙ items_are;
+    }
+
+-- what the writer's view finds
+blank_at : (at : ℕ → List ℕ) → at 0 ≡ replicate 32 0 → read at true 0 ≡ []
+unfolding leaf_items
+blank_at at zeros = ap (λ (words : List ℕ). leaf_items words) zeros
+
+blank_tree : (at : ℕ → List ℕ) (height root : ℕ) → height ≡ 1 → root ≡ 0 → at 0 ≡ replicate 32 0 → read at (is_leaf (height - 1)) root ≡ []
+blank_tree at height root one none zeros =
+    subst (λ (h : ℕ). read at (is_leaf (h - 1)) root ≡ []) (sym one)
+    (subst (λ (r : ℕ). read at true r ≡ []) (sym none) (blank_at at zeros))
+
+blank_entries : (at : ℕ → List ℕ) (height : ℕ) (top : Item) → height ≡ 1 → top.word ≡ 0 → at 0 ≡ replicate 32 0
+    → entries_of at (record { top = top; height = height }) ≡ []
+unfolding level_of
+blank_entries at height top one none zeros =
+    ap (λ (h : ℕ). level_of at 0 h (top ∷ [])) one
+    ∙ ap (λ (r : ℕ). read at true r ++ []) none
+    ∙ ap (λ (xs : List Item). xs ++ []) (blank_at at zeros)
+
+whole_of : (writer : NodeWriter) (tree : View) → IsBuilt writer tree → IsWhole (table_at writer) (sight writer).size.slots (built writer tree)
+whole_of writer tree is = record {
+  shaped = record {
+    tall = is.layout.tall;
+    limit = limit_above (words_at writer) (sight writer).size.slots (built_rows writer tree) (built writer tree) is.layout;
+    tower = is.layout.tower;
+    wide = is.layout.wide;
+    stand = record { each = λ row. let a = is.reached row in let b = kept_counts writer row in omega arith };
+  };
+  apart = is.layout.apart;
+  numbered = is.layout.numbered;
+}
+
+pub finds : (writer : NodeWriter) (tree : View) (old : Rooted) → IsWriters writer tree → tree_under old ≡ built writer tree → Finds writer old tree.limit.0
+finds writer tree old is same = elim is as (λ _. Finds writer old tree.limit.0) [
+  | inl made ↦ inl (
+    subst (λ (t : Tree). IsWhole (table_at writer) (sight writer).size.slots t) (sym same) (whole_of writer tree made),
+    ap (λ (t : Tree). t.top.end) same ∙ made.limit,
+  )
+  | inr blank ↦ inr (record {
+    none = ap (λ (t : Tree). t.top.end) same
+        ∙ ap (end_of 0) (blank_tree (words_at writer) tree.height tree.root.0 blank.height blank.root blank.words);
+    pairs = ap (pairs_of (words_at writer)) same
+        ∙ ap (pairs_from 0) (blank_entries (words_at writer) tree.height (built writer tree).top blank.height blank.root blank.words);
+    rows = blank.rows;
+    kept = blank.kept;
+  })
+]
+
+-- the row of the root, as it is read
+pub record Root (writer : NodeWriter) (tree : View) : Type 0 where
+  pub leaf : nat_eq tree.height 1 ≡ is_leaf (tree.height - 1)
+  pub there : tree.root.0 < row_count writer
+  pub ascends : Ascends 0 (read (words_at writer) (is_leaf (tree.height - 1)) tree.root.0)
+
+one_less : (height : ℕ) → 1 ≤ height → nat_eq height 1 ≡ is_leaf (height - 1)
+one_less height tall = elim (cases_lt height 2) as (λ _. nat_eq height 1 ≡ nat_eq (height - 1) 0) [
+  | inl low ↦
+      let a : nat_eq height 1 ≡ true = grind (arith, nat_tests) in
+      let b : nat_eq (height - 1) 0 ≡ true = grind (arith, nat_tests) in a ∙ sym b
+  | inr high ↦
+      let a : nat_eq height 1 ≡ false = grind (arith, nat_tests) in
+      let b : nat_eq (height - 1) 0 ≡ false = grind (arith, nat_tests) in a ∙ sym b
+]
+
+pub root_of_view : (writer : NodeWriter) (tree : View) → IsWriters writer tree → Root writer tree
+root_of_view writer tree is = elim is as (λ _. Root writer tree) [
+  | inl made ↦
+      let layout = made.layout in
+      let node = root_is (words_at writer) (built writer tree).top.end tree.height (built writer tree).top layout.tall layout.tower in
+      let row = row_there (desk writer).words (is_leaf (tree.height - 1)) (built writer tree).top.end 0 (built writer tree).top node in
+      let long = rows_counted writer in
+      record { leaf = one_less tree.height layout.tall; there = omega arith; ascends = node.ascends }
+  | inr blank ↦
+      let none = blank_tree (words_at writer) tree.height tree.root.0 blank.height blank.root blank.words in
+      let one = blank.height in
+      let first = blank.root in
+      let rows = blank.rows in
+      record {
+        leaf = one_less tree.height (omega arith);
+        there = omega arith;
+        ascends = subst (λ (xs : List Item). Ascends 0 xs) (sym none) tt;
+      }
+]
+
+-- a tree is no higher than there are free rows
+pub free_few : (writer : NodeWriter) → length (free_of writer) ≤ 2 ^ 20
+free_few writer =
+    let all = gone_few writer.desk.table.size.rows writer.free.items writer.left.items writer.firsts.items (desk writer) writer.rows in
+    let few = writer.desk.table.sized.fits.few_rows in
+    let long = length-map writer.free.items (λ r. r.0) in
+    omega arith
+
+-- the writer's view of a tree
+pub record BuiltFrom (new : NodeWriter) (t : Tree) (tree : View) : Type 0 where
+  pub is : IsBuilt new tree
+  pub pairs : pairs_now new tree ≡ pairs_of (words_at new) t
+
+pub built_from : (old new : NodeWriter) (t : Tree) (tree : View) → FillsRows old new → IsWhole (table_at new) (sight old).size.slots t
+    → t.top.end ≡ tree.limit.0 → tree.root.0 ≡ t.top.word → tree.height ≡ t.height → BuiltFrom new t tree
+built_from old new t tree fills whole limit root height =
+    let at = words_at new in
+    let shaped = whole.shaped in
+    let slots : (sight old).size.slots ≡ (sight new).size.slots = sym (ap (λ (v : NodeView). v.size.slots) fills.seen) in
+    let layout : IsLayout at (sight old).size.slots (tree_rows at t) t = record {
+      tall = shaped.tall;
+      tower = shaped.tower;
+      wide = shaped.wide;
+      apart = whole.apart;
+      numbered = whole.numbered;
+      each = λ row. refl;
+      once = λ row.
+          let each = shaped.stand.each row in
+          let few : times row (tree_rows at t) ≤ cond (nat_lt row (length (desk new).words)) 1 0 = omega arith in
+          (counts row (length (desk new).words) (times row (tree_rows at t)) few).0;
+    } in
+    let made : Item → ℕ → Tree = λ top h. record { top = top; height = h } in
+    let named = root-named at (sight old).size.slots (tree_rows at t) t layout in
+    let same : t ≡ built new tree = ap (λ (i : Item). made i t.height) named
+    ∙ ap (λ (h : ℕ). made (top_of at h t.top.word) h) (sym height)
+    ∙ ap (λ (r : ℕ). made (top_of at tree.height r) tree.height) (sym root) in
+    record {
+      is = record {
+        layout = subst (λ (x : Tree). IsLayout at (sight new).size.slots (tree_rows at x) x) same
+            (subst (λ (n : ℕ). IsLayout at n (tree_rows at t) t) slots layout);
+        limit = sym (ap (λ (x : Tree). x.top.end) same) ∙ limit;
+        reached = λ row.
+            let a = shaped.stand.each row in
+            let b = kept_counts new row in
+            let e = ap (λ (x : Tree). times row (tree_rows at x)) same in
+            omega arith;
+      };
+      pairs = sym (ap (pairs_of at) same);
+    }
+
+-- a view that stays while nothing that it tells of changes
+pub still_built : (old new : NodeWriter) (tree : View) → (desk new).words ≡ (desk old).words → (sight new).size ≡ (sight old).size
+    → free_of new ≡ free_of old → left_of new ≡ left_of old → IsBuilt old tree → IsBuilt new tree
+still_built old new tree words size free left is =
+    let made : (ws : List (List ℕ)) → Tree = λ ws. record { top = top_of (at_of ws) tree.height tree.root.0; height = tree.height } in
+    let layout : IsLayout (words_at new) (sight old).size.slots (built_rows new tree) (built new tree) =
+    subst (λ (ws : List (List ℕ)). IsLayout (at_of ws) (sight old).size.slots (tree_rows (at_of ws) (made ws)) (made ws)) (sym words) is.layout in
+    let kept : (row : ℕ) → is_kept new row ≡ is_kept old row = λ row.
+    ap (λ (s : Size). nat_lt row s.rows && nat_eq (grace.times row (free_of new) + grace.times row (left_of new)) 0) size
+    ∙ ap (λ (xs : List ℕ). nat_lt row (row_count old) && nat_eq (grace.times row xs + grace.times row (left_of new)) 0) free
+    ∙ ap (λ (xs : List ℕ). nat_lt row (row_count old) && nat_eq (grace.times row (free_of old) + grace.times row xs) 0) left in
+    record {
+      layout = subst (λ (s : Size). IsLayout (words_at new) s.slots (built_rows new tree) (built new tree)) (sym size) layout;
+      limit = ap (λ (ws : List (List ℕ)). (made ws).top.end) words ∙ is.limit;
+      reached = λ row. ap (λ (ws : List (List ℕ)). times row (tree_rows (at_of ws) (made ws))) words ∙ is.reached row
+          ∙ sym (ap count_of (kept row));
+    }
+
+-- a root as its row tells it
+pub rooted_is : (at : ℕ → List ℕ) (height root word end gap : ℕ) (leaf : Bool) (items : List Item) → leaf ≡ is_leaf (height - 1) → word ≡ root
+    → items ≡ read at leaf word → end ≡ end_of 0 items → gap ≡ gap_of leaf 0 items
+    → ◌≡◌ {A = Tree} (record { top = record { end = end; word = word; gap = gap }; height = height }) (record { top = top_of at height root; height = height })
+rooted_is at height root word end gap leaf items leaf_is word_is items_are ends gaps =
+    let made : ℕ → ℕ → ℕ → Tree = λ e w g. record { top = record { end = e; word = w; gap = g }; height = height } in
+    let kind = is_leaf (height - 1) in
+    let all : items ≡ read at kind root = items_are ∙ ap (λ b. read at b word) leaf_is ∙ ap (λ (r : ℕ). read at kind r) word_is in
+    let end_is : end ≡ end_of 0 (read at kind root) = ends ∙ ap (end_of 0) all in
+    let gap_is : gap ≡ gap_of kind 0 (read at kind root) = gaps ∙ ap (λ b. gap_of b 0 items) leaf_is ∙ ap (gap_of kind 0) all in
+    ap (λ (e : ℕ). made e word gap) end_is ∙ ap (λ (g : ℕ). made (end_of 0 (read at kind root)) word g) gap_is
+    ∙ ap (λ (w : ℕ). made (end_of 0 (read at kind root)) w (gap_of kind 0 (read at kind root))) word_is
+
+-- the span that a gap takes in where all pages are one gap
+pub gap_lo : (limit lo : ℕ) → lo < limit → 0 ≡ widened_lo lo (all_gap limit)
+gap_lo limit lo less =
+    let gap : Item = record { end = limit; word = 0; gap = 0 } in
+    elim (cases_lt 0 lo) as (λ _. 0 ≡ widened_lo lo (all_gap limit)) [
+      | inl some ↦ lo_gap lo 0 gap (all_gap limit) (λ none. omega arith) (item_at-first (lo - 1) gap [] (omega arith))
+          (sym (ap (end_of 0) (upto-later (lo - 1) gap [] (omega arith)))) refl
+      | inr none ↦ lo_zero lo (all_gap limit) (omega arith)
+    ]
+
+pub gap_hi : (limit hi : ℕ) → 0 < limit → hi ≤ limit → limit ≡ widened_hi hi (all_gap limit)
+gap_hi limit hi some within =
+    let gap : Item = record { end = limit; word = 0; gap = 0 } in
+    elim (cases_lt hi limit) as (λ _. limit ≡ widened_hi hi (all_gap limit)) [
+      | inl less ↦ hi_gap hi gap (all_gap limit) (item_at-first hi gap [] less) refl
+      | inr all ↦ let e : limit ≡ hi = omega arith in e ∙ hi_none hi (all_gap limit) (some, tt) all
+    ]
+
+-- the entries of a store into it
+piece_few : (start page : ℕ) (item : Item) → length (piece_of start page (Some item)) ≤ 1
+piece_few start page item = go (nat_lt start page) where
+  piece : Item
+  piece = record { end = page; word = item.word; gap = 0 }
+
+  go : (below : Bool) → length (if below then (piece ∷ []) else []) ≤ 1
+  go true = omega arith
+  go false = omega arith
+
+pub record GapEntries (limit lo hi word : ℕ) (items : List Item) : Type 0 where
+  pub entries : items ≡ overwrite lo hi word (all_gap limit)
+  pub some : 1 ≤ length items
+  pub few : length items ≤ 3
+
+pub gap_entries : (limit lo hi word : ℕ) (new items : List Item) → lo < hi → hi ≤ limit
+    → new ≡ piece_of 0 lo (Some (record { end = limit; word = 0; gap = 0 })) ++ record { end = hi; word = word; gap = 0 } ∷ []
+    → items ≡ new ++ beyond hi (all_gap limit) → GapEntries limit lo hi word items
+gap_entries limit lo hi word new items some within news are =
+    let gap : Item = record { end = limit; word = 0; gap = 0 } in
+    let entry : Item = record { end = hi; word = word; gap = 0 } in
+    let piece = piece_of 0 lo (Some gap) in
+    let back = beyond hi (all_gap limit) in
+    let front : upto lo (all_gap limit) ≡ [] = upto-later lo gap [] (omega arith) in
+    let found : item_at lo (all_gap limit) ≡ Some gap = item_at-first lo gap [] (omega arith) in
+    let same = first_entries 0 lo hi word gap (all_gap limit) found (sym (ap (end_of 0) front)) in
+    let all : items ≡ (piece ++ entry ∷ []) ++ back = are ∙ ap (λ (xs : List Item). xs ++ back) news in
+    let long = ap (λ (xs : List Item). length xs) all in
+    let l1 = length-append (piece ++ entry ∷ []) back in
+    let l2 = length-append piece (entry ∷ []) in
+    let one = piece_few 0 lo gap in
+    let rest = length-beyond hi (all_gap limit) in
+    record {
+      entries = all ∙ sym (ap (λ (xs : List Item). xs ++ ((piece ++ entry ∷ []) ++ back)) front) ∙ same;
+      some = omega arith;
+      few = omega arith;
+    }
+
+-- row 0 is kept until it is left
+pub kept_after_put : (old made : NodeWriter) (word : ℕ) → ((row : ℕ) → is_kept old row ≡ nat_eq row 0) → 1 ≤ row_count old → FillsRows old made
+    → free_of old ≡ word ∷ free_of made → left_of made ≡ left_of old → is_kept made 0 ≡ true
+kept_after_put old made word kept rows fills free left =
+    let count = kept_counts old 0 in
+    let here = ap count_of (kept 0) in
+    let bound = (counts 0 (length (desk old).words) (gone (table_at old) 0 + 1) (omega arith)).0 in
+    let same = ap (λ (v : NodeView). v.size.rows) fills.seen in
+    let a = ap (times 0) free in
+    let b = ap (times 0) left in
+    is_kept_from made 0 (omega arith) (omega arith)
+
+pub kept_zero : (old : NodeWriter) → ((row : ℕ) → is_kept old row ≡ nat_eq row 0) → (row : ℕ)
+    → gone (table_at old) row + cond (nat_eq row 0) 1 0 ≡ cond (nat_lt row (length (desk old).words)) 1 0
+kept_zero old kept row =
+    let count = kept_counts old row in
+    let here = ap count_of (kept row) in
+    omega arith
+
+-- what a store found, by where the tree ends
+pub found_whole : (writer : NodeWriter) (old : Rooted) (limit : ℕ) → Finds writer old limit → old.top.end ≢ 0
+    → IsWhole (table_at writer) (sight writer).size.slots (tree_under old) × (old.top.end ≡ limit)
+found_whole writer old limit is some = elim is as (λ _. IsWhole (table_at writer) (sight writer).size.slots (tree_under old) × (old.top.end ≡ limit)) [
+  | inl whole ↦ whole
+  | inr bare ↦ absurd (some bare.none)
+]
+
+pub found_bare : (writer : NodeWriter) (old : Rooted) (limit : ℕ) → Finds writer old limit → old.top.end ≡ 0 → 0 < limit → IsBare writer old
+found_bare writer old limit is none some = elim is as (λ _. IsBare writer old) [
+  | inl whole ↦ let e = whole.1 in absurd (omega arith)
+  | inr bare ↦ bare
+]
+
+pub first_two : (start lo hi word : ℕ) (item : Item) → length (piece_of start lo (Some item) ++ record { end = hi; word = word; gap = 0 } ∷ []) ≤ 2
+first_two start lo hi word item =
+    let entry : Item = record { end = hi; word = word; gap = 0 } in
+    let long = length-append (piece_of start lo (Some item)) (entry ∷ []) in
+    let one = piece_few start lo item in
+    omega arith
+
+-- where items end
+pub last_or_none : (items : List Item) → (get_or items (length items - 1) (record { end = 0; word = 0; gap = 0 })).end ≡ end_of 0 items
+last_or_none [] = refl
+last_or_none (x ∷ xs) = last_end 0 (x ∷ xs) (record { end = 0; word = 0; gap = 0 }) (omega arith)

@@ -1,0 +1,104 @@
+-- For `leave_block`: the next node was not left before.
+use Rattle.std.proofs.Common.{◌≡◌, ◌∙◌, List, [], Some, ap, sym, arith}
+use Rattle.maple_node.specs.declared.item.Item.{Item}
+use Rattle.maple_node.specs.Levels.{times, item_at}
+use Rattle.node_slots.specs.declared.view.NodeView.{NodeView}
+use Rattle.node_slots.specs.Seats.{row_count}
+use Rattle.maple_write.specs.Tables.{table_at, rows_in, gone}
+use Rattle.maple_write.specs.Stores.{old_level}
+use Rattle.maple_write.proofs.Writers.{few_rows, is_kept_from, left_more, free_more}
+use Rattle.maple_write.proofs.Waiting.{leave_waits}
+use Rattle.maple_write.proofs.Blocks.{block_done}
+use Rattle.maple_write.proofs.Finding.{leaves_next}
+use Rattle.maple_write.proofs.Crowns.{full}
+use Rattle.maple_write.proofs.level.leave_block.Goals as goal
+
+pub overflow_cast-place : goal.overflow_cast-place
+overflow_cast-place c =
+    let writer = c.args.writer.now in
+    let old = c.args.old in
+    let level = c.args.level in
+    let items = old_level (table_at writer) old.top old.height level in
+    let test = c.loop-page-test.true in
+    let limit = c.requires.limit in
+    let is = full (table_at writer) old.top old.height level c.requires.tower (omega arith) in
+    let found : item_at c.loop-page.page items ≡ Some c.find-place.result.item =
+    sym (ap (λ (v : NodeView). item_at c.loop-page.page (old_level (record { rows = v.known.desk.words; free = []; left = [] }) old.top old.height level))
+    c.loop-page.invariant.view) ∙ c.find-place.ensures.item in
+    let next = leaves_next items c.loop-page.page c.args.lo c.args.hi c.find-place.result.item (gone (table_at writer)) (gone (table_at c.loop-page.writer))
+    (row_count writer) is.ascends test c.requires.edge found c.loop-page.invariant.gone_are c.requires.apart in
+    let few = few_rows writer in
+    let there = next.there in
+    omega arith
+
+pub leave-requires-clause-kept : goal.leave-requires-clause-kept
+leave-requires-clause-kept c =
+    let writer = c.args.writer.now in
+    let old = c.args.old in
+    let level = c.args.level in
+    let items = old_level (table_at writer) old.top old.height level in
+    let test = c.loop-page-test.true in
+    let limit = c.requires.limit in
+    let is = full (table_at writer) old.top old.height level c.requires.tower (omega arith) in
+    let found : item_at c.loop-page.page items ≡ Some c.find-place.result.item =
+    sym (ap (λ (v : NodeView). item_at c.loop-page.page (old_level (record { rows = v.known.desk.words; free = []; left = [] }) old.top old.height level))
+    c.loop-page.invariant.view) ∙ c.find-place.ensures.item in
+    let next = leaves_next items c.loop-page.page c.args.lo c.args.hi c.find-place.result.item (gone (table_at writer)) (gone (table_at c.loop-page.writer))
+    (row_count writer) is.ascends test c.requires.edge found c.loop-page.invariant.gone_are c.requires.apart in
+    let same = ap (λ (v : NodeView). v.size.rows) c.loop-page.invariant.view in
+    let there = next.there in
+    is_kept_from c.loop-page.writer c.find-place.result.item.word (omega arith) next.none
+
+pub loop-page-smaller : goal.loop-page-smaller
+loop-page-smaller c =
+    let writer = c.args.writer.now in
+    let old = c.args.old in
+    let level = c.args.level in
+    let items = old_level (table_at writer) old.top old.height level in
+    let test = c.loop-page-test.true in
+    let limit = c.requires.limit in
+    let is = full (table_at writer) old.top old.height level c.requires.tower (omega arith) in
+    let found : item_at c.loop-page.page items ≡ Some c.find-place.result.item =
+    sym (ap (λ (v : NodeView). item_at c.loop-page.page (old_level (record { rows = v.known.desk.words; free = []; left = [] }) old.top old.height level))
+    c.loop-page.invariant.view) ∙ c.find-place.ensures.item in
+    let next = leaves_next items c.loop-page.page c.args.lo c.args.hi c.find-place.result.item (gone (table_at writer)) (gone (table_at c.loop-page.writer))
+    (row_count writer) is.ascends test c.requires.edge found c.loop-page.invariant.gone_are c.requires.apart in
+    let above = next.above in
+    omega arith
+
+pub loop-page-preserved : goal.loop-page-preserved
+loop-page-preserved c =
+    let writer = c.args.writer.now in
+    let old = c.args.old in
+    let level = c.args.level in
+    let items = old_level (table_at writer) old.top old.height level in
+    let test = c.loop-page-test.true in
+    let limit = c.requires.limit in
+    let is = full (table_at writer) old.top old.height level c.requires.tower (omega arith) in
+    let found : item_at c.loop-page.page items ≡ Some c.find-place.result.item =
+    sym (ap (λ (v : NodeView). item_at c.loop-page.page (old_level (record { rows = v.known.desk.words; free = []; left = [] }) old.top old.height level))
+    c.loop-page.invariant.view) ∙ c.find-place.ensures.item in
+    let next = leaves_next items c.loop-page.page c.args.lo c.args.hi c.find-place.result.item (gone (table_at writer)) (gone (table_at c.loop-page.writer))
+    (row_count writer) is.ascends test c.requires.edge found c.loop-page.invariant.gone_are c.requires.apart in
+    let more = free_more c.loop-page.writer c.leave.new.writer c.find-place.result.item.word c.leave.ensures.free in
+    let before = c.loop-page.invariant.free in
+    record {
+      table = c.leave.ensures.table;
+      view = c.leave.ensures.view ∙ c.loop-page.invariant.view;
+      free = omega arith;
+      waits = λ row. leave_waits c.loop-page.writer c.leave.new.writer c.find-place.result.item.word row c.leave.ensures.view c.leave.ensures.left
+          ∙ c.loop-page.invariant.waits row;
+      gone_are = λ row.
+          let a = left_more c.loop-page.writer c.leave.new.writer c.find-place.result.item.word row c.leave.ensures.free c.leave.ensures.left in
+          let b = c.loop-page.invariant.gone_are row in
+          let d = next.rest row in
+          omega arith;
+    }
+
+pub returns-clause-gone : goal.returns-clause-gone
+returns-clause-gone c row =
+    let writer = c.args.writer.now in
+    let items = old_level (table_at writer) c.args.old.top c.args.old.height c.args.level in
+    let a = c.loop-page.invariant.gone_are row in
+    let b = ap (λ (xs : List Item). times row (rows_in xs)) (block_done c.loop-page.page c.args.hi items c.loop-page-test.false) in
+    omega arith

@@ -1,0 +1,23 @@
+-- For `leave_block`: the nodes up to a page were left.
+use Rattle.std.proofs.Common.{◌-◌, ◌≡◌, ◌≤◌, ◌+◌, ℕ, length}
+use Rattle.maple_node.specs.Levels.{times}
+use Rattle.maple_items.specs.Splices.{upto, beyond}
+use Rattle.node_slots.specs.Seats.{Writes, sight, free_of, is_waiting}
+use Rattle.maple_write.specs.Tables.{table_at, rows_in, gone}
+use Rattle.maple_write.specs.Stores.{old_level}
+use Rattle.maple_write.proofs.level.leave_block.Given as goal
+
+abbrev pub invariant-loop-page : goal.invariant-loop-page
+invariant-loop-page l = record {
+  table : Writes l.writer l.nodes;
+  view : sight l.writer ≡ sight l.fn.writer;
+  free : length (free_of l.fn.writer) ≤ length (free_of l.writer);
+  waits : (row : ℕ) → is_waiting l.writer row ≡ is_waiting l.fn.writer row;
+  gone_are : (row : ℕ) → gone (table_at l.writer) row
+      + times row (rows_in (upto l.hi (beyond l.page (old_level (table_at l.fn.writer) l.old.top l.old.height l.level))))
+      ≡ gone (table_at l.fn.writer) row
+      + times row (rows_in (upto l.hi (beyond l.lo (old_level (table_at l.fn.writer) l.old.top l.old.height l.level))));
+}
+
+abbrev pub decreases-loop-page : goal.decreases-loop-page
+decreases-loop-page l = l.hi - l.page

@@ -1,0 +1,45 @@
+-- For `put`: the row that was taken is a node of the items.
+use Rattle.std.proofs.Common.{◌∙◌, ◌<◌, ◌-◌, length, get_or, sym, ap, subst, List, ℕ}
+use Rattle.maple_node.specs.declared.item.Item.{Item}
+use Rattle.maple_node.specs.Levels.{at_of, read, IsNode}
+use Rattle.node_slots.specs.Seats.{desk}
+use Rattle.maple_write.proofs.Writers.{filled_words, taken_row}
+use Rattle.maple_write.proofs.Waiting.{fills_one}
+use Rattle.maple_write.proofs.Packing.{last_end, made-items, made-node}
+use Rattle.maple_write.proofs.rows.put.Goals as goal
+
+pub returns-clause-node : goal.returns-clause-node
+returns-clause-node c limit full =
+    let old = c.args.writer.now in
+    let leaf = c.args.leaf in
+    let items = c.args.items.now in
+    let words = filled_words old c.take_row.new.writer c.fill.new.writer c.unwrap-row.result.0 c.from.result c.node_words.result leaf items
+    c.take_row.ensures.view c.fill.ensures.view c.node_words.ensures c.from.ensures in
+    let there = taken_row old c.take_row.new.writer c.take_row.result c.unwrap-row.result c.unwrap-row.ensures c.take_row.ensures.taken c.take_row.ensures.view in
+    let within = subst (λ (r : ℕ). r < length (desk old).words) (sym c.from.ensures) there in
+    let none : Item = record { end = 0; word = 0; gap = 0 } in
+    let until : ℕ = (get_or items (length items - 1) none).end in
+    let node = made-node (desk old).words c.from.result leaf limit c.args.start until c.gap_of.result items within c.requires.ascends c.requires.plain
+    c.requires.some c.requires.most full (last_end c.args.start items none c.requires.some) c.gap_of.ensures in
+    let item : Item = record { end = until; word = c.from.result; gap = c.gap_of.result } in
+    subst (λ (rs : List (List ℕ)). IsNode (at_of rs) leaf limit c.args.start item) (sym words) node
+
+pub returns-clause-items : goal.returns-clause-items
+returns-clause-items c =
+    let old = c.args.writer.now in
+    let leaf = c.args.leaf in
+    let items = c.args.items.now in
+    let words = filled_words old c.take_row.new.writer c.fill.new.writer c.unwrap-row.result.0 c.from.result c.node_words.result leaf items
+    c.take_row.ensures.view c.fill.ensures.view c.node_words.ensures c.from.ensures in
+    let there = taken_row old c.take_row.new.writer c.take_row.result c.unwrap-row.result c.unwrap-row.ensures c.take_row.ensures.taken c.take_row.ensures.view in
+    let within = subst (λ (r : ℕ). r < length (desk old).words) (sym c.from.ensures) there in
+    ap (λ (rs : List (List ℕ)). read (at_of rs) leaf c.from.result) words
+    ∙ made-items (desk old).words c.from.result leaf c.args.start items within c.requires.ascends c.requires.plain
+
+pub returns-clause-until : goal.returns-clause-until
+returns-clause-until c = last_end c.args.start c.args.items.now (record { end = 0; word = 0; gap = 0 }) c.requires.some
+
+pub returns-clause-same : goal.returns-clause-same
+returns-clause-same c =
+    fills_one c.args.writer.now c.take_row.new.writer c.fill.new.writer c.unwrap-row.result.0 c.node_words.result
+    c.take_row.ensures.view c.fill.ensures.view c.take_row.ensures.left c.fill.ensures.lists.1

@@ -1,0 +1,27 @@
+-- For `first_entries`: what one entry leaves of one gap.
+use Rattle.std.proofs.Common.{List, length, ap, arith}
+use Rattle.maple_node.specs.declared.item.Item.{Item}
+use Rattle.maple_write.proofs.Stores.{gap_entries, first_two}
+use Rattle.maple_write.proofs.storing.first_entries.Goals as goal
+
+pub push_beyond-requires : goal.push_beyond-requires
+push_beyond-requires c =
+    let gap : Item = record { end = c.args.limit; word = 0; gap = 0 } in
+    let long = ap (λ (xs : List Item). length xs) c.first-stretch.ensures.items in
+    let two = first_two 0 c.args.lo c.args.hi c.args.word gap in
+    omega arith
+
+pub returns-clause-entries : goal.returns-clause-entries
+returns-clause-entries c =
+    (gap_entries c.args.limit c.args.lo c.args.hi c.args.word c.first-stretch.result.items c.push_beyond.new.self c.requires.some c.requires.limit
+    c.first-stretch.ensures.items c.push_beyond.ensures).entries
+
+pub returns-clause-some : goal.returns-clause-some
+returns-clause-some c =
+    (gap_entries c.args.limit c.args.lo c.args.hi c.args.word c.first-stretch.result.items c.push_beyond.new.self c.requires.some c.requires.limit
+    c.first-stretch.ensures.items c.push_beyond.ensures).some
+
+pub returns-clause-few : goal.returns-clause-few
+returns-clause-few c =
+    (gap_entries c.args.limit c.args.lo c.args.hi c.args.word c.first-stretch.result.items c.push_beyond.new.self c.requires.some c.requires.limit
+    c.first-stretch.ensures.items c.push_beyond.ensures).few

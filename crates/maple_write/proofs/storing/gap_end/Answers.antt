@@ -1,0 +1,30 @@
+-- For `gap_end`: the entry that has the page.
+use Rattle.std.proofs.Common.{arith}
+use Rattle.maple_node.specs.Trees.{entries_of}
+use Rattle.node_slots.specs.Built.{words_at}
+use Rattle.maple_write.specs.Tables.{table_at}
+use Rattle.maple_write.specs.Stores.{tree_under}
+use Rattle.maple_write.proofs.Stores.{covers, entry_found, hi_none, hi_gap, hi_slot}
+use Rattle.maple_write.proofs.storing.gap_end.Goals as goal
+
+pub returns-then-page-tree : goal.returns-then-page-tree
+returns-then-page-tree c =
+    let tree = tree_under c.args.tree in
+    let is = covers (table_at c.args.writer.now) tree c.requires.shaped in
+    let ends = is.ends in
+    let here = c.if-page-tree.true in
+    hi_none c.args.page (entries_of (words_at c.args.writer.now) tree) is.ascends (omega arith)
+
+pub returns-then-place-eq0 : goal.returns-then-place-eq0
+returns-then-place-eq0 c =
+    let tree = tree_under c.args.tree in
+    let place = c.find-place.result in
+    hi_gap c.args.page place.item (entries_of (words_at c.args.writer.now) tree)
+    (entry_found (table_at c.args.writer.now) tree c.args.page place.item c.find-place.ensures.item) c.if-place-eq0.true
+
+pub returns-else-place-eq0 : goal.returns-else-place-eq0
+returns-else-place-eq0 c =
+    let tree = tree_under c.args.tree in
+    let place = c.find-place.result in
+    hi_slot c.args.page place.item (entries_of (words_at c.args.writer.now) tree)
+    (entry_found (table_at c.args.writer.now) tree c.args.page place.item c.find-place.ensures.item) c.if-place-eq0.false

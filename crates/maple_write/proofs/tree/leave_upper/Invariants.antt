@@ -1,0 +1,24 @@
+-- For `leave_upper`: the nodes of the levels up to one were left.
+use Rattle.std.proofs.Common.{◌-◌, ◌≡◌, ◌≤◌, ◌+◌, ℕ, [], ◌∷◌, length}
+use Rattle.maple_node.specs.Levels.{rows_of, times}
+use Rattle.node_slots.specs.Seats.{Writes, sight, free_of, is_waiting}
+use Rattle.node_slots.specs.Built.{words_at}
+use Rattle.maple_write.specs.Tables.{table_at, gone}
+use Rattle.maple_write.proofs.tree.leave_upper.Given as goal
+
+abbrev pub invariant-loop-next : goal.invariant-loop-next
+invariant-loop-next l = record {
+  order : l.level ≤ l.next;
+  high : l.next ≤ l.old.height;
+  table : Writes l.writer l.nodes;
+  view : sight l.writer ≡ sight l.fn.writer;
+  free : length (free_of l.fn.writer) ≤ length (free_of l.writer);
+  waits : (row : ℕ) → is_waiting l.writer row ≡ is_waiting l.fn.writer row;
+  gone_are : (row : ℕ) → gone (table_at l.writer) row
+      + times row (rows_of (words_at l.fn.writer) l.next (l.old.height - l.next) (l.old.top ∷ []))
+      ≡ gone (table_at l.fn.writer) row
+      + times row (rows_of (words_at l.fn.writer) l.level (l.old.height - l.level) (l.old.top ∷ []));
+}
+
+abbrev pub decreases-loop-next : goal.decreases-loop-next
+decreases-loop-next l = l.old.height - l.next

@@ -1,0 +1,172 @@
+-- For `replace`: the levels are built one after another, up to one that has one item with all pages, or to the top.
+use Rattle.std.proofs.Common.{ℕ, ◌≡◌, ◌∙◌, ◌≤◌, ◌+◌, false, nat_eq, List, length, nat_lt, cond, ap, sym, subst, refl, arith}
+use Rattle.std.proofs.lemmas.Bool.Decides.{nat_tests}
+use Rattle.maple_node.specs.declared.item.Item.{Item}
+use Rattle.maple_node.specs.Nodes.{end_of}
+use Rattle.maple_node.specs.Levels.{at_of, is_leaf, below, level_of, IsTower}
+use Rattle.maple_items.specs.Splices.{upto}
+use Rattle.node_slots.specs.declared.view.NodeView.{NodeView}
+use Rattle.node_slots.specs.Built.{words_at}
+use Rattle.maple_write.specs.Tables.{table_at}
+use Rattle.maple_write.specs.Stores.{old_level, new_level, tree_under}
+use Rattle.maple_write.proofs.Writers.{fills_none, fills_both, rows_counted}
+use Rattle.maple_write.proofs.Crowns.{begins_as, starts_with, two_items, at_top, left_few, crown_ready, stands_then}
+use Rattle.maple_write.proofs.tree.replace.Goals as goal
+use Rattle.maple_write.proofs.tree.replace.Goals.{then-loop-level-test+else-not-done, else-loop-level-test}
+
+pub loop-level-init : goal.loop-level-init
+loop-level-init c =
+    let writer = c.args.writer.now in
+    let old = c.args.old in
+    let first = c.first-new.result in
+    record {
+      table = c.requires.table;
+      same = fills_none writer writer refl (λ row. refl);
+      partly = begins_as (table_at writer) (tree_under old) c.find.result.start c.args.lo c.args.hi c.args.word first.end c.find.result.item first.items
+          c.requires.shaped c.requires.some c.requires.limit c.requires.free c.find.ensures.item c.find.ensures.start c.first-new.ensures.end
+          c.first-new.ensures.items;
+      entries = starts_with (table_at writer) (tree_under old) c.find.result.start c.args.lo c.args.hi c.args.word first.end c.find.result.item first.items
+          c.find.ensures.item c.find.ensures.start c.first-new.ensures.end c.first-new.ensures.items;
+      free = omega arith;
+      whole = λ yes. absurd (cc);
+      wide = λ inner. absurd (omega arith);
+      under = λ high. absurd (omega arith);
+    }
+
+pub loop-level-preserved : goal.loop-level-preserved
+loop-level-preserved c =
+    let old = c.args.old in
+    let loop = c.loop-level in
+    let is = loop.invariant in
+    let after = c.rise-new.new.writer in
+    let new = c.rise-new.result in
+    let made = new_level (table_at after) old.top old.height (loop.level + 1) c.args.lo new.end new.items in
+    let was = new_level (table_at loop.writer) old.top old.height loop.level c.args.lo loop.new.end loop.new.items in
+    record {
+      table = c.rise-new.ensures.table;
+      same = fills_both c.args.writer.now loop.writer after is.same c.rise-new.ensures.same;
+      partly = c.rise-new.ensures.partly;
+      entries = c.rise-new.ensures.entries ∙ is.entries;
+      free = let before = is.free in let taken = c.rise-new.ensures.free in omega arith;
+      whole = λ yes. let all = c.is_whole-done.ensures.yes yes in (omega arith, (sym c.rise-new.ensures.begin ∙ all.0, all.1));
+      wide = λ inner no. two_items (table_at after) old.top old.height (loop.level + 1) c.args.lo new.end new.begin new.items c.rise-new.ensures.partly
+          inner c.rise-new.ensures.begin (c.is_whole-done.ensures.no no);
+      under = λ high.
+          let some : 1 ≤ loop.level = omega arith in
+          let inner : is_leaf loop.level ≡ false = let test : nat_eq loop.level 0 ≡ false = grind (arith, nat_tests) in test in
+          let same : below (words_at after) false made ≡ was = subst (λ b. below (words_at after) b made ≡ was) inner c.rise-new.ensures.under in
+          subst (λ (xs : List Item). 2 ≤ length xs) (sym same) (is.wide some c.if-not-done.true);
+    }
+
+pub leave_upper-requires-clause-apart : goal.leave_upper-requires-clause-apart
+leave_upper-requires-clause-apart c row =
+    let old = c.args.old in
+    let loop = c.loop-level in
+    let few = left_few (table_at loop.writer) old.top old.height loop.level c.args.lo loop.new.end loop.new.items loop.invariant.partly row in
+    let bound = ap (λ (n : ℕ). cond {A = ℕ} (nat_lt row n) 1 0) (rows_counted loop.writer) in
+    omega arith
+
+pub crown-requires-clause-tower : goal.crown-requires-clause-tower
+crown-requires-clause-tower c =
+    let old = c.args.old in
+    let loop = c.loop-level in
+    let is = loop.invariant in
+    let table = table_at loop.writer in
+    let Ends : Type 0 = (end_of 0 (upto c.args.lo (old_level table old.top old.height loop.level)) ≡ 0) × (loop.new.end ≡ old.top.end) in
+    let ends : Ends = elim c.loop-level-test.branch as (λ _. Ends) [
+      | then-loop-level-test+else-not-done w ↦ let whole = is.whole w.if-not-done.false in (whole.1.0, whole.1.1.0)
+      | else-loop-level-test w ↦ at_top table old.top old.height loop.level c.args.lo loop.new.end loop.new.items is.partly w.loop-level-test.false c.requires.shaped.tall
+    ] in
+    let ready = crown_ready table old.top old.height loop.level c.args.lo loop.new.end loop.new.items is.partly ends.0 ends.1 in
+    subst (λ (v : NodeView). IsTower (at_of v.known.desk.words) (end_of 0 loop.new.items) 0 loop.level loop.new.items) (sym c.leave_upper.ensures.view)
+    ready.tower
+
+pub crown-requires-clause-ascends : goal.crown-requires-clause-ascends
+crown-requires-clause-ascends c =
+    let old = c.args.old in
+    let loop = c.loop-level in
+    let is = loop.invariant in
+    let table = table_at loop.writer in
+    let Ends : Type 0 = (end_of 0 (upto c.args.lo (old_level table old.top old.height loop.level)) ≡ 0) × (loop.new.end ≡ old.top.end) in
+    let ends : Ends = elim c.loop-level-test.branch as (λ _. Ends) [
+      | then-loop-level-test+else-not-done w ↦ let whole = is.whole w.if-not-done.false in (whole.1.0, whole.1.1.0)
+      | else-loop-level-test w ↦ at_top table old.top old.height loop.level c.args.lo loop.new.end loop.new.items is.partly w.loop-level-test.false c.requires.shaped.tall
+    ] in
+    let ready = crown_ready table old.top old.height loop.level c.args.lo loop.new.end loop.new.items is.partly ends.0 ends.1 in
+    ready.ascends
+
+pub crown-requires-clause-wide : goal.crown-requires-clause-wide
+crown-requires-clause-wide c one high =
+    let old = c.args.old in
+    let loop = c.loop-level in
+    let is = loop.invariant in
+    let table = table_at loop.writer in
+    let Ends : Type 0 = (end_of 0 (upto c.args.lo (old_level table old.top old.height loop.level)) ≡ 0) × (loop.new.end ≡ old.top.end) in
+    let ends : Ends = elim c.loop-level-test.branch as (λ _. Ends) [
+      | then-loop-level-test+else-not-done w ↦ let whole = is.whole w.if-not-done.false in (whole.1.0, whole.1.1.0)
+      | else-loop-level-test w ↦ at_top table old.top old.height loop.level c.args.lo loop.new.end loop.new.items is.partly w.loop-level-test.false c.requires.shaped.tall
+    ] in
+    let ready = crown_ready table old.top old.height loop.level c.args.lo loop.new.end loop.new.items is.partly ends.0 ends.1 in
+    subst (λ (v : NodeView). 2 ≤ length (below (at_of v.known.desk.words) false loop.new.items)) (sym c.leave_upper.ensures.view)
+    (subst (λ (xs : List Item). 2 ≤ length (below (words_at loop.writer) false xs)) ready.alone (is.under high))
+
+pub crown-requires-clause-stand : goal.crown-requires-clause-stand
+crown-requires-clause-stand c =
+    let old = c.args.old in
+    let loop = c.loop-level in
+    let is = loop.invariant in
+    let table = table_at loop.writer in
+    let Ends : Type 0 = (end_of 0 (upto c.args.lo (old_level table old.top old.height loop.level)) ≡ 0) × (loop.new.end ≡ old.top.end) in
+    let ends : Ends = elim c.loop-level-test.branch as (λ _. Ends) [
+      | then-loop-level-test+else-not-done w ↦ let whole = is.whole w.if-not-done.false in (whole.1.0, whole.1.1.0)
+      | else-loop-level-test w ↦ at_top table old.top old.height loop.level c.args.lo loop.new.end loop.new.items is.partly w.loop-level-test.false c.requires.shaped.tall
+    ] in
+    let ready = crown_ready table old.top old.height loop.level c.args.lo loop.new.end loop.new.items is.partly ends.0 ends.1 in
+    stands_then table (table_at c.leave_upper.new.writer) old.top old.height loop.level c.args.lo loop.new.end loop.new.items is.partly ready.alone
+    (ap (λ (v : NodeView). v.known.desk.words) c.leave_upper.ensures.view) c.leave_upper.ensures.gone
+
+pub returns-clause-entries : goal.returns-clause-entries
+returns-clause-entries c =
+    let old = c.args.old in
+    let loop = c.loop-level in
+    let is = loop.invariant in
+    let table = table_at loop.writer in
+    let Ends : Type 0 = (end_of 0 (upto c.args.lo (old_level table old.top old.height loop.level)) ≡ 0) × (loop.new.end ≡ old.top.end) in
+    let ends : Ends = elim c.loop-level-test.branch as (λ _. Ends) [
+      | then-loop-level-test+else-not-done w ↦ let whole = is.whole w.if-not-done.false in (whole.1.0, whole.1.1.0)
+      | else-loop-level-test w ↦ at_top table old.top old.height loop.level c.args.lo loop.new.end loop.new.items is.partly w.loop-level-test.false c.requires.shaped.tall
+    ] in
+    let ready = crown_ready table old.top old.height loop.level c.args.lo loop.new.end loop.new.items is.partly ends.0 ends.1 in
+    c.crown.ensures.entries ∙ ap (λ (v : NodeView). level_of (at_of v.known.desk.words) 0 loop.level loop.new.items) c.leave_upper.ensures.view
+    ∙ sym (ap (level_of (words_at loop.writer) 0 loop.level) ready.alone) ∙ is.entries
+
+pub returns-clause-limit : goal.returns-clause-limit
+returns-clause-limit c =
+    let old = c.args.old in
+    let loop = c.loop-level in
+    let is = loop.invariant in
+    let table = table_at loop.writer in
+    let Ends : Type 0 = (end_of 0 (upto c.args.lo (old_level table old.top old.height loop.level)) ≡ 0) × (loop.new.end ≡ old.top.end) in
+    let ends : Ends = elim c.loop-level-test.branch as (λ _. Ends) [
+      | then-loop-level-test+else-not-done w ↦ let whole = is.whole w.if-not-done.false in (whole.1.0, whole.1.1.0)
+      | else-loop-level-test w ↦ at_top table old.top old.height loop.level c.args.lo loop.new.end loop.new.items is.partly w.loop-level-test.false c.requires.shaped.tall
+    ] in
+    let ready = crown_ready table old.top old.height loop.level c.args.lo loop.new.end loop.new.items is.partly ends.0 ends.1 in
+    c.crown.ensures.limit ∙ ready.limit
+
+pub returns-clause-same : goal.returns-clause-same
+returns-clause-same c =
+    let loop = c.loop-level in
+    let left = c.leave_upper.new.writer in
+    fills_both c.args.writer.now left c.crown.new.writer
+    (fills_both c.args.writer.now loop.writer left loop.invariant.same
+    (fills_none loop.writer left c.leave_upper.ensures.view c.leave_upper.ensures.waits))
+    c.crown.ensures.same
+
+pub returns-clause-free : goal.returns-clause-free
+returns-clause-free c =
+    let taken = c.loop-level.invariant.free in
+    let within = c.loop-level.invariant.partly.within in
+    let back = c.leave_upper.ensures.free in
+    let root = c.crown.ensures.free in
+    omega arith

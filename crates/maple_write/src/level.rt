@@ -1,0 +1,176 @@
+//! One level of a store: the items that are to stand anew, and the nodes that are made of them.
+
+ghost use Rattle.std.specs.Prelude.{◌≡◌, ◌<◌, ◌≤◌, ◌+◌, ◌-◌, ℕ, [], ◌∷◌, ◌++◌, length, if◌then◌else◌, nat_lt};
+ghost use Rattle.maple_node.specs.Nodes.{least, end_of};
+ghost use Rattle.maple_node.specs.Levels.{is_leaf, read, below, IsTower, times};
+ghost use Rattle.maple_items.specs.Splices.{upto, beyond};
+ghost use Rattle.node_slots.specs.Seats.{Writes, sight, row_count, free_of, is_waiting};
+ghost use Rattle.node_slots.specs.Built.{words_at};
+ghost use Rattle.maple_write.specs.Tables.{table_at, rows_in, gone, FillsRows};
+ghost use Rattle.maple_write.specs.Stores.{old_level, new_level, new_entries, Partly, Cut};
+
+use crate::rows::{Rooted, find, node, pack};
+use maple_items::{ItemList, least};
+use mm_types::Row;
+use node_slots::{NodeTable, NodeWriter};
+
+/// A stretch of a level: items beside each other, the page where they begin, and the page where they end.
+#[derive(Drop)]
+pub(crate) struct Stretch {
+    pub(crate) begin: u64,
+    pub(crate) end: u64,
+    pub(crate) items: ItemList,
+}
+
+/// Leaves the nodes of a level of an old tree from page `lo` up to page `hi`, where one ends.
+pub(crate) fn leave_block(
+    nodes: &NodeTable,
+    writer: &mut NodeWriter,
+    old: Rooted,
+    level: u32,
+    lo: u64,
+    hi: u64,
+)
+    requires table { Writes writer.old nodes.now }
+    requires order { level ≤ old.height }
+    requires limit { hi ≤ old.top.end }
+    requires tower { IsTower (words_at writer.old) old.top.end level (old.height - level) (old.top ∷ []) }
+    requires edge { end_of 0 (upto hi (old_level (table_at writer.old) old.top old.height level)) ≡ hi }
+    requires apart { (row : ℕ) → gone (table_at writer.old) row
+        + times row (rows_in (upto hi (beyond lo (old_level (table_at writer.old) old.top old.height level))))
+        ≤ (if nat_lt row (row_count writer.old) then 1 else 0) }
+    ensures table { Writes writer.new nodes.now }
+    ensures view { sight writer.new ≡ sight writer.old }
+    ensures free { length (free_of writer.old) ≤ length (free_of writer.new) }
+    ensures waits { (row : ℕ) → is_waiting writer.new row ≡ is_waiting writer.old row }
+    ensures gone { (row : ℕ) → gone (table_at writer.new) row ≡ gone (table_at writer.old) row
+        + times row (rows_in (upto hi (beyond lo (old_level (table_at writer.old) old.top old.height level)))) }
+{
+    let mut page = lo;
+    while page < hi {
+        let place = find(nodes, writer, old, level, page);
+        nodes.leave(writer, Row(place.item.word as u32));
+        page = place.item.end;
+    }
+}
+
+/// The items of two nodes of a level with new ones between: those of the left one up to page `lo`, and those of the right one
+/// above the page where the new ones end.
+fn joined(
+    nodes: &NodeTable,
+    writer: &NodeWriter,
+    leaf: bool,
+    left: u64,
+    right: u64,
+    lo: u64,
+    new: &Stretch,
+) -> ItemList
+    requires table { Writes writer.now nodes.now }
+    requires left { left < row_count writer.now }
+    requires right { right < row_count writer.now }
+    requires few { length new.now.items ≤ 3 }
+    ensures { result ≡ upto lo (read (words_at writer.now) leaf left)
+        ++ (new.now.items ++ beyond new.now.end (read (words_at writer.now) leaf right)) }
+{
+    let mut items = ItemList::new();
+    items.push_upto(lo, node(nodes, writer, leaf, left).items());
+    items.push_all(new.items.items());
+    items.push_beyond(new.end, node(nodes, writer, leaf, right).items());
+    items
+}
+
+/// The new items of a level from the beginning of the node that has page `lo` to the end of the node where they end.
+fn cut(
+    nodes: &NodeTable,
+    writer: &NodeWriter,
+    old: Rooted,
+    level: u32,
+    lo: u64,
+    new: &Stretch,
+) -> Stretch
+    requires table { Writes writer.now nodes.now }
+    requires partly { Partly (table_at writer.now) old.top old.height level lo new.now.end new.now.items }
+    requires below { level < old.height }
+    ensures { Cut (table_at writer.now) old.top old.height level lo new.now.end new.now.items result.begin result.end result.items }
+{
+    let left = find(nodes, writer, old, level + 1, lo);
+    let right = find(nodes, writer, old, level + 1, new.end - 1);
+    Stretch {
+        begin: left.start,
+        end: right.item.end,
+        items: joined(
+            nodes,
+            writer,
+            level == 0,
+            left.item.word,
+            right.item.word,
+            lo,
+            new,
+        ),
+    }
+}
+
+/// The same, with the whole of the next node where they are too few for a node of their own.
+fn stretched(
+    nodes: &NodeTable,
+    writer: &NodeWriter,
+    old: Rooted,
+    level: u32,
+    lo: u64,
+    new: &Stretch,
+) -> Stretch
+    requires table { Writes writer.now nodes.now }
+    requires partly { Partly (table_at writer.now) old.top old.height level lo new.now.end new.now.items }
+    requires below { level < old.height }
+    ensures cut { Cut (table_at writer.now) old.top old.height level lo new.now.end new.now.items result.begin result.end result.items }
+    ensures least { result.end < old.top.end → least (is_leaf level) ≤ length result.items }
+{
+    let mut stretch = cut(nodes, writer, old, level, lo, new);
+    if stretch.items.len() < least(level == 0) && stretch.end < old.top.end {
+        let next = find(nodes, writer, old, level + 1, stretch.end);
+        stretch
+            .items
+            .push_all(node(nodes, writer, level == 0, next.item.word).items());
+        stretch.end = next.item.end;
+    }
+    stretch
+}
+
+/// Makes the nodes of a level anew where items of it are replaced, and leaves the old nodes there. Answers the items of the
+/// level above that stand for the new nodes.
+pub(crate) fn rise(
+    nodes: &NodeTable,
+    writer: &mut NodeWriter,
+    old: Rooted,
+    level: u32,
+    lo: u64,
+    new: &Stretch,
+) -> Stretch
+    requires table { Writes writer.old nodes.now }
+    requires partly { Partly (table_at writer.old) old.top old.height level lo new.now.end new.now.items }
+    requires below { level < old.height }
+    ensures table { Writes writer.new nodes.now }
+    ensures same { FillsRows writer.old writer.new }
+    ensures partly { Partly (table_at writer.new) old.top old.height (level + 1) lo result.end result.items }
+    ensures begin { result.begin ≡ end_of 0 (upto lo (old_level (table_at writer.new) old.top old.height (level + 1))) }
+    ensures entries { new_entries (table_at writer.new) old.top old.height (level + 1) lo result.end result.items
+        ≡ new_entries (table_at writer.old) old.top old.height level lo new.now.end new.now.items }
+    ensures free { length (free_of writer.old) ≤ length (free_of writer.new) + 3 }
+    ensures under { below (words_at writer.new) (is_leaf level) (new_level (table_at writer.new) old.top old.height (level + 1) lo result.end result.items)
+        ≡ new_level (table_at writer.old) old.top old.height level lo new.now.end new.now.items }
+{
+    let stretch = stretched(nodes, writer, old, level, lo, new);
+    let items = pack(
+        nodes,
+        writer,
+        level == 0,
+        stretch.begin,
+        stretch.items.items(),
+    );
+    leave_block(nodes, writer, old, level + 1, lo, stretch.end);
+    Stretch {
+        begin: stretch.begin,
+        end: stretch.end,
+        items,
+    }
+}

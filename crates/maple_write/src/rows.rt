@@ -1,0 +1,137 @@
+//! Nodes in the rows of the writer's table: how one is read, made and found.
+
+ghost use Rattle.std.specs.Prelude.{◌≡◌, ◌<◌, ◌≤◌, ◌+◌, ◌-◌, ◌*◌, ℕ, Some, [], ◌∷◌, length, slice_set};
+ghost use Rattle.maple_node.specs.Nodes.{words_of, most, least, end_of, Ascends, IsPlain};
+ghost use Rattle.maple_node.specs.Levels.{read, below, item_at, AllFrom, IsNode, IsTower, times};
+ghost use Rattle.maple_items.specs.Splices.{upto};
+ghost use Rattle.node_slots.specs.Seats.{Writes, desk, row_count, free_of, left_of};
+ghost use Rattle.node_slots.specs.Built.{words_at};
+ghost use Rattle.maple_write.specs.Tables.{table_at, rows_in, FillsRows};
+ghost use Rattle.maple_write.specs.Stores.{old_level};
+
+use maple_items::{ItemList, Place, gap_of, item_at, node_items, node_words, share};
+use maple_node::{Item, Steps};
+use mm_types::Row;
+use node_slots::{NodeTable, NodeWriter};
+
+/// The rows that are read, which nobody counts here.
+struct Reads;
+
+/// A tree as its root tells it: the root's item, and the tree's height. Height 1 is a single leaf.
+#[derive(Clone, Copy, Debug, PartialEq, Eq)]
+pub(crate) struct Rooted {
+    pub(crate) top: Item,
+    pub(crate) height: u32,
+}
+
+/// The items of the node in a row.
+pub(crate) fn node(nodes: &NodeTable, writer: &NodeWriter, leaf: bool, row: u64) -> ItemList
+    requires table { Writes writer.now nodes.now }
+    requires row { row < row_count writer.now }
+    ensures items { result ≡ read (words_at writer.now) leaf row }
+    ensures most { length result ≤ most leaf }
+{
+    let words = nodes.written(writer, Row(row as u32), &mut Steps::<Reads>::new());
+    node_items(leaf, &words)
+}
+
+/// The item of a level that has a page, in the tree under a root, and the page where it begins.
+pub(crate) fn find(
+    nodes: &NodeTable,
+    writer: &NodeWriter,
+    tree: Rooted,
+    low: u32,
+    page: u64,
+) -> Place
+    requires table { Writes writer.now nodes.now }
+    requires tower { IsTower (words_at writer.now) tree.top.end low (tree.height - low) (tree.top ∷ []) }
+    requires order { low ≤ tree.height }
+    requires within { page < tree.top.end }
+    ensures item { item_at page (old_level (table_at writer.now) tree.top tree.height low) ≡ Some result.item }
+    ensures start { result.start ≡ end_of 0 (upto page (old_level (table_at writer.now) tree.top tree.height low)) }
+    ensures above { result.start ≤ page }
+{
+    let mut place = Place {
+        start: 0,
+        item: tree.top,
+    };
+    let mut level = tree.height;
+    while level > low {
+        level -= 1;
+        let items = node(nodes, writer, level == 0, place.item.word);
+        place = item_at(items.items(), place.start, page);
+    }
+    place
+}
+
+/// Makes a node of items, of which the first begins at `start`, in a free row.
+pub(crate) fn put(
+    nodes: &NodeTable,
+    writer: &mut NodeWriter,
+    leaf: bool,
+    start: u64,
+    items: &[Item],
+) -> Item
+    requires table { Writes writer.old nodes.now }
+    requires free { 0 < length (free_of writer.old) }
+    requires some { 1 ≤ length items.now }
+    requires most { length items.now ≤ most leaf }
+    requires ascends { Ascends start items.now }
+    requires plain { IsPlain leaf items.now }
+    ensures table { Writes writer.new nodes.now }
+    ensures same { FillsRows writer.old writer.new }
+    ensures node { (limit : ℕ) → (end_of start items.now < limit → least leaf ≤ length items.now)
+        → IsNode (words_at writer.new) leaf limit start result }
+    ensures items { read (words_at writer.new) leaf result.word ≡ items.now }
+    ensures until { result.end ≡ end_of start items.now }
+    ensures words { (desk writer.new).words ≡ slice_set (desk writer.old).words result.word (words_of leaf items.now) }
+    ensures free { free_of writer.old ≡ result.word ∷ free_of writer.new }
+    ensures left { left_of writer.new ≡ left_of writer.old }
+{
+    let row = nodes.take_row(writer).unwrap();
+    nodes.fill(writer, row, &node_words(leaf, items));
+    Item {
+        end: items[items.len() - 1].end,
+        word: u64::from(row.0),
+        gap: gap_of(leaf, start, items),
+    }
+}
+
+/// Packs items, of which the first begins at `start`, into nodes: as many into each as `share` tells.
+pub(crate) fn pack(
+    nodes: &NodeTable,
+    writer: &mut NodeWriter,
+    leaf: bool,
+    start: u64,
+    items: &[Item],
+) -> ItemList
+    requires table { Writes writer.old nodes.now }
+    requires free { 3 ≤ length (free_of writer.old) }
+    requires some { 1 ≤ length items.now }
+    requires few { length items.now ≤ 3 * most leaf }
+    requires ascends { Ascends start items.now }
+    requires plain { IsPlain leaf items.now }
+    ensures table { Writes writer.new nodes.now }
+    ensures same { FillsRows writer.old writer.new }
+    ensures nodes { (limit : ℕ) → (end_of start items.now < limit → least leaf ≤ length items.now)
+        → AllFrom (IsNode (words_at writer.new) leaf limit) start result }
+    ensures below { below (words_at writer.new) leaf result ≡ items.now }
+    ensures some { 1 ≤ length result }
+    ensures few { length result ≤ 3 }
+    ensures kept { (row : ℕ) → times row (free_of writer.old) ≡ 0 → words_at writer.new row ≡ words_at writer.old row }
+    ensures taken { (row : ℕ) → times row (free_of writer.old) ≡ times row (free_of writer.new) + times row (rows_in result) }
+    ensures free { length (free_of writer.old) ≡ length (free_of writer.new) + length result }
+    ensures left { left_of writer.new ≡ left_of writer.old }
+{
+    let mut packed = ItemList::new();
+    let mut begin = start;
+    let mut place = 0;
+    while place < items.len() {
+        let end = place + share(leaf, items.len() - place);
+        let node = put(nodes, writer, leaf, begin, &items[place..end]);
+        begin = node.end;
+        packed.push(node);
+        place = end;
+    }
+    packed
+}

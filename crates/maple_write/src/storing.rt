@@ -1,0 +1,278 @@
+//! Stores into the writer's tree, and its publish.
+
+ghost use Rattle.std.specs.Prelude.{◌≡◌, ◌<◌, ◌≤◌, ◌+◌, ◌-◌, ◌*◌, ◌^◌, ◌⊎◌, ℕ, [], ◌∷◌, length, nat_eq};
+ghost use Rattle.maple_node.specs.Nodes.{end_of};
+ghost use Rattle.maple_node.specs.Trees.{entries_of, pairs_of};
+ghost use Rattle.maple_node.specs.Words.{slot_word};
+ghost use Rattle.maple_items.specs.Splices.{overwrite, widened_lo, widened_hi};
+ghost use Rattle.maple_items.specs.Pairs.{overwritten};
+ghost use Rattle.node_slots.specs.Views.{publish_at};
+ghost use Rattle.node_slots.specs.Seats.{Writes, sight, desk, row_count, free_of, left_of, is_kept, next_root};
+ghost use Rattle.node_slots.specs.Built.{words_at, built, IsBuilt, IsWriters, pairs_now};
+ghost use Rattle.maple_write.specs.Tables.{table_at, FillsRows};
+ghost use Rattle.maple_write.specs.Stores.{IsShaped, IsWhole, Finds, tree_under, all_gap};
+
+use crate::level::Stretch;
+use crate::rows::{Rooted, find, node, put};
+use crate::tree::{first, replace};
+use maple_items::{ItemList, Place, gap_of};
+use maple_node::Item;
+use mm_types::{Row, Slot, Span};
+use node_slots::{NodeTable, NodeWriter, Tree};
+
+/// Gives the pages of a span a slot, or makes them a gap, in the writer's tree. The nodes on the paths to them are made anew in
+/// free rows, at most three for each level and one for a root, and the rows of the old nodes are left. An empty span changes
+/// nothing.
+pub fn store(
+    nodes: &NodeTable,
+    writer: &mut NodeWriter,
+    tree: &mut Tree,
+    span: Span,
+    slot: Option<Slot>,
+)
+    requires table { Writes writer.old nodes.now }
+    requires tree { IsWriters writer.old tree.old }
+    requires free { 4 * tree.old.height + 4 ≤ length (free_of writer.old) }
+    requires limit { span.hi ≤ tree.old.limit.0 }
+    requires slot { slot_word slot ≤ (sight writer.old).size.slots }
+    ensures table { Writes writer.new nodes.now }
+    ensures tree { IsWriters writer.new tree.new }
+    ensures built { span.lo < span.hi → IsBuilt writer.new tree.new }
+    ensures pairs { span.lo < span.hi → pairs_now writer.new tree.new
+        ≡ overwritten span.lo span.hi (slot_word slot) (pairs_now writer.old tree.old) }
+    ensures empty { span.hi ≤ span.lo → (writer.new ≡ writer.old) × (tree.new ≡ tree.old) }
+    ensures limit { tree.new.limit ≡ tree.old.limit }
+    ensures height { tree.new.height ≤ tree.old.height + 1 }
+    ensures rows { length (free_of writer.old) ≤ length (free_of writer.new) + 3 * tree.old.height + 1 }
+    ensures same { FillsRows writer.old writer.new }
+{
+    if span.lo >= span.hi {
+        return;
+    }
+    let old = rooted(nodes, writer, tree);
+    let new = stored(nodes, writer, old, tree.limit.0, span, word_of(slot));
+    tree.root = Row(new.top.word as u32);
+    tree.height = new.height;
+}
+
+/// Publishes the writer's tree: it is the present one, with the next number.
+pub fn publish_tree(nodes: &NodeTable, writer: &mut NodeWriter, tree: &Tree)
+    requires table { Writes writer.old nodes.now }
+    requires built { IsBuilt writer.old tree.now }
+    requires height { tree.now.height ≤ 9 }
+    requires number { (desk writer.old).tree.number < 2 ^ 40 - 1 }
+    ensures table { Writes writer.new nodes.now }
+    ensures view { sight writer.new ≡ publish_at (sight writer.old) (next_root writer.old tree.now.root.0 tree.now.height) }
+    ensures lists { (free_of writer.new ≡ free_of writer.old) × (left_of writer.new ≡ left_of writer.old) }
+    ensures still { IsBuilt writer.new tree.now }
+{
+    nodes.publish(writer, tree.root, tree.height);
+}
+
+/// The word of a slot in an entry: its number plus 1, or 0 for none.
+fn word_of(slot: Option<Slot>) -> u64
+    ensures { result ≡ slot_word slot }
+{
+    slot.map_or(0, |slot| u64::from(slot.0) + 1)
+}
+
+/// Where items end that begin at page 0.
+fn end_of(items: &[Item]) -> u64
+    ensures { result ≡ end_of 0 items.now }
+{
+    if items.is_empty() {
+        0
+    } else {
+        items[items.len() - 1].end
+    }
+}
+
+/// The tree of the writer's view, with what the row of its root tells of it.
+fn rooted(nodes: &NodeTable, writer: &NodeWriter, tree: &Tree) -> Rooted
+    requires table { Writes writer.now nodes.now }
+    requires tree { IsWriters writer.now tree.now }
+    ensures { tree_under result ≡ built writer.now tree.now }
+{
+    let leaf = tree.height == 1;
+    let root = u64::from(tree.root.0);
+    let items = node(nodes, writer, leaf, root);
+    Rooted {
+        top: Item {
+            end: end_of(items.items()),
+            word: root,
+            gap: gap_of(leaf, 0, items.items()),
+        },
+        height: tree.height,
+    }
+}
+
+/// Where the gap begins that has the page before a page, or else the page.
+fn gap_begin(nodes: &NodeTable, writer: &NodeWriter, tree: Rooted, page: u64) -> u64
+    requires table { Writes writer.now nodes.now }
+    requires shaped { IsShaped (table_at writer.now) (tree_under tree) }
+    requires within { page ≤ tree.top.end }
+    ensures { result ≡ widened_lo page (entries_of (words_at writer.now) (tree_under tree)) }
+{
+    if page == 0 {
+        return 0;
+    }
+    let place = find(nodes, writer, tree, 0, page - 1);
+    if place.item.word == 0 {
+        place.start
+    } else {
+        page
+    }
+}
+
+/// Where the gap ends that has a page, or else the page.
+fn gap_end(nodes: &NodeTable, writer: &NodeWriter, tree: Rooted, page: u64) -> u64
+    requires table { Writes writer.now nodes.now }
+    requires shaped { IsShaped (table_at writer.now) (tree_under tree) }
+    requires within { page ≤ tree.top.end }
+    ensures { result ≡ widened_hi page (entries_of (words_at writer.now) (tree_under tree)) }
+{
+    if page == tree.top.end {
+        return page;
+    }
+    let place = find(nodes, writer, tree, 0, page);
+    if place.item.word == 0 {
+        place.item.end
+    } else {
+        page
+    }
+}
+
+/// A store into a tree with entries. A gap takes in the gaps beside it.
+fn overwrite(
+    nodes: &NodeTable,
+    writer: &mut NodeWriter,
+    old: Rooted,
+    span: Span,
+    word: u64,
+) -> Rooted
+    requires table { Writes writer.old nodes.now }
+    requires whole { IsWhole (table_at writer.old) (sight writer.old).size.slots (tree_under old) }
+    requires free { 4 * old.height + 4 ≤ length (free_of writer.old) }
+    requires some { span.lo < span.hi }
+    requires limit { span.hi ≤ old.top.end }
+    requires word { word ≤ (sight writer.old).size.slots }
+    requires fits { old.height < 2 ^ 31 }
+    ensures table { Writes writer.new nodes.now }
+    ensures same { FillsRows writer.old writer.new }
+    ensures whole { IsWhole (table_at writer.new) (sight writer.old).size.slots (tree_under result) }
+    ensures pairs { pairs_of (words_at writer.new) (tree_under result)
+        ≡ overwritten span.lo span.hi word (pairs_of (words_at writer.old) (tree_under old)) }
+    ensures limit { result.top.end ≡ old.top.end }
+    ensures height { result.height ≤ old.height + 1 }
+    ensures free { length (free_of writer.old) ≤ length (free_of writer.new) + 3 * old.height + 1 }
+{
+    if word != 0 {
+        return replace(nodes, writer, old, span.lo, span.hi, word);
+    }
+    let lo = gap_begin(nodes, writer, old, span.lo);
+    let hi = gap_end(nodes, writer, old, span.hi);
+    replace(nodes, writer, old, lo, hi, 0)
+}
+
+/// The entries of a tree whose pages were one gap up to `limit`, with one entry from page `lo` up to page `hi`.
+fn first_entries(limit: u64, lo: u64, hi: u64, word: u64) -> ItemList
+    requires some { lo < hi }
+    requires limit { hi ≤ limit }
+    ensures entries { result ≡ overwrite lo hi word (all_gap limit) }
+    ensures some { 1 ≤ length result }
+    ensures few { length result ≤ 3 }
+{
+    let gap = Item {
+        end: limit,
+        word: 0,
+        gap: 0,
+    };
+    let place = Place {
+        start: 0,
+        item: gap,
+    };
+    let stretch = first(place, lo, hi, word);
+    let Stretch {
+        begin: _,
+        end: _,
+        items: mut entries,
+    } = stretch;
+    entries.push_beyond(hi, &[gap]);
+    entries
+}
+
+/// Makes the first leaf of a tree, in place of tree 0, whose row 0 is left.
+fn planted(nodes: &NodeTable, writer: &mut NodeWriter, limit: u64, span: Span, word: u64) -> Rooted
+    requires table { Writes writer.old nodes.now }
+    requires kept { (row : ℕ) → is_kept writer.old row ≡ nat_eq row 0 }
+    requires rows { 1 ≤ row_count writer.old }
+    requires free { 1 ≤ length (free_of writer.old) }
+    requires some { span.lo < span.hi }
+    requires limit { span.hi ≤ limit }
+    ensures table { Writes writer.new nodes.now }
+    ensures same { FillsRows writer.old writer.new }
+    ensures shaped { IsShaped (table_at writer.new) (tree_under result) }
+    ensures entries { entries_of (words_at writer.new) (tree_under result) ≡ overwrite span.lo span.hi word (all_gap limit) }
+    ensures limit { result.top.end ≡ limit }
+    ensures height { result.height ≡ 1 }
+    ensures free { length (free_of writer.old) ≤ length (free_of writer.new) + 1 }
+{
+    let entries = first_entries(limit, span.lo, span.hi, word);
+    let top = put(nodes, writer, true, 0, entries.items());
+    nodes.leave(writer, Row(0));
+    Rooted { top, height: 1 }
+}
+
+/// A store into tree 0.
+fn plant(nodes: &NodeTable, writer: &mut NodeWriter, limit: u64, span: Span, word: u64) -> Rooted
+    requires table { Writes writer.old nodes.now }
+    requires kept { (row : ℕ) → is_kept writer.old row ≡ nat_eq row 0 }
+    requires rows { 1 ≤ row_count writer.old }
+    requires free { 1 ≤ length (free_of writer.old) }
+    requires some { span.lo < span.hi }
+    requires limit { span.hi ≤ limit }
+    requires word { word ≤ (sight writer.old).size.slots }
+    ensures table { Writes writer.new nodes.now }
+    ensures same { FillsRows writer.old writer.new }
+    ensures whole { IsWhole (table_at writer.new) (sight writer.old).size.slots (tree_under result) }
+    ensures pairs { pairs_of (words_at writer.new) (tree_under result) ≡ overwritten span.lo span.hi word [] }
+    ensures limit { result.top.end ≡ limit }
+    ensures height { result.height ≡ 1 }
+    ensures free { length (free_of writer.old) ≤ length (free_of writer.new) + 1 }
+{
+    if word != 0 {
+        return planted(nodes, writer, limit, span, word);
+    }
+    planted(nodes, writer, limit, Span { lo: 0, hi: limit }, 0)
+}
+
+/// A store into the tree that the writer found: one with entries, or tree 0.
+fn stored(
+    nodes: &NodeTable,
+    writer: &mut NodeWriter,
+    old: Rooted,
+    limit: u64,
+    span: Span,
+    word: u64,
+) -> Rooted
+    requires table { Writes writer.old nodes.now }
+    requires finds { Finds writer.old old limit }
+    requires free { 4 * old.height + 4 ≤ length (free_of writer.old) }
+    requires some { span.lo < span.hi }
+    requires limit { span.hi ≤ limit }
+    requires word { word ≤ (sight writer.old).size.slots }
+    requires fits { old.height < 2 ^ 31 }
+    ensures table { Writes writer.new nodes.now }
+    ensures same { FillsRows writer.old writer.new }
+    ensures whole { IsWhole (table_at writer.new) (sight writer.old).size.slots (tree_under result) }
+    ensures pairs { pairs_of (words_at writer.new) (tree_under result)
+        ≡ overwritten span.lo span.hi word (pairs_of (words_at writer.old) (tree_under old)) }
+    ensures limit { result.top.end ≡ limit }
+    ensures height { result.height ≤ old.height + 1 }
+    ensures free { length (free_of writer.old) ≤ length (free_of writer.new) + 3 * old.height + 1 }
+{
+    if old.top.end == 0 {
+        return plant(nodes, writer, limit, span, word);
+    }
+    overwrite(nodes, writer, old, span, word)
+}
