@@ -1,0 +1,12 @@
+pub mod Sums
+pub mod Waits
+pub mod Pairs
+pub mod Scanning
+pub mod Counts
+pub mod Sizes
+pub mod Writing
+pub mod Spans
+pub mod Storing
+pub mod Publishing
+pub mod Preparing
+pub mod Opening

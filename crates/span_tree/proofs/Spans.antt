@@ -1,0 +1,72 @@
+-- For `SpanTree::scan`, `SpanTree::prepare` and others: what the fields keep.
+use Rattle.std.proofs.Common.{ℕ, ◌≡◌, ◌<◌, ◌≤◌, ◌+◌, ◌*◌, ◌∙◌, true, arith, sym, ap, subst}
+use Rattle.grace_core.specs.Core.{since_at}
+use Rattle.node_slots.specs.declared.seats.NodeWriter.{NodeWriter}
+use Rattle.node_slots.specs.Seats.{Writes, sight, desk, is_waiting, row_count}
+use Rattle.node_slots.specs.Built.{IsBuilt, words_at, built, built_rows, pairs_now}
+use Rattle.span_tree.specs.declared.tree.SpanTree.TheInside.{Inside}
+use Rattle.span_tree.specs.SpanTrees.{ArePairs}
+use Rattle.span_tree.specs.Kept.{IsSpanTree}
+use Rattle.span_tree.specs.Rows.{Scans, settled_of}
+use Rattle.span_tree.proofs.Waits.{wait-most, wait-greatest}
+use Rattle.span_tree.proofs.Pairs.{layout-pairs}
+use Rattle.span_tree.proofs.Counts.{waiting_within}
+use Rattle.span_tree.proofs.Writing.{shown_same, present_same, spare_more, settled_more, settled_below, pairs_same, scanned_built, scanned_writers}
+
+-- scans keep what the fields keep
+pub scanned_kept : (fields : Inside) (new : NodeWriter) → Writes new fields.nodes → Scans fields.writer new → IsSpanTree fields
+    → IsSpanTree (record fields { writer = new })
+scanned_kept fields new writes scans kept =
+    let old : NodeWriter = fields.writer in
+    let sized : row_count new ≡ row_count old = ap (λ s. s.rows) scans.same.size in
+    let shown = shown_same old new scans.same.tree scans.same.root in
+    let pairs = pairs_same old new fields.tree scans.same.words in
+    record {
+      table = writes;
+      tree = scanned_writers old new fields.tree scans kept.tree;
+      some_areas = kept.some_areas;
+      few_areas = kept.few_areas;
+      some_pages = kept.some_pages;
+      rows = sized ∙ kept.rows;
+      slots = ap (λ s. s.slots) scans.same.size ∙ kept.slots;
+      number = ap (λ t. t.number) scans.same.tree ∙ kept.number;
+      few_pairs = rw pairs kept.few_pairs;
+      first = λ none. shown ∙ kept.first none;
+      shown = λ still. shown ∙ kept.shown still ∙ sym pairs;
+      rest = λ still row. present_same old new scans.same.tree row ∙ kept.rest still row ∙ sym (scans.kept row);
+      built = λ roomy. scanned_built old new fields.tree scans (kept.built roomy);
+      room = λ roomy. let more = spare_more old new scans.same.tree sized scans.waits in omega (arith, more, kept.room roomy);
+    }
+
+-- and settle more
+pub scanned_settled : (old new : NodeWriter) → Scans old new → settled_of old ≤ settled_of new
+scanned_settled old new scans =
+    settled_more old new (omega (arith, ap (λ t. t.number) scans.same.tree)) (ap (λ s. s.rows) scans.same.size)
+    (λ row waits.
+    let was = scans.waits row waits in
+    let below = settled_below old row (waiting_within old row was) was in
+    omega (arith, below, ap (λ s. since_at s row) scans.same.since))
+
+-- the tree that is settled is the greatest one
+pub settled_is : (writer : NodeWriter) (found : ℕ) → found ≤ (desk writer).tree.number
+    → ((row : ℕ) → is_waiting writer row ≡ true → found < since_at (desk writer).since row)
+    → ((tree : ℕ) → tree ≤ (desk writer).tree.number → ((row : ℕ) → is_waiting writer row ≡ true → tree < since_at (desk writer).since row)
+    → tree ≤ found)
+    → found ≡ settled_of writer
+settled_is writer found most none greatest =
+    let up = wait-greatest (is_waiting writer) (since_at (desk writer).since) (desk writer).tree.number (row_count writer) found most
+    (λ row _ waits. let later = none row waits in omega (arith, later)) in
+    let down = greatest (settled_of writer)
+    (wait-most (is_waiting writer) (since_at (desk writer).since) (desk writer).tree.number (row_count writer))
+    (λ row waits. let below = settled_below writer row (waiting_within writer row waits) waits in
+    let later = none row waits in omega (arith, below, later)) in
+    omega (arith, up, down)
+
+-- the pairs of a tree that was built
+pub built_pairs : (fields : Inside) → IsSpanTree fields → IsBuilt fields.writer fields.tree
+    → ArePairs (2 * fields.areas + 2) fields.tree.limit.0 0 (pairs_now fields.writer fields.tree)
+built_pairs fields kept is =
+    let pairs = layout-pairs (words_at fields.writer) (sight fields.writer).size.slots (built_rows fields.writer fields.tree)
+    (built fields.writer fields.tree) is.layout in
+    let at : ℕ → ℕ → Type 0 = λ slots limit. ArePairs slots limit 0 (pairs_now fields.writer fields.tree) in
+    subst (at (2 * fields.areas + 2)) is.limit (subst (λ n. at n (built fields.writer fields.tree).top.end) kept.slots pairs)

@@ -1,0 +1,84 @@
+-- For `SpanTree::store` and `SpanTree::prepare`: what a store leaves as it is.
+use Rattle.std.proofs.Common.{ℕ, ◌≡◌, ◌≤◌, ◌∙◌, Bool, true, length, List, arith, sym, ap, inl}
+use Rattle.mm_types.specs.declared.area.Page.{Page}
+use Rattle.grace_core.specs.Core.{since_at}
+use Rattle.maple_node.specs.Trees.{Pair}
+use Rattle.node_slots.specs.declared.view.NodeView.{NodeView}
+use Rattle.node_slots.specs.declared.seats.NodeWriter.{NodeWriter}
+use Rattle.node_slots.specs.declared.tree.Tree.{Tree}
+use Rattle.node_slots.specs.Seats.{Writes, desk, is_waiting, row_count}
+use Rattle.node_slots.specs.Built.{IsBuilt, pairs_now}
+use Rattle.maple_write.specs.Tables.{FillsRows}
+use Rattle.span_tree.specs.declared.tree.SpanTree.TheInside.{Inside}
+use Rattle.span_tree.specs.SpanTrees.{enough}
+use Rattle.span_tree.specs.Kept.{IsSpanTree, view_of}
+use Rattle.span_tree.specs.Rows.{settled_of, spare_rows, shown_pairs}
+use Rattle.span_tree.proofs.Counts.{waiting_within}
+use Rattle.span_tree.proofs.Writing.{shown_same, spare_more, settled_more, settled_below}
+
+-- the present tree is the same
+stored_tree : (old new : NodeWriter) → FillsRows old new → (desk new).tree ≡ (desk old).tree
+stored_tree old new stores = ap (λ v. v.known.desk.tree) stores.seen
+
+stored_size : (old new : NodeWriter) → FillsRows old new → row_count new ≡ row_count old
+stored_size old new stores = ap (λ v. v.size.rows) stores.seen
+
+pub stored_shown : (old new : NodeWriter) → FillsRows old new → shown_pairs new ≡ shown_pairs old
+stored_shown old new stores = shown_same old new (stored_tree old new stores) (ap (λ v. v.known.root) stores.seen)
+
+-- no more is settled, and no less
+stored_settled_more : (old new : NodeWriter) → (desk new).tree ≡ (desk old).tree → row_count new ≡ row_count old
+    → (desk new).since ≡ (desk old).since → ((row : ℕ) → is_waiting new row ≡ true → is_waiting old row ≡ true)
+    → settled_of old ≤ settled_of new
+stored_settled_more old new tree sized since less =
+    settled_more old new (omega (arith, ap (λ t. t.number) tree)) sized
+    (λ row waits.
+    let was = less row waits in
+    let below = settled_below old row (waiting_within old row was) was in
+    omega (arith, below, ap (λ s. since_at s row) since))
+
+pub stored_settled : (old new : NodeWriter) → FillsRows old new → settled_of new ≡ settled_of old
+stored_settled old new stores =
+    let tree = stored_tree old new stores in
+    let sized = stored_size old new stores in
+    let since = ap (λ (v : NodeView). v.known.desk.since) stores.seen in
+    let up = stored_settled_more old new tree sized since (λ row waits. sym (stores.waits row) ∙ waits) in
+    let down = stored_settled_more new old (sym tree) (sym sized) (sym since) (λ row waits. stores.waits row ∙ waits) in
+    omega (arith, up, down)
+
+-- a store keeps what the fields keep
+pub stored_kept : (fields : Inside) (new : NodeWriter) (tree : Tree) (roomy : Bool) → Writes new fields.nodes → FillsRows fields.writer new
+    → IsBuilt new tree → tree.limit ≡ fields.tree.limit → length (pairs_now new tree) ≤ fields.areas
+    → enough fields.areas ≤ spare_rows fields.writer → IsSpanTree fields
+    → IsSpanTree (record fields { writer = new; tree = tree; changed = true; roomy = roomy })
+stored_kept fields new tree roomy writes stores built limit few room kept =
+    let old : NodeWriter = fields.writer in
+    let present = stored_tree old new stores in
+    let sized = stored_size old new stores in
+    let shown = stored_shown old new stores in
+    record {
+      table = writes;
+      tree = inl built;
+      some_areas = kept.some_areas;
+      few_areas = kept.few_areas;
+      some_pages = omega (arith, ap (λ p. p.0) limit, kept.some_pages);
+      rows = sized ∙ kept.rows;
+      slots = ap (λ v. v.size.slots) stores.seen ∙ kept.slots;
+      number = ap (λ t. t.number) present ∙ kept.number;
+      few_pairs = few;
+      first = λ none. shown ∙ kept.first none;
+      shown = λ still. absurd (cc);
+      rest = λ still. absurd (cc);
+      built = λ _. built;
+      room = λ _. let more = spare_more old new present sized (λ row waits. sym (stores.waits row) ∙ waits) in omega (arith, more, room);
+    }
+
+-- what contracts see of it
+pub stored_view : (fields : Inside) (new : NodeWriter) (tree : Tree) (pairs : List Pair) → FillsRows fields.writer new → tree.limit ≡ fields.tree.limit
+    → pairs_now new tree ≡ pairs
+    → view_of (record fields { writer = new; tree = tree; changed = true }) ≡ record (view_of fields) { pairs = pairs; changed = true }
+stored_view fields new tree pairs stores limit is =
+    let settled = stored_settled fields.writer new stores in
+    let shown = stored_shown fields.writer new stores in
+    let number = ap (λ (p : Page). p.0) limit in
+    cc

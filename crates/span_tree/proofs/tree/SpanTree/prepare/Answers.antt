@@ -1,0 +1,47 @@
+-- For `SpanTree::prepare`: the rows are there, and a tree is built.
+use Rattle.std.proofs.Common.{◌≡◌, ◌∙◌, true, false, arith, sym, ap, subst}
+use Rattle.span_tree.specs.declared.tree.SpanTree.TheInside.{Inside}
+use Rattle.span_tree.specs.Kept.{IsSpanTree}
+use Rattle.span_tree.specs.Rows.{settled_of}
+use Rattle.span_tree.proofs.Counts.{writers_low}
+use Rattle.span_tree.proofs.Storing.{stored_settled}
+use Rattle.span_tree.proofs.Spans.{scanned_kept, scanned_settled}
+use Rattle.span_tree.proofs.Preparing.{later_kept, first_kept}
+use Rattle.span_tree.proofs.tree.SpanTree.prepare.Goals as goal
+use Rattle.span_tree.proofs.tree.SpanTree.prepare.Goals.{then-self-eq0, else-self-eq0}
+
+pub store-requires-clause-free : goal.store-requires-clause-free
+store-requires-clause-free g c =
+    let fields = c.self.inside in
+    let kept = scanned_kept fields c.wait_for_rows.new.writer c.wait_for_rows.ensures.table c.wait_for_rows.ensures.scans c.self.invariant in
+    let low = writers_low c.wait_for_rows.new.writer fields.tree fields.areas kept.tree kept.few_pairs kept.few_areas in
+    omega (arith, low, c.wait_for_rows.ensures.free)
+
+pub invariant_of-self : goal.invariant_of-self
+invariant_of-self g c =
+    let fields : Inside = record c.self.inside { writer = c.wait_for_rows.new.writer } in
+    let kept : IsSpanTree fields =
+    scanned_kept c.self.inside fields.writer c.wait_for_rows.ensures.table c.wait_for_rows.ensures.scans c.self.invariant in
+    let still : fields.changed ≡ false = ap (λ v. v.changed) c.self.view_is ∙ c.requires in
+    let free = c.wait_for_rows.ensures.free in
+    elim c.if-self-eq0.branch [
+      | then-self-eq0 w ↦
+          let told = w.store.ensures in
+          let some = kept.some_pages in
+          subst (λ (f : Inside). IsSpanTree (record f { roomy = true })) (sym w.self-inside-is)
+          (first_kept fields w.store.new.writer w.store.new.tree 0 fields.tree.limit.0 kept w.if-self-eq0.true still free told.table told.same
+          (told.built some) told.limit (told.pairs some))
+      | else-self-eq0 w ↦
+          subst (λ (f : Inside). IsSpanTree (record f { roomy = true })) (sym w.self-inside-is) (later_kept fields kept w.if-self-eq0.false free)
+    ]
+
+pub returns-clause-settled : goal.returns-clause-settled
+returns-clause-settled g c =
+    let more = scanned_settled c.self.inside.writer c.wait_for_rows.new.writer c.wait_for_rows.ensures.scans in
+    let was = ap (λ v. v.settled) c.self.view_is in
+    elim c.if-self-eq0.branch [
+      | then-self-eq0 w ↦
+          let same = stored_settled c.wait_for_rows.new.writer w.store.new.writer w.store.ensures.same in
+          omega (arith, more, was, same, ap (λ (f : Inside). settled_of f.writer) w.self-inside-is)
+      | else-self-eq0 w ↦ omega (arith, more, was, ap (λ (f : Inside). settled_of f.writer) w.self-inside-is)
+    ]

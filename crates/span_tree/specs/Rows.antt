@@ -1,0 +1,49 @@
+-- What the rows of a writer's table are for, counted, and what stays so while pins are scanned.
+use Rattle.std.specs.Prelude.{ℕ, zero, suc, ◌≡◌, ◌+◌, ◌-◌, min, Bool, true, not, ◌&&◌, if◌then◌else◌, List}
+use Rattle.grace_core.specs.Core.{since_at}
+use Rattle.maple_node.specs.Levels.{at_of}
+use Rattle.maple_node.specs.Trees.{Pair, pairs_of, tree_of}
+use Rattle.node_slots.specs.declared.view.NodeView.{NodeView}
+use Rattle.node_slots.specs.declared.seats.NodeWriter.{NodeWriter}
+use Rattle.node_slots.specs.Seats.{sight, desk, row_count, is_present, is_waiting, is_kept, count_of}
+
+-- the sum of what each number below a limit gives
+unfoldable pub sum_below : (ℕ → ℕ) → ℕ → ℕ
+sum_below f zero = 0
+sum_below f (suc n) = f n + sum_below f n
+
+-- whether a row is spare: free, or taken and not published
+abbrev pub is_spare : NodeWriter → ℕ → Bool
+is_spare writer row = not (is_present writer row) && not (is_waiting writer row)
+
+-- how many rows are spare
+abbrev pub spare_rows : NodeWriter → ℕ
+spare_rows writer = sum_below (λ row. count_of (is_spare writer row)) (row_count writer)
+
+-- the greatest number up to one that is below what each of some rows waits for
+unfoldable pub least_wait : (ℕ → Bool) → (ℕ → ℕ) → ℕ → ℕ → ℕ
+least_wait waits since number zero = number
+least_wait waits since number (suc row) =
+    if waits row then min (since row - 1) (least_wait waits since number row) else least_wait waits since number row
+
+-- the greatest tree, at most the present one, such that no row waits that left at its publish or before
+abbrev pub settled_of : NodeWriter → ℕ
+settled_of writer = least_wait (is_waiting writer) (since_at (desk writer).since) (desk writer).tree.number (row_count writer)
+
+-- the pairs of the present tree
+abbrev pub shown_pairs : NodeWriter → List Pair
+shown_pairs writer = let at = at_of (desk writer).tree.words in pairs_of at (tree_of at (sight writer).known.root)
+
+-- the same tree is present, in a table of the same size whose rows have the same words
+pub record IsSameTree (old new : NodeView) : Type 0 where
+  pub size : new.size ≡ old.size
+  pub root : new.known.root ≡ old.known.root
+  pub tree : new.known.desk.tree ≡ old.known.desk.tree
+  pub words : new.known.desk.words ≡ old.known.desk.words
+  pub since : new.known.desk.since ≡ old.known.desk.since
+
+-- between two times of a writer there were only scans: rows that waited may have become free, and nothing else changed
+pub record Scans (old new : NodeWriter) : Type 0 where
+  pub same : IsSameTree (sight old) (sight new)
+  pub kept : (row : ℕ) → is_kept new row ≡ is_kept old row
+  pub waits : (row : ℕ) → is_waiting new row ≡ true → is_waiting old row ≡ true

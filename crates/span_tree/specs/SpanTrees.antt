@@ -1,0 +1,45 @@
+-- What contracts see of a tree of spans and slots.
+use Rattle.std.specs.Prelude.{ℕ, ◌≡◌, ◌<◌, ◌≤◌, ◌+◌, ◌*◌, ◌/◌, Bool, List, [], ◌∷◌}
+use Rattle.maple_node.specs.Trees.{Pair}
+use Rattle.atomic_table.specs.Seated.{TableId}
+use Rattle.node_slots.specs.declared.view.Size.{Size}
+use Rattle.node_slots.specs.declared.seats.NodeWriter.{NodeWriter}
+use Rattle.node_slots.specs.Views.{opened_view}
+use Rattle.node_slots.specs.Opening.{IsFreeFrom}
+use Rattle.node_slots.specs.Seats.{sight, free_of, left_of}
+
+-- A tree of spans and slots as contracts see it: the table that it is published in, the most pairs that it may have, the page
+-- where it ends, the number of the present tree, the greatest tree that is settled, the pairs of the tree that is built and
+-- those of the present tree, whether something was stored since the last publish, and whether enough rows are free for all
+-- stores up to the next one.
+pub record SpanView : Type 0 where
+  pub table : TableId
+  pub areas : ℕ
+  pub limit : ℕ
+  pub number : ℕ
+  pub settled : ℕ
+  pub pairs : List Pair
+  pub shown : List Pair
+  pub changed : Bool
+  pub roomy : Bool
+
+-- Pairs from a page on stand in order, and no two of them have a page in common. Each has a page, and a slot below so many, and
+-- the last ends at the limit or below it.
+abbrev pub ArePairs : ℕ → ℕ → ℕ → List Pair → Type 0
+ArePairs slots limit start [] = start ≤ limit
+ArePairs slots limit start (pair ∷ pairs) = (start ≤ pair.lo) × (pair.lo < pair.hi) × (pair.slot < slots) × ArePairs slots limit pair.hi pairs
+
+-- the size of the table for a tree of at most so many pairs
+abbrev pub size_for : ℕ → ℕ → Size
+size_for areas readers = record { rows = areas + 128; slots = 2 * areas + 2; readers = readers }
+
+-- how many rows are free before a tree of at most so many pairs is changed
+abbrev pub enough : ℕ → ℕ
+enough areas = areas / 2 + 60
+
+-- the writer of a table of this size that was just made: tree 0 is present in row 0, and all other rows are free
+pub record IsFreshWriter (areas : ℕ) (writer : NodeWriter) : Type 0 where
+  pub readers : ℕ
+  pub view : sight writer ≡ opened_view (size_for areas readers) readers
+  pub free : IsFreeFrom 1 (areas + 128) (free_of writer)
+  pub left : left_of writer ≡ []

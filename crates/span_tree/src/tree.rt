@@ -1,0 +1,146 @@
+//! The tree of spans and slots.
+ghost use Rattle.std.specs.Prelude.{◌≡◌, ◌≤◌, ◌<◌, ◌+◌, ◌*◌, ◌-◌, ◌^◌, ℕ, true, false, nat_eq, [], length, IfOk};
+ghost use Rattle.maple_node.specs.Words.{slot_word};
+ghost use Rattle.maple_items.specs.Pairs.{overwritten};
+ghost use Rattle.span_tree.specs.SpanTrees.{IsFreshWriter, ArePairs};
+
+use crate::waiting::{scan_once, wait_for_rows};
+use maple_write::{publish_tree, store};
+use mm_types::{NoMemory, Page, Slot, Span};
+use node_slots::{NodeTable, NodeWriter, Tree};
+use std::marker::Model;
+use std::sync::Wait;
+
+/// A tree of spans and slots in a table of rows, with the one writer of the table. It is changed by stores, and shown to readers
+/// whole by a publish.
+#[derive(Drop)]
+pub struct SpanTree {
+    nodes: NodeTable,
+    writer: NodeWriter,
+    tree: Tree,
+    /// The most pairs that it may have.
+    areas: u32,
+    /// The number of the present tree.
+    number: u64,
+    /// Whether something was stored since the last publish.
+    changed: bool,
+    /// Whether enough rows are free for all stores up to the next publish.
+    roomy: bool,
+}
+
+impl Model for SpanTree {
+    ghost use Rattle.span_tree.specs.SpanTrees.{SpanView};
+
+    ghost Value = { SpanView };
+
+    ghost use Rattle.span_tree.specs.Kept.{view_of, IsSpanTree};
+
+    ghost view = { view_of };
+
+    ghost invariant = { IsSpanTree };
+}
+
+impl SpanTree {
+    /// The tree of a table that was just made, of which the writer is given: it has no pairs yet, may have at most so many, from 1
+    /// to 65,530, and its pages end at the limit. The table has `areas + 128` rows, and `2 areas + 2` slots.
+    pub fn new(areas: u32, limit: Page, writer: NodeWriter) -> Result<SpanTree, NoMemory>
+        requires areas { (1 ≤ areas) × (areas ≤ 65530) }
+        requires limit { 0 < limit.0 }
+        requires fresh { IsFreshWriter areas writer }
+        ensures { IfOk result (λ tree. tree ≡ record {
+          table = writer.desk.seat.table_id;
+          areas = areas;
+          limit = limit.0;
+          number = 0;
+          settled = 0;
+          pairs = [];
+          shown = [];
+          changed = false;
+          roomy = false;
+        }) }
+    {
+        let nodes = writer.table()?;
+        Ok(SpanTree {
+            nodes,
+            writer,
+            tree: Tree::new(limit),
+            areas,
+            number: 0,
+            changed: false,
+            roomy: false,
+        })
+    }
+
+    /// Scans until enough rows are free for all stores up to the next publish, which waits for readers. Where tree 0 is present,
+    /// which has no entries, a tree of one gap is built.
+    pub fn prepare<R: Wait>(&mut self, rt: &R)
+        requires { self.old.changed ≡ false }
+        ensures view { self.new ≡ record self.old { changed = nat_eq self.old.number 0; roomy = true; settled = self.new.settled } }
+        ensures settled { self.old.settled ≤ self.new.settled }
+        ensures shown { self.old.shown ≡ self.old.pairs }
+    {
+        wait_for_rows(rt, &self.nodes, &mut self.writer, self.areas / 2 + 60);
+        if self.number == 0 {
+            let pages = Span {
+                lo: 0,
+                hi: self.tree.limit.0,
+            };
+            store(&self.nodes, &mut self.writer, &mut self.tree, pages, None);
+            self.changed = true;
+        }
+        self.roomy = true;
+    }
+
+    /// Stores a slot for the pages of a span, or none, in the place of what they had. Takes no memory, and cannot be refused.
+    pub fn store(&mut self, span: Span, slot: Option<Slot>)
+        requires roomy { self.old.roomy ≡ true }
+        requires span { (span.lo < span.hi) × (span.hi ≤ self.old.limit) }
+        requires slot { slot_word slot ≤ 2 * self.old.areas + 2 }
+        requires few { length (overwritten span.lo span.hi (slot_word slot) self.old.pairs) ≤ self.old.areas }
+        ensures { self.new ≡ record self.old { pairs = overwritten span.lo span.hi (slot_word slot) self.old.pairs; changed = true } }
+    {
+        store(&self.nodes, &mut self.writer, &mut self.tree, span, slot);
+        self.changed = true;
+    }
+
+    /// Publishes the tree: it is the present one, with the next number.
+    pub fn publish(&mut self)
+        requires roomy { self.old.roomy ≡ true }
+        requires number { self.old.number < 2 ^ 40 - 1 }
+        ensures view { self.new ≡ record self.old {
+          number = self.old.number + 1;
+          shown = self.old.pairs;
+          changed = false;
+          roomy = false;
+          settled = self.new.settled;
+        } }
+        ensures settled { self.old.settled ≤ self.new.settled }
+        ensures few { length self.new.shown ≤ self.new.areas }
+        ensures pairs { ArePairs (2 * self.new.areas + 2) self.new.limit 0 self.new.shown }
+    {
+        publish_tree(&self.nodes, &mut self.writer, &self.tree);
+        self.number += 1;
+        self.changed = false;
+        self.roomy = false;
+    }
+
+    /// The greatest tree, at most the present one, such that no row waits that left at its publish or before: no reader that opens
+    /// its pin from now on, and none that is open, reads a row that only trees before it had.
+    pub fn settled(&self) -> u64
+        ensures settled { result ≡ self.now.settled }
+        ensures most { result ≤ self.now.number }
+    {
+        self.nodes.settled(&self.writer)
+    }
+
+    /// Scans every pin once: rows that no reader may read any more are free again.
+    pub fn scan(&mut self)
+        ensures view { self.new ≡ record self.old { settled = self.new.settled } }
+        ensures settled { self.old.settled ≤ self.new.settled }
+    {
+        scan_once(&self.nodes, &mut self.writer);
+    }
+}
+
+#[cfg(test)]
+mod tests;
