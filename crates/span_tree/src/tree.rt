@@ -124,8 +124,7 @@ impl SpanTree {
         self.roomy = false;
     }
 
-    /// The greatest tree, at most the present one, such that no row waits that left at its publish or before: no reader that opens
-    /// its pin from now on, and none that is open, reads a row that only trees before it had.
+    /// The greatest tree, at most the present one, such that no row waits that left at its publish or before.
     pub fn settled(&self) -> u64
         ensures settled { result ≡ self.now.settled }
         ensures most { result ≤ self.now.number }
