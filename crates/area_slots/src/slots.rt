@@ -58,6 +58,13 @@ impl AreaSlots {
         Some(Slot(slot))
     }
 
+    /// How many slots are free.
+    pub fn count_free(&self) -> usize
+        ensures { result ≡ length self.now.free }
+    {
+        self.free.len()
+    }
+
     /// A slot that was taken leaves with a tree: it stands after all that left by this tree.
     pub fn retire(&mut self, slot: Slot, tree: u64)
         requires { IsTaken self.old slot.0 }

@@ -1,42 +1,56 @@
--- For `Pass::note` and `passes_of`: fresh passes, and one with one read more.
-use Rattle.std.proofs.Common.{ℕ, ◌≡◌, ◌≤◌, ◌+◌, List, [], ◌∷◌, ◌++◌, length, get_or, All, refl, sym, ap, subst, arith, ◌∙◌}
-use Rattle.std.proofs.lemmas.List.{length-append}
-use Rattle.std.proofs.lemmas.List.Elements.{All-push}
+-- For `Pass::note`, `passes_of`, `fault_fast` and `Held::unlock`: fresh passes, one with one read more, and one whose seats went on.
+use Rattle.std.proofs.Common.{ℕ, ◌≡◌, ◌≤◌, ◌+◌, List, [], ◌∷◌, ◌++◌, length, take, get_or, All, Some, refl, sym, ap, subst, arith, ◌∙◌}
+use Rattle.std.specs.Prelude.{AllPairs}
+use Rattle.std.proofs.lemmas.List.{length-append, length-take, take-take}
+use Rattle.std.proofs.lemmas.List.Elements.{All-push, All-weaker}
 use Rattle.std.proofs.lemmas.List.Quantifiers.{all_pairs_push}
+use Rattle.mm_types.specs.declared.call.Entry.{Entry}
 use Rattle.mm_types.specs.declared.call.Seen.{Seen}
 use Rattle.mm_types.specs.declared.config.Config.{Config}
-use Rattle.area_model.specs.Journals.{version_of, IsReadRight}
+use Rattle.area_model.specs.Journals.{calls_by, version_of, IsReadAfter, IsReadRight}
+use Rattle.lock_core.specs.declared.stage.Stage.TheVariants.{Out}
+use Rattle.lock_core.specs.Core.{StartsWith}
 use Rattle.atomic_table.specs.Seated.{TableId}
 use Rattle.vma_lock.specs.declared.seats.ReaderSeat.{ReaderSeat}
-use Rattle.vma_lock.specs.Seats.{view}
+use Rattle.vma_lock.specs.Seats.{view, stage}
 use Rattle.vma_lock.specs.Views.{new_reader, opened_view}
-use Rattle.fault_path.specs.Passes.{PassView, IsPass, IsPassOf, IsFresh, caller, config, seen_by, made_by}
+use Rattle.node_slots.specs.declared.seats.NodeSeat.{NodeSeat}
+use Rattle.node_slots.specs.Views.{reader_view}
+use Rattle.node_slots.specs.Seats as node_seats
+use Rattle.fault_path.specs.Passes.{PassView, IsPass, IsPassOf, IsFresh, caller, config, seen_by, made_by, node_size}
+use Rattle.fault_path.specs.Locking.{GoesOn}
+use Rattle.fault_path.specs.Holding.{KeepsPass}
 
 -- a pass after a read, for which an operation was taken
 pub noted : (pass : PassView) (reserved : ℕ) (read : Seen) → IsPass pass reserved
     → length (made_by pass) + length pass.log + pass.left + 1 ≤ pass.operations
     → IsReadRight (config pass) (seen_by pass) read → All (λ earlier. version_of earlier ≤ version_of read) pass.log
-    → IsPass (record { reader = pass.reader; log = pass.log ++ read ∷ []; left = pass.left; operations = pass.operations }) reserved
+    → IsPass (record { reader = pass.reader; nodes = pass.nodes; log = pass.log ++ read ∷ []; left = pass.left; operations = pass.operations }) reserved
 noted pass reserved read kept room right rises = record {
   legal = kept.legal;
   turn = kept.turn;
   free = kept.free;
+  closed = kept.closed;
   right = All-push (IsReadRight (config pass) (seen_by pass)) pass.log read kept.right right;
   rises = all_pairs_push (λ earlier later. version_of earlier ≤ version_of later) pass.log read kept.rises rises;
   few = let more = length-append pass.log (read ∷ []) in omega (arith, room, more);
   room = kept.room;
 }
 
--- a pass that a new reader begins
-pub fresh_pass : (name : TableId) (settings : Config) (most : List ℕ) (place count : ℕ) (seat : ReaderSeat) (pass : PassView)
-    → pass ≡ record { reader = seat; log = []; left = count; operations = count }
-    → seat.seat.table_id ≡ name → view seat ≡ new_reader (opened_view settings place) → count ≡ get_or most place 0
-    → (IsPassOf name settings most pass × (caller pass ≡ place)) × IsFresh pass
-fresh_pass name settings most place count seat pass is table view_is count_is = subst
-    (λ (p : PassView). (IsPassOf name settings most p × (caller p ≡ place)) × IsFresh p) (sym is) (
+-- a pass that new seats begin
+pub fresh_pass : (name walked : TableId) (settings : Config) (most : List ℕ) (place count : ℕ) (seat : ReaderSeat) (walker : NodeSeat) (pass : PassView)
+    → pass ≡ record { reader = seat; nodes = walker; log = []; left = count; operations = count }
+    → seat.seat.table_id ≡ name → view seat ≡ new_reader (opened_view settings place)
+    → walker.seat.table_id ≡ walked → node_seats.view walker ≡ reader_view (node_size settings (length most)) place
+    → count ≡ get_or most place 0
+    → (IsPassOf name walked settings most pass × (caller pass ≡ place)) × IsFresh pass
+fresh_pass name walked settings most place count seat walker pass is table view_is walked_is walks_is count_is = subst
+    (λ (p : PassView). (IsPassOf name walked settings most p × (caller p ≡ place)) × IsFresh p) (sym is) (
       (
         record {
           table = table;
+          nodes = walked_is;
+          size = ap (λ v. v.size) walks_is;
           config_is = ap (λ v. v.config) view_is;
           operations = count_is ∙ ap (λ at. get_or most at 0) (sym (ap (λ v. v.caller) view_is));
         },
@@ -44,3 +58,71 @@ fresh_pass name settings most place count seat pass is table view_is count_is = 
       ),
       record { seen = ap (λ v. v.seen) view_is; log = refl; left = refl },
     )
+
+-- a read that is right in a journal is right in one that begins with it
+right_later : (settings : Config) (new old : List Entry) (read : Seen) → StartsWith new old → IsReadRight settings old read → IsReadRight settings new read
+right_later settings new old read later right =
+    let within = right.within in
+    let longer : length old ≤ length new =
+    let cut = ap (λ (l : List Entry). length l) later in
+    let most = length-take (length old) new in
+    omega (arith, cut, most) in
+    let same : take (version_of read) new ≡ take (version_of read) old =
+    sym (take-take (version_of read) (length old) new within) ∙ ap (take (version_of read)) later in
+    record {
+      right = subst (λ (j : List Entry). IsReadAfter settings j read) (sym same) right.right;
+      within = omega (arith, within, longer);
+    }
+
+-- what is kept of a pass whose seats went on
+pub keeps_on : (old new : PassView) (reserved : ℕ) → KeepsPass old reserved → GoesOn (view old.reader) (view new.reader)
+    → node_seats.IsClosed new.nodes → new.log ≡ old.log → new.left ≡ old.left → new.operations ≡ old.operations → KeepsPass new reserved
+keeps_on old new reserved kept on closed log left operations =
+    let own : made_by new ≡ made_by old =
+    ap (λ c. calls_by c (seen_by new)) on.caller ∙ on.own (caller old) kept.turn in
+    record {
+      legal = on.legal kept.legal;
+      turn = on.turn ∙ kept.turn ∙ ap Some (sym on.caller);
+      closed = closed;
+      right = subst (All (IsReadRight (config new) (seen_by new))) (sym log)
+          (subst (λ (s : Config). All (IsReadRight s (seen_by new)) old.log) (sym on.config)
+          (All-weaker (IsReadRight (config old) (seen_by old)) (IsReadRight (config old) (seen_by new))
+          (λ read. right_later (config old) (seen_by new) (seen_by old) read on.later) old.log kept.right));
+      rises = subst (AllPairs (λ earlier later. version_of earlier ≤ version_of later)) (sym log) kept.rises;
+      few =
+          let made = ap (λ (l : List Entry). length l) own in
+          let reads = ap (λ (l : List Seen). length l) log in
+          let some = kept.few in
+          omega (arith, made, reads, some, left, operations);
+      room = let some = kept.room in omega (arith, some, operations);
+    }
+
+-- what is kept of a pass that holds nothing, and a pass of which it is kept
+pub keeps_of : (pass : PassView) (reserved : ℕ) → IsPass pass reserved → KeepsPass pass reserved
+keeps_of pass reserved kept = record {
+  legal = kept.legal;
+  turn = kept.turn;
+  closed = kept.closed;
+  right = kept.right;
+  rises = kept.rises;
+  few = kept.few;
+  room = kept.room;
+}
+
+pub pass_of : (pass : PassView) (reserved : ℕ) → KeepsPass pass reserved → stage pass.reader ≡ Out → IsPass pass reserved
+pass_of pass reserved kept free = record {
+  legal = kept.legal;
+  turn = kept.turn;
+  free = free;
+  closed = kept.closed;
+  right = kept.right;
+  rises = kept.rises;
+  few = kept.few;
+  room = kept.room;
+}
+
+-- a pass whose seats went on, and came to hold nothing again
+pub gone_on : (old new : PassView) (reserved : ℕ) → IsPass old reserved → GoesOn (view old.reader) (view new.reader) → stage new.reader ≡ Out
+    → node_seats.IsClosed new.nodes → new.log ≡ old.log → new.left ≡ old.left → new.operations ≡ old.operations → IsPass new reserved
+gone_on old new reserved kept on free closed log left operations =
+    pass_of new reserved (keeps_on old new reserved (keeps_of old reserved kept) on closed log left operations) free

@@ -1,5 +1,5 @@
 -- For `passes_of`: the elements of a list that gains one.
-use Rattle.std.proofs.Common.{ℕ, zero, suc, ◌≡◌, List, [], ◌∷◌, ◌++◌, length, slice_get, Some, None, IfSome, refl, sym, subst, ap, ◌∙◌, arith, append_assoc}
+use Rattle.std.proofs.Common.{ℕ, zero, suc, ◌≡◌, ◌<◌, List, [], ◌∷◌, ◌++◌, length, slice_get, Some, None, IfSome, refl, sym, subst, ap, ◌∙◌, arith, append_assoc}
 use Rattle.std.proofs.lemmas.List.{length-append}
 
 some_is : {X : Type 0} (P : X → Type 0) (x y : X) → Some x ≡ Some y → P x → P y
@@ -40,3 +40,13 @@ last_part xs ys zs whole none = let total = ap (λ all. length all) whole in let
 -- two lists of one length that each gain an element
 pub same_lengths : {X Y : Type 0} (xs : List X) (ys : List Y) (x : X) (y : Y) → length xs ≡ length ys → length (xs ++ x ∷ []) ≡ length (ys ++ y ∷ [])
 same_lengths xs ys x y same = let first = length-append xs (x ∷ []) in let second = length-append ys (y ∷ []) in omega (arith, first, second, same)
+
+-- a list in two parts, of which the first is shorter than another list of its length
+pub some_left : {X Y : Type 0} (xs ys zs : List X) (before rest all : List Y) (y : Y) → xs ++ ys ≡ zs → before ++ y ∷ rest ≡ all
+    → length xs ≡ length before → length zs ≡ length all → 0 < length ys
+some_left xs ys zs before rest all y whole other same total =
+    let one = ap (λ l. length l) whole in
+    let two = ap (λ l. length l) other in
+    let first = length-append xs ys in
+    let second = length-append before (y ∷ rest) in
+    omega arith

@@ -1,1 +1,5 @@
 pub mod Passes
+pub mod Faults
+pub mod Locking
+pub mod Holding
+pub mod Benches

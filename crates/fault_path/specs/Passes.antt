@@ -1,8 +1,10 @@
--- A pass: a reader's seat with the log of its reads, and how many operations it has left.
-use Rattle.std.specs.Prelude.{ℕ, ◌≡◌, ◌≤◌, ◌+◌, List, [], length, slice_get, slice_index_or, Some, All, AllPairs}
+-- A pass: a caller's seats at both tables with the log of its reads, and how many operations it has left.
+use Rattle.std.specs.Prelude.{ℕ, ◌≡◌, ◌≤◌, ◌+◌, ◌*◌, List, [], length, slice_get, slice_index_or, Some, All, AllPairs}
 use Rattle.mm_types.specs.declared.call.Entry.{Entry}
 use Rattle.mm_types.specs.declared.call.Seen.{Seen}
 use Rattle.mm_types.specs.declared.config.Config.{Config}
+use Rattle.mm_types.specs.declared.files.FileRow.{FileRow}
+use Rattle.mm_types.specs.Config.{IsValidConfig}
 use Rattle.area_model.specs.Journals.{calls_by, version_of, IsReadRight}
 use Rattle.area_model.specs.Steps.{IsLegalJournal}
 use Rattle.lock_core.specs.declared.stage.Stage.TheVariants.{Out}
@@ -10,15 +12,43 @@ use Rattle.lock_core.specs.Core.{StartsWith}
 use Rattle.atomic_table.specs.Seated.{TableId}
 use Rattle.vma_lock.specs.declared.seats.ReaderSeat.{ReaderSeat}
 use Rattle.vma_lock.specs.Seats.{view, seen, stage, HasTurn}
+use Rattle.node_slots.specs.declared.seats.NodeSeat.{NodeSeat}
+use Rattle.node_slots.specs.declared.view.NodeView.{NodeView}
+use Rattle.node_slots.specs.declared.view.Size.{Size}
+use Rattle.node_slots.specs.declared.seats.NodeWriter.{NodeWriter}
+use Rattle.node_slots.specs.Opening.{IsFreeFrom}
+use Rattle.node_slots.specs.Views.{opened_view}
+use Rattle.node_slots.specs.Seats as node_seats
 
--- the table that faults look at: which it is, and its configuration
+-- the two tables that faults look at: which they are, their configuration, and for how many callers they were made
 pub record ViewedTable : Type 0 where
   pub table : TableId
+  pub nodes : TableId
   pub config : Config
+  pub callers : ℕ
 
--- a pass as contracts see it: the seat, the reads so far, how many operations are left, and how many it was made with
+-- how large the table of nodes is: it has rows and slots enough for the areas of a call's list before and after it
+abbrev pub node_size : Config → ℕ → Size
+node_size config callers = record { rows = config.areas + 128; slots = 2 * config.areas + 2; readers = callers }
+
+-- what a view of tables keeps: its configuration is valid, it has the files of the configuration, and the table of nodes has
+-- the size that goes with it
+pub record IsViewed (settings : Config) (size : Size) (files : List FileRow) : Type 0 where
+  pub valid : IsValidConfig settings
+  pub files_are : files ≡ settings.files
+  pub size_is : size ≡ node_size settings size.readers
+
+-- the writer of a new table of nodes: tree 0 is present in row 0, and all other rows are free
+pub record IsNewWriter (settings : Config) (callers : ℕ) (writer : NodeWriter) : Type 0 where
+  pub view : node_seats.sight writer ≡ opened_view (node_size settings callers) callers
+  pub free : IsFreeFrom 1 (settings.areas + 128) (node_seats.free_of writer)
+  pub left : node_seats.left_of writer ≡ []
+
+-- a pass as contracts see it: the seats at both tables, the reads so far, how many operations are left, and how many it was
+-- made with
 pub record PassView : Type 0 where
   pub reader : ReaderSeat
+  pub nodes : NodeSeat
   pub log : List Seen
   pub left : ℕ
   pub operations : ℕ
@@ -43,21 +73,39 @@ made_by pass = calls_by (caller pass) (seen_by pass)
 abbrev pub looks_of : PassView → ℕ
 looks_of pass = (view pass.reader).trace.looks
 
--- What a pass keeps: it has seen a legal journal, has its caller's turn and holds no slot, each read of its log is right in
--- what it has seen, versions rise along the log, and what it made, what it read and what is left are no more than its
--- operations, for which its log has room.
+-- what its seat at the table of nodes knows
+abbrev pub walker : PassView → NodeView
+walker pass = node_seats.view pass.nodes
+
+-- how often it walked the tree of areas
+abbrev pub walks_of : PassView → ℕ
+walks_of pass = (walker pass).walks
+
+-- What a pass keeps: it has seen a legal journal, has its caller's turn and holds no slot, its pin is closed, each read of its
+-- log is right in what it has seen, versions rise along the log, and what it made, what it read and what is left are no more
+-- than its operations, for which its log has room.
 pub record IsPass (pass : PassView) (reserved : ℕ) : Type 0 where
   pub legal : IsLegalJournal (config pass) (seen_by pass)
   pub turn : HasTurn pass.reader
   pub free : stage pass.reader ≡ Out
+  pub closed : node_seats.IsClosed pass.nodes
   pub right : All (IsReadRight (config pass) (seen_by pass)) pass.log
   pub rises : AllPairs (λ earlier later. version_of earlier ≤ version_of later) pass.log
   pub few : length (made_by pass) + length pass.log + pass.left ≤ pass.operations
   pub room : pass.operations ≤ reserved
 
--- the pass is of this table, and has as many operations as its caller may make
-pub record IsPassOf (name : TableId) (settings : Config) (most : List ℕ) (pass : PassView) : Type 0 where
+-- the seats of the pass are at these tables
+pub record SitsAt (viewed : ViewedTable) (pass : PassView) : Type 0 where
+  pub table : pass.reader.seat.table_id ≡ viewed.table
+  pub nodes : pass.nodes.seat.table_id ≡ viewed.nodes
+  pub size : (walker pass).size ≡ node_size viewed.config viewed.callers
+  pub config_is : config pass ≡ viewed.config
+
+-- the pass is of these tables, of areas and of nodes, and has as many operations as its caller may make
+pub record IsPassOf (name walked : TableId) (settings : Config) (most : List ℕ) (pass : PassView) : Type 0 where
   pub table : pass.reader.seat.table_id ≡ name
+  pub nodes : pass.nodes.seat.table_id ≡ walked
+  pub size : (walker pass).size ≡ node_size settings (length most)
   pub config_is : config pass ≡ settings
   pub operations : pass.operations ≡ slice_index_or most (caller pass) 0
 
@@ -71,16 +119,18 @@ pub record IsFresh (pass : PassView) : Type 0 where
 pub record IsLater (old new : PassView) : Type 0 where
   pub by : caller new ≡ caller old
   pub table : new.reader.seat.table_id ≡ old.reader.seat.table_id
+  pub nodes : new.nodes.seat.table_id ≡ old.nodes.seat.table_id
+  pub size : (walker new).size ≡ (walker old).size
   pub config_is : config new ≡ config old
   pub operations : new.operations ≡ old.operations
   pub later : StartsWith (seen_by new) (seen_by old)
 
--- the passes of a table: one for each caller, each in its caller's place
-pub record ArePasses (name : TableId) (settings : Config) (most : List ℕ) (passes : List PassView) : Type 0 where
+-- the passes of these tables: one for each caller, each in its caller's place
+pub record ArePasses (name walked : TableId) (settings : Config) (most : List ℕ) (passes : List PassView) : Type 0 where
   pub all : length passes ≡ length most
-  pub each : (place : ℕ) (pass : PassView) → slice_get passes place ≡ Some pass → IsPassOf name settings most pass × (caller pass ≡ place)
+  pub each : (place : ℕ) (pass : PassView) → slice_get passes place ≡ Some pass → IsPassOf name walked settings most pass × (caller pass ≡ place)
 
 -- such passes with which nothing was done
-pub record AreFresh (name : TableId) (settings : Config) (most : List ℕ) (passes : List PassView) : Type 0 where
-  pub passes_are : ArePasses name settings most passes
+pub record AreFresh (name walked : TableId) (settings : Config) (most : List ℕ) (passes : List PassView) : Type 0 where
+  pub passes_are : ArePasses name walked settings most passes
   pub fresh : (place : ℕ) (pass : PassView) → slice_get passes place ≡ Some pass → IsFresh pass

@@ -1,10 +1,16 @@
-//! Passes: what each caller of an address space has of its own. A pass holds the caller's seat at the table of the lock
-//! protocol, the log of what it read, and how many operations it has left.
+//! Passes, and the faults that they make without the lock. A pass is what each caller of an address space has of its own: the
+//! caller's seats at the table of areas and at the table of nodes, the log of what it read, and how many operations it has left.
 #![tactic(auto)]
 
+mod copying;
+mod fast;
+mod held;
+mod locking;
 mod pass;
 mod view;
 
+pub use fast::{Fast, Miss};
+pub use held::Held;
 pub use pass::Pass;
 pub use view::FaultView;
 

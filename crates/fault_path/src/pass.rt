@@ -4,21 +4,24 @@ ghost use Rattle.area_model.specs.Journals.{version_of, IsReadRight};
 ghost use Rattle.area_model.specs.Steps.{IsLegalJournal};
 ghost use Rattle.lock_core.specs.declared.stage.Stage.TheVariants.{Out};
 ghost use Rattle.vma_lock.specs.Seats.{seen, stage, HasTurn};
-ghost use Rattle.fault_path.specs.Passes.{caller, config, seen_by, made_by, looks_of};
+ghost use Rattle.node_slots.specs.Seats.{IsClosed};
+ghost use Rattle.fault_path.specs.Passes.{caller, config, seen_by, made_by, looks_of, walks_of};
 
 use mm_types::{NoMemory, Seen};
+use node_slots::NodeSeat;
 use std::alloc::Global;
 use std::marker::Model;
 use vma_lock::ReaderSeat;
 
-/// What a caller has of its own: its seat at the table, the log of its reads, and how many operations it has left. Each
-/// call, fault or list that it asks for is one operation.
+/// What a caller has of its own: its seats at the table of areas and at the table of nodes, the log of its reads, and how many
+/// operations it has left. Each call, fault or list that it asks for is one operation.
 #[derive(Drop)]
 pub struct Pass {
     pub reader: ReaderSeat,
-    log: Vec<Seen>,
-    left: u64,
-    operations: u64,
+    pub(crate) nodes: NodeSeat,
+    pub(crate) log: Vec<Seen>,
+    pub(crate) left: u64,
+    pub(crate) operations: u64,
 }
 
 impl Model for Pass {
@@ -27,23 +30,30 @@ impl Model for Pass {
 
     ghost Value = { PassView };
 
-    ghost view = { λ p. record { reader = p.reader; log = p.log.items; left = p.left; operations = p.operations } };
+    ghost view = { λ p. record { reader = p.reader; nodes = p.nodes; log = p.log.items; left = p.left; operations = p.operations } };
 
     ghost invariant = { λ p.
-        IsPass (record { reader = p.reader; log = p.log.items; left = p.left; operations = p.operations }) (vec_capacity p.log) };
+        IsPass (record { reader = p.reader; nodes = p.nodes; log = p.log.items; left = p.left; operations = p.operations }) (vec_capacity p.log) };
 }
 
 impl Pass {
-    /// The pass of a reader that has seen nothing, with so many operations. The room for as many reads is taken here.
-    pub(crate) fn new(alloc: Global, reader: ReaderSeat, operations: u64) -> Result<Pass, NoMemory>
+    /// The pass of seats that did nothing, with so many operations. The room for as many reads is taken here.
+    pub(crate) fn new(
+        alloc: Global,
+        reader: ReaderSeat,
+        nodes: NodeSeat,
+        operations: u64,
+    ) -> Result<Pass, NoMemory>
         requires seen { seen reader ≡ [] }
         requires turn { HasTurn reader }
         requires free { stage reader ≡ Out }
+        requires closed { IsClosed nodes }
         requires few { operations < 2 ^ 32 }
-        ensures { IfOk result (λ pass. pass ≡ record { reader = reader; log = []; left = operations; operations = operations }) }
+        ensures { IfOk result (λ pass. pass ≡ record { reader = reader; nodes = nodes; log = []; left = operations; operations = operations }) }
     {
         Ok(Pass {
             reader,
+            nodes,
             log: Vec::with_capacity(alloc, operations as usize)?,
             left: operations,
             operations,
@@ -71,11 +81,11 @@ impl Pass {
         self.reader.looks()
     }
 
-    /// How often it walked the tree of areas. No pass does yet.
+    /// How often it walked the tree of areas, or 2^64 - 1 where it walked more often.
     pub fn walks(&self) -> u64
-        ensures { result ≡ 0 }
+        ensures { result ≡ min (walks_of self.now) (2 ^ 64 - 1) }
     {
-        0
+        self.nodes.walks()
     }
 
     /// How many operations are left.
@@ -97,6 +107,7 @@ impl Pass {
         ensures legal { IsLegalJournal (config self.now) (seen_by self.now) }
         ensures turn { HasTurn self.now.reader }
         ensures free { stage self.now.reader ≡ Out }
+        ensures closed { IsClosed self.now.nodes }
         ensures right { All (IsReadRight (config self.now) (seen_by self.now)) self.now.log }
         ensures rises { AllPairs (λ earlier later. version_of earlier ≤ version_of later) self.now.log }
         ensures few { length (made_by self.now) + length self.now.log + self.now.left ≤ self.now.operations }
@@ -133,12 +144,13 @@ impl Pass {
         log
     }
 
-    /// Ends the pass, and hands its seat and its log out.
+    /// Ends the pass, and hands its seat at the table of areas and its log out. The other seat is closed for ever.
     pub(crate) fn into_parts(self) -> (ReaderSeat, Vec<Seen>)
         ensures { (result.0 ≡ self.reader) × (result.1.items ≡ self.log) }
     {
         let Pass {
             reader,
+            nodes: _,
             log,
             left: _,
             operations: _,

@@ -1,55 +1,165 @@
-//! The view of a table that all callers share.
-ghost use Rattle.std.specs.Prelude.{ℕ, ◌≡◌, ◌≤◌, IfOk, length, sum, slice_get, Some};
+//! The view of an address space's tables that all callers share.
+ghost use Rattle.std.specs.Prelude.{ℕ, ◌≡◌, ◌≤◌, IfOk, IfErr, length, sum, slice_get, Some};
 ghost use Rattle.mm_types.specs.Config.{IsValidConfig};
 ghost use Rattle.lock_core.specs.Events.{longer};
 ghost use Rattle.vma_lock.specs.declared.seats.ReaderSeat.{ReaderSeat as Reader};
 ghost use Rattle.vma_lock.specs.Views.{opened_view, new_reader};
 ghost use Rattle.vma_lock.specs.Seats.{table_of, IsOf, sight, view};
-ghost use Rattle.fault_path.specs.Passes.{caller, config, seen_by, looks_of, IsLater, AreFresh};
+ghost use Rattle.node_slots.specs.declared.seats.NodeSeat.{NodeSeat as Walker};
+ghost use Rattle.node_slots.specs.Views.{reader_view};
+ghost use Rattle.node_slots.specs.Seats as node_seats;
+ghost use Rattle.fault_path.specs.Passes.{caller, config, seen_by, looks_of, made_by, node_size, walker, SitsAt, IsLater, AreFresh, IsNewWriter};
+ghost use Rattle.fault_path.specs.Faults.{WalksOnce, IsFast, Misses};
+ghost use Rattle.fault_path.specs.Holding.{Locks, StaysAlike};
 
+use crate::copying::copy_files;
+use crate::fast::{Fast, Miss};
+use crate::held::Held;
+use crate::locking::lock_page;
 use crate::pass::Pass;
-use mm_types::{Config, NoMemory, Seen};
+use area_model::area_verdict;
+use mm_types::{Access, Config, Files, NoMemory, Page, Seen};
+use node_slots::{NodeSeat, NodeTable, NodeWriter};
 use std::alloc::Global;
 use std::marker::Model;
 use vma_lock::{ReaderSeat, VmaTable, WriterSeat};
 
-/// A table as callers see it. Callers share it by reference.
+/// The tables of an address space as callers see them: the areas with their locks, and the nodes of the tree of areas. Callers
+/// share it by reference.
 #[derive(Drop)]
 pub struct FaultView {
-    table: VmaTable,
+    pub(crate) table: VmaTable,
+    pub(crate) nodes: NodeTable,
+    /// The files of the configuration.
+    files: Files,
 }
 
 impl Model for FaultView {
     ghost use Rattle.vma_lock.specs.Seats.{table_of, config_of};
-    ghost use Rattle.fault_path.specs.Passes.{ViewedTable};
+    ghost use Rattle.node_slots.specs.Seats.{size_of};
+    ghost use Rattle.node_slots.specs.Seats as node_seats;
+    ghost use Rattle.fault_path.specs.Passes.{ViewedTable, IsViewed};
 
     ghost Value = { ViewedTable };
 
-    ghost view = { λ v. record { table = table_of v.table; config = config_of v.table } };
+    ghost view = { λ v. record {
+      table = table_of v.table;
+      nodes = node_seats.table_of v.nodes;
+      config = config_of v.table;
+      callers = (size_of v.nodes).readers;
+    } };
+
+    ghost invariant = { λ v. IsViewed (config_of v.table) (size_of v.nodes) v.files };
 }
 
 impl FaultView {
-    /// Makes a table with its writer and a pass for each caller, in order, with as many operations as are given for it.
+    /// Makes both tables with their writers and a pass for each caller, in order, with as many operations as are given for it.
     /// There are 1 to 64 callers, with at most 16,777,216 operations together. Refused only where memory runs out.
     pub fn make(
         alloc: Global,
         config: &Config,
         operations: &[u64],
-    ) -> Result<(FaultView, Vec<Pass>, WriterSeat), NoMemory>
+    ) -> Result<(FaultView, Vec<Pass>, WriterSeat, NodeWriter), NoMemory>
         requires config { IsValidConfig config.now }
         requires callers { (1 ≤ length operations.now) × (length operations.now ≤ 64) }
         requires few { sum operations.now ≤ 16777216 }
-        ensures view { IfOk result (λ made. made.0 ≡ record { table = made.2.seat.table_id; config = config.now }) }
+        ensures view { IfOk result (λ made. made.0 ≡ record {
+          table = made.2.seat.table_id;
+          nodes = made.3.desk.seat.table_id;
+          config = config.now;
+          callers = length operations.now;
+        }) }
         ensures writer { IfOk result (λ made. sight made.2 ≡ opened_view config.now (length operations.now)) }
-        ensures passes { IfOk result (λ made. AreFresh made.2.seat.table_id config.now operations.now made.1.items) }
+        ensures nodes { IfOk result (λ made. IsNewWriter config.now (length operations.now) made.3) }
+        ensures passes { IfOk result (λ made. AreFresh made.2.seat.table_id made.3.desk.seat.table_id config.now operations.now made.1.items) }
     {
-        let (table, writer, seats) = VmaTable::new(alloc, config, operations.len() as u32)?;
-        let passes = passes_of(alloc, &table, config, seats, operations)?;
-        Ok((FaultView { table }, passes, writer))
+        let callers = operations.len() as u32;
+        let (table, writer, seats) = VmaTable::new(alloc, config, callers)?;
+        let (nodes, node_writer, walkers) = NodeTable::new(
+            alloc,
+            config.areas + 128,
+            2 * config.areas + 2,
+            callers,
+        )?;
+        let passes = passes_of(alloc, &table, &nodes, config, seats, walkers, operations)?;
+        let files = copy_files(alloc, &config.files)?;
+        let view = FaultView {
+            table,
+            nodes,
+            files,
+        };
+        Ok((view, passes, writer, node_writer))
     }
 
-    /// Joins another pass of this table into one, which has then seen the longer of both lists. Hands the other's log out;
-    /// its operations that are left and its turn end.
+    /// A fault without the lock: it waits for nobody. It walks the tree that is present, counts its caller in the slot that the
+    /// tree pairs with the page, looks at the sequence, and reads the slot's row, unless a call has marked it. An answer is the
+    /// verdict of the area in the row, over the list at the look. Else the fault missed, and has to take the lock.
+    pub fn fault_fast(&self, pass: &mut Pass, page: Page, access: Access) -> Fast
+        requires { SitsAt self.now pass.old }
+        ensures later { IsLater pass.old pass.new }
+        ensures same { pass.new ≡ record pass.old { reader = pass.new.reader; nodes = pass.new.nodes } }
+        ensures own { made_by pass.new ≡ made_by pass.old }
+        ensures walk { WalksOnce (walker pass.old) (walker pass.new) }
+        ensures fast { IsFast page.0 access pass.old pass.new result }
+    {
+        pass.facts();
+        match lock_page(
+            &self.table,
+            &self.nodes,
+            &mut pass.reader,
+            &mut pass.nodes,
+            page,
+        ) {
+            Ok(area) => {
+                self.table.sub(&mut pass.reader);
+                Fast::Answer {
+                    verdict: area_verdict(self.files.items(), page.0, access, &area),
+                    version: pass.reader.version(),
+                }
+            }
+            Err(miss) => Fast::Miss(miss),
+        }
+    }
+
+    /// Locks the area that the tree that is present has at a page, without the lock: the area is held until it is unlocked. It
+    /// waits for nobody. A miss hands the pass back.
+    pub fn read_lock(&self, pass: Pass, page: Page) -> Result<Held<'_>, (Pass, Miss)>
+        requires { SitsAt self.now pass }
+        ensures held { IfOk result (λ held. Locks page.0 pass held) }
+        ensures missed { IfErr result (λ back. StaysAlike pass back.0 × WalksOnce (walker pass) (walker back.0) × Misses page.0 pass back.0 back.1) }
+    {
+        let Pass {
+            mut reader,
+            mut nodes,
+            log,
+            left,
+            operations,
+        } = pass;
+        match lock_page(&self.table, &self.nodes, &mut reader, &mut nodes, page) {
+            Ok(area) => Ok(Held {
+                table: &self.table,
+                area,
+                reader,
+                nodes,
+                log,
+                left,
+                operations,
+            }),
+            Err(miss) => {
+                let pass = Pass {
+                    reader,
+                    nodes,
+                    log,
+                    left,
+                    operations,
+                };
+                Err((pass, miss))
+            }
+        }
+    }
+
+    /// Joins another pass of these tables into one, which has then seen the longer of both lists. Hands the other's log out;
+    /// its operations that are left and its turn end, and its pin is closed for ever.
     pub fn join(&self, into: &mut Pass, other: Pass) -> Vec<Seen>
         requires tables { (into.old.reader.seat.table_id ≡ self.now.table) × (other.reader.seat.table_id ≡ self.now.table) }
         requires configs { config other ≡ config into.old }
@@ -66,24 +176,31 @@ impl FaultView {
     }
 }
 
-/// A pass for each reader of a new table, in order, with as many operations as are given for it.
+/// A pass for each caller of new tables, in order, with as many operations as are given for it.
 fn passes_of(
     alloc: Global,
     table: &VmaTable,
+    nodes: &NodeTable,
     config: &Config,
     seats: Vec<ReaderSeat>,
+    walkers: Vec<NodeSeat>,
     operations: &[u64],
 ) -> Result<Vec<Pass>, NoMemory>
-    requires all { length seats.items ≡ length operations.now }
+    requires all { (length seats.items ≡ length operations.now) × (length walkers.items ≡ length operations.now) }
     requires few { sum operations.now ≤ 16777216 }
     requires fresh { (place : ℕ) (seat : Reader) → slice_get seats.items place ≡ Some seat
         → IsOf seat table.now × (view seat ≡ new_reader (opened_view config.now place)) }
-    ensures { IfOk result (λ passes. AreFresh (table_of table.now) config.now operations.now passes.items) }
+    requires walkers { (place : ℕ) (seat : Walker) → slice_get walkers.items place ≡ Some seat
+        → node_seats.IsOf seat nodes.now
+        × (node_seats.view seat ≡ reader_view (node_size config.now (length operations.now)) place) }
+    ensures { IfOk result (λ passes. AreFresh (table_of table.now) (node_seats.table_of nodes.now) config.now operations.now passes.items) }
 {
     let mut passes = Vec::with_capacity(alloc, operations.len())?;
+    let mut walkers = walkers.into_iter();
     for reader in seats {
+        let walker = walkers.next().unwrap();
         let count = operations[passes.len()];
-        passes.push(Pass::new(alloc, reader, count)?)?;
+        passes.push(Pass::new(alloc, reader, walker, count)?)?;
     }
     Ok(passes)
 }

@@ -2,3 +2,4 @@ pub mod States
 pub mod Settling
 pub mod Opening
 pub mod Playing
+pub mod Ways

@@ -8,12 +8,12 @@ use Rattle.fault_path.specs.Passes.{PassView, ViewedTable, ArePasses, AreFresh}
 use Rattle.mm_state.specs.States.{StateView}
 use Rattle.mm_space.specs.Opening.{operations_of, IsReady}
 
-pub operations_are : (name : TableId) (settings : Config) (most : List ℕ) (passes : List PassView) → ArePasses name settings most passes
+pub operations_are : (name walked : TableId) (settings : Config) (most : List ℕ) (passes : List PassView) → ArePasses name walked settings most passes
     → operations_of passes ≡ most
-operations_are name settings most passes are = ext_get_or 0 (operations_of passes) most
+operations_are name walked settings most passes are = ext_get_or 0 (operations_of passes) most
     (length-map passes (λ (p : PassView). p.operations) ∙ are.all) (λ place within. at passes are place within)
   where
-    at : (passes : List PassView) → ArePasses name settings most passes → (place : ℕ) → place < length (operations_of passes)
+    at : (passes : List PassView) → ArePasses name walked settings most passes → (place : ℕ) → place < length (operations_of passes)
         → get_or (operations_of passes) place 0 ≡ get_or most place 0
     at [] are place within = absurd (omega (arith, within))
     at (first ∷ rest) are place within =
@@ -24,18 +24,20 @@ operations_are name settings most passes are = ext_get_or 0 (operations_of passe
         let of = are.each place pass (slice_get-get_or all place first inside) in
         get_or-map (λ (p : PassView). p.operations) all place first 0 inside ∙ of.0.operations ∙ ap (λ c. get_or most c 0) of.1
 
-pub ready : (name : TableId) (settings : Config) (most : List ℕ) (passes : List PassView) (viewed : ViewedTable) (state : StateView)
+pub ready : (name walked : TableId) (settings : Config) (most : List ℕ) (passes : List PassView) (viewed : ViewedTable) (state : StateView)
     (logs reserved : ℕ)
-    → viewed ≡ record { table = name; config = settings } → state.table ≡ name → state.config ≡ settings → state.journal ≡ []
-    → sum most < state.room → sum most ≤ 16777216 → AreFresh name settings most passes → logs ≡ 0 → length most ≤ reserved
+    → viewed ≡ record { table = name; nodes = walked; config = settings; callers = length most } → state.table ≡ name → state.nodes ≡ walked → state.config ≡ settings → state.journal ≡ []
+    → sum most < state.room → sum most ≤ 16777216 → AreFresh name walked settings most passes → logs ≡ 0 → length most ≤ reserved
     → IsReady viewed state passes logs reserved
-ready name settings most passes viewed state logs reserved viewed_is table config journal room few fresh empty reserve =
-    let same = operations_are name settings most passes fresh.passes_are in
+ready name walked settings most passes viewed state logs reserved viewed_is table nodes config journal room few fresh empty reserve =
+    let same = operations_are name walked settings most passes fresh.passes_are in
     subst (λ (v : ViewedTable). IsReady v state passes logs reserved) (sym viewed_is) (record {
       table = table;
+      nodes = nodes;
       config = config;
       journal = journal;
-      fresh = subst (λ ops. AreFresh name settings ops passes) (sym same) fresh;
+      fresh = subst (λ ops. AreFresh name walked settings ops passes) (sym same) fresh;
+      callers = sym fresh.passes_are.all;
       few = subst (λ ops. sum ops ≤ 16777216) (sym same) few;
       room = subst (λ ops. sum ops < state.room) (sym same) room;
       empty = empty;

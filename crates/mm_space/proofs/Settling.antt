@@ -46,12 +46,12 @@ regathered later logs last passes pass next gives is same =
     ∙ sym (map-append (λ (p : PassView). p.log) passes (pass ∷ []))
 
 -- what closing all passes results in
-pub closes : (name : TableId) (settings : Config) (most : List ℕ) (passes : List PassView) (journal kept : List Entry)
+pub closes : (name walked : TableId) (settings : Config) (most : List ℕ) (passes : List PassView) (journal kept : List Entry)
     (logs : List (List Seen)) (list : List Record)
-    → ArePasses name settings most passes → journal ≡ kept → IsLegalJournal settings kept → list ≡ list_after settings kept
+    → ArePasses name walked settings most passes → journal ≡ kept → IsLegalJournal settings kept → list ≡ list_after settings kept
     → logs ≡ map (λ p. p.log) passes → All (IsIn settings kept) passes → Within most kept
     → Closes settings passes (record { journal = journal; logs = logs; list = list })
-closes name settings most passes journal kept logs list are journal_is legal list_is logs_are lie within = subst
+closes name walked settings most passes journal kept logs list are journal_is legal list_is logs_are lie within = subst
     (λ (entries : List Entry). Closes settings passes (record { journal = entries; logs = logs; list = list }))
     (sym journal_is)
     (record {

@@ -1,5 +1,7 @@
 -- What the operations of a space make of a pass.
 use Rattle.std.specs.Prelude.{ℕ, ◌≡◌, ◌+◌, List, [], ◌∷◌, ◌++◌, length}
+use Rattle.mm_types.specs.declared.area.Access.{Access}
+use Rattle.mm_types.specs.declared.area.Verdict.{Verdict}
 use Rattle.mm_types.specs.declared.call.Call.{Call}
 use Rattle.mm_types.specs.declared.call.Entry.{Entry}
 use Rattle.mm_types.specs.declared.call.Reply.{Reply}
@@ -8,11 +10,16 @@ use Rattle.mm_types.specs.declared.config.Config.{Config}
 use Rattle.area_model.specs.Journals.{version_of, IsReadRight}
 use Rattle.lock_core.specs.Core.{StartsWith}
 use Rattle.atomic_table.specs.Seated.{TableId}
-use Rattle.fault_path.specs.Passes.{PassView, caller, config, seen_by, made_by, looks_of}
+use Rattle.fault_path.specs.declared.fast.Miss.{Miss}
+use Rattle.fault_path.specs.Passes.{PassView, caller, config, seen_by, made_by, looks_of, walker}
+use Rattle.fault_path.specs.Faults.{IsAnswer, Misses}
+use Rattle.mm_space.specs.declared.space.Path.{Path}
+use Rattle.mm_space.specs.declared.space.Path.TheVariants.{Fast, Slow}
 
--- what a space is opened with: a table, its configuration, and how many operations each caller may make
+-- what a space is opened with: a table of slots and one of nodes, their configuration, and how many operations each caller may make
 pub record ReadyView : Type 0 where
   pub table : TableId
+  pub nodes : TableId
   pub config : Config
   pub operations : List ℕ
 
@@ -33,17 +40,29 @@ pub record Calls (old new : PassView) (made : Call) (answer : Reply) (place : �
   pub looks : looks_of new ≡ looks_of old + 1
 
 -- One read was made: it is the last of the log, at the version of all that the pass has now seen, and right there. Its caller
--- made no entry, one operation was taken, and it looked once.
+-- made no entry, and one operation was taken.
 pub record Reads (old new : PassView) (read : Seen) : Type 0 where
   pub log : new.log ≡ old.log ++ read ∷ []
   pub version : version_of read ≡ length (seen_by new)
   pub right : IsReadRight (config new) (seen_by new) read
   pub own : made_by new ≡ made_by old
   pub left : new.left + 1 ≡ old.left
-  pub looks : looks_of new ≡ looks_of old + 1
 
 -- nothing was done: no read, no entry, and no operation was taken
 pub record DoesNothing (old new : PassView) : Type 0 where
   pub log : new.log ≡ old.log
   pub own : made_by new ≡ made_by old
   pub left : new.left ≡ old.left
+
+-- A fault missed without the lock, for this cause, and then looked once more, under the lock.
+pub record MissesFirst (page : ℕ) (miss : Miss) (old new : PassView) : Type 0 where
+  pub between : PassView
+  pub missed : Misses page old between miss
+  pub later : StartsWith (seen_by new) (seen_by between)
+  pub looks : looks_of new ≡ looks_of between + 1
+  pub walker : walker new ≡ walker between
+
+-- the way of a fault: it was answered without the lock, or it missed first
+abbrev pub IsWay : ℕ → Access → PassView → PassView → Verdict → ℕ → Path → Type 0
+IsWay page access old new answer version Fast = IsAnswer page access answer version old new
+IsWay page access old new answer version (Slow miss) = MissesFirst page miss old new

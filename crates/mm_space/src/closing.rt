@@ -16,7 +16,7 @@ pub(crate) fn gather_logs<N: SpaceName>(
     logs: Vec<Vec<Seen>>,
 ) -> Vec<Vec<Seen>>
     requires view { view.now.table ≡ N.table }
-    requires passes { ArePasses N.table N.config N.operations passes.items }
+    requires passes { ArePasses N.table N.nodes N.config N.operations passes.items }
     requires empty { vec_len logs ≡ 0 }
     requires room { length passes.items ≤ vec_capacity logs }
     ensures state { state.new ≡ state.old }
@@ -37,7 +37,7 @@ pub(crate) fn gather_logs<N: SpaceName>(
 
 /// A pass that has seen the whole journal of the state.
 fn settle<N: SpaceName>(state: &mut Named<N>, pass: Pass) -> Pass
-    requires { IsPassOf N.table N.config N.operations pass }
+    requires { IsPassOf N.table N.nodes N.config N.operations pass }
     ensures state { state.new ≡ state.old }
     ensures later { IsLater pass result }
     ensures log { result.log ≡ pass.log }

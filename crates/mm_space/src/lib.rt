@@ -1,5 +1,5 @@
-//! An address space that callers share: each has a pass of its own, calls and reads go under the mmap lock, and closing
-//! hands out the journal of all calls with the log of each caller.
+//! An address space that callers share: each has a pass of its own, calls and reads of the list go under the mmap lock,
+//! faults only where they miss without it, and closing hands out the journal of all calls with the log of each caller.
 #![tactic(auto)]
 
 mod closed;
@@ -13,7 +13,7 @@ pub use closed::Closed;
 pub use name::SpaceName;
 pub use named::Named;
 pub use ready::Ready;
-pub use space::{Called, Faulted, Space};
+pub use space::{Called, Faulted, Path, Space};
 
 #[cfg(test)]
 mod tests;

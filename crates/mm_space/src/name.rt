@@ -7,10 +7,14 @@ ghost use Rattle.mm_space.specs.Names.{no_table};
 
 use std::marker::Brand;
 
-/// What a space's types know of it: which table it has, its configuration, and how many operations each caller may make.
+/// What a space's types know of it: which tables it has, its configuration, and how many operations each caller may make.
 /// The caller that opens a space picks them at `Brand`.
 pub trait SpaceName {
+    /// The table of slots.
     ghost table: { TableId };
+
+    /// The table of nodes.
+    ghost nodes: { TableId };
 
     ghost config: { Config };
 
@@ -19,6 +23,8 @@ pub trait SpaceName {
 
 impl SpaceName for Brand {
     ghost table = { no_table };
+
+    ghost nodes = { no_table };
 
     ghost config = { no_config };
 

@@ -32,13 +32,13 @@ impl<N: SpaceName> Model for Named<N> {
 
     ghost view = { λ n. n.state };
 
-    ghost invariant = { λ n. IsNamed N.table N.config N.operations n.state };
+    ghost invariant = { λ n. IsNamed N.table N.nodes N.config N.operations n.state };
 }
 
 impl<N: SpaceName> Named<N> {
     /// Gives a state its name.
     pub(crate) fn new(state: MmState) -> Named<N>
-        requires { IsNamed N.table N.config N.operations state }
+        requires { IsNamed N.table N.nodes N.config N.operations state }
         ensures { result ≡ state }
     {
         Named {

@@ -25,7 +25,7 @@ impl Model for Ready {
 
     ghost Value = { ReadyView };
 
-    ghost view = { λ r. record { table = r.view.table; config = r.view.config; operations = map (λ pass. pass.operations) r.passes.items } };
+    ghost view = { λ r. record { table = r.view.table; nodes = r.view.nodes; config = r.view.config; operations = map (λ pass. pass.operations) r.passes.items } };
 
     ghost invariant = { λ r. IsReady r.view r.state r.passes.items (vec_len r.logs) (vec_capacity r.logs) };
 }
@@ -41,11 +41,11 @@ impl Ready {
         ensures config { IfOk result (λ ready. ready.config ≡ config) }
         ensures operations { IfOk result (λ ready. ready.operations ≡ operations.now) }
     {
-        let (view, passes, writer) = FaultView::make(alloc, &config, operations)?;
+        let (view, passes, writer, nodes) = FaultView::make(alloc, &config, operations)?;
         let logs = Vec::with_capacity(alloc, operations.len())?;
         // One entry more than can be made: so there is room for the next one whoever makes it.
         let entries = total(operations) + 1;
-        let state = MmState::new(alloc, config, entries, writer)?;
+        let state = MmState::new(alloc, config, entries, writer, nodes)?;
         Ok(Ready {
             view,
             state,

@@ -1,6 +1,7 @@
 -- For `Board::change_all`, `carry_each` and `enter`: a whole plan is carried out.
 use Rattle.std.proofs.Common.{◌≡◌, ◌≤◌, ◌<◌, ◌+◌, ℕ, List, [], ◌∷◌, length, reverse, take, drop, get_or, sym, ap, ◌∙◌, subst, arith, length-append, drop-cons, add-one, vec_len, vec_capacity}
 use Rattle.std.proofs.lemmas.List.{length-map, length-reverse, reverse-reverse, take-append-drop}
+use Rattle.std.proofs.lemmas.List.Sums.{sum_by-cons, sum_by-take-drop}
 use Rattle.mm_types.specs.declared.area.Record.{Record}
 use Rattle.split_merge.specs.declared.plan.Change.{Change}
 use Rattle.split_merge.specs.Plans.{olds_of, news_of, with_all, applied}
@@ -14,6 +15,7 @@ use Rattle.vma_lock.specs.Seats.{slots_of}
 use Rattle.mm_state.specs.declared.order.Shown.{Shown}
 use Rattle.mm_state.specs.declared.board.Board.{Board}
 use Rattle.mm_state.specs.Shelves.{areas_of}
+use Rattle.mm_state.specs.Spans.{adds, adds_of}
 use Rattle.mm_state.specs.Boards.{CanChange, IsChanging}
 
 -- the board can be changed on
@@ -25,6 +27,8 @@ can_change start board done tree can changing = record {
   ascend = subst BeginsAscend (sym changing.order) (ascend_without (olds_of done) (areas_of start.order.items) can.ascend);
   hangs = changing.hangs;
   shelf = changing.order_count ∙ can.shelf ∙ sym changing.count;
+  follows = changing.follows;
+  spare = omega (arith, changing.hand_room, changing.moved_room, can.spare);
 }
 
 pub length-areas : (shown : List Shown) → length (areas_of shown) ≡ length shown
@@ -50,19 +54,22 @@ news_bound changes place left d within next =
       length-append (news_of (get_or changes place d ∷ [])) (news_of (drop (place + 1) changes)),
     )
 
--- a slot is free for what a change brings
+pub drop_one : (changes : List Change) (place left : ℕ) (d : Change) → place < length changes → place + 1 ≡ left
+    → get_or changes place d ∷ drop left changes ≡ drop place changes
+drop_one changes place left d within next =
+    ap (λ n. get_or changes place d ∷ drop n changes) (sym next ∙ add-one place) ∙ sym (drop-cons changes place d within)
+
+-- a slot is free for what a change adds
 pub free_left : (start board : Board) (changes : List Change) (place left : ℕ) (d : Change) (tree : ℕ) → IsChanging start board (drop left changes) tree
-    → place < length changes → place + 1 ≡ left → length start.order.items + length (news_of changes) < start.slots.count
-    → length (news_of (get_or changes place d ∷ [])) ≤ length board.slots.free
+    → place < length changes → place + 1 ≡ left → adds_of changes ≤ length start.slots.free
+    → adds (get_or changes place d) ≤ length board.slots.free
 free_left start board changes place left d tree changing within next room = omega (
   arith,
-  changing.hangs.counted,
-  changing.few,
-  changing.count,
+  changing.free,
   room,
-  length-append board.order.items board.hand.items,
-  length-hand start board (drop left changes) tree changing,
-  news_bound changes place left d within next,
+  ap adds_of (drop_one changes place left d within next),
+  sum_by-cons adds (get_or changes place d) (drop left changes),
+  sum_by-take-drop adds changes place,
 )
 
 pub room_left : (start board : Board) (changes : List Change) (place left : ℕ) (d : Change) (tree : ℕ) → IsChanging start board (drop left changes) tree
@@ -76,11 +83,6 @@ room_left start board changes place left d tree changing within next room = omeg
   length-hand start board (drop left changes) tree changing,
   news_bound changes place left d within next,
 )
-
-pub drop_one : (changes : List Change) (place left : ℕ) (d : Change) → place < length changes → place + 1 ≡ left
-    → get_or changes place d ∷ drop left changes ≡ drop place changes
-drop_one changes place left d within next =
-    ap (λ n. get_or changes place d ∷ drop n changes) (sym next ∙ add-one place) ∙ sym (drop-cons changes place d within)
 
 pub rises_before : (start board : Board) (changes : List Change) (tree : ℕ) → CanChange start → IsChanging start board changes tree → BeginsRise (areas_of board.order.items)
 rises_before start board changes tree can changing = rise_from_ascend (areas_of board.order.items) (can_change start board changes tree can changing).ascend

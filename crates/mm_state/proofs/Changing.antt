@@ -3,11 +3,13 @@ use Rattle.std.proofs.Common.{◌≡◌, ◌≢◌, ◌≤◌, ◌<◌, ◌+◌,
 use Rattle.std.proofs.lemmas.Bool.{cases_eq, cases_lt}
 use Rattle.std.proofs.lemmas.Bool.Decides.{nat_tests}
 use Rattle.std.proofs.lemmas.Grind.{reverse_onto}
-use Rattle.std.proofs.lemmas.List.{map-append, get_or-set_same, get_or-set_other}
+use Rattle.std.proofs.lemmas.List.{map-append, length-append, get_or-set_same, get_or-set_other}
 use Rattle.std.proofs.lemmas.List.Elements.{All-cons, All-head}
-use Rattle.std.proofs.lemmas.List.Sums.{sum_by-append, sum_by_push}
-use Rattle.std.proofs.lemmas.List.Sorted.{length_permutation, sum_by_pushed, All-permutation, IsPermutation-sym, IsPermutation-to_front}
+use Rattle.std.proofs.lemmas.List.Sums.{sum_by-append, sum_by_push, sum_by-cons}
+use Rattle.std.proofs.lemmas.List.Sorted.{sum_by_pushed, All-permutation, IsPermutation-sym, IsPermutation-to_front}
+use Rattle.mm_types.specs.declared.area.Span.{Span}
 use Rattle.mm_types.specs.declared.area.Record.{Record}
+use Rattle.span_tree.specs.SpanTrees.{SpanView}
 use Rattle.mm_types.specs.Packed.{packed}
 use Rattle.lock_core.specs.declared.stage.SlotState.{SlotState}
 use Rattle.lock_core.specs.Core.{slot_at, free_slot, detached_row}
@@ -23,10 +25,12 @@ use Rattle.vma_lock.specs.Seats.{Writes, sight, slots}
 use Rattle.mm_state.specs.declared.order.Shown.{Shown}
 use Rattle.mm_state.specs.declared.board.Board.{Board}
 use Rattle.mm_state.specs.Shelves.{areas_of, times_shown, ShowsIt, Hangs}
-use Rattle.mm_state.specs.Boards.{IsBeside, after_leaving, Carries, IsSane, IsChanging}
+use Rattle.mm_state.specs.Spans.{adds, IsCleared, Moves, Follows}
+use Rattle.mm_state.specs.Boards.{IsBeside, after_leaving, Carries, IsSane, IsChanging, IsSameTree}
 use Rattle.mm_state.proofs.Rows.{packed_attached, packed_apart}
 use Rattle.mm_state.proofs.Hanging.{hangs_permuted, alone, IsAlone, self, left_more, detached, altered, added, free_is_none}
 use Rattle.mm_state.proofs.Writing.{hangs_out}
+use Rattle.mm_state.proofs.Following.{follows_out, follows_in, follows_moves}
 
 -- a slot that changed shows another row
 abbrev pub Marks : List SlotState → List SlotState → Type 0
@@ -88,9 +92,23 @@ not_packed : (row : List ℕ) (area : Record) → is_detached row ≡ true → r
 not_packed row area is same =
     let two : true ≡ false = sym is ∙ ap is_detached same ∙ packed_attached area in cc
 
+-- a tree that changed but for its pairs, and changes so again
+tree_step : (first second third : SpanView) → IsSameTree first second → IsSameTree second third → IsSameTree first third
+tree_step first second third one two = two ∙ ap (λ (t : SpanView). record t { pairs = third.pairs; changed = third.changed }) one
+
+same_tree : (old new : SpanView) → new ≡ old → IsSameTree old new
+same_tree old new is = is ∙ ap (λ (t : SpanView). record old { pairs = t.pairs; changed = t.changed }) (sym is)
+
+same_cleared : (old new : SpanView) (span : Span) → IsCleared old new span → IsSameTree old new
+same_cleared old new span is = is ∙ ap (λ (t : SpanView). record old { pairs = t.pairs; changed = t.changed }) (sym is)
+
+same_moves : (old new : SpanView) (moved more : List Shown) (span : Span) (shown : Shown) → Moves old moved new more span shown → IsSameTree old new
+same_moves old new moved more span shown (inl (pages, is, none)) = same_tree old new is
+same_moves old new moved more span shown (inr (is, one)) = same_cleared old new span is
+
 pub detach_step : (start board after : Board) (done : List Change) (tree : ℕ) (area : Record) → IsChanging start board done tree
     → Carries board after (Detach area) tree → IsChanging start after (Detach area ∷ done) tree
-detach_step start board after done tree area changing (slot, changes, out, hand, set_is) = record {
+detach_step start board after done tree area changing (slot, changes, out, hand, set_is, cleared, moved) = record {
   table = changes.table ∙ changing.table;
   mine = changes.mine;
   beside = beside_beside changing.beside changes.written.beside;
@@ -98,16 +116,10 @@ detach_step start board after done tree area changing (slot, changes, out, hand,
   count = ap (λ (s : SlotSet). s.count) set_is ∙ changing.count;
   order = order_out (areas_of start.order.items) (areas_of board.order.items) (areas_of after.order.items) (olds_of done) area changing.order out.areas;
   hand = ap areas_of hand ∙ changing.hand;
-  few = omega (
-    arith,
-    changing.few,
-    length_permutation (shown ∷ after.order.items) board.order.items out.shown,
-    ap (λ (s : SlotSet). length s.left) set_is,
-    length_permutation (leaving ∷ board.slots.left) (after_leaving board.slots slot tree).left (left_more board.slots slot tree),
-  );
-  leaving = subst (λ (s : SlotSet). All (λ (l : Leaving). l.tree ≡ tree) s.left) (sym set_is)
-      (All-permutation (λ (l : Leaving). l.tree ≡ tree) (leaving ∷ board.slots.left) (after_leaving board.slots slot tree).left (left_more board.slots slot tree)
-      (All-cons (λ (l : Leaving). l.tree ≡ tree) leaving board.slots.left refl changing.leaving));
+  free = omega (arith, changing.free, ap (λ (s : SlotSet). length s.free) set_is, sum_by-cons adds (Detach area) done);
+  leaving = subst (λ (s : SlotSet). All (λ (l : Leaving). l.tree ≤ tree) s.left) (sym set_is)
+      (All-permutation (λ (l : Leaving). l.tree ≤ tree) (leaving ∷ board.slots.left) (after_leaving board.slots slot tree).left (left_more board.slots slot tree)
+      (All-cons (λ (l : Leaving). l.tree ≤ tree) leaving board.slots.left (omega arith) changing.leaving));
   still = rw changes.written.slots (rw hand (rw set_is (stills_more (slots start.writer) (slots board.writer) slot state board.hand.items board.hand.items board.slots.left
       (after_leaving board.slots slot tree).left (λ other none. none)
       (λ other none. omega (arith, left_sum other, none))
@@ -117,6 +129,10 @@ detach_step start board after done tree area changing (slot, changes, out, hand,
   order_room = changes.order_room ∙ changing.order_room;
   order_count = changes.order_count ∙ changing.order_count;
   hand_room = changes.hand_room ∙ changing.hand_room;
+  moved_room = changes.moved_room ∙ changing.moved_room;
+  follows = subst (λ (l : List Shown). Follows after.order.items l after.tree after.moved.items) (sym hand)
+      (subst (Follows after.order.items board.hand.items after.tree) (sym moved) (follows_out board.order.items after.order.items board.hand.items board.tree after.tree board.moved.items slot area changing.follows out cleared));
+  same = tree_step start.tree board.tree after.tree changing.same (same_cleared board.tree after.tree area.span cleared);
 }
   where
     seq : ℕ
@@ -151,7 +167,7 @@ detach_step start board after done tree area changing (slot, changes, out, hand,
 
 pub alter_step : (start board after : Board) (done : List Change) (tree : ℕ) (area changed : Record) → IsChanging start board done tree → IsSane (Alter area changed)
     → Carries board after (Alter area changed) tree → IsChanging start after (Alter area changed ∷ done) tree
-alter_step start board after done tree area changed changing sane (slot, changes, out, hand, set_is) = record {
+alter_step start board after done tree area changed changing sane (slot, changes, out, hand, set_is, moves) = record {
   table = changes.table ∙ changing.table;
   mine = changes.mine;
   beside = beside_beside changing.beside changes.written.beside;
@@ -160,8 +176,8 @@ alter_step start board after done tree area changed changing sane (slot, changes
   count = ap (λ (s : SlotSet). s.count) set_is ∙ changing.count;
   order = order_out (areas_of start.order.items) (areas_of board.order.items) (areas_of after.order.items) (olds_of done) area changing.order out.areas;
   hand = ap areas_of hand ∙ hand_more board.hand.items (news_of done) slot changed changing.hand;
-  few = omega (arith, changing.few, length_permutation (shown ∷ after.order.items) board.order.items out.shown, ap (λ (s : SlotSet). length s.left) set_is);
-  leaving = subst (λ (s : SlotSet). All (λ (l : Leaving). l.tree ≡ tree) s.left) (sym set_is) changing.leaving;
+  free = omega (arith, changing.free, ap (λ (s : SlotSet). length s.free) set_is, sum_by-cons adds (Alter area changed) done);
+  leaving = subst (λ (s : SlotSet). All (λ (l : Leaving). l.tree ≤ tree) s.left) (sym set_is) changing.leaving;
   still = rw changes.written.slots (rw hand (rw set_is (stills_more (slots start.writer) (slots board.writer) slot state board.hand.items (board.hand.items ++ now ∷ [])
       board.slots.left board.slots.left
       (λ other none. omega (arith, in_hand other board.hand.items now, none))
@@ -172,6 +188,11 @@ alter_step start board after done tree area changed changing sane (slot, changes
   order_room = changes.order_room ∙ changing.order_room;
   order_count = changes.order_count ∙ changing.order_count;
   hand_room = changes.hand_room ∙ changing.hand_room;
+  moved_room = changes.moved_room ∙ changing.moved_room;
+  follows = subst (λ (l : List Shown). Follows after.order.items l after.tree after.moved.items) (sym hand)
+      (follows_moves board.order.items after.order.items board.hand.items board.tree after.tree board.moved.items after.moved.items slot area changed
+      changing.follows out moves);
+  same = tree_step start.tree board.tree after.tree changing.same (same_moves board.tree after.tree board.moved.items after.moved.items area.span now moves);
 }
   where
     seq : ℕ
@@ -203,7 +224,7 @@ alter_step start board after done tree area changed changing sane (slot, changes
 
 pub add_step : (start board after : Board) (done : List Change) (tree : ℕ) (area : Record) → IsChanging start board done tree
     → Carries board after (Add area) tree → IsChanging start after (Add area ∷ done) tree
-add_step start board after done tree area changing (slot, changes, order, hand, set_is) = record {
+add_step start board after done tree area changing (slot, changes, order, hand, set_is, tree_is, moved) = record {
   table = changes.table ∙ changing.table;
   mine = changes.mine;
   beside = beside_beside changing.beside changes.written.beside;
@@ -212,8 +233,8 @@ add_step start board after done tree area changing (slot, changes, order, hand, 
   count = sym (ap (λ (s : SlotSet). s.count) set_is) ∙ changing.count;
   order = ap areas_of order ∙ changing.order;
   hand = ap areas_of hand ∙ hand_more board.hand.items (news_of done) slot area changing.hand;
-  few = omega (arith, changing.few, ap length order, ap (λ (s : SlotSet). length s.left) set_is);
-  leaving = subst (λ (left : List Leaving). All (λ (l : Leaving). l.tree ≡ tree) left) (ap (λ (s : SlotSet). s.left) set_is) changing.leaving;
+  free = omega (arith, changing.free, ap (λ (s : SlotSet). length s.free) set_is, length-append after.slots.free (slot ∷ []), sum_by-cons adds (Add area) done);
+  leaving = subst (λ (left : List Leaving). All (λ (l : Leaving). l.tree ≤ tree) left) (ap (λ (s : SlotSet). s.left) set_is) changing.leaving;
   still = rw changes.written.slots (rw hand (stills_more (slots start.writer) (slots board.writer) slot state board.hand.items (board.hand.items ++ now ∷ [])
       board.slots.left after.slots.left
       (λ other none. omega (arith, in_hand other board.hand.items now, none))
@@ -224,6 +245,13 @@ add_step start board after done tree area changing (slot, changes, order, hand, 
   order_room = changes.order_room ∙ changing.order_room;
   order_count = changes.order_count ∙ changing.order_count;
   hand_room = changes.hand_room ∙ changing.hand_room;
+  moved_room = changes.moved_room ∙ changing.moved_room;
+  follows = subst (λ (l : List Shown). Follows l after.hand.items after.tree after.moved.items) (sym order)
+      (subst (λ (l : List Shown). Follows board.order.items l after.tree after.moved.items) (sym hand)
+      (subst (λ (t : SpanView). Follows board.order.items (board.hand.items ++ now ∷ []) t after.moved.items) (sym tree_is)
+      (subst (Follows board.order.items (board.hand.items ++ now ∷ []) board.tree) (sym moved)
+      (follows_in board.order.items board.hand.items board.tree board.moved.items now changing.follows))));
+  same = tree_step start.tree board.tree after.tree changing.same (same_tree board.tree after.tree tree_is);
 }
   where
     seq : ℕ
@@ -267,8 +295,9 @@ change_step start board after done tree (Add area) changing sane carried = add_s
 
 -- nothing was carried out
 pub none_changed : (board : Board) (tree : ℕ) → Writes board.writer board.table → Hangs (slots board.writer) (board.order.items ++ board.hand.items) board.slots
-    → board.hand.items ≡ [] → board.slots.left ≡ [] → IsChanging board board [] tree
-none_changed board tree mine hangs empty none_left = record {
+    → board.hand.items ≡ [] → All (λ leaving. leaving.tree ≤ tree) board.slots.left → Follows board.order.items board.hand.items board.tree board.moved.items
+    → IsChanging board board [] tree
+none_changed board tree mine hangs empty leaving follows = record {
   table = refl;
   mine = mine;
   beside = record { config = refl; seen = refl; turn = refl; seq = refl };
@@ -276,8 +305,11 @@ none_changed board tree mine hangs empty none_left = record {
   count = refl;
   order = refl;
   hand = ap areas_of empty;
-  few = omega (arith, ap length none_left);
-  leaving = rw none_left (λ k d below. absurd (omega arith));
+  free = omega arith;
+  leaving = leaving;
+  follows = follows;
+  same = refl;
+  moved_room = refl;
   still = λ slot none away. refl;
   marks = λ slot rose same. rose refl;
   order_room = refl;

@@ -18,8 +18,11 @@ use Rattle.sys_map.proofs.InOrder.{begins_ascend}
 use Rattle.vma_lock.specs.Seats.{config_of, journal}
 use Rattle.mm_state.specs.declared.board.Board.{Board}
 use Rattle.mm_state.specs.Shelves.{areas_of}
+use Rattle.mm_state.specs.Spans.{AreasRise}
 use Rattle.mm_state.specs.Boards.{IsEntered, IsPackable}
+use Rattle.area_list.specs.Areas.{page_of}
 use Rattle.mm_state.proofs.Sane.{packable, sane}
+use Rattle.mm_state.proofs.InOrder.{canonical_rise}
 
 -- the state between two calls, and a call that was planned
 pub record IsPlanned (board : Board) (config : Config) (entries : List Entry) (list : List Record) (objects : ℕ) (bounds : Bounds) (most : ℕ)
@@ -31,6 +34,7 @@ pub record IsPlanned (board : Board) (config : Config) (entries : List Entry) (l
   pub valid : IsValidConfig config
   pub room : length entries < 2 ^ 31
   pub most_is : most ≡ config.areas
+  pub limit_is : bounds.limit ≡ page_of config.limit
   pub kept : IsKept bounds most list
   pub planned : IsPlannedCall bounds most list (step config (space_of list objects) entry.call) entry.reply old new
 
@@ -62,8 +66,16 @@ entered board config entries list objects bounds most entry old new p = record {
   ascend = subst BeginsAscend (sym p.shown) (begins_ascend bounds.limit list p.kept.canonical);
   few = omega (arith, ap length p.shown, p.kept.few, p.most_is, ap (λ (c : Config). c.areas) p.settings);
   few_after = omega (arith, ap (λ (areas : List Record). length (applied new.changes areas)) p.shown, p.planned.kept.few, p.most_is, ap (λ (c : Config). c.areas) p.settings);
+  rise = subst (λ limit. AreasRise limit 0 (areas_of board.order.items)) limit_is
+      (subst (AreasRise bounds.limit 0) (sym p.shown) (canonical_rise bounds.limit list p.kept.canonical));
+  rise_after = subst (λ limit. AreasRise limit 0 (applied new.changes (areas_of board.order.items))) limit_is
+      (subst (λ (areas : List Record). AreasRise bounds.limit 0 (applied new.changes areas)) (sym p.shown)
+      (canonical_rise bounds.limit (applied new.changes list) p.planned.kept.canonical));
 }
   where
+    limit_is : bounds.limit ≡ page_of (config_of board.table).limit
+    limit_is = p.limit_is ∙ ap (λ (c : Config). page_of c.limit) (sym p.settings)
+
     makes : Makes new.changes list (step config (space_of list objects) entry.call).space.areas
     makes = p.planned.makes
 

@@ -1,10 +1,10 @@
 -- For all calls of `Board`: how slots hang together, step by step.
-use Rattle.std.proofs.Common.{◌≡◌, ◌≢◌, ◌≤◌, ◌<◌, ◌+◌, ℕ, true, nat_lt, nat_le, not, List, [], ◌∷◌, ◌++◌, length, get_or, set, sum_by, All, refl, sym, ap, ◌∙◌, subst, ◌⊎◌, inl, inr, arith, if◌then◌else◌, length-append}
+use Rattle.std.proofs.Common.{◌≡◌, ◌≢◌, ◌≤◌, ◌<◌, ◌+◌, ℕ, true, nat_lt, not, List, [], ◌∷◌, ◌++◌, length, get_or, set, sum_by, All, refl, sym, ap, ◌∙◌, subst, ◌⊎◌, inl, inr, arith, if◌then◌else◌, length-append}
 use Rattle.std.specs.List.Sorted.{IsPermutation}
-use Rattle.std.proofs.lemmas.Bool.{cases_eq, cases_lt, le-leb, cond-true, cond-false}
+use Rattle.std.proofs.lemmas.Bool.{cases_eq, cases_lt, cond-true, cond-false}
 use Rattle.std.proofs.lemmas.Bool.Decides.{nat_tests}
 use Rattle.std.proofs.lemmas.List.{length-set, length-map, get_or-set_same, get_or-set_other}
-use Rattle.std.proofs.lemmas.List.Elements.{All-cons, All-head, All-tail}
+use Rattle.std.proofs.lemmas.List.Elements.{All-cons, All-head, All-tail, All-filter}
 use Rattle.std.proofs.lemmas.List.Sums.{sum_by-append, sum_by-cons, sum_by_push, get_or-le-sum_by}
 use Rattle.std.proofs.lemmas.List.Sorted.{sum_by-IsPermutation, sum_by_pushed, length_permutation, All-permutation, IsPermutation-map, IsPermutation-sym, IsPermutation-trans, IsPermutation-cons, IsPermutation-middle, IsPermutation-filter_both}
 use Rattle.mm_types.specs.declared.area.Record.{Record}
@@ -18,6 +18,7 @@ use Rattle.area_slots.specs.Slots.{SlotSet, IsTaken, one_at, times, times_left, 
 use Rattle.area_slots.proofs.Counting.{times-slots_of}
 use Rattle.mm_state.specs.declared.order.Shown.{Shown}
 use Rattle.mm_state.specs.Shelves.{areas_of, times_shown, ShowsIt, Hangs}
+use Rattle.mm_state.specs.Spans.{IsFreed}
 use Rattle.mm_state.specs.Boards.{after_leaving}
 use Rattle.mm_state.proofs.Rows.{packed_attached}
 
@@ -265,35 +266,53 @@ added states shown slots after slot seq area hangs is = record {
       never,
     )))
 
--- all that left is free again
-pub none_leave : (tree : ℕ) (left : List Leaving) → All (λ leaving. leaving.tree ≡ tree) left → (gone_by tree left ≡ left) × (gone_after tree left ≡ [])
-none_leave tree [] all = (refl, refl)
-none_leave tree (first ∷ left) all =
-    let later = none_leave tree left (All-tail (λ (l : Leaving). l.tree ≡ tree) first left all) in
-    let here : nat_le first.tree tree ≡ true = le-leb first.tree tree (omega (arith, All-head (λ (l : Leaving). l.tree ≡ tree) first left all)) in
-    (rw here (ap (λ rest. first ∷ rest) later.0), rw here later.1)
+-- those that left by a tree and those that left after it are all that left
+pub parted_left : (tree : ℕ) (left : List Leaving) → IsPermutation left (gone_by tree left ++ gone_after tree left)
+parted_left tree left = IsPermutation-filter_both (left_by tree) (λ (l : Leaving). not (left_by tree l)) (λ l. refl) left
 
-pub hangs_seen : (states : List SlotState) (shown : List Shown) (slots after : SlotSet) (tree : ℕ) → All (λ leaving. leaving.tree ≡ tree) slots.left
-    → after ≡ record slots { free = slots.free ++ slots_of (gone_by tree slots.left); left = gone_after tree slots.left }
-    → Hangs states shown slots → (after.left ≡ []) × Hangs states shown after
-hangs_seen states shown slots after tree all is hangs =
-    let gone = none_leave tree slots.left all in
-    let now : after ≡ record slots { free = slots.free ++ slots_of slots.left; left = [] } =
-    is ∙ ap (λ (left : List Leaving). record slots { free = slots.free ++ slots_of left; left = gone_after tree slots.left }) gone.0
-    ∙ ap (λ (left : List Leaving). record slots { free = slots.free ++ slots_of slots.left; left = left }) gone.1 in (
-      ap (λ (s : SlotSet). s.left) now,
-      subst (Hangs states shown) (sym now) record {
-        sized = hangs.sized;
-        counted = omega (arith, hangs.counted, length-append slots.free (slots_of slots.left), length-slots_of slots.left);
-        once = λ slot. omega (arith, hangs.once slot, sum_by-append (one_at slot) slots.free (slots_of slots.left), times-slots_of slot slots.left);
-        rows = hangs.rows;
-        others = hangs.others;
-        exactly = hangs.exactly;
-      },
-    )
-  where
-    length-slots_of : (left : List Leaving) → length (slots_of left) ≡ length left
-    length-slots_of left = length-map left (λ (l : Leaving). l.slot)
+-- what left by a tree is free again
+pub seen_freed : (slots after : SlotSet) (tree : ℕ)
+    → after ≡ record slots { free = slots.free ++ slots_of (gone_by tree slots.left); left = gone_after tree slots.left } → IsFreed slots after
+seen_freed slots after tree is = subst (IsFreed slots) (sym is) record {
+  count = refl;
+  sum = omega (
+    arith,
+    length-append slots.free (slots_of (gone_by tree slots.left)),
+    length-map (gone_by tree slots.left) (λ (l : Leaving). l.slot),
+    length-append (gone_by tree slots.left) (gone_after tree slots.left),
+    length_permutation slots.left (gone_by tree slots.left ++ gone_after tree slots.left) (parted_left tree slots.left),
+  );
+  each = λ slot. omega (
+    arith,
+    sum_by-append (one_at slot) slots.free (slots_of (gone_by tree slots.left)),
+    times-slots_of slot (gone_by tree slots.left),
+    sum_by-append (λ (l : Leaving). one_at slot l.slot) (gone_by tree slots.left) (gone_after tree slots.left),
+    sum_by-IsPermutation (λ (l : Leaving). one_at slot l.slot) slots.left (gone_by tree slots.left ++ gone_after tree slots.left) (parted_left tree slots.left),
+  );
+  leaving = λ last all. All-filter (λ (l : Leaving). not (left_by tree l)) (λ (l : Leaving). l.tree ≤ last) slots.left all;
+}
+
+pub freed_freed : (first second third : SlotSet) → IsFreed first second → IsFreed second third → IsFreed first third
+freed_freed first second third one two = record {
+  count = two.count ∙ one.count;
+  sum = two.sum ∙ one.sum;
+  each = λ slot. two.each slot ∙ one.each slot;
+  leaving = λ last all. two.leaving last (one.leaving last all);
+}
+
+pub none_freed : (slots : SlotSet) → IsFreed slots slots
+none_freed slots = record { count = refl; sum = refl; each = λ slot. refl; leaving = λ last all. all }
+
+pub hangs_freed : (states : List SlotState) (shown : List Shown) (slots after : SlotSet) → IsFreed slots after → Hangs states shown slots → Hangs states shown after
+hangs_freed states shown slots after freed hangs = record {
+  sized = hangs.sized ∙ sym freed.count;
+  counted = omega (arith, hangs.counted, freed.sum, freed.count);
+  once = λ slot. subst (λ count. times_shown slot shown + times slot after.free + times_left slot after.left ≡ (if nat_lt slot count then 1 else 0)) (sym freed.count)
+      (omega (arith, hangs.once slot, freed.each slot));
+  rows = hangs.rows;
+  others = hangs.others;
+  exactly = hangs.exactly;
+}
 
 -- no slot shows two areas
 pub at_most_once : (states : List SlotState) (shown : List Shown) (slots : SlotSet) (slot : ℕ) → Hangs states shown slots → times_shown slot shown ≤ 1

@@ -3,8 +3,13 @@ pub mod Ordering
 pub mod Rows
 pub mod Hanging
 pub mod Writing
+pub mod Weights
+pub mod InOrder
+pub mod Following
 pub mod Changing
 pub mod Carrying
+pub mod Readying
+pub mod Telling
 pub mod Sane
 pub mod Opening
 pub mod Entering

@@ -20,6 +20,9 @@ state_of state = record {
   slots = slots state.board.writer;
   journal = state.journal.items;
   room = state.room;
+  nodes = state.board.tree.table;
+  number = state.board.tree.number;
+  pairs = state.board.tree.shown;
 }
 
 -- The board is at rest, its table has this configuration, which is valid, and its writer has seen this journal, which is

@@ -1,4 +1,5 @@
 pub mod States
 pub mod Shelves
+pub mod Spans
 pub mod Boards
 pub mod Kept

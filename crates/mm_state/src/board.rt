@@ -1,5 +1,5 @@
-//! The table with its writer, and which slot shows which area.
-ghost use Rattle.std.specs.Prelude.{◌≡◌, ◌≢◌, ◌<◌, ◌≤◌, ◌+◌, ◌/◌, ◌^◌, ◌∷◌, ◌++◌, [], ℕ, length, vec_len, vec_capacity, All, Contains, IfOk};
+//! The table with its writer, which slot shows which area, and the tree of spans.
+ghost use Rattle.std.specs.Prelude.{◌≡◌, ◌≢◌, ◌<◌, ◌≤◌, ◌+◌, ◌/◌, ◌^◌, ◌∷◌, ◌++◌, [], ℕ, false, length, vec_len, vec_capacity, All, Contains, IfOk};
 ghost use Rattle.mm_types.specs.declared.config.Config.{Config};
 ghost use Rattle.mm_types.specs.Records.{IsValid};
 ghost use Rattle.area_model.specs.Journals.{calls_by};
@@ -10,11 +10,17 @@ ghost use Rattle.split_merge.specs.declared.plan.Change.TheVariants.{Detach, Alt
 ghost use Rattle.vma_lock.specs.Seats.{config_of, slots_of, IsOf, Writes, view, seen, stage, HasTurn, sight, journal, slots, IsOpen};
 ghost use Rattle.vma_lock.specs.Views.{opened_view, look_at};
 ghost use Rattle.mm_state.specs.Shelves.{areas_of};
-ghost use Rattle.mm_state.specs.Boards.{IsWritten, CanChange, Carries, IsSane, IsChanging, IsCarried, IsAtRest, IsEntered};
+ghost use Rattle.mm_state.specs.Boards.{IsWritten, CanChange, Carries, IsSane, IsChanging, IsCarried, IsAtRest, IsReadied, IsEntered};
+ghost use Rattle.mm_state.specs.Spans.{adds, adds_of};
+ghost use Rattle.span_tree.specs.SpanTrees.{IsFreshWriter};
+ghost use Rattle.area_list.specs.Areas.{page_of};
 
 use crate::order::{Order, Shown};
+use crate::spans::{count_adds, move_span, store_moved, wait_for_slots};
 use area_slots::AreaSlots;
-use mm_types::{Entry, NoMemory, Record, Slot, pack};
+use mm_types::{Entry, NoMemory, Page, Record, Slot, pack};
+use node_slots::NodeWriter;
+use span_tree::SpanTree;
 use split_merge::Change;
 use std::alloc::Global;
 use std::sync::Wait;
@@ -24,7 +30,7 @@ use vma_lock::{ReaderSeat, VmaTable, WriterSeat};
 /// The row of no area.
 const DETACHED: [u64; 4] = [0; 4];
 
-/// A table with its writer, the areas in order with the slots that show them, and the other slots.
+/// A table with its writer, the areas in order with the slots that show them, the other slots, and the tree of spans and slots.
 #[derive(Drop)]
 pub(crate) struct Board {
     pub(crate) table: VmaTable,
@@ -33,6 +39,9 @@ pub(crate) struct Board {
     /// What the open call brings, until it has its place in the order.
     pub(crate) hand: Vec<Shown>,
     pub(crate) slots: AreaSlots,
+    pub(crate) tree: SpanTree,
+    /// The areas that the open call brings at other pages than their slots showed before, until the tree has them.
+    pub(crate) moved: Vec<Shown>,
 }
 
 /// Marks a slot, once no reader holds it, and writes its row.
@@ -75,21 +84,36 @@ fn last_page(changes: &[Change]) -> u64 {
 }
 
 impl Board {
-    /// The board of a new table, of which the writer is given, for at most so many areas. No slot shows an area.
-    pub(crate) fn new(alloc: Global, writer: WriterSeat, areas: u32) -> Result<Board, NoMemory>
-        requires fresh { (config : Config) × (readers : ℕ) × (sight writer ≡ opened_view config readers) × (areas ≡ config.areas) }
-        requires few { areas ≤ 65530 }
+    /// The board of a new table, of which the writer is given, for at most so many areas up to a limit, with a tree in a new
+    /// table of nodes, of which the writer is given. No slot shows an area.
+    pub(crate) fn new(
+        alloc: Global,
+        writer: WriterSeat,
+        areas: u32,
+        limit: Page,
+        nodes: NodeWriter,
+    ) -> Result<Board, NoMemory>
+        requires fresh { (config : Config) × (readers : ℕ) × (sight writer ≡ opened_view config readers) × (areas ≡ config.areas)
+            × (limit.0 ≡ page_of config.limit) }
+        requires few { (1 ≤ areas) × (areas ≤ 65530) }
+        requires limit { 0 < limit.0 }
+        requires nodes { IsFreshWriter areas nodes }
         ensures rest { IfOk result IsAtRest }
         ensures none { IfOk result (λ board. board.order.items ≡ []) }
         ensures writer { IfOk result (λ board. (board.writer ≡ writer) × (config_of board.table ≡ (sight writer).config)) }
+        ensures tree { IfOk result (λ board. (board.tree.table ≡ nodes.desk.seat.table_id) × (board.tree.number ≡ 0) × (board.tree.shown ≡ [])) }
     {
         let table = writer.table()?;
+        let hand: Vec<Shown> = Vec::with_capacity(alloc, areas as usize)?;
+        let moved = Vec::with_capacity(alloc, hand.capacity())?;
         Ok(Board {
             table,
             writer,
             order: Order::new(alloc, areas, 2 * areas + 2)?,
-            hand: Vec::with_capacity(alloc, areas as usize)?,
+            hand,
             slots: AreaSlots::new(alloc, 2 * areas + 2)?,
+            tree: SpanTree::new(areas, limit, nodes)?,
+            moved,
         })
     }
 
@@ -100,7 +124,7 @@ impl Board {
         requires free { stage seat.old ≡ Out }
         ensures rest { IsAtRest self.new }
         ensures table { (self.new.table ≡ self.old.table) × IsOf seat.new self.new.table }
-        ensures same { (slots self.new.writer ≡ slots self.old.writer) × (journal self.new.writer ≡ journal self.old.writer) × (self.new.order ≡ self.old.order) }
+        ensures same { (slots self.new.writer ≡ slots self.old.writer) × (journal self.new.writer ≡ journal self.old.writer) × (self.new.order ≡ self.old.order) × (self.new.tree ≡ self.old.tree) }
         ensures view { (found : ℕ) × (found / 2 ≡ length (journal self.old.writer) + 1)
             × (view seat.new ≡ look_at (view seat.old) found (journal self.old.writer) Out) }
         ensures later { StartsWith (journal self.old.writer) (seen seat.old) }
@@ -109,7 +133,7 @@ impl Board {
         self.table.meet(&mut self.writer, seat);
     }
 
-    /// Makes a call by a plan of the list, with the turn of a reader, and enters it in the journal.
+    /// Makes a call by a plan of the list, with the turn of a reader, publishes the tree after it, and enters it in the journal.
     pub(crate) fn enter<R: Wait>(
         &mut self,
         rt: &R,
@@ -133,14 +157,28 @@ impl Board {
         ensures own { calls_by (view seat.old).caller (journal self.old.writer) ≡ calls_by (view seat.old).caller (seen seat.old) }
         ensures marks { (slot : ℕ) → (slot_at (slots self.new.writer) slot).lock_seq ≢ (slot_at (slots self.old.writer) slot).lock_seq
             → (slot_at (slots self.new.writer) slot).row ≢ (slot_at (slots self.old.writer) slot).row }
+        ensures nodes { self.new.tree.table ≡ self.old.tree.table }
     {
+        self.make_ready(rt, changes);
         self.table.lend(&mut self.writer, seat);
         self.table.begin(&mut self.writer);
         let tree = self.writer.version() + 1;
         self.carry_out(rt, changes, tree);
+        store_moved(&mut self.tree, &mut self.moved);
+        self.tree.publish();
         self.table.end(&mut self.writer, entry);
         self.table.meet(&mut self.writer, seat);
-        self.slots.seen(tree);
+    }
+
+    /// Prepares the tree, and waits until as many slots are free as the changes need.
+    fn make_ready<R: Wait>(&mut self, rt: &R, changes: &[Change])
+        requires { self.old.tree.changed ≡ false }
+        ensures ready { IsReadied self.old self.new changes.now }
+        ensures shown { self.old.tree.shown ≡ self.old.tree.pairs }
+    {
+        self.tree.prepare(rt);
+        let adds = count_adds(changes);
+        wait_for_slots(rt, &mut self.tree, &mut self.slots, adds);
     }
 
     /// Carries out a plan. What it takes away leaves with this tree.
@@ -149,8 +187,9 @@ impl Board {
         requires plan { IsPlanOf (areas_of self.old.order.items) changes.now }
         requires sane { All IsSane changes.now }
         requires hand { self.old.hand.items ≡ [] }
-        requires left { self.old.slots.left ≡ [] }
-        requires free { length self.old.order.items + length (news_of changes.now) < self.old.slots.count }
+        requires leaving { All (λ leaving. leaving.tree ≤ tree) self.old.slots.left }
+        requires free { adds_of changes.now ≤ length self.old.slots.free }
+        requires moved { self.old.moved.items ≡ [] }
         requires room { length (applied changes.now (areas_of self.old.order.items)) ≤ self.old.order.room }
         requires hand_room { length (news_of changes.now) ≤ vec_capacity self.old.hand }
         ensures { IsCarried self.old self.new changes.now tree }
@@ -166,8 +205,9 @@ impl Board {
         requires plan { IsPlanOf (areas_of self.old.order.items) changes.now }
         requires sane { All IsSane changes.now }
         requires hand { self.old.hand.items ≡ [] }
-        requires left { self.old.slots.left ≡ [] }
-        requires free { length self.old.order.items + length (news_of changes.now) < self.old.slots.count }
+        requires leaving { All (λ leaving. leaving.tree ≤ tree) self.old.slots.left }
+        requires free { adds_of changes.now ≤ length self.old.slots.free }
+        requires moved { self.old.moved.items ≡ [] }
         requires room { length (applied changes.now (areas_of self.old.order.items)) ≤ self.old.order.room }
         requires hand_room { length (news_of changes.now) ≤ vec_capacity self.old.hand }
         ensures { IsCarried self.old self.new changes.now tree }
@@ -182,8 +222,9 @@ impl Board {
         requires plan { IsPlanOf (areas_of self.old.order.items) changes.now }
         requires sane { All IsSane changes.now }
         requires hand { self.old.hand.items ≡ [] }
-        requires left { self.old.slots.left ≡ [] }
-        requires free { length self.old.order.items + length (news_of changes.now) < self.old.slots.count }
+        requires leaving { All (λ leaving. leaving.tree ≤ tree) self.old.slots.left }
+        requires free { adds_of changes.now ≤ length self.old.slots.free }
+        requires moved { self.old.moved.items ≡ [] }
         requires hand_room { length (news_of changes.now) ≤ vec_capacity self.old.hand }
         ensures { IsChanging self.old self.new changes.now tree }
     {
@@ -199,7 +240,7 @@ impl Board {
         requires can { CanChange self.old }
         requires old { All (Contains (areas_of self.old.order.items)) (olds_of (change.now ∷ [])) }
         requires new { All IsValid (news_of (change.now ∷ [])) }
-        requires free { length (news_of (change.now ∷ [])) ≤ length self.old.slots.free }
+        requires free { adds change.now ≤ length self.old.slots.free }
         requires room { vec_len self.old.hand + length (news_of (change.now ∷ [])) ≤ vec_capacity self.old.hand }
         ensures { Carries self.old self.new change.now tree }
     {
@@ -217,6 +258,7 @@ impl Board {
         ensures { Carries self.old self.new (Detach old.now) tree }
     {
         let slot = Slot(self.order.take_out(old));
+        self.tree.store(old.span, None);
         write_slot(rt, &self.table, &mut self.writer, slot, DETACHED);
         self.slots.retire(slot, tree);
     }
@@ -230,9 +272,11 @@ impl Board {
         ensures { (tree : ℕ) → Carries self.old self.new (Alter old.now new.now) tree }
     {
         let slot = self.order.take_out(old);
+        let shown = Shown { slot, area: *new };
+        move_span(&mut self.tree, &mut self.moved, old.span, shown);
         let row = pack(new);
         write_slot(rt, &self.table, &mut self.writer, Slot(slot), row);
-        self.hand.push_reserved(Shown { slot, area: *new });
+        self.hand.push_reserved(shown);
     }
 
     /// A free slot shows an area.
@@ -248,9 +292,11 @@ impl Board {
         };
         let row = pack(new);
         write_slot(rt, &self.table, &mut self.writer, slot, row);
-        self.hand.push_reserved(Shown {
+        let shown = Shown {
             slot: slot.0,
             area: *new,
-        });
+        };
+        self.moved.push_reserved(shown);
+        self.hand.push_reserved(shown);
     }
 }

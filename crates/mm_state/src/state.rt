@@ -7,11 +7,14 @@ ghost use Rattle.area_model.specs.Verdicts.{verdict};
 ghost use Rattle.lock_core.specs.declared.stage.Stage.TheVariants.{Out};
 ghost use Rattle.lock_core.specs.Core.{free_slot, slot_at, StartsWith};
 ghost use Rattle.vma_lock.specs.Views.{slot_count, opened_view, look_at};
+ghost use Rattle.span_tree.specs.SpanTrees.{IsFreshWriter};
 ghost use Rattle.vma_lock.specs.Seats.{view, seen, stage, sight, HasTurn};
 
 use crate::board::Board;
+use area_list::page_of;
 use area_model::area_verdict;
 use mm_types::{Access, AreaList, Call, Config, Entry, NoMemory, Page, Reply, Verdict};
+use node_slots::NodeWriter;
 use split_merge::{Plan, area_at};
 use std::alloc::Global;
 use std::marker::Model;
@@ -48,27 +51,34 @@ impl Model for MmState {
 }
 
 impl MmState {
-    ghost use Rattle.mm_state.specs.States.{list_of};
+    ghost use Rattle.mm_state.specs.States.{list_of, ArePairsOf};
 
-    /// The state of a new table, of which the writer is given, with room for so many entries.
+    /// The state of a new table, of which the writer is given, with room for so many entries. Its trees stand in a new table of
+    /// nodes, of which the writer is given: it has `config.areas + 128` rows, and `2 config.areas + 2` slots.
     pub fn new(
         alloc: Global,
         config: Config,
         entries: u64,
         writer: WriterSeat,
+        nodes: NodeWriter,
     ) -> Result<MmState, NoMemory>
         requires config { IsValidConfig config }
         requires entries { entries ≤ 2 ^ 31 }
         requires fresh { (readers : ℕ) × (sight writer ≡ opened_view config readers) }
+        requires nodes { IsFreshWriter config.areas nodes }
         ensures { IfOk result (λ state. state ≡ record {
           table = writer.seat.table_id;
           config = config;
           slots = replicate (slot_count config) free_slot;
           journal = [];
           room = entries;
+          nodes = nodes.desk.seat.table_id;
+          number = 0;
+          pairs = [];
         }) }
     {
-        let board = Board::new(alloc, writer, config.areas)?;
+        let limit = Page(page_of(config.limit));
+        let board = Board::new(alloc, writer, config.areas, limit, nodes)?;
         let areas = VecAreas::with_room(alloc, &config)?;
         let plan = Plan::with_room(alloc, config.areas)?;
         let journal = Vec::with_capacity(alloc, entries as usize)?;
@@ -85,7 +95,8 @@ impl MmState {
     }
 
     /// Makes a call with the turn of a reader that holds no slot, and enters it in the journal. Waits for the readers of
-    /// the slots whose areas change. The reader has then seen the whole journal, and has its turn again.
+    /// the slots whose areas change, and before it begins for those of trees whose nodes and slots it needs again. Publishes the
+    /// tree of spans and slots after the call between the beginning and the end of its sequence. The reader has then seen the whole journal, and has its turn again.
     pub fn apply<R: Wait>(&mut self, rt: &R, seat: &mut ReaderSeat, call: &Call) -> Reply
         requires room { length self.old.journal < self.old.room }
         requires table { seat.old.seat.table_id ≡ self.old.table }
@@ -95,6 +106,7 @@ impl MmState {
         // exactly one entry: the seat's caller, the call, the step's reply
         ensures entry { self.new.journal ≡ self.old.journal ++ record { caller = (view seat.old).caller; call = call.now; reply = result } ∷ [] }
         ensures same { (self.new.table ≡ self.old.table) × (self.new.config ≡ self.old.config) × (self.new.room ≡ self.old.room) }
+        ensures nodes { self.new.nodes ≡ self.old.nodes }
         ensures reply { result ≡ (step self.old.config (after self.old.config self.old.journal) call.now).reply }
         // the seat has then seen the whole journal, by one look more, and has its turn again
         ensures view { (found : ℕ) × (found / 2 ≡ length self.new.journal + 1) × (view seat.new ≡ look_at (view seat.old) found self.new.journal Out) }
@@ -172,10 +184,13 @@ impl MmState {
         (self.journal, self.areas.into_list())
     }
 
-    /// What the type keeps: the journal is legal, and within its room.
+    /// What the type keeps: the journal is legal, and within its room. The present tree is that of the journal, and its pairs are
+    /// those of the areas in order, each with the slot that shows its area.
     pub fn facts(&self)
         ensures legal { IsLegalJournal self.now.config self.now.journal }
         ensures room { length self.now.journal ≤ self.now.room }
+        ensures tree { self.now.number ≡ length self.now.journal }
+        ensures pairs { ArePairsOf self.now.slots (list_of self.now) self.now.pairs }
     {
         let _room = self.room;
     }

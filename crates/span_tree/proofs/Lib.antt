@@ -10,3 +10,4 @@ pub mod Storing
 pub mod Publishing
 pub mod Preparing
 pub mod Opening
+pub mod Rowed

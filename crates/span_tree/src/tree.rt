@@ -4,6 +4,8 @@ ghost use Rattle.maple_node.specs.Words.{slot_word};
 ghost use Rattle.maple_items.specs.Pairs.{overwritten};
 ghost use Rattle.span_tree.specs.SpanTrees.{IsFreshWriter, ArePairs};
 
+mod searching;
+
 use crate::waiting::{scan_once, wait_for_rows};
 use maple_write::{publish_tree, store};
 use mm_types::{NoMemory, Page, Slot, Span};

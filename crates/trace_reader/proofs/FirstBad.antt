@@ -5,28 +5,28 @@ use Rattle.std.proofs.lemmas.List.{nil_from_length}
 use Rattle.trace_reader.specs.declared.fault.Cause.{Cause}
 use Rattle.trace_reader.specs.declared.fault.Cause.TheVariants.{Header}
 use Rattle.trace_reader.specs.declared.fault.TraceFault.{TraceFault}
-use Rattle.trace_reader.specs.Grammar.{fault, nothing, at_line, after_lines, lines_read, whole, trace_of}
-use Rattle.trace_reader.specs.Laws.{IsFirstBad}
+use Rattle.trace_reader.specs.Grammar.{fault, nothing, at_line, lines_leave, lines_read, whole, trace_of}
+use Rattle.trace_reader.specs.Laws.{IsFirstBadBy, IsFirstBad}
 use Rattle.trace_reader.specs.Lines.{SoFar, after_line}
 use Rattle.trace_reader.specs.RawLines.{RawLine, raw_lines}
 
--- `IsFirstBad` of lines that follow others
-record IsFirstAmong (before : SoFar) (lines : List RawLine) (first : TraceFault) : Type 0 where
+-- `IsFirstBadBy` of lines that follow others
+record IsFirstAmong {S : Type 0} (step : S → RawLine → Result S Cause) (before : S) (lines : List RawLine) (first : TraceFault) : Type 0 where
   above : List RawLine
   line : RawLine
   below : List RawLine
-  read : SoFar
+  read : S
   parts : lines ≡ above ++ line ∷ below
-  good : after_lines before above ≡ Ok read
-  bad : after_line read line ≡ Err first.cause
+  good : lines_leave step before above ≡ Ok read
+  bad : step read line ≡ Err first.cause
   number : line.number ≡ first.line
 
-first_among : (before : SoFar) (line : RawLine) (lines : List RawLine) (first : TraceFault) (r : Result SoFar Cause)
-    → after_line before line ≡ r
-    → at_line line.number r (λ next. after_lines next lines) ≡ Err first
-    → ((next : SoFar) → after_lines next lines ≡ Err first → IsFirstAmong next lines first)
-    → IsFirstAmong before (line ∷ lines) first
-first_among before line lines first (Ok next) is e later =
+first_among : {S : Type 0} (step : S → RawLine → Result S Cause) (before : S) (line : RawLine) (lines : List RawLine) (first : TraceFault) (r : Result S Cause)
+    → step before line ≡ r
+    → at_line line.number r (λ next. lines_leave step next lines) ≡ Err first
+    → ((next : S) → lines_leave step next lines ≡ Err first → IsFirstAmong step next lines first)
+    → IsFirstAmong step before (line ∷ lines) first
+first_among {S} step before line lines first (Ok next) is e later =
     let rest = later next e in
     record {
       above = line ∷ rest.above;
@@ -34,12 +34,12 @@ first_among before line lines first (Ok next) is e later =
       below = rest.below;
       read = rest.read;
       parts = ap (λ (ls : List RawLine). line ∷ ls) rest.parts;
-      good = ap (λ (r : Result SoFar Cause). at_line line.number r (λ next. after_lines next rest.above)) is
+      good = ap (λ (r : Result S Cause). at_line line.number r (λ next. lines_leave step next rest.above)) is
           ∙ rest.good;
       bad = rest.bad;
       number = rest.number;
     }
-first_among before line lines first (Err cause) is e later =
+first_among {S} step before line lines first (Err cause) is e later =
     let same : fault line.number cause ≡ first = cc in
     record {
       above = [];
@@ -52,26 +52,28 @@ first_among before line lines first (Err cause) is e later =
       number = ap (λ (f : TraceFault). f.line) same;
     }
 
-after_lines-Err : (before : SoFar) (lines : List RawLine) (first : TraceFault) → after_lines before lines ≡ Err first
-    → IsFirstAmong before lines first
-after_lines-Err before [] first e = absurd cc
-after_lines-Err before (line ∷ lines) first e =
-    first_among before line lines first (after_line before line) refl e
-    (λ next bad. after_lines-Err next lines first bad)
+lines_leave-among : {S : Type 0} (step : S → RawLine → Result S Cause) (before : S) (lines : List RawLine) (first : TraceFault)
+    → lines_leave step before lines ≡ Err first → IsFirstAmong step before lines first
+lines_leave-among step before [] first e = absurd cc
+lines_leave-among step before (line ∷ lines) first e =
+    first_among step before line lines first (step before line) refl e
+    (λ next bad. lines_leave-among step next lines first bad)
 
-first_bad : (bytes : List ℕ) (first : TraceFault) → IsFirstAmong nothing (raw_lines bytes) first
-    → IsFirstBad bytes first
-first_bad bytes first h = record {
-  above = h.above;
-  line = h.line;
-  below = h.below;
-  read = h.read;
-  parts =
-      h.parts;
-  good = h.good;
-  bad = h.bad;
-  number = h.number;
-}
+-- the fault of lines is that of the first bad one
+pub lines_leave-Err : {S : Type 0} (step : S → RawLine → Result S Cause) (start : S) (bytes : List ℕ) (first : TraceFault)
+    → lines_leave step start (raw_lines bytes) ≡ Err first → IsFirstBadBy step start bytes first
+lines_leave-Err step start bytes first e =
+    let h = lines_leave-among step start (raw_lines bytes) first e in
+    record {
+      above = h.above;
+      line = h.line;
+      below = h.below;
+      read = h.read;
+      parts = h.parts;
+      good = h.good;
+      bad = h.bad;
+      number = h.number;
+    }
 
 whole-Err : (bytes : List ℕ) (r : Result SoFar TraceFault) (first : TraceFault) → lines_read bytes ≡ r
     → whole r ≡ Err first → lines_read bytes ≡ Err first
@@ -84,5 +86,4 @@ unfolding trace_of lines_read
 trace_of-Err bytes first = cond_both (nat_eq (length bytes) 0) (Err (fault 1 Header)) (whole (lines_read bytes))
     (λ r. r ≡ Err first → ((bytes ≡ []) × (first ≡ fault 1 Header)) ⊎ IsFirstBad bytes first)
     (λ none e. inl (nil_from_length bytes (eqb-true (length bytes) 0 none), cc))
-    (λ _ e. inr (first_bad bytes first (after_lines-Err nothing (raw_lines bytes) first
-    (whole-Err bytes (lines_read bytes) first refl e))))
+    (λ _ e. inr (lines_leave-Err after_line nothing bytes first (whole-Err bytes (lines_read bytes) first refl e)))

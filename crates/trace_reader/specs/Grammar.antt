@@ -18,14 +18,18 @@ abbrev pub nothing : SoFar
 nothing = record { areas = None; top = None; min = None; files = []; lines = []; maps = 0 }
 
 -- what follows a line that was read, or the number of the bad line and its cause
-abbrev pub at_line : {A : Type 0} → ℕ → Result SoFar Cause → (SoFar → Result A TraceFault) → Result A TraceFault
+abbrev pub at_line : {A B : Type 0} → ℕ → Result A Cause → (A → Result B TraceFault) → Result B TraceFault
 at_line number (Ok so_far) rest = rest so_far
 at_line number (Err cause) rest = Err (fault number cause)
 
--- what the lines leave, or the first of them that is bad
+-- what lines leave, each by what it does to what was read before it, or the first of them that is bad
+abbrev pub lines_leave : {S : Type 0} → (S → RawLine → Result S Cause) → S → List RawLine → Result S TraceFault
+lines_leave step before [] = Ok before
+lines_leave step before (line ∷ lines) = at_line line.number (step before line) (λ next. lines_leave step next lines)
+
+-- what the lines of a trace leave
 abbrev pub after_lines : SoFar → List RawLine → Result SoFar TraceFault
-after_lines so_far [] = Ok so_far
-after_lines so_far (line ∷ lines) = at_line line.number (after_line so_far line) (λ next. after_lines next lines)
+after_lines so_far lines = lines_leave after_line so_far lines
 
 -- what all the lines of bytes leave, or the first that is bad
 unfoldable pub lines_read : List ℕ → Result SoFar TraceFault

@@ -264,9 +264,9 @@ fn is_header(words: &[&str]) -> bool
     }
 }
 
-/// Whether a word begins with `#`.
+/// Whether a word begins with `#`, which makes a line a comment where it is the first.
 #[tactic(auto, unfolding(crate::specs::Lines::is_comment))]
-fn is_comment(word: &str) -> bool
+pub fn is_comment(word: &str) -> bool
     ensures { result ≡ is_comment word.now }
 {
     match word.as_bytes() {

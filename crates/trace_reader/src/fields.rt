@@ -14,18 +14,19 @@ use mm_types::{
 };
 use std::alloc::Global;
 
-/// Any number.
+/// Any number; else `Cause::Number`.
 #[tactic(auto, unfolding(crate::specs::Fields::number))]
-pub(crate) fn number(word: &str) -> Result<u64, CallError>
+pub fn number(word: &str) -> Result<u64, CallError>
     ensures { Gives (λ n. n) result (number word.now) }
 {
     number_of(word).ok_or(CallError::Bad(Cause::Number))
 }
 
-/// A number from `low` up to and including `high`.
+/// A number from `low` up to and including `high`; else `Cause::Number`.
 #[tactic(auto, unfolding(crate::specs::Fields::number_in))]
-pub(crate) fn number_in(word: &str, low: u64, high: u64) -> Result<u64, CallError>
+pub fn number_in(word: &str, low: u64, high: u64) -> Result<u64, CallError>
     ensures value { Gives (λ n. n) result (number_in low high word.now) }
+    ensures above { IfOk result (λ n. low ≤ n) }
     ensures within { IfOk result (λ n. n ≤ high) }
 {
     let n = number(word)?;

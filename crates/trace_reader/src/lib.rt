@@ -17,6 +17,9 @@
 //! T is a thread from 0 to 63 in decimal digits. A number has 1 to 20 decimal digits, or `0x` and 1 to 16 hexadecimal
 //! digits, and is below 2^64. The first four stand before the first line with a T, in any order, and each but `file`
 //! at most once; no two files have one FD. In one line the causes come in the order in which `Cause` explains them.
+//!
+//! The parts of this form that other formats share are public as well: `first_line`, `text_of`, `words_of`,
+//! `text_after_words`, `is_comment`, `number`, `number_in`, `thread_of` and `at_line`.
 #![tactic(auto)]
 
 mod builder;
@@ -32,13 +35,17 @@ mod settings;
 mod trace;
 mod words;
 
+pub use builder::is_comment;
 pub use calls::call_of;
 pub use fault::{CallError, Cause, ReadError, TraceFault};
+pub use fields::{number, number_in};
 pub use laws::{first_bad_line, front_is_enough, trace_limits, traces_fit};
 pub use limits::{LINE_LIMIT, MOST_LINES, MOST_MAPS, TRACE_LIMIT};
-pub use numbers::{decimal_of, number_of};
-pub use reading::read;
+pub use lines::{RawLine, first_line, text_of};
+pub use numbers::{decimal_of, number_of, thread_of};
+pub use reading::{at_line, read};
 pub use trace::{Lines, Op, Trace, TraceLine};
+pub use words::{text_after_words, words_of};
 
 #[cfg(test)]
 mod tests;

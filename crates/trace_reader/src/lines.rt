@@ -8,21 +8,21 @@ ghost use Rattle.trace_reader.specs.Reading.{Gives, line_view};
 use crate::fault::{CallError, Cause};
 use crate::limits::{LINE_LIMIT, TRACE_LIMIT};
 
-/// A line of a trace.
+/// A line of a trace, as it stands in its bytes.
 #[derive(Clone, Copy, Debug)]
-pub(crate) struct RawLine<'a> {
+pub struct RawLine<'a> {
     /// Its number, counted from 1.
-    pub(crate) number: u64,
+    pub number: u64,
     /// Its bytes, without the newline.
-    pub(crate) text: &'a [u8],
+    pub text: &'a [u8],
     /// The offset of its first byte in the trace.
-    pub(crate) start: usize,
+    pub start: usize,
     /// Whether a newline ends it.
-    pub(crate) ended: bool,
+    pub ended: bool,
 }
 
-/// The first line of bytes, and what follows it.
-pub(crate) fn first_line(bytes: &[u8], number: u64, start: usize) -> (RawLine<'_>, &[u8])
+/// The first line of bytes that are not empty, and what follows it. The line has this number, and starts at this offset.
+pub fn first_line(bytes: &[u8], number: u64, start: usize) -> (RawLine<'_>, &[u8])
     requires { 0 < length bytes.now }
     ensures line { lines_from number start bytes.now
         ≡ line_view result.0 ∷ lines_from (number + 1) (start + (length bytes.now - length result.1.now)) result.1.now }
@@ -60,9 +60,9 @@ fn is_too_long(line: &RawLine) -> bool
     LINE_LIMIT < len || TRACE_LIMIT.saturating_sub(line.start) <= len
 }
 
-/// The text of a line that is not too long, ends and is UTF-8.
+/// The text of a line that is not too long, ends and is UTF-8; else the cause of the first of these tests that fails.
 #[tactic(auto, unfolding(crate::specs::Lines::text_of))]
-pub(crate) fn text_of<'a>(line: &RawLine<'a>) -> Result<&'a str, CallError>
+pub fn text_of<'a>(line: &RawLine<'a>) -> Result<&'a str, CallError>
     ensures { Gives (λ text. text.now) result (text_of (line_view line.now)) }
 {
     if is_too_long(line) {

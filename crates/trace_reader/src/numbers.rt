@@ -27,9 +27,9 @@ pub fn decimal_of(word: &str) -> Option<u64>
     digits_of(word, 10, 20)
 }
 
-/// The thread that a word is: 1 to 20 decimal digits with a value of 0 to 63.
+/// The thread that a word is: 1 to 20 decimal digits with a value of 0 to 63. There is none for any other word.
 #[tactic(auto, unfolding(crate::specs::Numbers::thread_of))]
-pub(crate) fn thread_of(word: &str) -> Option<u32>
+pub fn thread_of(word: &str) -> Option<u32>
     ensures { result ≡ thread_of word.now }
 {
     match digits_of(word, 10, 20) {

@@ -15,8 +15,8 @@ fn bad(line: u64, cause: Cause) -> ReadError
     ReadError::Bad(TraceFault { line, cause })
 }
 
-/// What is wrong with the line of this number.
-fn at_line(line: u64, error: CallError) -> ReadError
+/// What is wrong with a file whose line of this number is bad for this cause, or was not read for want of memory.
+pub fn at_line(line: u64, error: CallError) -> ReadError
     ensures { result ≡ error_at line error }
 {
     match error {

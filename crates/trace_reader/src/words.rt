@@ -49,8 +49,8 @@ fn split_word(text: &str) -> (&str, &str)
     text.split_at(first_blank(text.as_bytes()))
 }
 
-/// The words of a text: what stands between blanks.
-pub(crate) fn words_of(alloc: Global, text: &str) -> Result<Vec<&str>, AllocError>
+/// The words of a text: what stands between blanks, which are spaces and tabs. It fails only where memory runs out.
+pub fn words_of(alloc: Global, text: &str) -> Result<Vec<&str>, AllocError>
     ensures { IfOk result (λ words. map (λ word. word.now) words.items ≡ words_of text.now) }
 {
     let mut words = Vec::new(alloc);
@@ -65,7 +65,7 @@ pub(crate) fn words_of(alloc: Global, text: &str) -> Result<Vec<&str>, AllocErro
 
 /// What follows so many words and the blanks after them.
 #[tactic(auto, unfolding(crate::specs::Words::text_after_words))]
-pub(crate) fn text_after_words(text: &str, count: usize) -> &str
+pub fn text_after_words(text: &str, count: usize) -> &str
     ensures { result.now ≡ text_after_words count text.now }
 {
     let mut rest = text;

@@ -150,6 +150,7 @@ look_allows config slots seat me reads state shows homes found fits =
           legal = subst (λ c. IsLegalJournal c core.journal) (sym same_config) shows.facts.rows.legal;
           later = subst (λ (r : Reader). StartsWith core.journal r.seen) at.reader (shows.facts.seen seat);
           counted = ap (λ m. m / 2) is ∙ shows.facts.sequence.counts;
+          few = let counts = shows.facts.sequence.counts in let room = shows.room in omega arith;
           own = λ caller turn. (at.fits.turn caller turn).all;
         },
         settled_seat config state shows seat me.0 at,

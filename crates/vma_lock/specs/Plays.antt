@@ -1,5 +1,5 @@
 -- What each step tells the seat that makes it.
-use Rattle.std.specs.Prelude.{ℕ, ◌≡◌, ◌≢◌, ◌<◌, ◌/◌, ◌+◌, List, length, slice_index, Some}
+use Rattle.std.specs.Prelude.{ℕ, ◌≡◌, ◌≢◌, ◌<◌, ◌≤◌, ◌/◌, ◌+◌, ◌^◌, List, length, slice_index, Some}
 use mathlib.Core.Option.{some}
 use Rattle.mm_types.specs.declared.call.Entry.{Entry}
 use Rattle.mm_types.specs.declared.config.Config.{Config}
@@ -28,11 +28,13 @@ pub record IsSettled (view : View) : Type 0 where
   pub own : (caller : ℕ) → view.turn ≡ Some caller → calls_by caller view.seen ≡ calls_by caller view.own
 
 -- What a look that found this sequence tells of the journal that it saw: the journal is legal, begins with all that the
--- seat had seen, has as many entries as the sequence says, and no new entry of the caller whose turn the seat has.
+-- seat had seen, has as many entries as the sequence says, at most 2^31, and no new entry of the caller whose turn the seat
+-- has.
 pub record Sees (view : View) (found : ℕ) (journal : List Entry) : Type 0 where
   pub legal : IsLegalJournal view.config journal
   pub later : StartsWith journal view.seen
   pub counted : found / 2 ≡ length journal + 1
+  pub few : length journal ≤ 2 ^ 31
   pub own : (caller : ℕ) → view.turn ≡ Some caller → calls_by caller journal ≡ calls_by caller view.seen
 
 -- where a seat stands after a look that found this sequence and saw this journal: it is validated where the sequence is

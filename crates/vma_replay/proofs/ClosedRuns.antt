@@ -54,8 +54,8 @@ pass_at (first ∷ rest) place log found =
     ∙ sym (slice_get-map (λ (p : PassView). p.log) (first ∷ rest) place) ∙ found in
     (pass, at, cc)
 
-module _ (name : TableId) (settings : Config) (most : List ℕ) (lines : List TraceLine) (passes : List PassView) (closed : ClosedView)
-    (are : ArePasses name settings most passes) (closes : Closes settings passes closed) where
+module _ (name walked : TableId) (settings : Config) (most : List ℕ) (lines : List TraceLine) (passes : List PassView) (closed : ClosedView)
+    (are : ArePasses name walked settings most passes) (closes : Closes settings passes closed) where
   -- each log is that of a pass, which lies in the journal
   log_of : (place : ℕ) (log : List Seen) → slice_get closed.logs place ≡ Some log
       → (pass : PassView) × (slice_get passes place ≡ Some pass) × (pass.log ≡ log) × IsIn settings closed.journal pass × (caller pass ≡ place)
@@ -120,19 +120,19 @@ module _ (name : TableId) (settings : Config) (most : List ℕ) (lines : List Tr
       lone (log ∷ other ∷ rest) more = absurd (omega arith)
 
 -- the one pass of a space
-pub record OnlyPass (name : TableId) (settings : Config) (most : List ℕ) (passes : List PassView) (pass : PassView)
+pub record OnlyPass (name walked : TableId) (settings : Config) (most : List ℕ) (passes : List PassView) (pass : PassView)
     (lines : List TraceLine) : Type 0 where
   pub one : length most ≡ 1
   pub only : length passes ≡ 1
-  pub pass_is : IsPassOf name settings most pass
+  pub pass_is : IsPassOf name walked settings most pass
   pub fresh : IsFresh pass
   pub left : length lines ≤ pass.left
   pub by : caller pass ≡ 0
 
-pub only_pass : (name : TableId) (settings : Config) (most operations : List ℕ) (passes : List PassView) (pass : PassView) (lines : List TraceLine)
-    → AreFresh name settings most passes → operations ≡ most → operations ≡ length lines ∷ [] → pass ≡ get_or passes 0 pass
-    → OnlyPass name settings most passes pass lines
-only_pass name settings most operations passes pass lines fresh named its read =
+pub only_pass : (name walked : TableId) (settings : Config) (most operations : List ℕ) (passes : List PassView) (pass : PassView) (lines : List TraceLine)
+    → AreFresh name walked settings most passes → operations ≡ most → operations ≡ length lines ∷ [] → pass ≡ get_or passes 0 pass
+    → OnlyPass name walked settings most passes pass lines
+only_pass name walked settings most operations passes pass lines fresh named its read =
     let most_is : most ≡ length lines ∷ [] = sym named ∙ its in
     let one : length most ≡ 1 = ap length most_is in
     let found : slice_get passes 0 ≡ Some pass = slice_get_read passes (length passes) 0 pass refl (omega (arith, fresh.passes_are.all, one)) read in
@@ -151,14 +151,14 @@ used passes new place pass one found =
           ∙ get_or_from_slice_get (set passes 0 new) place pass pass found,
     )
 
-pub one_pass : (name : TableId) (settings : Config) (most : List ℕ) (passes : List PassView) (old new : PassView) (lines : List TraceLine)
-    → OnlyPass name settings most passes old lines → IsPassOf name settings most new → IsLater old new
-    → ArePasses name settings most (set passes 0 new)
-one_pass name settings most passes old new lines only is later = record {
+pub one_pass : (name walked : TableId) (settings : Config) (most : List ℕ) (passes : List PassView) (old new : PassView) (lines : List TraceLine)
+    → OnlyPass name walked settings most passes old lines → IsPassOf name walked settings most new → IsLater old new
+    → ArePasses name walked settings most (set passes 0 new)
+one_pass name walked settings most passes old new lines only is later = record {
   all = length-set passes 0 new ∙ only.only ∙ sym only.one;
   each = λ place pass found.
       let its = used passes new place pass only.only found in
-      (subst (λ (p : PassView). IsPassOf name settings most p) its.1 is, ap caller (sym its.1) ∙ later.by ∙ only.by ∙ sym its.0);
+      (subst (λ (p : PassView). IsPassOf name walked settings most p) its.1 is, ap caller (sym its.1) ∙ later.by ∙ only.by ∙ sym its.0);
 }
 
 pub one_done : (passes : List PassView) (new : PassView) (lines : List TraceLine) → length passes ≡ 1 → done_by new ≡ asked lines

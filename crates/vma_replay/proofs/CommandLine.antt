@@ -188,7 +188,11 @@ pub dash_refused : (words : List (String Global)) → list_any begins_with_dash 
 unfolding named_job
 dash_refused [] dash = refl
 dash_refused (w ∷ []) dash = elim (either (begins_with_dash w) false dash) [
-  | inl first ↦ rw (not_dash_named (codes "serial") (string_bytes w) refl first, not_dash_named (codes "threads") (string_bytes w) refl first) refl
+  | inl first ↦ rw (
+    not_dash_named (codes "serial") (string_bytes w) refl first,
+    not_dash_named (codes "threads") (string_bytes w) refl first,
+    not_dash_named (codes "steps") (string_bytes w) refl first,
+  ) refl
   | inr none ↦ absurd (cc)
 ]
 dash_refused (w ∷ v ∷ []) dash = refl

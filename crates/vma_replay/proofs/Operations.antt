@@ -112,6 +112,8 @@ pub later_on : (old mid new : PassView) → IsLater old mid → IsLater mid new 
 later_on old mid new first next = record {
   by = next.by ∙ first.by;
   table = next.table ∙ first.table;
+  nodes = next.nodes ∙ first.nodes;
+  size = next.size ∙ first.size;
   config_is = next.config_is ∙ first.config_is;
   operations = next.operations ∙ first.operations;
   later = starts_later (seen_by new) (seen_by mid) (seen_by old) next.later first.later;
@@ -121,6 +123,8 @@ pub no_later : (pass : PassView) → IsLater pass pass
 no_later pass = record {
   by = refl;
   table = refl;
+  nodes = refl;
+  size = refl;
   config_is = refl;
   operations = refl;
   later =

@@ -1,16 +1,22 @@
--- Serves `read_source`: the bytes that were taken from a source, up to its end or past the limit, settle which trace it gives.
-use Rattle.std.proofs.Common.{◌≡◌, ◌≤◌, ◌<◌, ℕ, ◌+◌, List, ◌++◌, length, take, Option, Some, None, Result, Ok, Err, IfSome, sym, ap, ◌∙◌, inl, inr, arith, append-nil}
+-- Serves `read_source` and `run_source`: the bytes that were taken from a source, up to its end or past the limit, settle what it is read as.
+use Rattle.std.proofs.Common.{◌≡◌, ◌≤◌, ◌<◌, ℕ, ◌+◌, List, ◌++◌, length, take, Option, Some, None, Result, Ok, Err, IfSome, sym, ap, subst, ◌∙◌, inl, inr, arith, append-nil}
 use Rattle.std.proofs.lemmas.Bool.{cases_lt}
 use Rattle.std.proofs.lemmas.List.{take-append-le}
 use Rattle.std.specs.Io.KnownBytes.{Consumes, IsAtEnd}
+use Rattle.trace_reader.specs.declared.fault.ReadError.{ReadError}
+use Rattle.trace_reader.specs.declared.fault.ReadError.TheVariants as reads
 use Rattle.trace_reader.specs.declared.fault.TraceFault.{TraceFault}
 use Rattle.trace_reader.specs.declared.trace.Trace.{Trace}
 use Rattle.trace_reader.specs.Grammar.{trace_of}
 use Rattle.trace_reader.specs.Lines.{trace_limit}
-use Rattle.vma_replay.specs.declared.status.Status.TheVariants as statuses
+use Rattle.trace_reader.specs.Reading.{GivesTrace}
+use Rattle.step_script.specs.Output.{script_output}
+use Rattle.step_script.specs.Reading.{IsFault}
+use Rattle.vma_replay.specs.declared.status.Status.{Status}
 use Rattle.vma_replay.specs.Replaying.{Takes}
-use Rattle.vma_replay.specs.Reading.{IsReading, IsTaking}
+use Rattle.vma_replay.specs.Reading.{IsReading, IsTaking, refused_as}
 use Rattle.trace_reader.proofs.Beginnings.{trace_of-front, trace_within}
+use Rattle.step_script.proofs.Scripts.{output-front, output-within}
 
 -- Of a function that the first `limit + 1` bytes settle: what follows more than `limit` bytes does not change it.
 read-append : {A : Type 0} (read : List ℕ → A) (limit : ℕ)
@@ -31,19 +37,62 @@ taken_settles read limit same (Some input) (Some rest) bytes answer moved end e 
   | inr within ↦ ap read (moved ∙ ap (λ later. bytes ++ later) (end within) ∙ append-nil bytes) ∙ e
 ]
 
--- of the trace
-trace_settled : (old new : Option (List ℕ)) (bytes : List ℕ) (answer : Result Trace TraceFault)
-    → Takes old new bytes → trace_of bytes ≡ answer → IfSome old (λ input. trace_of input ≡ answer)
-trace_settled old new bytes answer taken e = taken_settles trace_of trace_limit trace_of-front old new bytes answer taken.moved taken.whole e
+-- One byte more than the limit settles what bytes are read as, and bytes that are read are within it.
+record IsBounded {Y : Type 0} (read : List ℕ → Result Y TraceFault) : Type 0 where
+  front : (bytes : List ℕ) → read (take (trace_limit + 1) bytes) ≡ read bytes
+  within : (bytes : List ℕ) (found : Y) → read bytes ≡ Ok found → length bytes ≤ trace_limit
 
--- where what was taken is a trace, the source gave it whole
-pub reads_lines : (old new : Option (List ℕ)) (before now : ℕ) (bytes : List ℕ) (trace : Trace)
-    → IsTaking old new before now (Ok bytes) → trace_of bytes ≡ Ok trace → IsReading old new before now (Ok trace)
-reads_lines old new before now bytes trace taken read =
-    (taken.0, (bytes, taken.1), taken.1.whole (trace_within bytes trace read), trace_settled old new bytes (Ok trace) taken.1 read)
+-- so what was taken gives the answer of the whole
+settled : {Y : Type 0} (read : List ℕ → Result Y TraceFault) → IsBounded read → (old new : Option (List ℕ)) (bytes : List ℕ)
+    (answer : Result Y TraceFault) → Takes old new bytes → read bytes ≡ answer → IfSome old (λ input. read input ≡ answer)
+settled read bounded old new bytes answer taken e = taken_settles read trace_limit bounded.front old new bytes answer taken.moved taken.whole e
 
--- where it is none, it has the source's first bad line
-pub reads_fault : (old new : Option (List ℕ)) (before now : ℕ) (bytes : List ℕ) (first : TraceFault)
-    → IsTaking old new before now (Ok bytes) → trace_of bytes ≡ Err first
-    → IsReading old new before now (Err (statuses.Trace first.line first.cause))
-reads_fault old new before now bytes first taken read = (taken.0, (bytes, taken.1), trace_settled old new bytes (Err first) taken.1 read)
+-- where what was taken is read, the source gave it whole
+found_whole : {Y : Type 0} (read : List ℕ → Result Y TraceFault) → IsBounded read → (old new : Option (List ℕ)) (before now : ℕ)
+    (bytes : List ℕ) (found : Y) → IsTaking old new before now (Ok bytes) → read bytes ≡ Ok found
+    → IsReading read old new before now (Ok found)
+found_whole read bounded old new before now bytes found taken is =
+    (taken.0, (bytes, taken.1), taken.1.whole (bounded.within bytes found is), settled read bounded old new bytes (Ok found) taken.1 is)
+
+-- where it is not, it has the source's first bad line, or memory ran out
+refused_first : {Y : Type 0} (read : List ℕ → Result Y TraceFault) → IsBounded read → (old new : Option (List ℕ)) (before now : ℕ)
+    (bytes : List ℕ) (error : ReadError) (status : Status) → IsTaking old new before now (Ok bytes) → IsFault error (read bytes)
+    → status ≡ refused_as error → IsReading read old new before now (Err status)
+refused_first {Y} read bounded old new before now bytes error status taken fault is =
+    subst (λ (s : Status). IsReading read old new before now (Err s)) (sym is) (by_error error fault)
+  where
+    by_error : (error : ReadError) → IsFault error (read bytes) → IsReading read old new before now (Err (refused_as error))
+    by_error (reads.Bad first) fault = (taken.0, (bytes, taken.1), settled read bounded old new bytes (Err first) taken.1 fault)
+    by_error reads.NoMemory fault = taken.0
+
+bounded_trace : IsBounded trace_of
+bounded_trace = record { front = trace_of-front; within = trace_within }
+
+bounded_script : IsBounded script_output
+bounded_script = record { front = output-front; within = output-within }
+
+-- what the reader of traces answers in place of a trace
+trace_fault : (error : ReadError) (read : Result Trace TraceFault) → GivesTrace (Err error) read → IsFault error read
+trace_fault (reads.Bad first) read is = is
+trace_fault reads.NoMemory read is = is
+
+-- of traces
+pub reads_trace : (old new : Option (List ℕ)) (before now : ℕ) (bytes : List ℕ) (trace : Trace)
+    → IsTaking old new before now (Ok bytes) → trace_of bytes ≡ Ok trace → IsReading trace_of old new before now (Ok trace)
+reads_trace = found_whole trace_of bounded_trace
+
+pub reads_no_trace : (old new : Option (List ℕ)) (before now : ℕ) (bytes : List ℕ) (error : ReadError) (status : Status)
+    → IsTaking old new before now (Ok bytes) → GivesTrace (Err error) (trace_of bytes) → status ≡ refused_as error
+    → IsReading trace_of old new before now (Err status)
+reads_no_trace old new before now bytes error status taken given =
+    refused_first trace_of bounded_trace old new before now bytes error status taken (trace_fault error (trace_of bytes) given)
+
+-- of scripts
+pub reads_script : (old new : Option (List ℕ)) (before now : ℕ) (bytes text : List ℕ)
+    → IsTaking old new before now (Ok bytes) → script_output bytes ≡ Ok text → IsReading script_output old new before now (Ok text)
+reads_script = found_whole script_output bounded_script
+
+pub reads_no_script : (old new : Option (List ℕ)) (before now : ℕ) (bytes : List ℕ) (error : ReadError) (status : Status)
+    → IsTaking old new before now (Ok bytes) → IsFault error (script_output bytes) → status ≡ refused_as error
+    → IsReading script_output old new before now (Err status)
+reads_no_script = refused_first script_output bounded_script

@@ -80,19 +80,19 @@ ran_all old new lines own places index ran stand few =
     ran_is old new own index ran (omega arith)
 
 -- a fresh pass has as many operations as its caller has lines
-pub share_left : (name : TableId) (settings : Config) (most : List ℕ) (lines : List TraceLine) (passes : List PassView)
-    → AreFresh name settings most passes
+pub share_left : (name walked : TableId) (settings : Config) (most : List ℕ) (lines : List TraceLine) (passes : List PassView)
+    → AreFresh name walked settings most passes
     → AreShares lines most → (place : ℕ) (pass : PassView) → slice_get passes place ≡ Some pass → pass.left ≡ length (lines_of lines place)
-share_left name settings most lines passes fresh shares place pass found =
+share_left name walked settings most lines passes fresh shares place pass found =
     let is = fresh.passes_are.each place pass found in
     let within : place < length passes = slice_get_within passes place pass found in
     (fresh.fresh place pass found).left ∙ is.0.operations ∙ ap (λ (k : ℕ). get_or most k 0) is.1
     ∙ shares.each place (omega (arith, fresh.passes_are.all, shares.all))
 
 -- so where such passes ran a beginning of their lines, that is all that they did
-module _ (name : TableId) (settings : Config) (most : List ℕ) (lines : List TraceLine) (olds news : List PassView)
-    (fresh : AreFresh name settings most olds)
-    (passes : ArePasses name settings most news)
+module _ (name walked : TableId) (settings : Config) (most : List ℕ) (lines : List TraceLine) (olds news : List PassView)
+    (fresh : AreFresh name walked settings most olds)
+    (passes : ArePasses name walked settings most news)
     (ran : (caller : ℕ) (old new : PassView) → slice_get olds caller ≡ Some old → slice_get news caller ≡ Some new → IsLater old new
     × Ran old new (lines_of lines caller)) where
   old_at : (place : ℕ) (new : PassView) → slice_get news place ≡ Some new → slice_get olds place ≡ Some (get_or olds place new)
@@ -124,56 +124,56 @@ module _ (name : TableId) (settings : Config) (most : List ℕ) (lines : List Tr
         arith,
         left,
         its.left,
-        share_left name settings most lines olds fresh shares place old
+        share_left name walked settings most lines olds fresh shares place old
             (old_at place new found),
       )))
 
 -- with nothing run a fresh pass did nothing of its lines
-pub begun_none : (name : TableId) (settings : Config) (most : List ℕ) (lines : List TraceLine) (passes : List PassView)
-    → AreFresh name settings most passes
+pub begun_none : (name walked : TableId) (settings : Config) (most : List ℕ) (lines : List TraceLine) (passes : List PassView)
+    → AreFresh name walked settings most passes
     → (place : ℕ) (pass : PassView) → slice_get passes place ≡ Some pass → (count : ℕ) × (done_by pass ≡ asked (take count (lines_of lines place)))
-begun_none name settings most lines passes fresh place pass found = (0, fresh_did pass (fresh.fresh place pass found))
+begun_none name walked settings most lines passes fresh place pass found = (0, fresh_did pass (fresh.fresh place pass found))
 
 -- what a worker does with the pass of a caller
-pub record Works (name : TableId) (settings : Config) (most : List ℕ) (lines : List TraceLine) (place : ℕ) (old new : PassView) : Type 0 where
-  pub pass : IsPassOf name settings most new
+pub record Works (name walked : TableId) (settings : Config) (most : List ℕ) (lines : List TraceLine) (place : ℕ) (old new : PassView) : Type 0 where
+  pub pass : IsPassOf name walked settings most new
   pub later : IsLater old new
   pub ran : Ran old new (lines_of lines place)
 
-pub passes_worked : (name : TableId) (settings : Config) (most : List ℕ) (lines : List TraceLine) (olds news : List PassView)
-    → ArePasses name settings most olds
-    → length news ≡ length olds → ((i : ℕ) (d : PassView) → i < length olds → Works name settings most lines i (get_or olds i d) (get_or news i d))
-    → ArePasses name settings most news
-passes_worked name settings most lines olds news passes many works = record {
+pub passes_worked : (name walked : TableId) (settings : Config) (most : List ℕ) (lines : List TraceLine) (olds news : List PassView)
+    → ArePasses name walked settings most olds
+    → length news ≡ length olds → ((i : ℕ) (d : PassView) → i < length olds → Works name walked settings most lines i (get_or olds i d) (get_or news i d))
+    → ArePasses name walked settings most news
+passes_worked name walked settings most lines olds news passes many works = record {
   all = many ∙ passes.all;
   each = λ place new found.
       let within : place < length olds = omega (arith, many, slice_get_within news place new found) in
       let old : PassView = get_or olds place new in
-      let work : Works name settings most lines place old new =
-      subst (λ (p : PassView). Works name settings most lines place old p) (get_or_from_slice_get news place new new found)
+      let work : Works name walked settings most lines place old new =
+      subst (λ (p : PassView). Works name walked settings most lines place old p) (get_or_from_slice_get news place new new found)
       (works place new within) in
       (work.pass, work.later.by ∙ (passes.each place old (slice_get-get_or olds place new within)).1);
 }
 
-pub each_ran : (name : TableId) (settings : Config) (most : List ℕ) (lines : List TraceLine) (olds news : List PassView) → length news ≡ length olds
-    → ((i : ℕ) (d : PassView) → i < length olds → Works name settings most lines i (get_or olds i d) (get_or news i d))
+pub each_ran : (name walked : TableId) (settings : Config) (most : List ℕ) (lines : List TraceLine) (olds news : List PassView) → length news ≡ length olds
+    → ((i : ℕ) (d : PassView) → i < length olds → Works name walked settings most lines i (get_or olds i d) (get_or news i d))
     → (caller : ℕ) (old new : PassView) → slice_get olds caller ≡ Some old → slice_get news caller ≡ Some new → IsLater old new
     × Ran old new (lines_of lines caller)
-each_ran name settings most lines olds news many works place old new before after =
+each_ran name walked settings most lines olds news many works place old new before after =
     let within : place < length olds = slice_get_within olds place old before in
-    let work : Works name settings most lines place old new =
-    subst (λ (p : PassView). Works name settings most lines place p new) (get_or_from_slice_get olds place old new before)
-    (subst (λ (p : PassView). Works name settings most lines place (get_or olds place new) p) (get_or_from_slice_get news place new new after)
+    let work : Works name walked settings most lines place old new =
+    subst (λ (p : PassView). Works name walked settings most lines place p new) (get_or_from_slice_get olds place old new before)
+    (subst (λ (p : PassView). Works name walked settings most lines place (get_or olds place new) p) (get_or_from_slice_get news place new new after)
     (works place new within)) in
     (work.later, work.ran)
 
 -- a worker may run its pass
-pub may_work : (name : TableId) (settings : Config) (most : List ℕ) (lines : List TraceLine) (places : List (Vec ℕ Global)) (passes : List PassView)
-    → ArePlaces lines (length passes) places → ArePasses name settings most passes
+pub may_work : (name walked : TableId) (settings : Config) (most : List ℕ) (lines : List TraceLine) (places : List (Vec ℕ Global)) (passes : List PassView)
+    → ArePlaces lines (length passes) places → ArePasses name walked settings most passes
     → ((place : ℕ) (pass : PassView) → slice_get passes place ≡ Some pass → length (lines_of lines place) ≤ pass.left)
     → (i : ℕ) (pass : PassView) → i < length passes → pass ≡ get_or passes i pass
-    → (i < length places) × ArePlaces lines (length places) places × IsPassOf name settings most pass × (length (lines_of lines i) ≤ pass.left)
-may_work name settings most lines places passes are is left i pass within read =
+    → (i < length places) × ArePlaces lines (length places) places × IsPassOf name walked settings most pass × (length (lines_of lines i) ≤ pass.left)
+may_work name walked settings most lines places passes are is left i pass within read =
     let found : slice_get passes i ≡ Some pass = slice_get_read passes (length passes) i pass refl within read in (
       omega (arith, are.all),
       record { all = refl; stand = are.stand; no_lines = λ k past. are.no_lines k (omega (arith, are.all)) },
@@ -182,10 +182,10 @@ may_work name settings most lines places passes are is left i pass within read =
     )
 
 -- what a worker did with the pass that it was lent
-pub worked : (name : TableId) (settings : Config) (most : List ℕ) (lines : List TraceLine) (place : ℕ) (lent back old new : PassView) → lent ≡ old
+pub worked : (name walked : TableId) (settings : Config) (most : List ℕ) (lines : List TraceLine) (place : ℕ) (lent back old new : PassView) → lent ≡ old
     → back ≡ new
-    → IsPassOf name settings most back × IsLater lent back × Ran lent back (lines_of lines place) → Works name settings most lines place old new
-worked name settings most lines place lent back old new before after did =
-    subst (λ (p : PassView). Works name settings most lines place p new) before
-    (subst (λ (p : PassView). Works name settings most lines place lent p) after
+    → IsPassOf name walked settings most back × IsLater lent back × Ran lent back (lines_of lines place) → Works name walked settings most lines place old new
+worked name walked settings most lines place lent back old new before after did =
+    subst (λ (p : PassView). Works name walked settings most lines place p new) before
+    (subst (λ (p : PassView). Works name walked settings most lines place lent p) after
     (record { pass = did.0; later = did.1; ran = did.2 }))

@@ -1,9 +1,10 @@
--- No public clause cites what stands here: what the functions result in that take bytes and read them as a trace.
+-- No public clause cites what stands here: what the functions result in that take bytes and read them as a trace or as a script.
 use Rattle.std.specs.Prelude.{ℕ, ◌≡◌, ◌<◌, List, Vec, Option, Result, Ok, Err, IfSome}
 use Rattle.std.specs.declared.alloc.Global.{Global}
 use Rattle.std.specs.Io.KnownBytes.{IsAtEnd}
-use Rattle.trace_reader.specs.declared.trace.Trace.{Trace}
-use Rattle.trace_reader.specs.Grammar.{trace_of}
+use Rattle.trace_reader.specs.declared.fault.ReadError.{ReadError}
+use Rattle.trace_reader.specs.declared.fault.ReadError.TheVariants as reads
+use Rattle.trace_reader.specs.declared.fault.TraceFault.{TraceFault}
 use Rattle.vma_replay.specs.declared.status.Status.{Status}
 use Rattle.vma_replay.specs.declared.status.Status.TheVariants as statuses
 use Rattle.vma_replay.specs.Replaying.{Takes, ReadsEnough}
@@ -23,13 +24,18 @@ IsTaking old new before now (Err statuses.Words) = ⊥
 IsTaking old new before now (Err (statuses.Trace line cause)) = ⊥
 IsTaking old new before now (Err statuses.WriteFault) = ⊥
 
--- what reading a trace results in, by the same
-abbrev pub IsReading : Option (List ℕ) → Option (List ℕ) → ℕ → ℕ → Result Trace Status → Type 0
-IsReading old new before now (Ok trace) = (now ≡ before) × ReadsEnough old new × IsAtEnd new × IfSome old (λ input. trace_of input ≡ Ok trace)
-IsReading old new before now (Err (statuses.Trace line cause)) = (now ≡ before) × ReadsEnough old new
-    × IfSome old (λ input. trace_of input ≡ Err (record { line = line; cause = cause }))
-IsReading old new before now (Err statuses.ReadFault) = before < now
-IsReading old new before now (Err statuses.NoMemory) = now ≡ before
-IsReading old new before now (Err statuses.Done) = ⊥
-IsReading old new before now (Err statuses.Words) = ⊥
-IsReading old new before now (Err statuses.WriteFault) = ⊥
+-- the answer to bytes that were not read: the first bad line, or out of memory
+abbrev pub refused_as : ReadError → Status
+refused_as (reads.Bad first) = statuses.Trace first.line first.cause
+refused_as reads.NoMemory = statuses.NoMemory
+
+-- what taking bytes and reading them results in, by what these bytes are read as and by the same
+abbrev pub IsReading : {Y : Type 0} → (List ℕ → Result Y TraceFault) → Option (List ℕ) → Option (List ℕ) → ℕ → ℕ → Result Y Status → Type 0
+IsReading read old new before now (Ok found) = (now ≡ before) × ReadsEnough old new × IsAtEnd new × IfSome old (λ input. read input ≡ Ok found)
+IsReading read old new before now (Err (statuses.Trace line cause)) = (now ≡ before) × ReadsEnough old new
+    × IfSome old (λ input. read input ≡ Err (record { line = line; cause = cause }))
+IsReading read old new before now (Err statuses.ReadFault) = before < now
+IsReading read old new before now (Err statuses.NoMemory) = now ≡ before
+IsReading read old new before now (Err statuses.Done) = ⊥
+IsReading read old new before now (Err statuses.Words) = ⊥
+IsReading read old new before now (Err statuses.WriteFault) = ⊥

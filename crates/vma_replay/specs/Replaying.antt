@@ -1,5 +1,6 @@
 -- What the promises of `replay` say of what it takes, runs, gives and answers.
-use Rattle.std.specs.Prelude.{ℕ, ◌≡◌, ◌<◌, ◌≤◌, ◌+◌, ◌⊎◌, List, [], ◌∷◌, length, take, Option, IfSome, unwrap_or, slice_get, Result, Ok, Err, IsOkAnd}
+use Rattle.std.specs.Prelude.{ℕ, ◌≡◌, ◌<◌, ◌≤◌, ◌+◌, ◌⊎◌, List, [], ◌∷◌, length, take, Option, Some, None, IfSome, unwrap_or, slice_get, IsOkAnd}
+use Rattle.std.specs.Result.{result_err}
 use Rattle.std.specs.Io.KnownBytes.{Appends, Consumes, IsAtEnd}
 use Rattle.mm_types.specs.declared.call.Seen.{Seen}
 use Rattle.lock_core.specs.Facts.{list_after}
@@ -22,6 +23,7 @@ use Rattle.vma_replay.specs.declared.status.Status.{Status}
 use Rattle.vma_replay.specs.declared.status.Status.TheVariants as statuses
 use Rattle.vma_replay.specs.Output.{output_text, serial_output}
 use Rattle.history.specs.CallerPlaces.{callers_of}
+use Rattle.step_script.specs.Output.{script_output}
 use Rattle.vma_replay.specs.Summaries.{summary_text}
 
 -- A closed run of the lines of a trace: in `threads` by the trace's callers, each its own lines; in `serial` by one caller all lines,
@@ -74,27 +76,49 @@ abbrev pub GivesSummary : ℕ → ℕ → List ClosedView → Option (List ℕ) 
 GivesSummary count seed runs old new = (run : ClosedView) × (runs ≡ run ∷ []) × IsRunOf modes.Serial (load_trace count seed) run
     × (run.list ≡ list_after (load_trace count seed).config run.journal) × Appends old new (summary_text count seed)
 
--- What was given by a job that is done, by what its source had left: in a mode the output of the trace that was read, in `generate`
--- the summary of the generated one.
+-- the input is a script, and what was given is its text
+abbrev pub GivesText : List ℕ → Option (List ℕ) → Option (List ℕ) → Type 0
+GivesText input old new = IsOkAnd (script_output input) (λ text. Appends old new text)
+
+-- the input is a script, and what was given is a beginning of its text
+abbrev pub GivesTextFront : List ℕ → Option (List ℕ) → Option (List ℕ) → Type 0
+GivesTextFront input old new = IsOkAnd (script_output input) (λ text. (count : ℕ) × Appends old new (take count text))
+
+-- the input is a script, and what was given is a beginning of its text that is not all of it
+abbrev pub GivesProperTextFront : List ℕ → Option (List ℕ) → Option (List ℕ) → Type 0
+GivesProperTextFront input old new = IsOkAnd (script_output input) (λ text. (count : ℕ) × (count < length text)
+    × Appends old new (take count text))
+
+-- What was given by a job that is done, by what its source had left: in a mode the output of the trace that was read, in `steps` the
+-- text of the script that was read, for which nothing was run over a space, and in `generate` the summary of the generated trace.
 abbrev pub GivesAll : Job → Option (List ℕ) → List ClosedView → Option (List ℕ) → Option (List ℕ) → Type 0
 GivesAll (jobs.Replay mode) left runs old new = IfSome left (λ input. GivesOutput mode input runs old new)
+GivesAll jobs.Steps left runs old new = (runs ≡ []) × IfSome left (λ input. GivesText input old new)
 GivesAll (jobs.Generate count seed) left runs old new = GivesSummary count seed runs old new
 
 -- a beginning of it was given
 abbrev pub GivesBeginning : Job → Option (List ℕ) → Option (List ℕ) → Option (List ℕ) → Type 0
 GivesBeginning (jobs.Replay mode) left old new = IfSome left (λ input. GivesFront mode input old new)
+GivesBeginning jobs.Steps left old new = IfSome left (λ input. GivesTextFront input old new)
 GivesBeginning (jobs.Generate count seed) left old new = (given : ℕ) × Appends old new (take given (summary_text count seed))
 
 -- a beginning of it that is not all of it was given
 abbrev pub GivesProperBeginning : Job → Option (List ℕ) → Option (List ℕ) → Option (List ℕ) → Type 0
 GivesProperBeginning (jobs.Replay mode) left old new = IfSome left (λ input. GivesProperFront mode input old new)
+GivesProperBeginning jobs.Steps left old new = IfSome left (λ input. GivesProperTextFront input old new)
 GivesProperBeginning (jobs.Generate count seed) left old new = (given : ℕ) × (given < length (summary_text count seed))
     × Appends old new (take given (summary_text count seed))
 
--- the answer to accepted words and an input, where neither memory nor the outside fails
-abbrev pub status_of : Result Trace TraceFault → Status
-status_of (Ok trace) = statuses.Done
-status_of (Err first) = statuses.Trace first.line first.cause
+-- the first bad line of an input, as a job reads it: in a mode as a trace, and in `steps` as a script
+abbrev pub fault_of : Job → List ℕ → Option TraceFault
+fault_of (jobs.Replay mode) input = result_err (trace_of input)
+fault_of jobs.Steps input = result_err (script_output input)
+fault_of (jobs.Generate count seed) input = None
+
+-- the answer to an input that has this bad line, or none, where neither memory nor the outside fails
+abbrev pub status_of : Option TraceFault → Status
+status_of None = statuses.Done
+status_of (Some first) = statuses.Trace first.line first.cause
 
 -- these bytes were taken: all that were left, or one more than a trace may have
 pub record Takes (old new : Option (List ℕ)) (bytes : List ℕ) : Type 0 where
@@ -102,7 +126,7 @@ pub record Takes (old new : Option (List ℕ)) (bytes : List ℕ) : Type 0 where
   pub whole : length bytes ≤ trace_limit → IsAtEnd new
   pub bounded : length bytes ≤ trace_limit + 1
 
--- enough was read to tell whether the input is a trace: all of it, or one byte more than a trace may have
+-- enough was read to tell whether the input is a trace or a script: all of it, or one byte more than either may have
 abbrev pub ReadsEnough : Option (List ℕ) → Option (List ℕ) → Type 0
 ReadsEnough old new = (bytes : List ℕ) × Takes old new bytes
 

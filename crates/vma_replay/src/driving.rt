@@ -32,9 +32,9 @@ pub fn drive<N: SpaceName + Send + Sync, R: Threads + Wait + Sync, G: Gate>(
     gate: &G,
 ) -> Result<(), NoMemory>
     requires trace { IsTraceValue trace.now }
-    requires passes { AreFresh N.table N.config N.operations passes.old }
+    requires passes { AreFresh N.table N.nodes N.config N.operations passes.old }
     requires shares { AreShares trace.now.lines N.operations }
-    ensures passes { ArePasses N.table N.config N.operations passes.new }
+    ensures passes { ArePasses N.table N.nodes N.config N.operations passes.new }
     ensures begun { (caller : ℕ) (pass : PassView) → slice_get passes.new caller ≡ Some pass
         → (count : ℕ) × (done_by pass ≡ asked (take count (lines_of trace.now.lines caller))) }
     ensures done { OnOk result ((caller : ℕ) (pass : PassView) → slice_get passes.new caller ≡ Some pass
@@ -58,10 +58,10 @@ pub fn in_order<N: SpaceName, R: Wait>(
     pass: &mut Pass,
     trace: &Trace,
 ) -> Result<(), NoMemory>
-    requires pass { IsPassOf N.table N.config N.operations pass.old }
+    requires pass { IsPassOf N.table N.nodes N.config N.operations pass.old }
     requires fresh { IsFresh pass.old }
     requires left { length trace.now.lines ≤ pass.old.left }
-    ensures pass { IsPassOf N.table N.config N.operations pass.new }
+    ensures pass { IsPassOf N.table N.nodes N.config N.operations pass.new }
     ensures later { IsLater pass.old pass.new }
     ensures begun { (count : ℕ) × (done_by pass.new ≡ asked (take count trace.now.lines)) }
     ensures done { OnOk result (done_by pass.new ≡ asked trace.now.lines) }
@@ -84,16 +84,16 @@ fn run_workers<N: SpaceName + Send + Sync, R: Threads + Wait + Sync, G: Gate>(
 )
     requires some { 0 < length passes.old }
     requires places { ArePlaces lines.now (length passes.old) places.now }
-    requires passes { ArePasses N.table N.config N.operations passes.old }
+    requires passes { ArePasses N.table N.nodes N.config N.operations passes.old }
     requires left { (caller : ℕ) (pass : PassView) → slice_get passes.old caller ≡ Some pass → length (lines_of lines.now caller) ≤ pass.left }
-    ensures passes { ArePasses N.table N.config N.operations passes.new }
+    ensures passes { ArePasses N.table N.nodes N.config N.operations passes.new }
     ensures ran { (caller : ℕ) (old new : PassView) → slice_get passes.old caller ≡ Some old → slice_get passes.new caller ≡ Some new
         → IsLater old new × Ran old new (lines_of lines.now caller) }
 {
     let worker = |caller: usize, pass: &mut Pass|
-        requires { (caller < length places.now) × ArePlaces lines.now (length places.now) places.now × IsPassOf N.table N.config N.operations pass.now
+        requires { (caller < length places.now) × ArePlaces lines.now (length places.now) places.now × IsPassOf N.table N.nodes N.config N.operations pass.now
             × (length (lines_of lines.now caller) ≤ pass.now.left) }
-        ensures { IsPassOf N.table N.config N.operations pass.exit.now × IsLater pass.entry.now pass.exit.now
+        ensures { IsPassOf N.table N.nodes N.config N.operations pass.exit.now × IsLater pass.entry.now pass.exit.now
             × Ran pass.entry.now pass.exit.now (lines_of lines.entry.now caller) }
     { run_own(rt, alloc, space, pass, lines, places, caller, gate) };
     let threads = passes.len();
@@ -113,9 +113,9 @@ fn run_own<N: SpaceName, R: Threads + Wait + Sync, G: Gate>(
 )
     requires caller { caller < length places.now }
     requires places { ArePlaces lines.now (length places.now) places.now }
-    requires pass { IsPassOf N.table N.config N.operations pass.old }
+    requires pass { IsPassOf N.table N.nodes N.config N.operations pass.old }
     requires left { length (lines_of lines.now caller) ≤ pass.old.left }
-    ensures pass { IsPassOf N.table N.config N.operations pass.new }
+    ensures pass { IsPassOf N.table N.nodes N.config N.operations pass.new }
     ensures later { IsLater pass.old pass.new }
     ensures ran { Ran pass.old pass.new (lines_of lines.now caller) }
 {
@@ -137,9 +137,9 @@ fn run_op<N: SpaceName, R: Wait>(
     pass: &mut Pass,
     op: Op,
 ) -> Result<(), NoMemory>
-    requires pass { IsPassOf N.table N.config N.operations pass.old }
+    requires pass { IsPassOf N.table N.nodes N.config N.operations pass.old }
     requires left { 0 < pass.old.left }
-    ensures pass { IsPassOf N.table N.config N.operations pass.new }
+    ensures pass { IsPassOf N.table N.nodes N.config N.operations pass.new }
     ensures later { IsLater pass.old pass.new }
     ensures ok { OnOk result (Does pass.old pass.new op) }
     ensures err { OnErr result (DoesNoMore pass.old pass.new) }

@@ -34,20 +34,20 @@ pub(crate) fn give_summary<R: Wait, K: Sink>(
     ensures { IsGivingSummary count seed (K.written sink.old) (K.written sink.new) (K.faults sink.old) (K.faults sink.new) result.status result.runs }
 {
     let Ok(room) = Vec::with_capacity(alloc, 1) else {
-        return Replayed::failed(alloc, Status::NoMemory);
+        return Replayed::without_run(alloc, Status::NoMemory);
     };
     let Ok(run) = generated_run(rt, alloc, count, seed) else {
-        return Replayed::failed(alloc, Status::NoMemory);
+        return Replayed::without_run(alloc, Status::NoMemory);
     };
     let Ok(text) = Summary::of(&run).text(alloc) else {
-        return Replayed::failed(alloc, Status::NoMemory);
+        return Replayed::without_run(alloc, Status::NoMemory);
     };
     match give_all(sink, &text) {
         Status::Done => Replayed {
             status: Status::Done,
             runs: Runs::one(room, run),
         },
-        status => Replayed::failed(alloc, status),
+        status => Replayed::without_run(alloc, status),
     }
 }
 

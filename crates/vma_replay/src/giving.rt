@@ -28,20 +28,20 @@ pub(crate) fn give_run<R: Threads + Wait + Sync, K: Sink, G: Gate>(
     ensures { IsGivingRun mode trace.now (K.written sink.old) (K.written sink.new) (K.faults sink.old) (K.faults sink.new) result.status result.runs }
 {
     let Ok(room) = Vec::with_capacity(alloc, 1) else {
-        return Replayed::failed(alloc, Status::NoMemory);
+        return Replayed::without_run(alloc, Status::NoMemory);
     };
     let Ok(run) = closed_run(rt, alloc, mode, trace, gate) else {
-        return Replayed::failed(alloc, Status::NoMemory);
+        return Replayed::without_run(alloc, Status::NoMemory);
     };
     let Ok(text) = run_text(alloc, mode, trace, &run) else {
-        return Replayed::failed(alloc, Status::NoMemory);
+        return Replayed::without_run(alloc, Status::NoMemory);
     };
     match give_all(sink, &text) {
         Status::Done => Replayed {
             status: Status::Done,
             runs: Runs::one(room, run),
         },
-        status => Replayed::failed(alloc, status),
+        status => Replayed::without_run(alloc, status),
     }
 }
 

@@ -1,5 +1,5 @@
-//! The replayer: reads a trace, replays it over an address space, and writes every reply and the final list of areas; or replays a
-//! generated trace, and writes a summary of what it did.
+//! The replayer: reads a trace, replays it over an address space, and writes every reply and the final list of areas; or reads a script,
+//! and writes what each of its steps results in; or replays a generated trace, and writes a summary of what it did.
 #![tactic(auto)]
 
 mod copying;
@@ -16,6 +16,8 @@ mod replayed;
 mod run;
 mod running;
 mod status;
+#[cfg(test)]
+mod step_tests;
 mod summary;
 #[cfg(test)]
 mod table_tests;

@@ -7,17 +7,17 @@ use mm_types::NoMemory;
 use std::alloc::Global;
 use std::marker::Model;
 
-/// What a replay results in, with the run that it was made of.
+/// What a replay results in, with the run that it was made of, if a trace was run.
 #[derive(Drop)]
 pub struct Replayed {
     pub status: Status,
-    /// The one closed run where the status is `Done`, and none else.
+    /// The one closed run where the status is `Done` and a trace was run, and none else.
     pub runs: Runs,
 }
 
 impl Replayed {
-    /// A replay without a whole output.
-    pub(crate) fn failed(alloc: Global, status: Status) -> Replayed
+    /// A replay of which no run is kept.
+    pub(crate) fn without_run(alloc: Global, status: Status) -> Replayed
         ensures { (result.status ≡ status) × (result.runs ≡ []) }
     {
         Replayed {

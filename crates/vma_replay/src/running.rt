@@ -72,7 +72,7 @@ fn run_one_pass<N: SpaceName, R: Wait>(
     ready: Ready,
     trace: &Trace,
 ) -> Result<Closed, NoMemory>
-    requires name { (ready.table ≡ N.table) × (ready.config ≡ N.config) × (ready.operations ≡ N.operations) }
+    requires name { (ready.table ≡ N.table) × (ready.nodes ≡ N.nodes) × (ready.config ≡ N.config) × (ready.operations ≡ N.operations) }
     requires config { ready.config ≡ trace.now.config }
     requires one { ready.operations ≡ length trace.now.lines ∷ [] }
     ensures run { IfOk result (λ run. IsRunOf Serial trace.now run) }
@@ -91,7 +91,7 @@ fn run_passes<N: SpaceName + Send + Sync, R: Threads + Wait + Sync, G: Gate>(
     trace: &Trace,
     gate: &G,
 ) -> Result<Closed, NoMemory>
-    requires name { (ready.table ≡ N.table) × (ready.config ≡ N.config) × (ready.operations ≡ N.operations) }
+    requires name { (ready.table ≡ N.table) × (ready.nodes ≡ N.nodes) × (ready.config ≡ N.config) × (ready.operations ≡ N.operations) }
     requires config { ready.config ≡ trace.now.config }
     requires shares { AreShares trace.now.lines ready.operations }
     requires trace { IsTraceValue trace.now }

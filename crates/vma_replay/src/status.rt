@@ -12,7 +12,7 @@ pub enum Status {
     Done,
     /// The words are none of the accepted lists.
     Words,
-    /// The input is no trace: the first bad line, counted from 1, and its cause.
+    /// The input is no trace, or in `steps` no script: the first bad line, counted from 1, and its cause.
     Trace { line: u64, cause: Cause },
     /// The source failed.
     ReadFault,

@@ -15,7 +15,7 @@ const TWO_PAGES_OUTPUT: &[u8] =
     b"L2 t0 v1 = 0x7ffff7ffd000\nmaps 1\n7ffff7ffd000-7ffff7fff000 rw-p 00000000 00:00 0 \n";
 
 /// The words of the command line.
-fn words(alloc: Global, texts: &[&str]) -> Result<Vec<String>, AllocError> {
+pub(crate) fn words(alloc: Global, texts: &[&str]) -> Result<Vec<String>, AllocError> {
     let mut words = Vec::new(alloc);
     for text in texts {
         words.push(String::from_str(alloc, text)?)?;
@@ -88,11 +88,12 @@ fn gives_nothing_for_what_is_no_trace(rt: HostRuntime) -> Result<(), Fail> {
 
 #[test]
 fn accepts_each_mode_alone(rt: HostRuntime) -> Result<(), Fail> {
-    let lists: [&[&str]; 7] = [
+    let lists: [&[&str]; 8] = [
         &[],
         &["serial", "serial"],
         &["serial", "threads"],
         &["threads", ""],
+        &["steps", "steps"],
         &["--help"],
         &["help"],
         &["Serial"],

@@ -1,7 +1,7 @@
 ghost use Rattle.std.specs.Prelude.{◌≡◌, ◌≤◌, IfErr, IfOk, IfSome, Err, None, Some, map, string_bytes, true};
 ghost use Rattle.std.specs.List.{list_any};
 ghost use Rattle.clap.specs.Words.{app_of, found_of, matches_of, rows_of, takes};
-ghost use Rattle.vma_replay.specs.Jobs.{generate_job, job_of_words, named_job, named_mode, operation_count};
+ghost use Rattle.vma_replay.specs.Jobs.{generate_job, job_of_words, lone_job, named_job, operation_count};
 ghost use Rattle.vma_replay.specs.CommandLine.{begins_with_dash, job_of_rows, words_command};
 ghost use Rattle.vma_replay.specs.Tallies.{IsInLimits};
 
@@ -31,6 +31,8 @@ pub enum Mode {
 pub enum Job {
     /// To read a trace, run its lines in a mode, and give all replies and the final list of areas.
     Replay(Mode),
+    /// To read a script, make its steps, and give what each results in and the state after it.
+    Steps,
     /// To run the generated trace of so many operations and a seed in the order of its lines, and give its summary.
     Generate { count: u32, seed: u64 },
 }
@@ -44,8 +46,8 @@ pub(crate) enum WordsFault {
     NoMemory,
 }
 
-/// The job that words name: `serial` alone, `threads` alone, and `generate` with a count of operations and a seed name one. No word
-/// may begin with `-`, so there are no options and no `--`.
+/// The job that words name: `serial`, `threads` and `steps`, each alone, and `generate` with a count of operations and a seed name one.
+/// No word may begin with `-`, so there are no options and no `--`.
 #[tactic(auto, using(crate::proofs::CommandLine::named_by_words, crate::proofs::CommandLine::refused, crate::proofs::CommandLine::dash_refused))]
 pub(crate) fn job_of(alloc: Global, words: &[String]) -> Result<Job, WordsFault>
     ensures job { IfOk result (λ job. job_of_words words.now ≡ Some job) }
@@ -102,19 +104,21 @@ fn named_job(name: &str, rest: &[&str]) -> Option<Job>
     ensures limits { IfSome result IsInLimits }
 {
     match rest {
-        [] => Some(Job::Replay(named_mode(name)?)),
+        [] => lone_job(name),
         [count, seed] if name == "generate" => generate_job(count, seed),
         _ => None,
     }
 }
 
-/// The mode that one word names.
-fn named_mode(name: &str) -> Option<Mode>
-    ensures { result ≡ named_mode name.now }
+/// The job that a word alone names.
+fn lone_job(name: &str) -> Option<Job>
+    ensures job { result ≡ lone_job name.now }
+    ensures limits { IfSome result IsInLimits }
 {
     match name {
-        "serial" => Some(Mode::Serial),
-        "threads" => Some(Mode::Threads),
+        "serial" => Some(Job::Replay(Mode::Serial)),
+        "threads" => Some(Job::Replay(Mode::Threads)),
+        "steps" => Some(Job::Steps),
         _ => None,
     }
 }
@@ -140,7 +144,7 @@ fn operation_count(word: &str) -> Option<u32>
     }
 }
 
-/// The command line: a first word, which names a mode, and any number of words after it.
+/// The command line: a first word and any number of words after it.
 fn command<'a>(alloc: Global) -> Result<Command<'a>, AllocError>
     ensures { IfOk result (λ command. app_of command ≡ words_command) }
 {

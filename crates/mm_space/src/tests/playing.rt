@@ -27,7 +27,7 @@ pub(super) fn play_all<N: SpaceName + Send + Sync, R: Threads + Wait + Sync>(
     ready: Ready,
     scripts: &[Vec<Step>],
 ) -> Closed
-    requires { (ready.table ≡ N.table) × (ready.config ≡ N.config) × (ready.operations ≡ N.operations) }
+    requires { (ready.table ≡ N.table) × (ready.nodes ≡ N.nodes) × (ready.config ≡ N.config) × (ready.operations ≡ N.operations) }
 {
     let (space, mut passes) = Space::<N>::open(ready);
     drive(rt, alloc, &space, passes.as_mut_slice(), scripts);
@@ -42,16 +42,16 @@ fn drive<N: SpaceName + Send + Sync, R: Threads + Wait + Sync>(
     passes: &mut [Pass],
     scripts: &[Vec<Step>],
 )
-    requires { ArePasses N.table N.config N.operations passes.old }
-    ensures { ArePasses N.table N.config N.operations passes.new }
+    requires { ArePasses N.table N.nodes N.config N.operations passes.old }
+    ensures { ArePasses N.table N.nodes N.config N.operations passes.new }
 {
     let threads = passes.len();
     if threads == 0 {
         return;
     }
     let worker = |place: usize, pass: &mut Pass|
-        requires { IsPassOf N.table N.config N.operations pass.now }
-        ensures { IsPassOf N.table N.config N.operations pass.exit.now × (caller pass.exit.now ≡ caller pass.entry.now) }
+        requires { IsPassOf N.table N.nodes N.config N.operations pass.now }
+        ensures { IsPassOf N.table N.nodes N.config N.operations pass.exit.now × (caller pass.exit.now ≡ caller pass.entry.now) }
     { play_one(rt, alloc, space, pass, scripts, place) };
     thread::for_each_mut(rt, passes, threads, &worker);
 }
@@ -65,8 +65,8 @@ fn play_one<N: SpaceName, R: Wait>(
     scripts: &[Vec<Step>],
     place: usize,
 )
-    requires { IsPassOf N.table N.config N.operations pass.old }
-    ensures pass { IsPassOf N.table N.config N.operations pass.new }
+    requires { IsPassOf N.table N.nodes N.config N.operations pass.old }
+    ensures pass { IsPassOf N.table N.nodes N.config N.operations pass.new }
     ensures caller { caller pass.new ≡ caller pass.old }
 {
     if let Some(script) = scripts.get(place) {
@@ -82,8 +82,8 @@ fn play<N: SpaceName, R: Wait>(
     pass: &mut Pass,
     script: &[Step],
 )
-    requires { IsPassOf N.table N.config N.operations pass.old }
-    ensures pass { IsPassOf N.table N.config N.operations pass.new }
+    requires { IsPassOf N.table N.nodes N.config N.operations pass.old }
+    ensures pass { IsPassOf N.table N.nodes N.config N.operations pass.new }
     ensures caller { caller pass.new ≡ caller pass.old }
 {
     for step in script {
@@ -96,9 +96,9 @@ fn play<N: SpaceName, R: Wait>(
 
 /// Makes one step. A list for which memory runs out is left out.
 fn make<N: SpaceName, R: Wait>(rt: &R, alloc: Global, space: &Space<N>, pass: &mut Pass, step: Step)
-    requires pass { IsPassOf N.table N.config N.operations pass.old }
+    requires pass { IsPassOf N.table N.nodes N.config N.operations pass.old }
     requires left { 0 < pass.old.left }
-    ensures pass { IsPassOf N.table N.config N.operations pass.new }
+    ensures pass { IsPassOf N.table N.nodes N.config N.operations pass.new }
     ensures caller { caller pass.new ≡ caller pass.old }
 {
     match step {

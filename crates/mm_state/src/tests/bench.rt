@@ -2,9 +2,12 @@
 ghost use Rattle.std.specs.Prelude.{◌≡◌, IfOk, IfSome, slice_get, Some};
 ghost use Rattle.lock_core.specs.declared.stage.Stage.TheVariants.{Out};
 ghost use Rattle.vma_lock.specs.Seats.{config_of, table_of, IsOf, stage, HasTurn};
+ghost use Rattle.node_slots.specs.Seats as trees;
 
 use crate::state::MmState;
-use mm_types::{AreaList, Call, Config, Entry, FileRow, Files, NoMemory, Reply, Slot, Text};
+use maple_read::{a_root_that_was_loaded, walk};
+use mm_types::{AreaList, Call, Config, Entry, FileRow, Files, NoMemory, Page, Reply, Slot, Text};
+use node_slots::{NodeSeat, NodeTable};
 use std::alloc::Global;
 use std::sync::Wait;
 use vma_lock::{ReaderSeat, VmaTable};
@@ -15,12 +18,15 @@ const ROOM: u64 = 8000;
 /// The slots of a table of at most 9 areas.
 pub(super) const SLOTS: u32 = 20;
 
-/// A state, its table, and a reader that holds no slot and has its turn.
+/// A state, its tables, a reader that holds no slot and has its turn, and a closed reader of the trees.
 #[derive(Drop)]
 pub(super) struct Bench {
     table: VmaTable,
     pub(super) state: MmState,
     seat: ReaderSeat,
+    nodes: NodeTable,
+    node_seat: NodeSeat,
+    pub ghost walker: { trees.IsOf node_seat nodes × trees.IsClosed node_seat },
     pub ghost mine: { IsOf seat table × (table_of table ≡ state.table) },
     pub ghost turn: { (stage seat ≡ Out) × HasTurn seat },
     pub ghost sizes: { (state.room ≡ 8000) × ((config_of table).areas ≡ 9) },
@@ -36,11 +42,26 @@ impl Bench {
         requires areas { config.areas ≡ 9 }
     {
         let (table, writer, seats) = VmaTable::new(alloc, &config, 1)?;
-        let Some(seat) = first_seat(seats) else {
+        let Some(seat) = first(seats) else {
             return Ok(None);
         };
-        let state = MmState::new(alloc, config, ROOM, writer)?;
-        Ok(Some(Bench { table, state, seat }))
+        let (nodes, node_writer, node_seats) = NodeTable::new(
+            alloc,
+            config.areas + 128,
+            2 * config.areas + 2,
+            1,
+        )?;
+        let Some(node_seat) = first(node_seats) else {
+            return Ok(None);
+        };
+        let state = MmState::new(alloc, config, ROOM, writer, node_writer)?;
+        Ok(Some(Bench {
+            table,
+            state,
+            seat,
+            nodes,
+            node_seat,
+        }))
     }
 
     /// Makes a call where there is room for another.
@@ -72,12 +93,24 @@ impl Bench {
         Some(row)
     }
 
+    /// The slot that the present tree pairs with a page.
+    pub(super) fn slot_of(&mut self, page: Page) -> Option<Slot> {
+        a_root_that_was_loaded();
+        self.nodes.open(&mut self.node_seat);
+        let root = self.nodes.root(&mut self.node_seat);
+        let slot = walk(&self.nodes, &mut self.node_seat, root, page);
+        self.nodes.close(&mut self.node_seat);
+        slot
+    }
+
     /// Hands the journal and the list out.
     pub(super) fn finish(self) -> (Vec<Entry>, AreaList) {
         let Bench {
             table: _,
             state,
             seat: _,
+            nodes: _,
+            node_seat: _,
         } = self;
         state.finish()
     }
@@ -89,7 +122,7 @@ impl Bench {
 }
 
 /// The first of some readers.
-fn first_seat(mut seats: Vec<ReaderSeat>) -> Option<ReaderSeat>
+fn first<S: Drop>(mut seats: Vec<S>) -> Option<S>
     ensures { IfSome result (λ seat. slice_get seats.items 0 ≡ Some seat) }
 {
     if seats.is_empty() {

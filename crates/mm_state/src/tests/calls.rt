@@ -3,9 +3,9 @@
 
 ghost use Rattle.std.specs.Prelude.{◌≤◌, ◌<◌};
 
-use super::bench::{Bench, config};
+use super::bench::{Bench, SLOTS, config};
 use area_model::{is_ready, model_step};
-use mm_types::{Call, Config, MmapArgs, NoMemory, Prot};
+use mm_types::{AreaList, Call, Config, MmapArgs, NoMemory, Page, Prot, Record, unpack};
 use std::alloc::Global;
 use std::process::Abort;
 use std::sync::Wait;
@@ -87,8 +87,28 @@ impl Generator {
     }
 }
 
-/// Makes one call on the table and in the model, and compares the reply and the list. Answers how many objects the model
-/// then has numbered: the lists agree on their numbers.
+/// The area at a page of a list.
+fn area_at(list: &AreaList, page: u64) -> Option<Record> {
+    let mut areas = list.items().iter();
+    areas
+        .find(|area| area.span.lo <= page && page < area.span.hi)
+        .copied()
+}
+
+/// The tree pairs each page with a slot that shows the area at the page, and with none where the list has no area there.
+fn pairs_follow<R: Abort>(rt: &R, bench: &mut Bench, list: &AreaList) {
+    for page in 14..49 {
+        let shown = match bench.slot_of(Page(page)) {
+            Some(slot) if slot.0 < SLOTS => bench.row(slot.0).and_then(|row| unpack(&row)),
+            Some(_) => panic!(rt; "there is no such slot"),
+            None => None,
+        };
+        assert!(rt; shown == area_at(list, page));
+    }
+}
+
+/// Makes one call on the table and in the model, and compares the reply, the list, and the pairs of the tree. Answers how many
+/// objects the model then has numbered: the lists agree on their numbers.
 fn compare<R: Abort + Wait>(
     rt: &R,
     alloc: Global,
@@ -102,6 +122,7 @@ fn compare<R: Abort + Wait>(
     let wanted = model_step(alloc, config, objects, &list, call)?;
     assert!(rt; bench.call(rt, call) == Some(wanted.reply));
     assert!(rt; bench.list(alloc)?.items() == wanted.list.items());
+    pairs_follow(rt, bench, &wanted.list);
     Ok(wanted.objects)
 }
 

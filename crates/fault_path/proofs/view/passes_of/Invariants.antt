@@ -1,7 +1,9 @@
 -- For `passes_of`: the passes so far are fresh, each in its place.
-use Rattle.std.proofs.Common.{ℕ, ◌≡◌, ◌++◌, length, slice_get, Some}
+use Rattle.std.proofs.Common.{ℕ, List, ◌≡◌, ◌++◌, length, slice_get, Some}
 use Rattle.std.specs.Vec.Iter.{into_iter_items, into_iter_len}
 use Rattle.vma_lock.specs.Seats.{table_of}
+use Rattle.node_slots.specs.declared.seats.NodeSeat.{NodeSeat}
+use Rattle.node_slots.specs.Seats as node_seats
 use Rattle.fault_path.specs.Passes.{PassView, IsPassOf, IsFresh, caller}
 use Rattle.fault_path.proofs.view.passes_of.Given as goal
 
@@ -9,7 +11,9 @@ abbrev pub invariant-loop-reader : goal.invariant-loop-reader
 invariant-loop-reader l = record {
   rest : l.yielded ++ into_iter_items l.reader-iterator ≡ l.fn.seats.items;
   left : into_iter_len l.reader-iterator ≡ length (into_iter_items l.reader-iterator);
+  walked : (before : List NodeSeat) × (before ++ into_iter_items l.walkers ≡ l.fn.walkers.items) × (length before ≡ length l.passes.items);
+  walkers_left : into_iter_len l.walkers ≡ length (into_iter_items l.walkers);
   count : length l.passes.items ≡ length l.yielded;
   fresh : (place : ℕ) (pass : PassView) → slice_get l.passes.items place ≡ Some pass
-      → (IsPassOf (table_of l.table) l.config l.operations pass × (caller pass ≡ place)) × IsFresh pass;
+      → (IsPassOf (table_of l.table) (node_seats.table_of l.nodes) l.config l.operations pass × (caller pass ≡ place)) × IsFresh pass;
 }

@@ -5,17 +5,17 @@ use Rattle.vma_replay.proofs.driving.run_workers.Goals as goal
 
 pub for_each_mut-requires-clause-accepts : goal.for_each_mut-requires-clause-accepts
 for_each_mut-requires-clause-accepts g c lifetimes outlives i p within read = (
-  may_work _ _ _ _ _ _ c.requires.places c.requires.passes c.requires.left i p.now within read,
+  may_work _ _ _ _ _ _ _ c.requires.places c.requires.passes c.requires.left i p.now within read,
   search rules,
 )
 
 pub returns-clause-passes : goal.returns-clause-passes
-returns-clause-passes g c = passes_worked _ _ _ c.args.lines.now c.args.passes.now c.for_each_mut.new.s c.requires.passes c.for_each_mut.auto.s
+returns-clause-passes g c = passes_worked _ _ _ _ c.args.lines.now c.args.passes.now c.for_each_mut.new.s c.requires.passes c.for_each_mut.auto.s
     (λ i d within. let change = (c.for_each_mut.ensures i d within).1 in
-    worked _ _ _ _ i change.argument.now change.after_call.now _ _ change.argument_is change.left change.call)
+    worked _ _ _ _ _ i change.argument.now change.after_call.now _ _ change.argument_is change.left change.call)
 
 pub returns-clause-ran : goal.returns-clause-ran
 returns-clause-ran g c =
-    each_ran g.N.SpaceName.table g.N.SpaceName.config g.N.SpaceName.operations c.args.lines.now c.args.passes.now c.for_each_mut.new.s c.for_each_mut.auto.s
+    each_ran g.N.SpaceName.table g.N.SpaceName.nodes g.N.SpaceName.config g.N.SpaceName.operations c.args.lines.now c.args.passes.now c.for_each_mut.new.s c.for_each_mut.auto.s
     (λ i d within. let change = (c.for_each_mut.ensures i d within).1 in
-    worked _ _ _ _ i change.argument.now change.after_call.now _ _ change.argument_is change.left change.call)
+    worked _ _ _ _ _ i change.argument.now change.after_call.now _ _ change.argument_is change.left change.call)

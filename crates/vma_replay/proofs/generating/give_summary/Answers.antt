@@ -5,10 +5,10 @@ use Rattle.vma_replay.proofs.Summaries.{gives_none, gives_summary, gives_beginni
 use Rattle.vma_replay.proofs.generating.give_summary.Goals as goal
 
 pub returns-in_default : goal.returns-in_default
-returns-in_default g c = gives_none _ _ _ _ _ _ c.failed.ensures
+returns-in_default g c = gives_none _ _ _ _ _ _ c.without_run.ensures
 
 pub returns-in_default-generated_run : goal.returns-in_default-generated_run
-returns-in_default-generated_run g c = gives_none _ _ _ _ _ _ c.failed-in_default-generated_run.ensures
+returns-in_default-generated_run g c = gives_none _ _ _ _ _ _ c.without_run-in_default-generated_run.ensures
 
 pub returns-in-Done : goal.returns-in-Done
 returns-in-Done g c =
@@ -19,4 +19,4 @@ pub returns-in_default-give_all : goal.returns-in_default-give_all
 returns-in_default-give_all g c =
     gives_beginning c.args.count c.args.seed c.in-Ok-generated_run.run' c.deref.result.now _ _ _ _ _ c.in-Ok-generated_run.ensures.run
     c.in-Ok-generated_run.ensures.list (c.deref.ensures.value ∙ c.in-Ok-text.ensures ∙ ap text_of_summary c.of.ensures) c.give_all.result
-    c.in_default-give_all.not-Done c.give_all.ensures _ c.failed-in_default-give_all.ensures
+    c.in_default-give_all.not-Done c.give_all.ensures _ c.without_run-in_default-give_all.ensures

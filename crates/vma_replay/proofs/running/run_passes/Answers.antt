@@ -10,15 +10,15 @@ use Rattle.vma_replay.proofs.ClosedRuns.{back, threads_run}
 use Rattle.vma_replay.proofs.running.run_passes.Goals as goal
 
 pub close-requires : goal.close-requires
-close-requires g c = subst (λ (l : List PassView). ArePasses g.N.SpaceName.table g.N.SpaceName.config g.N.SpaceName.operations l)
+close-requires g c = subst (λ (l : List PassView). ArePasses g.N.SpaceName.table g.N.SpaceName.nodes g.N.SpaceName.config g.N.SpaceName.operations l)
     (sym (back c.drive.new.passes _ _ (c.drive.auto.passes ∙ c.as_mut_slice.ensures.len))) c.in_ok-drive.ensures.passes
 
 pub returns-clause-run : goal.returns-clause-run
 returns-clause-run g c =
     subst (λ (s : Config). IsRun s c.args.trace.now.lines (callers_of c.args.trace.now.lines) c.close.result.journal c.close.result.logs)
-    (sym c.requires.name.1 ∙ c.requires.config)
-    (threads_run _ _ _ c.args.trace.now.lines _ c.close.result c.in_ok-drive.ensures.passes
+    (sym c.requires.name.2 ∙ c.requires.config)
+    (threads_run _ _ _ _ c.args.trace.now.lines _ c.close.result c.in_ok-drive.ensures.passes
     (subst (λ (l : List PassView). Closes g.N.SpaceName.config l c.close.result)
     (back c.drive.new.passes _ _ (c.drive.auto.passes ∙ c.as_mut_slice.ensures.len)) c.close.ensures)
     (subst
-    (λ (l : List ℕ). AreShares c.args.trace.now.lines l) c.requires.name.2 c.requires.shares) c.requires.trace.lines c.in_ok-drive.ensures.done)
+    (λ (l : List ℕ). AreShares c.args.trace.now.lines l) c.requires.name.3 c.requires.shares) c.requires.trace.lines c.in_ok-drive.ensures.done)

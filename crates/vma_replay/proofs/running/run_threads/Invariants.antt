@@ -2,4 +2,4 @@
 use Rattle.vma_replay.proofs.running.run_threads.Given as goal
 
 abbrev pub ghosts-run_passes : goal.ghosts-run_passes
-ghosts-run_passes g a = record { table = a.ready.table; config = a.ready.config; operations = a.ready.operations }
+ghosts-run_passes g a = record { table = a.ready.table; nodes = a.ready.nodes; config = a.ready.config; operations = a.ready.operations }

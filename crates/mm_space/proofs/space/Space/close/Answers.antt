@@ -7,7 +7,7 @@ use Rattle.mm_space.proofs.space.Space.close.Goals as goal
 
 pub returns : goal.returns
 returns g c = subst (λ (run : ClosedView). Closes g.N.SpaceName.config c.args.passes.items run) (sym c.new.ensures)
-    (closes _ _ _ _ _ _ _ _ c.requires c.finish-journal.ensures.journal c.finish-journal.ensures.legal c.finish-journal.ensures.list
+    (closes _ _ _ _ _ _ _ _ _ c.requires c.finish-journal.ensures.journal c.finish-journal.ensures.legal c.finish-journal.ensures.list
     c.gather_logs-logs.ensures.logs
     (subst (λ (state : StateView). All (IsIn g.N.SpaceName.config state.journal) c.args.passes.items)
     (sym c.gather_logs-logs.ensures.state) c.gather_logs-logs.ensures.each)

@@ -10,7 +10,7 @@ for_each_mut-requires-clause-accepts g c lifetimes outlives i p within read =
     (c.requires.each i p.now (slice_get_read _ _ i p.now refl within read)).0
 
 pub returns : goal.returns
-returns g c = drove _ _ _ _ _ c.requires c.for_each_mut.auto.s (λ place d within.
+returns g c = drove _ _ _ _ _ _ c.requires c.for_each_mut.auto.s (λ place d within.
     let made = (c.for_each_mut.ensures place d within).1 in
     let space = g.N.SpaceName in
-    moved (λ old new. IsPassOf space.table space.config space.operations new × (caller new ≡ caller old)) _ _ _ _ made.argument_is made.left made.call)
+    moved (λ old new. IsPassOf space.table space.nodes space.config space.operations new × (caller new ≡ caller old)) _ _ _ _ made.argument_is made.left made.call)

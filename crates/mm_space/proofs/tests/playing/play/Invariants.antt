@@ -4,4 +4,4 @@ use Rattle.fault_path.specs.Passes.{IsPassOf, caller}
 use Rattle.mm_space.proofs.tests.playing.play.Given as goal
 
 abbrev pub invariant-loop-step : goal.invariant-loop-step
-invariant-loop-step g l = IsPassOf g.N.SpaceName.table g.N.SpaceName.config g.N.SpaceName.operations l.pass × (caller l.pass ≡ caller l.fn.pass)
+invariant-loop-step g l = IsPassOf g.N.SpaceName.table g.N.SpaceName.nodes g.N.SpaceName.config g.N.SpaceName.operations l.pass × (caller l.pass ≡ caller l.fn.pass)

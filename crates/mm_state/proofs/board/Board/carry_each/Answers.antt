@@ -3,6 +3,7 @@ use Rattle.std.proofs.Common.{◌∙◌, arith}
 use Rattle.vma_lock.specs.Seats.{slots}
 use Rattle.mm_state.proofs.Carrying.{rises_before, room_before, order_is}
 use Rattle.mm_state.proofs.Hanging.{hangs_permuted, at_most_once, none_above}
+use Rattle.mm_state.proofs.Following.{follows_put}
 use Rattle.mm_state.proofs.board.Board.carry_each.Goals as goal
 
 pub put_all-requires-clause-rise : goal.put_all-requires-clause-rise
@@ -31,6 +32,11 @@ returns g c =
       order = put.areas ∙ order_is c.args.self.now c.change_all.new.self c.args.changes.now c.args.tree changed;
       hand = put.hand;
       leaving = changed.leaving;
+      pairs = follows_put c.change_all.new.self.order.items c.change_all.new.self.hand.items c.put_all.new.self.items c.change_all.new.self.tree
+          c.change_all.new.self.moved.items changed.follows put.shown;
+      tidy = changed.follows.tidy;
+      same = changed.same;
+      moved_room = changed.moved_room;
       marks = changed.marks;
       order_room = put.same.0 ∙ changed.order_room;
       order_count = put.same.1 ∙ changed.order_count;

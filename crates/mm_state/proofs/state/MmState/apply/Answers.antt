@@ -1,6 +1,7 @@
 -- For `MmState::apply`: the plan makes the list after the entry, and the state is kept.
 use Rattle.std.proofs.Common.{◌<◌, ◌++◌, ◌∷◌, [], List, length, subst, sym, ap, ◌∙◌, arith, length-append}
 use Rattle.mm_types.specs.declared.call.Entry.{Entry}
+use Rattle.area_model.specs.declared.placement.Bounds.{Bounds}
 use Rattle.area_model.specs.Steps.{step, after, IsLegalJournal}
 use Rattle.area_model.specs.Stepped.{space_of}
 use Rattle.area_model.specs.Tables.{AddressSpace}
@@ -37,6 +38,7 @@ enter-requires-clause-plan g c =
       valid = i.valid;
       room = omega (arith, i.entries, room);
       most_is = i.most;
+      limit_is = ap (λ (b : Bounds). b.limit) i.bounds;
       kept = i.kept;
       planned = c.plan_call-called.ensures.planned;
     })

@@ -1,0 +1,41 @@
+-- For the tests: a pass of new tables, and a call on slot 0.
+use Rattle.std.proofs.Common.{ℕ, ◌≡◌, ◌<◌, ◌∙◌, List, [], ◌∷◌, ◌++◌, length, slice_get, Some, refl, sym, ap, subst}
+use Rattle.mm_types.specs.declared.call.Entry.{Entry}
+use Rattle.mm_types.specs.declared.config.Config.{Config}
+use Rattle.lock_core.specs.Facts.{list_after}
+use Rattle.lock_core.specs.Rows.{Exactly}
+use Rattle.atomic_table.specs.Seated.{TableId}
+use Rattle.vma_lock.specs.declared.view.View.{View}
+use Rattle.vma_lock.specs.Views.{begin_at, mark_at, write_at}
+use Rattle.vma_lock.specs.Small.{AreFree, ShowsOne}
+use Rattle.vma_lock.proofs.Small.{enters_exactly}
+use Rattle.fault_path.specs.Passes.{PassView, ViewedTable, SitsAt, ArePasses}
+
+-- the last of some passes
+there_last : {A : Type 0} (xs : List A) (last : A) → slice_get (xs ++ last ∷ []) (length xs) ≡ Some last
+there_last [] last = refl
+there_last (y ∷ xs) last = there_last xs last
+
+-- it sits at the tables of all of them
+pub last_sits : (name walked : TableId) (settings : Config) (most : List ℕ) (all fewer : List PassView) (pass : PassView) (viewed : ViewedTable)
+    → all ≡ fewer ++ pass ∷ [] → ArePasses name walked settings most all
+    → viewed ≡ record { table = name; nodes = walked; config = settings; callers = length most } → SitsAt viewed pass
+last_sits name walked settings most all fewer pass viewed same passes is =
+    let there = ap (λ (xs : List PassView). slice_get xs (length fewer)) same ∙ there_last fewer pass in
+    let one = (passes.each (length fewer) pass there).0 in
+    subst (λ (v : ViewedTable). SitsAt v pass) (sym is) (record { table = one.table; nodes = one.nodes; size = one.size; config_is = one.config_is })
+
+-- what a call on slot 0 owes at its end
+pub entered_exactly : (first begun marked written : View) (entry : Entry) (row : List ℕ) (found : ℕ) → begun ≡ begin_at first
+    → marked ≡ mark_at begun 0 found → written ≡ write_at marked 0 row → AreFree first.desk.slots → 0 < length first.desk.slots
+    → ShowsOne (list_after first.config (first.seen ++ entry ∷ [])) row
+    → Exactly written.desk.slots (list_after written.config (written.seen ++ entry ∷ []))
+entered_exactly first begun marked written entry row found begin mark write free some_slot shows =
+    let slots = ap (λ (v : View). v.desk.slots) begin in
+    let config : written.config ≡ first.config =
+    ap (λ (v : View). v.config) write ∙ ap (λ (v : View). v.config) mark ∙ ap (λ (v : View). v.config) begin in
+    let seen : written.seen ≡ first.seen = ap (λ (v : View). v.seen) write ∙ ap (λ (v : View). v.seen) mark ∙ ap (λ (v : View). v.seen) begin in
+    subst (λ c. Exactly written.desk.slots (list_after c (written.seen ++ entry ∷ []))) (sym config)
+    (subst (λ (j : List Entry). Exactly written.desk.slots (list_after first.config (j ++ entry ∷ []))) (sym seen)
+    (enters_exactly first.desk.slots (list_after first.config (first.seen ++ entry ∷ [])) begun.desk marked.desk written.desk row
+    free some_slot shows slots (ap (λ (v : View). v.desk) mark) (ap (λ (v : View). v.desk) write)))

@@ -1,0 +1,38 @@
+-- For `read_lock`: the area is locked, and what is kept of the pass.
+use Rattle.std.proofs.Common.{refl, sym, ap, subst, ◌∙◌, rules, ◌≡◌}
+use Rattle.mm_types.specs.Config.{IsValidConfig}
+use Rattle.fault_path.specs.Passes.{PassView, ViewedTable, config, walker}
+use Rattle.fault_path.specs.Holding.{HeldView, Locks}
+use Rattle.fault_path.proofs.Holding.{locks}
+use Rattle.fault_path.proofs.Passes.{keeps_on, keeps_of}
+use Rattle.fault_path.proofs.view.FaultView.read_lock.Goals as goal
+
+pub invariant_of-result : goal.invariant_of-result
+invariant_of-result c =
+    let lock = c.lock_page.ensures in
+    let config_is = lock.goes_on.config ∙ ap config c.pass.view_is ∙ c.requires.config_is ∙ sym (ap (λ (v : ViewedTable). v.config) c.self.view_is) in
+    record {
+      table_is = lock.tables.0;
+      valid = subst IsValidConfig (sym config_is) c.self.invariant.valid;
+      locked = c.in-Ok.ensures.locked.0;
+      keeps = keeps_on _ _ _ (keeps_of _ _ c.pass.invariant) lock.goes_on lock.closed refl refl refl;
+    }
+
+pub returns-in-Ok-clause-held : goal.returns-in-Ok-clause-held
+returns-in-Ok-clause-held c =
+    let lock = c.lock_page.ensures in
+    let inside = c.pass.inside in
+    let old : PassView = record { reader = inside.reader; nodes = inside.nodes; log = inside.log.items; left = inside.left; operations = inside.operations } in
+    let new : PassView = record {
+      reader = c.lock_page.new.reader;
+      nodes = c.lock_page.new.walker;
+      log = inside.log.items;
+      left = inside.left;
+      operations = inside.operations;
+    } in
+    let held : HeldView = record { area = c.in-Ok.area; pass = new } in
+    let table : new.reader.seat.table_id ≡ old.reader.seat.table_id = search rules in
+    let nodes : new.nodes.seat.table_id ≡ old.nodes.seat.table_id = search rules in
+    let size : (walker new).size ≡ (walker old).size = search rules in
+    subst (λ (was : PassView). Locks c.args.page.0 was held) c.pass.view_is
+    (locks c.args.page.0 old held lock.goes_on c.pass.invariant.turn table nodes size refl refl refl lock.walk c.in-Ok.ensures.locked.0 c.in-Ok.ensures.locked.1)

@@ -1,0 +1,87 @@
+//! The lock of an area, by a walk of the tree of areas.
+ghost use Rattle.std.specs.Prelude.{◌≡◌, ◌<◌, MatchResult};
+ghost use Rattle.mm_types.specs.Config.{IsValidConfig};
+ghost use Rattle.area_list.specs.Areas.{has_page};
+ghost use Rattle.lock_core.specs.declared.stage.Stage.TheVariants.{Out};
+ghost use Rattle.vma_lock.specs.Seats.{slots_of, IsOf, view, stage};
+ghost use Rattle.node_slots.specs.Seats as node_seats;
+ghost use Rattle.fault_path.specs.Faults.{WalksOnce, IsMiss, IsFound};
+ghost use Rattle.fault_path.specs.Locking.{GoesOn, IsLocked, LocksSlot, MissesSlot};
+
+use crate::fast::Miss;
+use maple_read::walk;
+use mm_types::{Page, Record, Slot, unpack};
+use node_slots::{NodeSeat, NodeTable};
+use vma_lock::{ReaderSeat, VmaTable};
+
+/// Walks the tree that is present, and locks the area that it has at a page: the reader then holds the area's slot, validated.
+/// Where it misses, it holds none. The walker is closed again.
+pub(crate) fn lock_page(
+    table: &VmaTable,
+    nodes: &NodeTable,
+    reader: &mut ReaderSeat,
+    walker: &mut NodeSeat,
+    page: Page,
+) -> Result<Record, Miss>
+    requires tables { IsOf reader.old table.now × node_seats.IsOf walker.old nodes.now }
+    requires slots { (node_seats.size_of nodes.now).slots ≡ slots_of table.now }
+    requires config { IsValidConfig (view reader.old).config }
+    requires free { stage reader.old ≡ Out }
+    requires closed { node_seats.IsClosed walker.old }
+    ensures tables { IsOf reader.new table.now × node_seats.IsOf walker.new nodes.now }
+    ensures closed { node_seats.IsClosed walker.new }
+    ensures walk { WalksOnce (node_seats.view walker.old) (node_seats.view walker.new) }
+    ensures goes_on { GoesOn (view reader.old) (view reader.new) }
+    ensures locked { MatchResult result
+        (λ area. IsLocked area (view reader.new) × IsFound page.0 area (view reader.old) (view reader.new) (node_seats.view walker.new))
+        (λ miss. (stage reader.new ≡ Out) × IsMiss page.0 (view reader.old) (view reader.new) (node_seats.view walker.new) miss) }
+{
+    nodes.open(walker);
+    let root = nodes.root(walker);
+    let locked = match walk(nodes, walker, root, page) {
+        Some(slot) => lock_slot(table, reader, slot, page),
+        None => Err(Miss::NoArea { tree: root.tree }),
+    };
+    nodes.close(walker);
+    locked
+}
+
+/// Locks the area in a slot, if it is not marked and has the page.
+fn lock_slot(
+    table: &VmaTable,
+    reader: &mut ReaderSeat,
+    slot: Slot,
+    page: Page,
+) -> Result<Record, Miss>
+    requires table { IsOf reader.old table.now }
+    requires config { IsValidConfig (view reader.old).config }
+    requires free { stage reader.old ≡ Out }
+    requires slot { slot.0 < slots_of table.now }
+    ensures table { IsOf reader.new table.now }
+    ensures goes_on { GoesOn (view reader.old) (view reader.new) }
+    ensures locked { MatchResult result
+        (λ area. IsLocked area (view reader.new) × LocksSlot slot.0 page.0 area (view reader.old) (view reader.new))
+        (λ miss. (stage reader.new ≡ Out) × MissesSlot slot.0 page.0 (view reader.old) (view reader.new) miss) }
+{
+    let lock_seq = table.add(reader, slot);
+    let seq = table.look(reader);
+    if lock_seq == seq {
+        table.sub(reader);
+        return Err(Miss::Marked { seq });
+    }
+    let row = table.read_row(reader);
+    match unpack(&row) {
+        Some(area) if has_page(&area, page) => Ok(area),
+        _ => {
+            table.sub(reader);
+            Err(Miss::Elsewhere { row })
+        }
+    }
+}
+
+/// Whether an area has a page.
+fn has_page(area: &Record, page: Page) -> bool
+    ensures { result ≡ has_page area.now.span page.0 }
+{
+    area.span.lo <= page.0 && page.0 < area.span.hi
+}

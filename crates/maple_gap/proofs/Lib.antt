@@ -1,0 +1,10 @@
+pub mod Best
+pub mod Under
+pub mod Choices
+pub mod Descents
+pub mod Rows
+pub mod Roots
+pub mod Finding
+pub mod Free
+pub mod Searching
+pub mod Neighbours

@@ -1,0 +1,185 @@
+-- For `root_of`: the whole tree as a branch.
+use Rattle.std.proofs.Common.{ℕ, zero, suc, ◌≡◌, ◌<◌, ◌≤◌, ◌+◌, ◌-◌, ◌^◌, Bool, true, false, List, [], ◌∷◌, ◌++◌, length, replicate, All, refl, sym, ap, subst, ◌∙◌, arith, inl, inr}
+use Rattle.std.specs.Prelude.{nat_eq}
+use Rattle.std.proofs.lemmas.Bool.{cases_lt}
+use Rattle.std.proofs.lemmas.Bool.Decides.{nat_tests}
+use Rattle.std.proofs.lemmas.List.Elements.{All-weaker, All-cons, All-nil}
+use Rattle.maple_node.specs.declared.item.Item.{Item}
+use Rattle.maple_node.specs.Nodes.{leaf_items, Ascends, gap_of}
+use Rattle.maple_node.specs.Levels.{is_leaf, read, below, AllFrom, IsNode, level_of, IsTower}
+use Rattle.maple_node.specs.Trees.{pairs_from, entries_of}
+use Rattle.maple_node.proofs.Trees.{limit_above}
+use Rattle.maple_node.proofs.Levels.{below-ascends}
+use Rattle.maple_items.proofs.Lists.{AllFrom-left, AllFrom-right}
+use Rattle.node_slots.specs.declared.tree.Tree.{Tree as View}
+use Rattle.node_slots.specs.declared.seats.NodeWriter.{NodeWriter}
+use Rattle.node_slots.specs.Seats.{sight, row_count}
+use Rattle.node_slots.specs.Built.{words_at, built, built_rows, IsBuilt, IsWriters}
+use Rattle.maple_gap.specs.declared.branch.Branch.{Branch}
+use Rattle.maple_gap.specs.Searches.{IsUnder, IsRootOf}
+use Rattle.maple_gap.proofs.Rows.{node_there, node_under}
+
+-- nodes, under each of which all is so
+split : (at : ℕ → List ℕ) (leaf : Bool) (limit : ℕ) (P : ℕ → Item → Type 0) (start : ℕ) (items : List Item) → AllFrom (IsNode at leaf limit) start items
+    → AllFrom P start (below at leaf items) → AllFrom (λ s item. IsNode at leaf limit s item × AllFrom P s (read at leaf item.word)) start items
+split at leaf limit P start [] nodes all = tt
+split at leaf limit P start (x ∷ xs) nodes all =
+    let here = read at leaf x.word in
+    let others = below at leaf xs in
+    let later : AllFrom P x.end others = subst (λ (p : ℕ). AllFrom P p others) nodes.0.until (AllFrom-right P start here others all) in
+    ((nodes.0, AllFrom-left P start here others all), split at leaf limit P x.end xs nodes.1 later)
+
+past_all : (start : ℕ) (items : List Item) → Ascends start items → AllFrom (λ s item. s < item.end) start items
+past_all start [] ascends = tt
+past_all start (x ∷ xs) ascends = (ascends.0, past_all x.end xs ascends.1)
+
+-- a tower, seen from above
+tower_under : (at : ℕ → List ℕ) (limit level : ℕ) (items : List Item) → Ascends 0 items → IsTower at limit 0 level items
+    → AllFrom (IsUnder at limit level) 0 items
+unfolding IsUnder IsTower
+tower_under at limit zero items ascends tower = past_all 0 items ascends
+tower_under at limit (suc level) items ascends tower =
+    let e : 0 + level ≡ level = omega arith in
+    let nodes = subst (λ (n : ℕ). AllFrom (IsNode at (is_leaf n) limit) 0 items) e tower.0 in
+    let rest = subst (λ (n : ℕ). IsTower at limit 0 level (below at (is_leaf n) items)) e tower.1 in
+    split at (is_leaf level) limit (IsUnder at limit level) 0 items nodes
+    (tower_under at limit level (below at (is_leaf level) items) (below-ascends at (is_leaf level) limit 0 items nodes) rest)
+
+-- words of entries have at most 33 bits
+few_words : (writer : NodeWriter) (entries : List Item) → All (λ entry. entry.word ≤ (sight writer).size.slots) entries
+    → All (λ entry. entry.word ≤ 2 ^ 32) entries
+few_words writer entries few =
+    let size = ap (λ s. s.slots) writer.desk.kept.size_is in
+    let bound = writer.desk.table.sized.few_slots in
+    All-weaker (λ (entry : Item). entry.word ≤ (sight writer).size.slots) (λ (entry : Item). entry.word ≤ 2 ^ 32) (λ entry is. omega arith) entries few
+
+-- the row of the root, as it is read
+pub record Root (writer : NodeWriter) (tree : View) : Type 0 where
+  pub leaf : nat_eq tree.height 1 ≡ is_leaf (tree.height - 1)
+  pub there : tree.root.0 < row_count writer
+  pub ascends : Ascends 0 (read (words_at writer) (is_leaf (tree.height - 1)) tree.root.0)
+
+one_less : (height : ℕ) → 1 ≤ height → nat_eq height 1 ≡ is_leaf (height - 1)
+one_less height tall = elim (cases_lt height 2) as (λ _. nat_eq height 1 ≡ nat_eq (height - 1) 0) [
+  | inl low ↦
+      let a : nat_eq height 1 ≡ true = grind (arith, nat_tests) in
+      let b : nat_eq (height - 1) 0 ≡ true = grind (arith, nat_tests) in a ∙ sym b
+  | inr high ↦
+      let a : nat_eq height 1 ≡ false = grind (arith, nat_tests) in
+      let b : nat_eq (height - 1) 0 ≡ false = grind (arith, nat_tests) in a ∙ sym b
+]
+
+-- the whole of a tree that was built is under its root
+top_under : (writer : NodeWriter) (tree : View) → IsBuilt writer tree
+    → IsUnder (words_at writer) (built writer tree).top.end tree.height 0 (built writer tree).top
+top_under writer tree made =
+    let top = (built writer tree).top in
+    let past = limit_above (words_at writer) (sight writer).size.slots (built_rows writer tree) (built writer tree) made.layout in
+    (tower_under (words_at writer) top.end tree.height (top ∷ []) (past, tt) made.layout.tower).0
+
+top_node : (writer : NodeWriter) (tree : View) → IsBuilt writer tree
+    → IsNode (words_at writer) (is_leaf (tree.height - 1)) (built writer tree).top.end 0 (built writer tree).top
+top_node writer tree made =
+    let tall = made.layout.tall in
+    node_under (words_at writer) (built writer tree).top.end tree.height (tree.height - 1) 0 (built writer tree).top (omega arith) (top_under writer tree made)
+
+-- tree 0 lists nothing
+blank_at : (at : ℕ → List ℕ) → at 0 ≡ replicate 32 0 → read at true 0 ≡ []
+unfolding leaf_items
+blank_at at zeros = ap (λ (words : List ℕ). leaf_items words) zeros
+
+blank_tree : (at : ℕ → List ℕ) (height root : ℕ) → height ≡ 1 → root ≡ 0 → at 0 ≡ replicate 32 0 → read at (is_leaf (height - 1)) root ≡ []
+blank_tree at height root one none zeros =
+    subst (λ (h : ℕ). read at (is_leaf (h - 1)) root ≡ []) (sym one)
+    (subst (λ (r : ℕ). read at true r ≡ []) (sym none) (blank_at at zeros))
+
+blank_entries : (at : ℕ → List ℕ) (height : ℕ) (top : Item) → height ≡ 1 → top.word ≡ 0 → at 0 ≡ replicate 32 0
+    → entries_of at (record { top = top; height = height }) ≡ []
+unfolding level_of
+blank_entries at height top one none zeros =
+    ap (λ (h : ℕ). level_of at 0 h (top ∷ [])) one
+    ∙ ap (λ (r : ℕ). read at true r ++ []) none
+    ∙ ap (λ (xs : List Item). xs ++ []) (blank_at at zeros)
+
+pub root_is : (writer : NodeWriter) (tree : View) → IsWriters writer tree → Root writer tree
+root_is writer tree is = elim is as (λ _. Root writer tree) [
+  | inl made ↦
+      let node = top_node writer tree made in
+      record {
+        leaf = one_less tree.height made.layout.tall;
+        there = node_there writer (is_leaf (tree.height - 1)) (built writer tree).top.end 0 (built writer tree).top node;
+        ascends = node.ascends;
+      }
+  | inr blank ↦
+      let none = blank_tree (words_at writer) tree.height tree.root.0 blank.height blank.root blank.words in
+      let one = blank.height in
+      let first = blank.root in
+      let rows = blank.rows in
+      record {
+        leaf = one_less tree.height (omega arith);
+        there = omega arith;
+        ascends = subst (λ (xs : List Item). Ascends 0 xs) (sym none) tt;
+      }
+]
+
+-- a tree without entries is one gap
+pub gap_root : (writer : NodeWriter) (tree : View) (items : List Item) → IsWriters writer tree
+    → items ≡ read (words_at writer) (is_leaf (tree.height - 1)) tree.root.0 → length items ≡ 0
+    → IsRootOf writer tree (record { place = record { start = 0; item = record { end = tree.limit.0; word = 0; gap = 0 } }; level = 0 })
+unfolding IsUnder level_of
+gap_root writer tree items is are none =
+    let Goal : Type 0 = IsRootOf writer tree (record { place = record { start = 0; item = record { end = tree.limit.0; word = 0; gap = 0 } }; level = 0 }) in
+    elim is as (λ _. Goal) [
+      | inl made ↦
+          let some = (top_node writer tree made).some in
+          let same = ap (λ (xs : List Item). length xs) are in
+          absurd (omega arith)
+      | inr blank ↦ record {
+        branch = record { limit = 0; under = blank.some };
+        begin = refl;
+        limit = refl;
+        low = omega arith;
+        apart = (λ one gap. absurd (omega arith), tt);
+        numbered = All-cons (λ (entry : Item). entry.word ≤ 2 ^ 32) (record { end = tree.limit.0; word = 0; gap = 0 }) [] (omega arith) (All-nil (λ (entry : Item). entry.word ≤ 2 ^ 32));
+        pairs = sym (ap (pairs_from 0) (blank_entries (words_at writer) tree.height (built writer tree).top blank.height blank.root blank.words));
+      }
+    ]
+
+-- and another one is what its root lists
+pub whole_root : (writer : NodeWriter) (tree : View) (items : List Item) (row gap : ℕ) (leaf : Bool) → IsWriters writer tree
+    → items ≡ read (words_at writer) (is_leaf (tree.height - 1)) tree.root.0 → (length items ≡ 0 → ⊥) → row ≡ tree.root.0
+    → leaf ≡ is_leaf (tree.height - 1) → gap ≡ gap_of leaf 0 items
+    → IsRootOf writer tree (record { place = record { start = 0; item = record { end = tree.limit.0; word = row; gap = gap } }; level = tree.height })
+whole_root writer tree items row gap leaf is are some here below largest =
+    let Goal : Branch → Type 0 = λ b. IsRootOf writer tree b in
+    let own : Item = record { end = tree.limit.0; word = row; gap = gap } in
+    let top = (built writer tree).top in
+    elim is as (λ _. Goal (record { place = record { start = 0; item = own }; level = tree.height })) [
+      | inl made ↦
+          let end : tree.limit.0 ≡ top.end = sym made.limit in
+          let told : gap ≡ top.gap = largest ∙ ap (λ b. gap_of b 0 items) below ∙ ap (gap_of (is_leaf (tree.height - 1)) 0) are in
+          let From : ℕ → Item = λ e. record { end = e; word = top.word; gap = top.gap } in
+          let Told : ℕ → Item = λ w. record { end = tree.limit.0; word = w; gap = top.gap } in
+          let Of : ℕ → Item = λ g. record { end = tree.limit.0; word = row; gap = g } in
+          let same : top ≡ own = ap From (sym end) ∙ ap Told (sym here) ∙ ap Of (sym told) in
+          let At : Item → Type 0 = λ x. Goal (record { place = record { start = 0; item = x }; level = tree.height }) in
+          subst At same (record {
+            branch = record { limit = top.end; under = top_under writer tree made };
+            begin = refl;
+            limit = made.limit;
+            low = omega arith;
+            apart = made.layout.apart;
+            numbered = few_words writer (entries_of (words_at writer) (built writer tree)) made.layout.numbered;
+            pairs = refl;
+          })
+      | inr blank ↦
+          let none = blank_tree (words_at writer) tree.height tree.root.0 blank.height blank.root blank.words in
+          absurd (some (ap (λ (xs : List Item). length xs) (are ∙ none)))
+    ]
+
+-- whether there are items
+pub no_items_in : (count : ℕ) (empty : Bool) → empty ≡ nat_eq count 0 → empty ≡ true → count ≡ 0
+no_items_in count empty is told = let test : nat_eq count 0 ≡ true = sym is ∙ told in grind (arith, nat_tests)
+
+pub some_items : (count : ℕ) (empty : Bool) → empty ≡ nat_eq count 0 → empty ≡ false → count ≡ 0 → ⊥
+some_items count empty is told none = let test : nat_eq count 0 ≡ false = sym is ∙ told in grind (arith, nat_tests)

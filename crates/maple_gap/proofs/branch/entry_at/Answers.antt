@@ -1,0 +1,54 @@
+-- For `entry_at`: the node that is read, and the item in it that has the page.
+use Rattle.std.proofs.Common.{◌-◌, refl, ◌∙◌, arith}
+use Rattle.maple_node.specs.Levels.{is_leaf}
+use Rattle.node_slots.specs.Built.{words_at}
+use Rattle.maple_gap.proofs.Rows.{node_there}
+use Rattle.maple_gap.proofs.Finding.{reach_root, reach_node, inside, reach_down, reach_entry}
+use Rattle.maple_gap.proofs.branch.entry_at.Goals as goal
+
+pub loop-branch-init : goal.loop-branch-init
+loop-branch-init g c =
+    reach_root (words_at c.args.writer.now) c.args.page c.args.root c.requires.branch c.requires.above c.requires.within
+
+pub node-items-requires-clause-row : goal.node-items-requires-clause-row
+node-items-requires-clause-row g c =
+    let branch = c.loop-branch.branch in
+    let is = c.loop-branch.invariant in
+    let level = branch.level - 1 in
+    let test = c.loop-branch-test.true in
+    node_there c.args.writer.now (is_leaf level) is.limit branch.place.start branch.place.item
+    (reach_node (words_at c.args.writer.now) c.args.page c.args.root branch level is (omega arith))
+
+pub item_at-requires-clause-ascends : goal.item_at-requires-clause-ascends
+item_at-requires-clause-ascends g c =
+    let branch = c.loop-branch.branch in
+    let level = branch.level - 1 in
+    let test = c.loop-branch-test.true in
+    (inside (words_at c.args.writer.now) c.args.page c.args.root branch level (is_leaf level) c.items.result.now c.loop-branch.invariant (omega arith) refl
+    (c.items.ensures.items ∙ c.node-items.ensures.items)).ascends
+
+pub item_at-requires-clause-within : goal.item_at-requires-clause-within
+item_at-requires-clause-within g c =
+    let branch = c.loop-branch.branch in
+    let level = branch.level - 1 in
+    let test = c.loop-branch-test.true in
+    (inside (words_at c.args.writer.now) c.args.page c.args.root branch level (is_leaf level) c.items.result.now c.loop-branch.invariant (omega arith) refl
+    (c.items.ensures.items ∙ c.node-items.ensures.items)).within
+
+pub loop-branch-preserved : goal.loop-branch-preserved
+loop-branch-preserved g c =
+    let branch = c.loop-branch.branch in
+    let level = branch.level - 1 in
+    let test = c.loop-branch-test.true in
+    reach_down (words_at c.args.writer.now) c.args.page c.args.root branch level (is_leaf level) c.items.result.now c.item_at.result c.loop-branch.invariant
+    (omega arith) refl (c.items.ensures.items ∙ c.node-items.ensures.items) c.item_at.ensures.item c.item_at.ensures.start
+
+pub returns-clause-item : goal.returns-clause-item
+returns-clause-item g c =
+    let test = c.loop-branch-test.false in
+    (reach_entry (words_at c.args.writer.now) c.args.page c.args.root c.loop-branch.branch c.loop-branch.invariant (omega arith)).item
+
+pub returns-clause-start : goal.returns-clause-start
+returns-clause-start g c =
+    let test = c.loop-branch-test.false in
+    (reach_entry (words_at c.args.writer.now) c.args.page c.args.root c.loop-branch.branch c.loop-branch.invariant (omega arith)).start

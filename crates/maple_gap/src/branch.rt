@@ -1,0 +1,169 @@
+//! Going down the writer's tree.
+
+ghost use Rattle.std.specs.Prelude.{◌≡◌, ◌<◌, ◌≤◌, ◌+◌, true, ℕ, length, IfSome};
+ghost use Rattle.std.specs.Option.{option_or};
+ghost use Rattle.maple_node.specs.Nodes.{most, end_of};
+ghost use Rattle.maple_node.specs.Levels.{is_leaf, read, item_at};
+ghost use Rattle.maple_items.specs.Splices.{upto};
+ghost use Rattle.node_slots.specs.Seats.{Writes, row_count};
+ghost use Rattle.node_slots.specs.Built.{words_at, IsWriters};
+ghost use Rattle.maple_gap.specs.Searches.{may_have, entries_under, best_under, best_of, spare_from, IsBranch, IsSpare, IsFar, IsRootOf};
+
+use crate::window::{Side, Window, choose};
+use maple_items::{ItemList, Place, gap_of, item_at, node_items};
+use maple_node::{Item, Steps};
+use mm_types::Row;
+use node_slots::{NodeTable, NodeWriter, Tree};
+
+/// An item of the tree, and how many levels of nodes lie below it: none below an entry.
+#[derive(Clone, Copy)]
+pub(crate) struct Branch {
+    pub(crate) place: Place,
+    pub(crate) level: u32,
+}
+
+/// What going down a branch led to: a start, or none, and the branch that is left to search where there is none.
+#[derive(Clone, Copy)]
+pub(crate) struct Descent {
+    pub(crate) found: Option<u64>,
+    pub(crate) spare: Option<Branch>,
+}
+
+/// The items of the node in a row. Counts one step.
+fn node<L>(
+    nodes: &NodeTable,
+    writer: &NodeWriter,
+    leaf: bool,
+    row: u64,
+    steps: &mut Steps<L>,
+) -> ItemList
+    requires table { Writes writer.now nodes.now }
+    requires row { row < row_count writer.now }
+    ensures items { result ≡ read (words_at writer.now) leaf row }
+    ensures most { length result ≤ most leaf }
+    ensures steps { steps.new ≡ steps.old + 1 }
+{
+    let words = nodes.written(writer, Row(row as u32), steps);
+    node_items(leaf, &words)
+}
+
+/// The whole tree as a branch. Tree 0, whose root lists nothing, is one gap.
+pub(crate) fn root_of<L>(
+    nodes: &NodeTable,
+    writer: &NodeWriter,
+    tree: &Tree,
+    steps: &mut Steps<L>,
+) -> Branch
+    requires table { Writes writer.now nodes.now }
+    requires tree { IsWriters writer.now tree.now }
+    ensures root { IsRootOf writer.now tree.now result }
+    ensures steps { steps.new ≡ steps.old + 1 }
+{
+    let leaf = tree.height == 1;
+    let row = u64::from(tree.root.0);
+    let items = node(nodes, writer, leaf, row, steps);
+    let end = tree.limit.0;
+    if items.items().is_empty() {
+        return Branch {
+            place: Place {
+                start: 0,
+                item: Item {
+                    end,
+                    word: 0,
+                    gap: 0,
+                },
+            },
+            level: 0,
+        };
+    }
+    let gap = gap_of(leaf, 0, items.items());
+    Branch {
+        place: Place {
+            start: 0,
+            item: Item {
+                end,
+                word: row,
+                gap,
+            },
+        },
+        level: tree.height,
+    }
+}
+
+/// The branch that is left to search: the second of two that were chosen, or else the one before.
+fn spare_from(second: Option<Place>, level: u32, spare: Option<Branch>) -> Option<Branch>
+    ensures { result ≡ spare_from second level spare }
+{
+    match second {
+        Some(place) => Some(Branch { place, level }),
+        None => spare,
+    }
+}
+
+/// Goes down to an entry with room, at each node to the lowest item that may have room, or to the highest. Where it comes to a
+/// node none of whose items may have room, another branch is left that may, if there is one. That branch does not cross the edge
+/// of the window where the search begins, and an item inside the window that may have room has it, so from there one more way
+/// down tells. Counts one step for each level at most.
+pub(crate) fn descend<L>(
+    nodes: &NodeTable,
+    writer: &NodeWriter,
+    window: Window,
+    side: Side,
+    from: Branch,
+    steps: &mut Steps<L>,
+) -> Descent
+    requires table { Writes writer.now nodes.now }
+    requires branch { IsBranch (words_at writer.now) from }
+    requires room { may_have window (is_leaf from.level) from.place.start from.place.item ≡ true }
+    requires some { 1 ≤ window.len }
+    ensures best { best_under side window (words_at writer.now) from ≡ option_or result.found (best_of side window (words_at writer.now) result.spare) }
+    ensures far { IsFar side window from.place → best_under side window (words_at writer.now) from ≡ result.found }
+    ensures spare { IfSome result.spare (λ spare. IsSpare side window (words_at writer.now) spare × (spare.level ≤ from.level)) }
+    ensures steps { steps.new ≤ steps.old + from.level }
+{
+    let mut branch = from;
+    let mut spare = None;
+    while branch.level > 0 {
+        let level = branch.level - 1;
+        let Place { start, item } = branch.place;
+        let items = node(nodes, writer, level == 0, item.word, steps);
+        let choice = choose(window, side, level == 0, start, items.items());
+        let Some(place) = choice.first else {
+            return Descent { found: None, spare };
+        };
+        spare = spare_from(choice.second, level, spare);
+        branch = Branch { place, level };
+    }
+    Descent {
+        found: Some(window.edge(side, branch.place)),
+        spare,
+    }
+}
+
+/// The entry of a branch that has a page, and the page where it begins.
+pub(crate) fn entry_at<L>(
+    nodes: &NodeTable,
+    writer: &NodeWriter,
+    root: Branch,
+    page: u64,
+    steps: &mut Steps<L>,
+) -> Place
+    requires table { Writes writer.now nodes.now }
+    requires branch { IsBranch (words_at writer.now) root }
+    requires above { root.place.start ≤ page }
+    requires within { page < root.place.item.end }
+    ensures item { item_at page (entries_under (words_at writer.now) root) ≡ Some result.item }
+    ensures start { result.start ≡ end_of root.place.start (upto page (entries_under (words_at writer.now) root)) }
+{
+    let mut branch = root;
+    while branch.level > 0 {
+        let level = branch.level - 1;
+        let Place { start, item } = branch.place;
+        let items = node(nodes, writer, level == 0, item.word, steps);
+        branch = Branch {
+            place: item_at(items.items(), start, page),
+            level,
+        };
+    }
+    branch.place
+}

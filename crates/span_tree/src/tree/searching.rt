@@ -1,0 +1,67 @@
+//! Searches of a tree of spans and slots: free pages, and the areas beside a page.
+ghost use Rattle.std.specs.Prelude.{◌≡◌, ◌≤◌, MatchOption};
+ghost use Rattle.maple_gap.specs.Gaps.{fits, IsGreatest, IsLeast, NonePasses, first_from, last_before, slot_in};
+
+use super::SpanTree;
+use maple_gap::{before_slot, highest, lowest, next_slot};
+use maple_node::Steps;
+use mm_types::{Page, Slot};
+
+/// The nodes that are read, which nobody counts here.
+struct Reads;
+
+impl SpanTree {
+    /// The greatest start of `len` pages without a slot that all lie from page `lo` up to page `hi`. None exactly where there is
+    /// none.
+    pub fn highest(&self, len: u64, lo: u64, hi: u64) -> Option<Page>
+        requires some { 1 ≤ len }
+        requires limit { hi ≤ self.now.limit }
+        ensures { MatchOption result (NonePasses (fits self.now.pairs len lo hi)) (λ start. IsGreatest (fits self.now.pairs len lo hi) start.0) }
+    {
+        let mut steps = Steps::<Reads>::new();
+        highest(
+            &self.nodes,
+            &self.writer,
+            &self.tree,
+            len,
+            lo,
+            hi,
+            &mut steps,
+        )
+    }
+
+    /// The least start of `len` pages without a slot that all lie from page `lo` up to page `hi`. None exactly where there is none.
+    pub fn lowest(&self, len: u64, lo: u64, hi: u64) -> Option<Page>
+        requires some { 1 ≤ len }
+        requires limit { hi ≤ self.now.limit }
+        ensures { MatchOption result (NonePasses (fits self.now.pairs len lo hi)) (λ start. IsLeast (fits self.now.pairs len lo hi) start.0) }
+    {
+        let mut steps = Steps::<Reads>::new();
+        lowest(
+            &self.nodes,
+            &self.writer,
+            &self.tree,
+            len,
+            lo,
+            hi,
+            &mut steps,
+        )
+    }
+
+    /// The slot of the first pair that ends above a page. None exactly where there is none.
+    pub fn next_slot(&self, page: Page) -> Option<Slot>
+        ensures { result ≡ slot_in (first_from self.now.pairs page.0) }
+    {
+        next_slot(&self.nodes, &self.writer, &self.tree, page)
+    }
+
+    /// The slot of the last pair that begins below a page. None exactly where there is none.
+    pub fn before_slot(&self, page: Page) -> Option<Slot>
+        ensures { result ≡ slot_in (last_before self.now.pairs page.0) }
+    {
+        before_slot(&self.nodes, &self.writer, &self.tree, page)
+    }
+}
+
+#[cfg(test)]
+mod tests;

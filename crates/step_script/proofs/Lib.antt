@@ -1,0 +1,4 @@
+pub mod RowWords
+pub mod LockSteps
+pub mod GraceSteps
+pub mod Scripts

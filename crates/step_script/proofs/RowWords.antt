@@ -1,0 +1,9 @@
+-- For `rows_of`: the rows that words are, read one after another.
+use Rattle.std.proofs.Common.{List, ◌++◌, Result, Ok}
+use Rattle.mm_types.specs.declared.slot.Row.{Row}
+use Rattle.trace_reader.specs.declared.fault.Cause.{Cause}
+use Rattle.trace_reader.specs.Causes.{◌>>=◌}
+
+-- rows that were read, and then those that are still to be read
+abbrev pub onto : List Row → Result (List Row) Cause → Result (List Row) Cause
+onto listed read = read >>= λ more. Ok (listed ++ more)

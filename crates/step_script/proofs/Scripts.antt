@@ -1,0 +1,55 @@
+-- For the laws of scripts: their first bad line, and the bytes that settle them.
+use Rattle.std.proofs.Common.{◌≡◌, ◌⊎◌, ℕ, ◌+◌, ◌≤◌, List, length, take, Option, Some, None, Result, Ok, Err, refl, ap, ◌∙◌, inl, inr}
+use Rattle.trace_reader.specs.declared.fault.Cause.{Cause}
+use Rattle.trace_reader.specs.declared.fault.Cause.TheVariants.{TooMany}
+use Rattle.trace_reader.specs.declared.fault.TraceFault.{TraceFault}
+use Rattle.trace_reader.specs.Causes.{◌>>=◌}
+use Rattle.trace_reader.specs.Lines.{trace_limit}
+use Rattle.trace_reader.specs.RawLines.{raw_lines}
+use Rattle.trace_reader.specs.Words.{words_of}
+use Rattle.trace_reader.proofs.Beginnings.{IsLimited, lines_leave-front, lines_leave-within}
+use Rattle.trace_reader.proofs.FirstBad.{lines_leave-Err}
+use Rattle.trace_reader.proofs.LineTests.{text_of-long}
+use Rattle.std.specs.Prelude.{nat_lt, if◌then◌else◌}
+use Rattle.step_script.specs.declared.script.Script.{Script}
+use Rattle.step_script.specs.declared.script.TheConstants.{MOST_LINES}
+use Rattle.step_script.specs.Grammar.{after_lines, whole, script_of}
+use Rattle.step_script.specs.Laws.{IsFirstBad, NamesNoCore}
+use Rattle.step_script.specs.Lines.{after_text, after_line}
+use Rattle.step_script.specs.Output.{output_of, script_output}
+
+by_lines : (bytes : List ℕ) (first : TraceFault) (read : Result (Option Script) TraceFault) → after_lines None (raw_lines bytes) ≡ read
+    → whole read ≡ Err first → IsFirstBad bytes first ⊎ NamesNoCore bytes first
+by_lines bytes first (Ok (Some script)) is e = absurd cc
+by_lines bytes first (Ok None) is e = inr (is, cc)
+by_lines bytes first (Err bad) is e = inl (lines_leave-Err after_line None bytes first (is ∙ cc))
+
+-- the fault of a script is that of its first bad line, or there is no core
+pub script_of-Err : (bytes : List ℕ) (first : TraceFault) → script_of bytes ≡ Err first → IsFirstBad bytes first ⊎ NamesNoCore bytes first
+unfolding script_of
+script_of-Err bytes first e = by_lines bytes first (after_lines None (raw_lines bytes)) refl e
+
+-- the lines of a script are limited
+after_line-limited : IsLimited after_line
+unfolding after_line
+after_line-limited before line long =
+    ap (λ (r : Result (List ℕ) Cause). r >>= λ text. (after_text before line.number text (words_of text)
+    >>= λ next. if nat_lt MOST_LINES line.number then Err TooMany else Ok next)) (text_of-long line long)
+
+-- so one byte more than the limit settles the output
+pub output-front : (bytes : List ℕ) → script_output (take (trace_limit + 1) bytes) ≡ script_output bytes
+unfolding script_output script_of
+output-front bytes = ap (λ (read : Result (Option Script) TraceFault). output_of (whole read))
+    (lines_leave-front after_line after_line-limited None bytes)
+
+was_read : (read : Result (Option Script) TraceFault) (text : List ℕ) → output_of (whole read) ≡ Ok text
+    → (script : Option Script) × (read ≡ Ok script)
+was_read (Ok script) text is = (script, refl)
+was_read (Err first) text is = absurd cc
+
+-- and bytes with an output are within it
+pub output-within : (bytes text : List ℕ) → script_output bytes ≡ Ok text → length bytes ≤ trace_limit
+unfolding script_output script_of
+output-within bytes text is =
+    let read = was_read (after_lines None (raw_lines bytes)) text is in
+    lines_leave-within after_line after_line-limited None read.0 bytes read.1

@@ -1,0 +1,10 @@
+-- For `push_waiting`: those of the rows so far are printed.
+use Rattle.std.proofs.Common.{◌≡◌, ◌++◌, [], ℕ}
+use Rattle.std.specs.Prelude.{if◌then◌else◌}
+use Rattle.grace_core.specs.Core.{waits}
+use Rattle.step_script.specs.Texts.{texts_below, spaced}
+use Rattle.step_script.proofs.grace_texts.push_waiting.Given as goal
+
+abbrev pub invariant-loop-row : goal.invariant-loop-row
+invariant-loop-row l = l.text.items ≡ l.initial.text.items
+    ++ texts_below l.row (λ (n : ℕ). if waits l.state.desk n then spaced n else [])

@@ -1,0 +1,76 @@
+-- The events of the grace core, each from the words after its name.
+use Rattle.std.specs.Prelude.{ℕ, List, [], ◌∷◌, codes, bytes_eq, Result, Ok, Err, if◌then◌else◌}
+use Rattle.mm_types.specs.declared.slot.Row.{Row}
+use Rattle.grace_core.specs.declared.events.GraceEvent.{GraceEvent}
+use Rattle.grace_core.specs.declared.events.GraceEvent.TheVariants as events
+use Rattle.trace_reader.specs.declared.fault.Cause.{Cause}
+use Rattle.trace_reader.specs.declared.fault.Cause.TheVariants.{Word, Arity}
+use Rattle.trace_reader.specs.Causes.{◌>>=◌}
+use Rattle.trace_reader.specs.Fields.{number}
+use Rattle.step_script.specs.Fields.{index_of, reader_of}
+
+-- `open R`
+unfoldable pub open_of : ℕ → List (List ℕ) → Result GraceEvent Cause
+open_of readers words = do
+  r ← reader_of readers words
+  Ok (events.Open r)
+
+-- `root R`
+unfoldable pub root_of : ℕ → List (List ℕ) → Result GraceEvent Cause
+root_of readers words = do
+  r ← reader_of readers words
+  Ok (events.Root r)
+
+-- `word R W`
+unfoldable pub word_of : ℕ → ℕ → List (List ℕ) → Result GraceEvent Cause
+word_of readers rows (reader ∷ row ∷ []) = do
+  r ← index_of readers reader
+  w ← index_of rows row
+  Ok (events.Word r (record { 0 = w }))
+word_of readers rows _ = Err Arity
+
+-- `close R`
+unfoldable pub close_of : ℕ → List (List ℕ) → Result GraceEvent Cause
+close_of readers words = do
+  r ← reader_of readers words
+  Ok (events.Close r)
+
+-- `fill W X`
+unfoldable pub fill_of : ℕ → List (List ℕ) → Result GraceEvent Cause
+fill_of rows (row ∷ word ∷ []) = do
+  w ← index_of rows row
+  x ← number word
+  Ok (events.Fill (record { 0 = w }) x)
+fill_of rows _ = Err Arity
+
+-- rows, each a word
+abbrev pub rows_of : ℕ → List (List ℕ) → Result (List Row) Cause
+rows_of rows [] = Ok []
+rows_of rows (word ∷ words) = do
+  w ← index_of rows word
+  listed ← rows_of rows words
+  Ok (record { 0 = w } ∷ listed)
+
+-- `publish N` and one or more rows
+unfoldable pub publish_of : ℕ → List (List ℕ) → Result GraceEvent Cause
+publish_of rows (tree ∷ root ∷ more) = do
+  n ← number tree
+  listed ← rows_of rows (root ∷ more)
+  Ok (events.Publish n listed)
+publish_of rows _ = Err Arity
+
+-- `scan R`
+unfoldable pub scan_of : ℕ → List (List ℕ) → Result GraceEvent Cause
+scan_of readers words = do
+  r ← reader_of readers words
+  Ok (events.Scan r)
+
+-- the event of this name
+unfoldable pub grace_event : ℕ → ℕ → List ℕ → List (List ℕ) → Result GraceEvent Cause
+grace_event readers rows name words = if bytes_eq name (codes "open") then open_of readers words
+    else (if bytes_eq name (codes "root") then root_of readers words
+    else (if bytes_eq name (codes "word") then word_of readers rows words
+    else (if bytes_eq name (codes "close") then close_of readers words
+    else (if bytes_eq name (codes "fill") then fill_of rows words
+    else (if bytes_eq name (codes "publish") then publish_of rows words
+    else (if bytes_eq name (codes "scan") then scan_of readers words else Err Word))))))

@@ -1,0 +1,12 @@
+pub mod Values
+pub mod Fields
+pub mod LockLines
+pub mod GraceLines
+pub mod Lines
+pub mod Grammar
+pub mod Texts
+pub mod LockTexts
+pub mod GraceTexts
+pub mod Output
+pub mod Reading
+pub mod Laws

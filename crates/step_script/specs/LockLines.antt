@@ -1,0 +1,83 @@
+-- The events of the lock core, each from the words after its name.
+use Rattle.std.specs.Prelude.{ℕ, List, [], ◌∷◌, codes, bytes_eq, Result, Ok, Err, if◌then◌else◌}
+use Rattle.lock_core.specs.declared.events.LockEvent.{LockEvent}
+use Rattle.lock_core.specs.declared.events.LockEvent.TheVariants.{Add, Look, Field, Sub, Begin, Mark, Store, End}
+use Rattle.trace_reader.specs.declared.fault.Cause.{Cause}
+use Rattle.trace_reader.specs.declared.fault.Cause.TheVariants.{Word, Arity}
+use Rattle.trace_reader.specs.Calls.{call_of}
+use Rattle.trace_reader.specs.Causes.{◌>>=◌}
+use Rattle.trace_reader.specs.Fields.{number}
+use Rattle.trace_reader.specs.Words.{text_after_words}
+use Rattle.step_script.specs.Fields.{index_of, caller_of, reader_of}
+
+-- `add R K`
+unfoldable pub add_of : ℕ → ℕ → List (List ℕ) → Result LockEvent Cause
+add_of readers slots (reader ∷ slot ∷ []) = do
+  r ← index_of readers reader
+  k ← index_of slots slot
+  Ok (Add r (record { 0 = k }))
+add_of readers slots _ = Err Arity
+
+-- `look R`
+unfoldable pub look_of : ℕ → List (List ℕ) → Result LockEvent Cause
+look_of readers words = do
+  r ← reader_of readers words
+  Ok (Look r)
+
+-- `field R I`
+unfoldable pub field_of : ℕ → List (List ℕ) → Result LockEvent Cause
+field_of readers (reader ∷ field ∷ []) = do
+  r ← index_of readers reader
+  i ← index_of 4 field
+  Ok (Field r i)
+field_of readers _ = Err Arity
+
+-- `sub R`
+unfoldable pub sub_of : ℕ → List (List ℕ) → Result LockEvent Cause
+sub_of readers words = do
+  r ← reader_of readers words
+  Ok (Sub r)
+
+-- `begin`
+unfoldable pub begin_of : List (List ℕ) → Result LockEvent Cause
+begin_of [] = Ok Begin
+begin_of _ = Err Arity
+
+-- `mark K`
+unfoldable pub mark_of : ℕ → List (List ℕ) → Result LockEvent Cause
+mark_of slots (slot ∷ []) = do
+  k ← index_of slots slot
+  Ok (Mark (record { 0 = k }))
+mark_of slots _ = Err Arity
+
+-- the store of these words
+unfoldable pub store : ℕ → List ℕ → List ℕ → List ℕ → Result LockEvent Cause
+store slots slot field word = do
+  k ← index_of slots slot
+  i ← index_of 4 field
+  x ← number word
+  Ok (Store (record { 0 = k }) i x)
+
+-- `store K I X`
+unfoldable pub store_of : ℕ → List (List ℕ) → Result LockEvent Cause
+store_of slots (slot ∷ field ∷ word ∷ []) = store slots slot field word
+store_of slots _ = Err Arity
+
+-- `end T CALL`, where the call is what follows two words of the line's text
+unfoldable pub end_of : List ℕ → List (List ℕ) → Result LockEvent Cause
+end_of text (caller ∷ name ∷ more) = do
+  t ← caller_of caller
+  call ← call_of (text_after_words 2 text)
+  Ok (End t call)
+end_of text _ = Err Arity
+
+-- the event of this name, in a line of this text
+unfoldable pub lock_event : ℕ → ℕ → List ℕ → List ℕ → List (List ℕ) → Result LockEvent Cause
+lock_event readers slots text name words = if bytes_eq name (codes "add") then add_of readers slots words
+    else (if bytes_eq name (codes "look") then look_of readers words
+    else (if bytes_eq name (codes "field") then field_of readers words
+    else (if bytes_eq name (codes "sub") then sub_of readers words
+    else (if bytes_eq name (codes "begin") then begin_of words
+    else (if bytes_eq name (codes "mark") then mark_of slots words
+    else (if bytes_eq name (codes "store") then store_of slots words
+    else (if bytes_eq name (codes "end") then end_of text words else Err Word)))))))

@@ -1,0 +1,135 @@
+//! The events of the grace core, each from the words after its name.
+
+ghost use Rattle.std.specs.Prelude.{◌<◌, All, IfOk, map};
+ghost use Rattle.trace_reader.specs.Reading.{Gives};
+ghost use Rattle.step_script.specs.GraceLines.{open_of, root_of, word_of, close_of, fill_of, rows_of, publish_of, scan_of, grace_event};
+ghost use Rattle.step_script.specs.Values.{IsGraceEvent};
+
+use crate::fields::{index_of, reader_of};
+use grace_core::{GraceEvent, Rows};
+use mm_types::Row;
+use std::alloc::Global;
+use trace_reader::{CallError, Cause, number};
+
+/// `open R`.
+#[tactic(auto, unfolding(crate::specs::GraceLines::open_of))]
+fn open_of(words: &[&str], readers: u32, rows: u32) -> Result<GraceEvent, CallError>
+    ensures value { Gives (λ event. event) result (open_of readers (map (λ word. word.now) words.now)) }
+    ensures fits { IfOk result (IsGraceEvent readers rows) }
+{
+    Ok(GraceEvent::Open(reader_of(words, readers)?))
+}
+
+/// `root R`.
+#[tactic(auto, unfolding(crate::specs::GraceLines::root_of))]
+fn root_of(words: &[&str], readers: u32, rows: u32) -> Result<GraceEvent, CallError>
+    ensures value { Gives (λ event. event) result (root_of readers (map (λ word. word.now) words.now)) }
+    ensures fits { IfOk result (IsGraceEvent readers rows) }
+{
+    Ok(GraceEvent::Root(reader_of(words, readers)?))
+}
+
+/// `word R W`.
+#[tactic(auto, unfolding(crate::specs::GraceLines::word_of))]
+fn word_of(words: &[&str], readers: u32, rows: u32) -> Result<GraceEvent, CallError>
+    ensures value { Gives (λ event. event) result (word_of readers rows (map (λ word. word.now) words.now)) }
+    ensures fits { IfOk result (IsGraceEvent readers rows) }
+{
+    let [reader, row] = words else {
+        return Err(CallError::Bad(Cause::Arity));
+    };
+    let reader = index_of(reader, readers)?;
+    let row = index_of(row, rows)?;
+    Ok(GraceEvent::Word(reader, Row(row)))
+}
+
+/// `close R`.
+#[tactic(auto, unfolding(crate::specs::GraceLines::close_of))]
+fn close_of(words: &[&str], readers: u32, rows: u32) -> Result<GraceEvent, CallError>
+    ensures value { Gives (λ event. event) result (close_of readers (map (λ word. word.now) words.now)) }
+    ensures fits { IfOk result (IsGraceEvent readers rows) }
+{
+    Ok(GraceEvent::Close(reader_of(words, readers)?))
+}
+
+/// `fill W X`.
+#[tactic(auto, unfolding(crate::specs::GraceLines::fill_of))]
+fn fill_of(words: &[&str], readers: u32, rows: u32) -> Result<GraceEvent, CallError>
+    ensures value { Gives (λ event. event) result (fill_of rows (map (λ word. word.now) words.now)) }
+    ensures fits { IfOk result (IsGraceEvent readers rows) }
+{
+    let [row, word] = words else {
+        return Err(CallError::Bad(Cause::Arity));
+    };
+    let row = index_of(row, rows)?;
+    let word = number(word)?;
+    Ok(GraceEvent::Fill(Row(row), word))
+}
+
+/// Rows, each a word.
+fn rows_of(alloc: Global, words: &[&str], rows: u32) -> Result<Vec<Row>, CallError>
+    ensures value { Gives (λ listed. listed.items) result (rows_of rows (map (λ word. word.now) words.now)) }
+    ensures fits { IfOk result (λ listed. All (λ row. row.0 < rows) listed.items) }
+{
+    let mut listed = Vec::new(alloc);
+    for word in words {
+        listed.push(Row(index_of(word, rows)?))?;
+    }
+    Ok(listed)
+}
+
+/// `publish N` and one or more rows.
+#[tactic(auto, unfolding(crate::specs::GraceLines::publish_of))]
+fn publish_of(
+    alloc: Global,
+    words: &[&str],
+    readers: u32,
+    rows: u32,
+) -> Result<GraceEvent, CallError>
+    ensures value { Gives (λ event. event) result (publish_of rows (map (λ word. word.now) words.now)) }
+    ensures fits { IfOk result (IsGraceEvent readers rows) }
+{
+    let [tree, listed @ ..] = words else {
+        return Err(CallError::Bad(Cause::Arity));
+    };
+    if listed.is_empty() {
+        return Err(CallError::Bad(Cause::Arity));
+    }
+    let tree = number(tree)?;
+    let rows = Rows::of(rows_of(alloc, listed, rows)?);
+    Ok(GraceEvent::Publish { tree, rows })
+}
+
+/// `scan R`.
+#[tactic(auto, unfolding(crate::specs::GraceLines::scan_of))]
+fn scan_of(words: &[&str], readers: u32, rows: u32) -> Result<GraceEvent, CallError>
+    ensures value { Gives (λ event. event) result (scan_of readers (map (λ word. word.now) words.now)) }
+    ensures fits { IfOk result (IsGraceEvent readers rows) }
+{
+    Ok(GraceEvent::Scan(reader_of(words, readers)?))
+}
+
+/// The event of this name.
+#[tactic(auto, unfolding(crate::specs::GraceLines::grace_event))]
+pub(crate) fn grace_event(
+    alloc: Global,
+    readers: u32,
+    rows: u32,
+    name: &str,
+    words: &[&str],
+) -> Result<GraceEvent, CallError>
+    ensures value { Gives (λ event. event) result
+        (grace_event readers rows name.now (map (λ word. word.now) words.now)) }
+    ensures fits { IfOk result (IsGraceEvent readers rows) }
+{
+    match name {
+        "open" => open_of(words, readers, rows),
+        "root" => root_of(words, readers, rows),
+        "word" => word_of(words, readers, rows),
+        "close" => close_of(words, readers, rows),
+        "fill" => fill_of(words, readers, rows),
+        "publish" => publish_of(alloc, words, readers, rows),
+        "scan" => scan_of(words, readers, rows),
+        _ => Err(CallError::Bad(Cause::Word)),
+    }
+}

@@ -1,0 +1,44 @@
+//! Which script bytes are.
+
+ghost use Rattle.std.specs.Prelude.{◌+◌, IfOk, None};
+ghost use Rattle.trace_reader.specs.RawLines.{raw_lines};
+ghost use Rattle.step_script.specs.Grammar.{after_lines, script_of};
+ghost use Rattle.step_script.specs.Reading.{GivesRead};
+ghost use Rattle.step_script.specs.Values.{IsScript, IsSoFar};
+
+use crate::lines::after_line;
+use crate::script::{MOST_LINES, Script};
+use std::alloc::Global;
+use trace_reader::{CallError, Cause, ReadError, at_line, first_line};
+
+/// The script that the bytes are, or the first bad line and its cause.
+#[tactic(auto, unfolding(crate::specs::Grammar::script_of))]
+pub(crate) fn read_script(alloc: Global, bytes: &[u8]) -> Result<Script, ReadError>
+    ensures value { GivesRead result (script_of bytes.now) }
+    ensures fits { IfOk result (IsScript (MOST_LINES + 1)) }
+{
+    match read_lines(alloc, bytes)? {
+        Some(script) => Ok(script),
+        None => Err(at_line(1, CallError::Bad(Cause::Header))),
+    }
+}
+
+/// The script that the lines of some bytes leave, or the first of them that is bad.
+fn read_lines(alloc: Global, bytes: &[u8]) -> Result<Option<Script>, ReadError>
+    ensures value { GivesRead result (after_lines None (raw_lines bytes.now)) }
+    ensures fits { IfOk result (IsSoFar (MOST_LINES + 1)) }
+{
+    let mut script = None;
+    let mut rest = bytes;
+    let mut number = 1;
+    while !rest.is_empty() {
+        let (line, after) = first_line(rest, number, bytes.len() - rest.len());
+        script = match after_line(alloc, script, &line) {
+            Ok(next) => next,
+            Err(error) => return Err(at_line(number, error)),
+        };
+        rest = after;
+        number += 1;
+    }
+    Ok(script)
+}

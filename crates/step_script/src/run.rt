@@ -1,0 +1,43 @@
+//! The output of a script.
+
+ghost use Rattle.std.specs.Prelude.{◌≡◌, ◌+◌, IfOk, IfErr, Ok};
+ghost use Rattle.step_script.specs.Output.{script_output, script_text};
+ghost use Rattle.step_script.specs.Reading.{IsFault};
+ghost use Rattle.step_script.specs.Values.{IsScript};
+
+use crate::grace_run::grace_text;
+use crate::lock_run::lock_text;
+use crate::reading::read_script;
+use crate::script::{MOST_LINES, Script};
+use mm_types::NoMemory;
+use std::alloc::Global;
+use trace_reader::ReadError;
+
+/// Runs the script that the bytes are: for each of its events a line with the number of its line, what the event results in,
+/// and the state after it. The whole script is read before the first event is made.
+///
+/// `ReadError::Bad` comes exactly where the bytes are no script, with their first bad line and its cause; where no line is bad
+/// and none names a core, this is line 1 and `Cause::Header`. `ReadError::NoMemory` comes where memory runs out.
+#[tactic(auto, unfolding(crate::specs::Output::script_output))]
+pub fn run_script(alloc: Global, bytes: &[u8]) -> Result<Vec<u8>, ReadError>
+    ensures text { IfOk result (λ text. script_output bytes.now ≡ Ok text.items) }
+    ensures bad { IfErr result (λ error. IsFault error (script_output bytes.now)) }
+{
+    let script = read_script(alloc, bytes)?;
+    match script_text(alloc, script) {
+        Ok(text) => Ok(text),
+        Err(NoMemory) => Err(ReadError::NoMemory),
+    }
+}
+
+/// The text of a script.
+#[tactic(auto, unfolding(crate::specs::Output::script_text))]
+fn script_text(alloc: Global, script: Script) -> Result<Vec<u8>, NoMemory>
+    requires { IsScript (MOST_LINES + 1) script }
+    ensures { IfOk result (λ text. text.items ≡ script_text script) }
+{
+    match script {
+        Script::Lock(script) => lock_text(alloc, &script),
+        Script::Grace(script) => grace_text(alloc, script),
+    }
+}

@@ -1,0 +1,227 @@
+//! The space, its areas, and the threads that fault at them.
+ghost use Rattle.std.specs.Prelude.{◌≡◌, IfSome, sum};
+ghost use Rattle.fault_path.specs.Passes.{IsPassOf, ArePasses};
+
+use fault_path::{Fast, Pass};
+use mm_space::{Ready, Space, SpaceName};
+use mm_types::{
+    Access, Call, Config, Files, MAP_ANONYMOUS, MAP_FIXED, MAP_PRIVATE, MmapArgs, NoMemory, Page,
+    Prot,
+};
+use std::alloc::Global;
+use std::marker::{Brand, PhantomData};
+use std::sync::Wait;
+use std::thread;
+use std::thread::Threads;
+
+/// The first page of the areas, which stand two pages apart.
+const FIRST: u64 = 0x1_0000;
+
+/// Where the other thread maps and unmaps a page.
+const ELSEWHERE: u64 = 0x7000_0000_0000;
+
+/// What is to be done.
+#[derive(Clone, Copy, Debug)]
+pub(crate) struct Plan {
+    /// The faults of each thread.
+    count: u64,
+    threads: u64,
+    areas: u64,
+    /// How often a page is mapped and unmapped elsewhere.
+    calls: u64,
+}
+
+/// How many faults were answered without the lock, and how many missed.
+#[derive(Clone, Copy, Debug)]
+pub(crate) struct Told {
+    pub(crate) answered: u64,
+    pub(crate) missed: u64,
+}
+
+/// The pass of a thread, and what its faults came to.
+#[derive(Drop)]
+struct Worker<N: SpaceName> {
+    pass: Pass,
+    told: Told,
+    of: PhantomData<N>,
+    ghost mine: { IsPassOf N.table N.nodes N.config N.operations pass },
+}
+
+impl Plan {
+    /// A plan within the limits.
+    pub(crate) fn new(count: u64, threads: u64, areas: u64, calls: u64) -> Option<Plan> {
+        let fits = (1..=62).contains(&threads) && (1..=65_000).contains(&areas);
+        if fits && calls <= 8_000_000 {
+            Some(Plan {
+                count,
+                threads,
+                areas,
+                calls,
+            })
+        } else {
+            None
+        }
+    }
+}
+
+/// How many operations there are together. None where they are too many to count.
+fn total(operations: &[u64]) -> Option<u64>
+    ensures { IfSome result (λ total. total ≡ sum operations.now) }
+{
+    let mut total: u64 = 0;
+    for count in operations {
+        total = total.checked_add(*count)?;
+    }
+    Some(total)
+}
+
+/// How many operations each caller may make: the first maps, and all others make faults alone.
+fn operations_of(alloc: Global, plan: &Plan) -> Result<Vec<u64>, NoMemory> {
+    let mut operations = Vec::new(alloc);
+    operations.push(plan.areas.saturating_add(plan.calls.saturating_mul(2)))?;
+    for _ in 0..plan.threads {
+        operations.push(0)?;
+    }
+    Ok(operations)
+}
+
+/// Private anonymous memory of one page.
+fn mapping(addr: u64) -> Call {
+    Call::Mmap(MmapArgs {
+        addr,
+        len: 4096,
+        prot: Prot {
+            read: true,
+            write: true,
+            exec: false,
+        },
+        flags: MAP_PRIVATE | MAP_ANONYMOUS | MAP_FIXED,
+        fd: -1,
+        offset: 0,
+    })
+}
+
+/// Makes the plan's faults. None where memory runs out.
+pub(crate) fn measure<R: Threads + Wait + Sync>(
+    rt: &R,
+    alloc: Global,
+    plan: &Plan,
+) -> Option<Told> {
+    let config = Config::with_files(Files::of(Vec::new(alloc)));
+    let operations = operations_of(alloc, plan).ok()?;
+    let few = total(operations.as_slice())? <= 16_777_216;
+    let callers = operations.len();
+    if !config.valid() || !few || callers == 0 || callers > 64 {
+        return None;
+    }
+    let ready = Ready::make(alloc, config, operations.as_slice()).ok()?;
+    run::<Brand, R>(rt, alloc, ready, plan)
+}
+
+/// Opens a space, maps its areas, and lets all threads go.
+fn run<N: SpaceName + Send + Sync, R: Threads + Wait + Sync>(
+    rt: &R,
+    alloc: Global,
+    ready: Ready,
+    plan: &Plan,
+) -> Option<Told>
+    requires { (ready.table ≡ N.table) × (ready.nodes ≡ N.nodes) × (ready.config ≡ N.config) × (ready.operations ≡ N.operations) }
+{
+    let (space, passes) = Space::<N>::open(ready);
+    let mut workers = workers_of::<N>(alloc, passes)?;
+    map_areas(rt, &space, workers.first_mut()?, plan.areas);
+    let threads = workers.len();
+    let work = |place: usize, worker: &mut Worker<N>| {
+        if place == 0 {
+            call_elsewhere(rt, &space, worker, plan.calls);
+        } else {
+            fault_all(&space, worker, plan, place as u64);
+        }
+    };
+    thread::for_each_mut(rt, workers.as_mut_slice(), threads, &work);
+    Some(told_by(workers.as_slice()))
+}
+
+/// A worker for each pass.
+fn workers_of<N: SpaceName>(alloc: Global, passes: Vec<Pass>) -> Option<Vec<Worker<N>>>
+    requires { ArePasses N.table N.nodes N.config N.operations passes.items }
+{
+    let mut workers = Vec::with_capacity(alloc, passes.len()).ok()?;
+    for pass in passes {
+        let told = Told {
+            answered: 0,
+            missed: 0,
+        };
+        let worker = Worker {
+            pass,
+            told,
+            of: PhantomData,
+        };
+        workers.push(worker).ok()?;
+    }
+    Some(workers)
+}
+
+/// Maps areas of one page each, two pages apart.
+fn map_areas<N: SpaceName, R: Wait>(rt: &R, space: &Space<N>, worker: &mut Worker<N>, areas: u64) {
+    for place in 0..areas {
+        let page = place.saturating_mul(2).saturating_add(FIRST);
+        call(rt, space, worker, &mapping(page.saturating_mul(4096)));
+    }
+}
+
+/// Makes a call, where the worker has an operation left.
+fn call<N: SpaceName, R: Wait>(rt: &R, space: &Space<N>, worker: &mut Worker<N>, call: &Call) {
+    if worker.pass.left() > 0 {
+        space.call(rt, &mut worker.pass, call);
+    }
+}
+
+/// Maps and unmaps a page elsewhere, so many times.
+fn call_elsewhere<N: SpaceName, R: Wait>(
+    rt: &R,
+    space: &Space<N>,
+    worker: &mut Worker<N>,
+    calls: u64,
+) {
+    let unmapping = Call::Munmap {
+        addr: ELSEWHERE,
+        len: 4096,
+    };
+    for _ in 0..calls {
+        call(rt, space, worker, &mapping(ELSEWHERE));
+        call(rt, space, worker, &unmapping);
+    }
+}
+
+/// Makes the faults of a thread, at areas in no order.
+fn fault_all<N: SpaceName>(space: &Space<N>, worker: &mut Worker<N>, plan: &Plan, seed: u64) {
+    let mut number = seed;
+    for _ in 0..plan.count {
+        number = number
+            .wrapping_mul(6364136223846793005)
+            .wrapping_add(1442695040888963407);
+        let area = (number >> 33).checked_rem(plan.areas).unwrap_or(0);
+        let page = Page(area.saturating_mul(2).saturating_add(FIRST));
+        match space
+            .view()
+            .fault_fast(&mut worker.pass, page, Access::Read)
+        {
+            Fast::Answer { .. } => worker.told.answered = worker.told.answered.saturating_add(1),
+            Fast::Miss(_) => worker.told.missed = worker.told.missed.saturating_add(1),
+        }
+    }
+}
+
+/// What the faults of all workers came to.
+fn told_by<N: SpaceName>(workers: &[Worker<N>]) -> Told {
+    let mut told = Told {
+        answered: 0,
+        missed: 0,
+    };
+    for worker in workers {
+        told.answered = told.answered.saturating_add(worker.told.answered);
+        told.missed = told.missed.saturating_add(worker.told.missed);
+    }
+    told
+}

@@ -1,0 +1,60 @@
+//! Faults of many threads in one address space, to be timed from outside: `vma_bench COUNT THREADS AREAS` maps AREAS pages that
+//! stand two apart, makes COUNT faults at them without the lock in each of THREADS threads, and writes how many were answered and
+//! how many missed. `vma_bench COUNT THREADS AREAS CALLS` has another thread map and unmap a page elsewhere meanwhile, so many times.
+//! There are 1 to 62 threads and 1 to 65,000 areas, and at most 8,000,000 calls. No contract says anything of what it writes.
+#![tactic(auto)]
+
+mod faults;
+
+use faults::{Plan, Told, measure};
+use std::alloc::Global;
+use std::process::ExitCode;
+use std::rt::Env;
+use std::sync::Wait;
+use std::thread::Threads;
+use std::{env, io};
+use trace_reader::decimal_of;
+
+/// The words after the program's name.
+fn words<R: Env + AllocGlobal>(rt: &R) -> io::Result<Vec<String>> {
+    let words = env::args(rt)?.skip(1).collect(rt.alloc())?;
+    Ok(words)
+}
+
+/// The number at a place of the words.
+fn number(words: &[String], place: usize) -> Option<u64> {
+    decimal_of(words.get(place)?.as_str())
+}
+
+/// What the words ask for. None where they are no numbers, or out of their limits.
+fn plan_of(words: &[String]) -> Option<Plan> {
+    let calls = if words.len() == 3 {
+        0
+    } else {
+        number(words, 3)?
+    };
+    Plan::new(
+        number(words, 0)?,
+        number(words, 1)?,
+        number(words, 2)?,
+        calls,
+    )
+}
+
+fn run<R: Threads + Wait + Sync + Env + AllocGlobal>(rt: &R, alloc: Global) -> Option<Told> {
+    let Ok(words) = words(rt) else {
+        return None;
+    };
+    let plan = plan_of(words.as_slice())?;
+    measure(rt, alloc, &plan)
+}
+
+fn main(rt: HostRuntime) -> ExitCode {
+    match run(&rt, rt.alloc()) {
+        Some(told) => {
+            let _ = println!(rt; "answered {} missed {}", told.answered, told.missed);
+            ExitCode::from(0)
+        }
+        None => ExitCode::from(2),
+    }
+}
