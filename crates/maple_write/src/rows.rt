@@ -1,7 +1,7 @@
 //! Nodes in the rows of the writer's table: how one is read, made and found.
 
 ghost use Rattle.std.specs.Prelude.{◌≡◌, ◌<◌, ◌≤◌, ◌+◌, ◌-◌, ◌*◌, ℕ, Some, [], ◌∷◌, length, slice_set};
-ghost use Rattle.maple_node.specs.Nodes.{words_of, most, least, end_of, Ascends, IsPlain};
+ghost use Rattle.maple_node.specs.Nodes.{items_of, words_of, most, least, end_of, Ascends, IsPlain};
 ghost use Rattle.maple_node.specs.Levels.{read, below, item_at, AllFrom, IsNode, IsTower, times};
 ghost use Rattle.maple_items.specs.Splices.{upto};
 ghost use Rattle.node_slots.specs.Seats.{Writes, desk, row_count, free_of, left_of};
@@ -9,7 +9,7 @@ ghost use Rattle.node_slots.specs.Built.{words_at};
 ghost use Rattle.maple_write.specs.Tables.{table_at, rows_in, FillsRows};
 ghost use Rattle.maple_write.specs.Stores.{old_level};
 
-use maple_items::{ItemList, Place, gap_of, item_at, node_items, node_words, share};
+use maple_items::{ItemList, Place, gap_of, node_items, node_words, share};
 use maple_node::{Item, Steps};
 use mm_types::Row;
 use node_slots::{NodeTable, NodeWriter};
@@ -24,6 +24,15 @@ pub(crate) struct Rooted {
     pub(crate) height: u32,
 }
 
+/// The words of a row.
+fn words(nodes: &NodeTable, writer: &NodeWriter, row: u64) -> [u64; 32]
+    requires table { Writes writer.now nodes.now }
+    requires row { row < row_count writer.now }
+    ensures { result ≡ words_at writer.now row }
+{
+    nodes.written(writer, Row(row as u32), &mut Steps::<Reads>::new())
+}
+
 /// The items of the node in a row.
 pub(crate) fn node(nodes: &NodeTable, writer: &NodeWriter, leaf: bool, row: u64) -> ItemList
     requires table { Writes writer.now nodes.now }
@@ -31,8 +40,33 @@ pub(crate) fn node(nodes: &NodeTable, writer: &NodeWriter, leaf: bool, row: u64)
     ensures items { result ≡ read (words_at writer.now) leaf row }
     ensures most { length result ≤ most leaf }
 {
-    let words = nodes.written(writer, Row(row as u32), &mut Steps::<Reads>::new());
-    node_items(leaf, &words)
+    node_items(leaf, &words(nodes, writer, row))
+}
+
+/// The item of a node that has a page, and the page where it begins, as the words of the node tell. No list of the others is made.
+fn item_in(leaf: bool, words: &[u64; 32], start: u64, page: u64) -> Place
+    requires ascends { Ascends start (items_of leaf words.now) }
+    requires above { start ≤ page }
+    requires within { page < end_of start (items_of leaf words.now) }
+    ensures item { item_at page (items_of leaf words.now) ≡ Some result.item }
+    ensures start { result.start ≡ end_of start (upto page (items_of leaf words.now)) }
+    ensures above { result.start ≤ page }
+{
+    let width = if leaf { 2 } else { 3 };
+    let mut start = start;
+    let mut place = 0;
+    while words[place] <= page {
+        start = words[place];
+        place += width;
+    }
+    Place {
+        start,
+        item: Item {
+            end: words[place],
+            word: words[place + 1],
+            gap: if leaf { 0 } else { words[place + 2] },
+        },
+    }
 }
 
 /// The item of a level that has a page, in the tree under a root, and the page where it begins.
@@ -58,8 +92,8 @@ pub(crate) fn find(
     let mut level = tree.height;
     while level > low {
         level -= 1;
-        let items = node(nodes, writer, level == 0, place.item.word);
-        place = item_at(items.items(), place.start, page);
+        let words = words(nodes, writer, place.item.word);
+        place = item_in(level == 0, &words, place.start, page);
     }
     place
 }

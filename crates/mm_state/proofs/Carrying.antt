@@ -1,22 +1,20 @@
--- For `Board::change_all`, `carry_each` and `enter`: a whole plan is carried out.
-use Rattle.std.proofs.Common.{◌≡◌, ◌≤◌, ◌<◌, ◌+◌, ℕ, List, [], ◌∷◌, length, reverse, take, drop, get_or, sym, ap, ◌∙◌, subst, arith, length-append, drop-cons, add-one, vec_len, vec_capacity}
-use Rattle.std.proofs.lemmas.List.{length-map, length-reverse, reverse-reverse, take-append-drop}
+-- For `Board::change_all`: a whole plan is carried out.
+use Rattle.std.proofs.Common.{◌≡◌, ◌≤◌, ◌<◌, ◌+◌, ◌*◌, ℕ, List, [], ◌∷◌, length, take, drop, get_or, All, refl, sym, ap, ◌∙◌, arith, length-append, drop-cons, add-one, vec_len, vec_capacity}
+use Rattle.std.specs.List.{Contains}
+use Rattle.std.proofs.lemmas.List.{length-map, get_or-map, take-append-drop}
+use Rattle.std.proofs.lemmas.List.Elements.{All-contains, All-weaker}
 use Rattle.std.proofs.lemmas.List.Sums.{sum_by-cons, sum_by-take-drop}
 use Rattle.mm_types.specs.declared.area.Record.{Record}
 use Rattle.split_merge.specs.declared.plan.Change.{Change}
-use Rattle.split_merge.specs.Plans.{olds_of, news_of, with_all, applied}
-use Rattle.split_merge.proofs.Counting.{length-applied}
+use Rattle.split_merge.specs.Plans.{olds_of, news_of, without, IsPlanOf}
 use Rattle.split_merge.proofs.Replacing.{news_of-append}
-use Rattle.sys_map.specs.BinarySearch.{BeginsRise, BeginsAscend}
 use Rattle.sys_map.proofs.Editing.{news_from}
-use Rattle.sys_map.proofs.Going.{ascend_without}
-use Rattle.sys_map.proofs.Ranging.{rise_from_ascend}
+use Rattle.sys_map.proofs.Leaving.{there_in}
 use Rattle.vma_lock.specs.Seats.{slots_of}
-use Rattle.mm_state.specs.declared.order.Shown.{Shown}
+use Rattle.area_tree.specs.declared.shown.Shown.{Shown}
+use Rattle.area_tree.specs.AreaTrees.{AreaTreeView, shown_of, areas_of, areas_shown}
 use Rattle.mm_state.specs.declared.board.Board.{Board}
-use Rattle.mm_state.specs.Shelves.{areas_of}
-use Rattle.mm_state.specs.Spans.{adds, adds_of}
-use Rattle.mm_state.specs.Boards.{CanChange, IsChanging}
+use Rattle.mm_state.specs.Boards.{adds, adds_of, CanChange, IsShown, IsChanging}
 
 -- the board can be changed on
 pub can_change : (start board : Board) (done : List Change) (tree : ℕ) → CanChange start → IsChanging start board done tree → CanChange board
@@ -24,19 +22,10 @@ can_change start board done tree can changing = record {
   table = changing.mine;
   open_call = rw changing.beside.seq can.open_call;
   count = changing.count ∙ can.count ∙ ap slots_of (sym changing.table);
-  ascend = subst BeginsAscend (sym changing.order) (ascend_without (olds_of done) (areas_of start.order.items) can.ascend);
+  records = changing.count ∙ can.records ∙ sym (ap (λ (t : AreaTreeView). 2 * t.tree.areas + 2) changing.same);
   hangs = changing.hangs;
-  shelf = changing.order_count ∙ can.shelf ∙ sym changing.count;
-  follows = changing.follows;
-  spare = omega (arith, changing.hand_room, changing.moved_room, can.spare);
+  roomy = ap (λ (t : AreaTreeView). t.tree.roomy) changing.same ∙ can.roomy;
 }
-
-pub length-areas : (shown : List Shown) → length (areas_of shown) ≡ length shown
-length-areas shown = length-map shown (λ (s : Shown). s.area)
-
--- as many are in hand as were brought
-pub length-hand : (start board : Board) (done : List Change) (tree : ℕ) → IsChanging start board done tree → length board.hand.items ≡ length (news_of done)
-length-hand start board done tree changing = sym (length-areas board.hand.items) ∙ ap length changing.hand ∙ length-reverse (news_of done)
 
 -- a change and the later ones bring no more than all
 pub news_bound : (changes : List Change) (place left : ℕ) (d : Change) → place < length changes → place + 1 ≡ left
@@ -72,41 +61,41 @@ free_left start board changes place left d tree changing within next room = omeg
   sum_by-take-drop adds changes place,
 )
 
+-- there is room for what a change moves
 pub room_left : (start board : Board) (changes : List Change) (place left : ℕ) (d : Change) (tree : ℕ) → IsChanging start board (drop left changes) tree
-    → place < length changes → place + 1 ≡ left → length (news_of changes) ≤ vec_capacity start.hand
-    → vec_len board.hand + length (news_of (get_or changes place d ∷ [])) ≤ vec_capacity board.hand
+    → place < length changes → place + 1 ≡ left → length (news_of changes) ≤ vec_capacity start.moved
+    → vec_len board.moved + length (news_of (get_or changes place d ∷ [])) ≤ vec_capacity board.moved
 room_left start board changes place left d tree changing within next room = omega (
   arith,
-  board.hand.ok.0,
-  changing.hand_room,
+  board.moved.ok.0,
+  changing.moved_room,
   room,
-  length-hand start board (drop left changes) tree changing,
+  changing.few_moved,
   news_bound changes place left d within next,
 )
 
-pub rises_before : (start board : Board) (changes : List Change) (tree : ℕ) → CanChange start → IsChanging start board changes tree → BeginsRise (areas_of board.order.items)
-rises_before start board changes tree can changing = rise_from_ascend (areas_of board.order.items) (can_change start board changes tree can changing).ascend
+-- what a change takes away is left when the later ones are carried out
+pub left_there : (start board : Board) (changes : List Change) (place left : ℕ) (d : Change) (tree : ℕ) → IsChanging start board (drop left changes) tree
+    → IsPlanOf (areas_of start.areas) changes → place < length changes → place + 1 ≡ left
+    → All (Contains (without (olds_of (drop left changes)) (areas_of start.areas))) (olds_of (get_or changes place d ∷ []))
+left_there start board changes place left d tree changing plan within next =
+    there_in (areas_of start.areas) (without (olds_of (drop left changes)) (areas_of start.areas)) changes place left d changing.ascend plan.members plan.distinct within next refl
 
-pub room_before : (start board : Board) (changes : List Change) (tree : ℕ) → IsChanging start board changes tree
-    → length (applied changes (areas_of start.order.items)) ≤ start.order.room → length board.order.items + vec_len board.hand ≤ board.order.room
-room_before start board changes tree changing room = omega (
-  arith,
-  board.hand.ok.0,
-  changing.order_room,
-  room,
-  length-applied changes (areas_of start.order.items),
-  length-hand start board changes tree changing,
-  length-areas board.order.items,
-  ap length changing.order,
+shown_contained : (tree : List Shown) (area : Record) → IsShown tree area → Contains (areas_shown tree) area
+shown_contained tree area (slot, member) = (
+  member.0,
+  omega (arith, member.1, length-map tree (λ (s : Shown). s.area)),
+  get_or-map (λ (s : Shown). s.area) tree member.0 (record { slot = slot; area = area }) area member.1 ∙ ap (λ (s : Shown). s.area) member.2,
 )
 
--- what is in hand makes the order that of the list after the plan
-pub order_is : (start board : Board) (changes : List Change) (tree : ℕ) → IsChanging start board changes tree
-    → with_all (reverse (areas_of board.hand.items)) (areas_of board.order.items) ≡ applied changes (areas_of start.order.items)
-unfolding applied
-order_is start board changes tree changing =
-    ap (λ news. with_all news (areas_of board.order.items)) (ap reverse changing.hand ∙ reverse-reverse (news_of changes)) ∙ ap (with_all (news_of changes)) changing.order
-
--- a plan brings no more areas than the list then has
-pub news_few : (changes : List Change) (areas : List Record) → length (news_of changes) ≤ length (applied changes areas)
-news_few changes areas = omega (arith, length-applied changes areas)
+-- and so is in the tree
+pub in_tree : (start board : Board) (changes : List Change) (place left : ℕ) (d : Change) (tree : ℕ) → IsChanging start board (drop left changes) tree
+    → IsPlanOf (areas_of start.areas) changes → place < length changes → place + 1 ≡ left
+    → All (Contains (areas_of board.areas)) (olds_of (get_or changes place d ∷ []))
+in_tree start board changes place left d tree changing plan within next =
+    All-weaker (Contains rest) (Contains (areas_of board.areas))
+    (λ area member. shown_contained (shown_of board.areas) area (All-contains (IsShown (shown_of board.areas)) rest area changing.there member))
+    (olds_of (get_or changes place d ∷ [])) (left_there start board changes place left d tree changing plan within next)
+  where
+    rest : List Record
+    rest = without (olds_of (drop left changes)) (areas_of start.areas)

@@ -1,44 +1,46 @@
 -- For `Board::change_all`: one change more is carried out.
-use Rattle.std.proofs.Common.{◌≡◌, ◌≢◌, ◌≤◌, ◌<◌, ◌+◌, ℕ, true, false, List, [], ◌∷◌, ◌++◌, length, reverse, set, All, refl, sym, ap, ◌∙◌, subst, append_assoc, ◌⊎◌, inl, inr, arith, nat_lt, if◌then◌else◌}
+use Rattle.std.proofs.Common.{◌≡◌, ◌≢◌, ◌≤◌, ◌<◌, ◌+◌, ℕ, Bool, true, false, not, List, [], ◌∷◌, ◌++◌, length, get_or, set, All, refl, sym, ap, ◌∙◌, subst, append_assoc, ◌⊎◌, inl, inr, arith, nat_lt, nat_eq, ◌&&◌, if◌then◌else◌}
+use Rattle.std.specs.List.{Contains, filter}
+use Rattle.std.specs.List.Sorted.{IsPermutation}
 use Rattle.std.proofs.lemmas.Bool.{cases_eq, cases_lt}
 use Rattle.std.proofs.lemmas.Bool.Decides.{nat_tests}
-use Rattle.std.proofs.lemmas.Grind.{reverse_onto}
-use Rattle.std.proofs.lemmas.List.{map-append, length-append, get_or-set_same, get_or-set_other}
-use Rattle.std.proofs.lemmas.List.Elements.{All-cons, All-head}
-use Rattle.std.proofs.lemmas.List.Sums.{sum_by-append, sum_by_push, sum_by-cons}
-use Rattle.std.proofs.lemmas.List.Sorted.{sum_by_pushed, All-permutation, IsPermutation-sym, IsPermutation-to_front}
+use Rattle.std.proofs.lemmas.List.{length-append, get_or-set_same, get_or-set_other}
+use Rattle.std.proofs.lemmas.List.Elements.{All-cons, All-head, All-filter, All-contains, All-map, filter_passes, Contains-append_right, Contains-get_or}
+use Rattle.std.proofs.lemmas.List.Sums.{sum_by-append, sum_by_push, sum_by-cons, get_or-le-sum_by}
+use Rattle.std.proofs.lemmas.List.Sorted.{sum_by_pushed, All-permutation, Contains-permutation, IsPermutation-sym, IsPermutation-trans, IsPermutation-to_front, IsPermutation-append_left}
 use Rattle.mm_types.specs.declared.area.Span.{Span}
 use Rattle.mm_types.specs.declared.area.Record.{Record}
-use Rattle.span_tree.specs.SpanTrees.{SpanView}
 use Rattle.mm_types.specs.Packed.{packed}
 use Rattle.lock_core.specs.declared.stage.SlotState.{SlotState}
 use Rattle.lock_core.specs.Core.{slot_at, free_slot, detached_row}
 use Rattle.lock_core.specs.Rows.{is_detached}
 use Rattle.split_merge.specs.declared.plan.Change.{Change}
 use Rattle.split_merge.specs.declared.plan.Change.TheVariants.{Detach, Alter, Add}
-use Rattle.split_merge.specs.Plans.{olds_of, news_of, without}
+use Rattle.split_merge.specs.Plans.{olds_of, news_of, starts_alike, without}
+use Rattle.split_merge.proofs.Counting.{contains_cases}
+use Rattle.sys_map.specs.BinarySearch.{BeginsAscend}
 use Rattle.sys_map.proofs.Going.{without_swap}
 use Rattle.area_slots.specs.declared.leaving.Leaving.{Leaving}
 use Rattle.area_slots.specs.Slots.{SlotSet, one_at, times, times_left}
 use Rattle.vma_lock.specs.declared.view.View.{View}
 use Rattle.vma_lock.specs.Seats.{Writes, sight, slots}
-use Rattle.mm_state.specs.declared.order.Shown.{Shown}
+use Rattle.area_tree.specs.declared.shown.Shown.{Shown}
+use Rattle.area_tree.specs.AreaTrees.{AreaTreeView, shown_of, areas_of, areas_shown, times_shown}
 use Rattle.mm_state.specs.declared.board.Board.{Board}
-use Rattle.mm_state.specs.Shelves.{areas_of, times_shown, ShowsIt, Hangs}
-use Rattle.mm_state.specs.Spans.{adds, IsCleared, Moves, Follows}
-use Rattle.mm_state.specs.Boards.{IsBeside, after_leaving, Carries, IsSane, IsChanging, IsSameTree}
+use Rattle.mm_state.specs.Shelves.{ShowsIt, Hangs}
+use Rattle.mm_state.specs.Boards.{adds, weigh, IsBeside, after_leaving, Moves, Carries, IsSane, IsShown, IsStill, IsChanging, IsSameTree}
 use Rattle.mm_state.proofs.Rows.{packed_attached, packed_apart}
 use Rattle.mm_state.proofs.Hanging.{hangs_permuted, alone, IsAlone, self, left_more, detached, altered, added, free_is_none}
 use Rattle.mm_state.proofs.Writing.{hangs_out}
-use Rattle.mm_state.proofs.Following.{follows_out, follows_in, follows_moves}
+use Rattle.mm_state.proofs.InOrder.{weigh_map}
 
 -- a slot that changed shows another row
 abbrev pub Marks : List SlotState → List SlotState → Type 0
 Marks old new = (slot : ℕ) → (slot_at new slot).lock_seq ≢ (slot_at old slot).lock_seq → (slot_at new slot).row ≢ (slot_at old slot).row
 
--- the slots that neither are in hand nor left are as they were
-abbrev pub Stills : List SlotState → List SlotState → List Shown → List Leaving → Type 0
-Stills old new hand left = (slot : ℕ) → times_shown slot hand ≡ 0 → times_left slot left ≡ 0 → slot_at new slot ≡ slot_at old slot
+-- the free slots are as they were
+abbrev pub Unused : List SlotState → List SlotState → List ℕ → Type 0
+Unused old new free = (slot : ℕ) → 0 < times slot free → slot_at new slot ≡ slot_at old slot
 
 beside_beside : {a b c : View} → IsBeside a b → IsBeside b c → IsBeside a c
 beside_beside first second = record {
@@ -60,79 +62,117 @@ marks_more old states slot state within marks differs other = by (cases_eq slot 
         let is : slot_at (set states slot state) other ≡ slot_at states other = get_or-set_other states slot other state free_slot (λ same. apart (sym same)) in
         λ rose equal. marks other (λ same. rose (ap (λ (s : SlotState). s.lock_seq) is ∙ same)) (sym (ap (λ (s : SlotState). s.row) is) ∙ equal)
 
-stills_more : (old states : List SlotState) (slot : ℕ) (state : SlotState) (hand hands : List Shown) (left lefts : List Leaving)
-    → ((other : ℕ) → times_shown other hands ≡ 0 → times_shown other hand ≡ 0) → ((other : ℕ) → times_left other lefts ≡ 0 → times_left other left ≡ 0)
-    → (times_shown slot hands ≡ 0 → times_left slot lefts ≡ 0 → ⊥) → Stills old states hand left → Stills old (set states slot state) hands lefts
-stills_more old states slot state hand hands left lefts fewer gone here still other none away = by (cases_eq slot other)
-  where
-    by : ((slot ≡ other) ⊎ (slot ≢ other)) → slot_at (set states slot state) other ≡ slot_at old other
-    by (inl same) = absurd (here (subst (λ n. times_shown n hands ≡ 0) (sym same) none) (subst (λ n. times_left n lefts ≡ 0) (sym same) away))
-    by (inr apart) = get_or-set_other states slot other state free_slot (λ same. apart (sym same)) ∙ still other (fewer other none) (gone other away)
-
--- the order after a change, in the list
-order_out : (list order after : List Record) (olds : List Record) (old : Record) → order ≡ without olds list → after ≡ without (old ∷ []) order
-    → after ≡ without (old ∷ olds) list
-order_out list order after olds old is next = next ∙ ap (without (old ∷ [])) is ∙ without_swap (old ∷ []) olds list
-
-hand_more : (hand : List Shown) (news : List Record) (slot : ℕ) (area : Record) → areas_of hand ≡ reverse news
-    → areas_of (hand ++ record { slot = slot; area = area } ∷ []) ≡ reverse (area ∷ news)
-hand_more hand news slot area is = map-append (λ (s : Shown). s.area) hand (record { slot = slot; area = area } ∷ []) ∙ ap (λ areas. areas ++ area ∷ []) is
-    ∙ sym (reverse_onto news area [])
-
-in_hand : (slot : ℕ) (hand : List Shown) (shown : Shown) → times_shown slot (hand ++ shown ∷ []) ≡ times_shown slot hand + one_at slot shown.slot
-in_hand slot hand shown = sum_by_push (λ (s : Shown). one_at slot s.slot) hand shown
-
-behind : (states : List SlotState) (order hand : List Shown) (shown : Shown) (slots : SlotSet) → Hangs states (shown ∷ (order ++ hand)) slots
-    → Hangs states (order ++ (hand ++ shown ∷ [])) slots
-behind states order hand shown slots hangs = subst (λ (list : List Shown). Hangs states list slots) (append_assoc order hand (shown ∷ []))
-    (hangs_permuted states (shown ∷ (order ++ hand)) ((order ++ hand) ++ shown ∷ []) slots
-    (IsPermutation-sym ((order ++ hand) ++ shown ∷ []) (shown ∷ (order ++ hand)) (IsPermutation-to_front (order ++ hand) shown)) hangs)
+unused_more : (old states : List SlotState) (slot : ℕ) (state : SlotState) (free left : List ℕ) → times slot left ≡ 0
+    → ((other : ℕ) → times other left ≤ times other free) → Unused old states free → Unused old (set states slot state) left
+unused_more old states slot state free left none fewer unused other some =
+    get_or-set_other states slot other state free_slot (λ same. absurd (omega (arith, ap (λ n. times n left) same, none, some)))
+    ∙ unused other (omega (arith, fewer other, some))
 
 not_packed : (row : List ℕ) (area : Record) → is_detached row ≡ true → row ≢ packed area
 not_packed row area is same =
     let two : true ≡ false = sym is ∙ ap is_detached same ∙ packed_attached area in cc
 
 -- a tree that changed but for its pairs, and changes so again
-tree_step : (first second third : SpanView) → IsSameTree first second → IsSameTree second third → IsSameTree first third
-tree_step first second third one two = two ∙ ap (λ (t : SpanView). record t { pairs = third.pairs; changed = third.changed }) one
+pub tree_step : (first second third : AreaTreeView) → IsSameTree first second → IsSameTree second third → IsSameTree first third
+tree_step first second third one two = two
+    ∙ ap (λ (t : AreaTreeView). record t { tree = record t.tree { pairs = third.tree.pairs; changed = third.tree.changed }; records = third.records }) one
 
-same_tree : (old new : SpanView) → new ≡ old → IsSameTree old new
-same_tree old new is = is ∙ ap (λ (t : SpanView). record old { pairs = t.pairs; changed = t.changed }) (sym is)
+-- an area goes out of the tree with its slot, and the rest stays, beside areas that begin where it begins
+record IsOut (tree after rest : List Shown) (slot : ℕ) (area : Record) : Type 0 where
+  out : IsPermutation (record { slot = slot; area = area } ∷ rest) tree
+  stays : (s : Shown) → Contains rest s → Contains after s
+  came : (s : Shown) → Contains after s → s.area.span.lo ≢ area.span.lo → Contains rest s
 
-same_cleared : (old new : SpanView) (span : Span) → IsCleared old new span → IsSameTree old new
-same_cleared old new span is = is ∙ ap (λ (t : SpanView). record old { pairs = t.pairs; changed = t.changed }) (sym is)
+false_from_not : (b : Bool) → not b ≡ true → b ≡ false
+false_from_not true is = sym is
+false_from_not false is = refl
 
-same_moves : (old new : SpanView) (moved more : List Shown) (span : Span) (shown : Shown) → Moves old moved new more span shown → IsSameTree old new
-same_moves old new moved more span shown (inl (pages, is, none)) = same_tree old new is
-same_moves old new moved more span shown (inr (is, one)) = same_cleared old new span is
+begins_apart : (a b : Record) → starts_alike a b ≡ false → a.span.lo ≢ b.span.lo
+begins_apart a b apart same =
+    let test : nat_eq a.span.lo b.span.lo ≡ true = grind (arith, nat_tests) in
+    let two : true ≡ false = sym test ∙ apart in cc
+
+-- what holds of the areas that are left before an area goes, and does not begin where it begins, holds of those left then
+left_then : (P Q : Record → Type 0) (olds areas : List Record) (area : Record) → ((b : Record) → P b → b.span.lo ≢ area.span.lo → Q b)
+    → All P (without olds areas) → All Q (without (area ∷ olds) areas)
+left_then P Q olds areas area step all = subst (All Q) (without_swap (area ∷ []) olds areas)
+    (λ k d within. step (get_or kept k d) (All-filter passes P (without olds areas) all k d within)
+    (begins_apart (get_or kept k d) area (false_from_not (starts_alike (get_or kept k d) area) (filter_passes passes (without olds areas) k d within))))
+  where
+    passes : Record → Bool
+    passes b = not (starts_alike b area)
+
+    kept : List Record
+    kept = filter passes (without olds areas)
+
+module _ (tree after rest : List Shown) (slot : ℕ) (area : Record) (is : IsOut tree after rest slot area) where
+  shown_then : (b : Record) → IsShown tree b → b.span.lo ≢ area.span.lo → IsShown after b
+  shown_then b (place, member) apart = (
+    place,
+    is.stays (record { slot = place; area = b })
+        (by (contains_cases (record { slot = slot; area = area }) rest (record { slot = place; area = b })
+        (Contains-permutation tree (record { slot = slot; area = area } ∷ rest) (record { slot = place; area = b })
+        (IsPermutation-sym (record { slot = slot; area = area } ∷ rest) tree is.out) member))),
+  )
+    where
+      by : (◌≡◌ {A = Shown} (record { slot = slot; area = area }) (record { slot = place; area = b })) ⊎ Contains rest (record { slot = place; area = b })
+          → Contains rest (record { slot = place; area = b })
+      by (inl same) = absurd (apart (sym (ap (λ (s : Shown). s.area.span.lo) same)))
+      by (inr later) = later
+
+  still_then : (old states : List SlotState) (state : SlotState) → times_shown slot rest ≡ 0 → (b : Record) → IsStill old states tree b → b.span.lo ≢ area.span.lo
+      → IsStill old (set states slot state) after b
+  still_then old states state none b still apart place member =
+      let later = is.came (record { slot = place; area = b }) member apart in
+      let some = get_or-le-sum_by (λ (s : Shown). one_at slot s.slot) rest later.0 (record { slot = place; area = b }) later.1 in
+      let there = ap (λ (s : Shown). one_at slot s.slot) later.2 in
+      get_or-set_other states slot place state free_slot
+      (λ same. absurd (omega (arith, some, there, none, self slot, ap (one_at slot) same)))
+      ∙ still place (Contains-permutation (record { slot = slot; area = area } ∷ rest) tree (record { slot = place; area = b }) is.out
+      (Contains-append_right (record { slot = slot; area = area } ∷ []) rest (record { slot = place; area = b }) later))
+
+  first_there : Contains tree (record { slot = slot; area = area })
+  first_there = Contains-permutation (record { slot = slot; area = area } ∷ rest) tree (record { slot = slot; area = area }) is.out (0, omega arith, refl)
+
+-- an area that goes out
+gone_out : (tree after : List Shown) (slot : ℕ) (area : Record) → IsPermutation (record { slot = slot; area = area } ∷ after) tree → IsOut tree after after slot area
+gone_out tree after slot area out = record { out = out; stays = λ s member. member; came = λ s member apart. member }
 
 pub detach_step : (start board after : Board) (done : List Change) (tree : ℕ) (area : Record) → IsChanging start board done tree
-    → Carries board after (Detach area) tree → IsChanging start after (Detach area ∷ done) tree
-detach_step start board after done tree area changing (slot, changes, out, hand, set_is, cleared, moved) = record {
+    → Contains (without (olds_of done) (areas_of start.areas)) area → Carries board after (Detach area) tree → IsChanging start after (Detach area ∷ done) tree
+detach_step start board after done tree area changing member (slot, changes, out, moved, set_is) = record {
   table = changes.table ∙ changing.table;
   mine = changes.mine;
   beside = beside_beside changing.beside changes.written.beside;
-  hangs = rw changes.written.slots (rw hand (rw set_is (detached (slots board.writer) shown (after.order.items ++ board.hand.items) board.slots seq tree there)));
+  hangs = rw changes.written.slots (rw moved (rw set_is (detached (slots board.writer) shown (shown_of after.areas ++ board.moved.items) board.slots seq tree there)));
   count = ap (λ (s : SlotSet). s.count) set_is ∙ changing.count;
-  order = order_out (areas_of start.order.items) (areas_of board.order.items) (areas_of after.order.items) (olds_of done) area changing.order out.areas;
-  hand = ap areas_of hand ∙ changing.hand;
+  ascend = changing.ascend;
+  areas = λ weight. omega (
+    arith,
+    changing.areas weight,
+    sum_by-cons weight area (olds_of done),
+    sum_by_pushed (λ (s : Shown). weight s.area) shown (shown_of after.areas) (shown_of board.areas) out,
+    sum_by-append (λ (s : Shown). weight s.area) (shown_of after.areas) after.moved.items,
+    sum_by-append (λ (s : Shown). weight s.area) (shown_of board.areas) board.moved.items,
+    ap (weigh weight) moved,
+  );
+  there = left_then (IsShown (shown_of board.areas)) (IsShown (shown_of after.areas)) (olds_of done) (areas_of start.areas) area
+      (shown_then (shown_of board.areas) (shown_of after.areas) (shown_of after.areas) slot area is) changing.there;
+  still = rw changes.written.slots (left_then (IsStill (slots start.writer) (slots board.writer) (shown_of board.areas))
+      (IsStill (slots start.writer) (set (slots board.writer) slot state) (shown_of after.areas)) (olds_of done) (areas_of start.areas) area
+      (still_then (shown_of board.areas) (shown_of after.areas) (shown_of after.areas) slot area is (slots start.writer) (slots board.writer) state alone_there)
+      changing.still);
+  unused = rw changes.written.slots (unused_more (slots start.writer) (slots board.writer) slot state board.slots.free after.slots.free
+      (ap (λ (s : SlotSet). times slot s.free) set_is ∙ one.taken.not_free) (λ other. omega (arith, ap (λ (s : SlotSet). times other s.free) set_is)) changing.unused);
   free = omega (arith, changing.free, ap (λ (s : SlotSet). length s.free) set_is, sum_by-cons adds (Detach area) done);
   leaving = subst (λ (s : SlotSet). All (λ (l : Leaving). l.tree ≤ tree) s.left) (sym set_is)
       (All-permutation (λ (l : Leaving). l.tree ≤ tree) (leaving ∷ board.slots.left) (after_leaving board.slots slot tree).left (left_more board.slots slot tree)
       (All-cons (λ (l : Leaving). l.tree ≤ tree) leaving board.slots.left (omega arith) changing.leaving));
-  still = rw changes.written.slots (rw hand (rw set_is (stills_more (slots start.writer) (slots board.writer) slot state board.hand.items board.hand.items board.slots.left
-      (after_leaving board.slots slot tree).left (λ other none. none)
-      (λ other none. omega (arith, left_sum other, none))
-      (λ none away. omega (arith, left_sum slot, self slot, away)) changing.still)));
+  same = tree_step start.areas board.areas after.areas changing.same changes.same;
+  moved_room = changes.moved_room ∙ changing.moved_room;
+  few_moved = omega (arith, ap length moved, changing.few_moved);
   marks = rw changes.written.slots (marks_more (slots start.writer) (slots board.writer) slot state within changing.marks
       (λ same. not_packed detached_row area refl (same ∙ ap (λ (s : SlotState). s.row) (sym was) ∙ shows)));
-  order_room = changes.order_room ∙ changing.order_room;
-  order_count = changes.order_count ∙ changing.order_count;
-  hand_room = changes.hand_room ∙ changing.hand_room;
-  moved_room = changes.moved_room ∙ changing.moved_room;
-  follows = subst (λ (l : List Shown). Follows after.order.items l after.tree after.moved.items) (sym hand)
-      (subst (Follows after.order.items board.hand.items after.tree) (sym moved) (follows_out board.order.items after.order.items board.hand.items board.tree after.tree board.moved.items slot area changing.follows out cleared));
-  same = tree_step start.tree board.tree after.tree changing.same (same_cleared board.tree after.tree area.span cleared);
 }
   where
     seq : ℕ
@@ -147,56 +187,133 @@ detach_step start board after done tree area changing (slot, changes, out, hand,
     state : SlotState
     state = record { lock_seq = seq; row = detached_row }
 
-    there : Hangs (slots board.writer) (shown ∷ (after.order.items ++ board.hand.items)) board.slots
-    there = hangs_out (slots board.writer) board.order.items after.order.items board.hand.items board.slots slot area changing.hangs out
+    is : IsOut (shown_of board.areas) (shown_of after.areas) (shown_of after.areas) slot area
+    is = gone_out (shown_of board.areas) (shown_of after.areas) slot area out
 
-    one : IsAlone shown (after.order.items ++ board.hand.items) board.slots
-    one = alone (slots board.writer) shown (after.order.items ++ board.hand.items) board.slots there
+    there : Hangs (slots board.writer) (shown ∷ (shown_of after.areas ++ board.moved.items)) board.slots
+    there = hangs_out (slots board.writer) (shown_of board.areas) (shown_of after.areas) board.moved.items board.slots shown changing.hangs out
+
+    one : IsAlone shown (shown_of after.areas ++ board.moved.items) board.slots
+    one = alone (slots board.writer) shown (shown_of after.areas ++ board.moved.items) board.slots there
+
+    alone_there : times_shown slot (shown_of after.areas) ≡ 0
+    alone_there = omega (arith, one.no_other, sum_by-append (λ (s : Shown). one_at slot s.slot) (shown_of after.areas) board.moved.items)
 
     within : slot < length (slots board.writer)
     within = omega (arith, there.sized, one.taken.below)
 
     shows : (slot_at (slots board.writer) slot).row ≡ packed area
-    shows = All-head (ShowsIt (slots board.writer)) shown (after.order.items ++ board.hand.items) there.rows
-
-    left_sum : (other : ℕ) → times_left other (after_leaving board.slots slot tree).left ≡ one_at other slot + times_left other board.slots.left
-    left_sum other = sum_by_pushed (λ (l : Leaving). one_at other l.slot) leaving board.slots.left (after_leaving board.slots slot tree).left (left_more board.slots slot tree)
+    shows = All-head (ShowsIt (slots board.writer)) shown (shown_of after.areas ++ board.moved.items) there.rows
 
     was : slot_at (slots board.writer) slot ≡ slot_at (slots start.writer) slot
-    was = changing.still slot (omega (arith, one.no_other, sum_by-append (λ (s : Shown). one_at slot s.slot) after.order.items board.hand.items)) one.taken.not_left
+    was = All-contains (IsStill (slots start.writer) (slots board.writer) (shown_of board.areas)) (without (olds_of done) (areas_of start.areas)) area changing.still member
+        slot (first_there (shown_of board.areas) (shown_of after.areas) (shown_of after.areas) slot area is)
 
-pub alter_step : (start board after : Board) (done : List Change) (tree : ℕ) (area changed : Record) → IsChanging start board done tree → IsSane (Alter area changed)
+pub same_span : (a b : Span) (test : Bool) → test ≡ true → test ≡ nat_eq a.lo b.lo && nat_eq a.hi b.hi → a ≡ b
+same_span a b test holds is =
+    let lo : a.lo ≡ b.lo = grind (arith, nat_tests) in
+    let hi : a.hi ≡ b.hi = grind (arith, nat_tests) in
+    ap (λ n. record { lo = n; hi = a.hi }) lo ∙ ap (λ n. record { lo = b.lo; hi = n }) hi
+
+-- what another area at the same pages makes of the tree
+altered_out : (tree after rest : List Shown) (slot : ℕ) (area changed : Record) → IsPermutation (record { slot = slot; area = area } ∷ rest) tree
+    → IsPermutation (record { slot = slot; area = changed } ∷ rest) after → area.span ≡ changed.span → IsOut tree after rest slot area
+altered_out tree after rest slot area changed out in_place pages = record {
+  out = out;
+  stays = λ s member. Contains-permutation (now ∷ rest) after s in_place (Contains-append_right (now ∷ []) rest s member);
+  came = λ s member apart. by s apart (contains_cases now rest s (Contains-permutation after (now ∷ rest) s (IsPermutation-sym (now ∷ rest) after in_place) member));
+}
+  where
+    now : Shown
+    now = record { slot = slot; area = changed }
+
+    by : (s : Shown) → s.area.span.lo ≢ area.span.lo → (now ≡ s) ⊎ Contains rest s → Contains rest s
+    by s apart (inl same) = absurd (apart (sym (ap (λ (t : Shown). t.area.span.lo) same) ∙ sym (ap (λ (p : Span). p.lo) pages)))
+    by s apart (inr later) = later
+
+-- a list with another element at its end
+at_end : (rest after moved : List Shown) (now : Shown) → IsPermutation rest after → IsPermutation (now ∷ (rest ++ moved)) (after ++ (moved ++ now ∷ []))
+at_end rest after moved now out =
+    IsPermutation-trans (now ∷ (rest ++ moved)) (rest ++ (moved ++ now ∷ [])) (after ++ (moved ++ now ∷ []))
+    (subst (IsPermutation (now ∷ (rest ++ moved))) (append_assoc rest moved (now ∷ []))
+    (IsPermutation-sym ((rest ++ moved) ++ now ∷ []) (now ∷ (rest ++ moved)) (IsPermutation-to_front (rest ++ moved) now)))
+    (IsPermutation-append_left (moved ++ now ∷ []) rest after out)
+
+-- what a slot of the tree that shows another area makes of the areas
+record IsMoved (board after : Board) (rest : List Shown) (slot : ℕ) (area changed : Record) : Type 0 where
+  is : IsOut (shown_of board.areas) (shown_of after.areas) rest slot area
+  all : IsPermutation (record { slot = slot; area = changed } ∷ (rest ++ board.moved.items)) (shown_of after.areas ++ after.moved.items)
+  few : length after.moved.items ≤ length board.moved.items + 1
+
+is_moved : (board after : Board) (slot : ℕ) (area changed : Record) → (moves : Moves board after slot area changed) → IsMoved board after moves.rest slot area changed
+is_moved board after slot area changed moves = by moves.after
+  where
+    now : Shown
+    now = record { slot = slot; area = changed }
+
+    by : (IsPermutation (now ∷ moves.rest) (shown_of after.areas) × (after.moved.items ≡ board.moved.items) × (area.span ≡ changed.span))
+        ⊎ (IsPermutation moves.rest (shown_of after.areas) × (after.moved.items ≡ board.moved.items ++ now ∷ [])) → IsMoved board after moves.rest slot area changed
+    by (inl (in_place, moved, pages)) = record {
+      is = altered_out (shown_of board.areas) (shown_of after.areas) moves.rest slot area changed moves.before in_place pages;
+      all = subst (λ (list : List Shown). IsPermutation (now ∷ (moves.rest ++ board.moved.items)) (shown_of after.areas ++ list)) (sym moved)
+          (IsPermutation-append_left board.moved.items (now ∷ moves.rest) (shown_of after.areas) in_place);
+      few = omega (arith, ap length moved);
+    }
+    by (inr (out, moved)) = record {
+      is = record {
+        out = moves.before;
+        stays = λ s member. Contains-permutation moves.rest (shown_of after.areas) s out member;
+        came = λ s member apart. Contains-permutation (shown_of after.areas) moves.rest s (IsPermutation-sym moves.rest (shown_of after.areas) out) member;
+      };
+      all = subst (λ (list : List Shown). IsPermutation (now ∷ (moves.rest ++ board.moved.items)) (shown_of after.areas ++ list)) (sym moved)
+          (at_end moves.rest (shown_of after.areas) board.moved.items now out);
+      few = omega (arith, ap length moved, length-append board.moved.items (now ∷ []));
+    }
+
+pub alter_step : (start board after : Board) (done : List Change) (tree : ℕ) (area changed : Record) → IsChanging start board done tree
+    → Contains (without (olds_of done) (areas_of start.areas)) area → IsSane (Alter area changed)
     → Carries board after (Alter area changed) tree → IsChanging start after (Alter area changed ∷ done) tree
-alter_step start board after done tree area changed changing sane (slot, changes, out, hand, set_is, moves) = record {
+alter_step start board after done tree area changed changing member sane (slot, changes, moves, set_is) = record {
   table = changes.table ∙ changing.table;
   mine = changes.mine;
   beside = beside_beside changing.beside changes.written.beside;
-  hangs = rw changes.written.slots (rw hand (rw set_is (behind (set (slots board.writer) slot state) after.order.items board.hand.items now board.slots
-      (altered (slots board.writer) shown (after.order.items ++ board.hand.items) board.slots seq changed there))));
+  hangs = rw changes.written.slots (rw set_is (hangs_permuted (set (slots board.writer) slot state) (now ∷ (rest ++ board.moved.items))
+      (shown_of after.areas ++ after.moved.items) board.slots m.all
+      (altered (slots board.writer) shown (rest ++ board.moved.items) board.slots seq changed there)));
   count = ap (λ (s : SlotSet). s.count) set_is ∙ changing.count;
-  order = order_out (areas_of start.order.items) (areas_of board.order.items) (areas_of after.order.items) (olds_of done) area changing.order out.areas;
-  hand = ap areas_of hand ∙ hand_more board.hand.items (news_of done) slot changed changing.hand;
+  ascend = changing.ascend;
+  areas = λ weight. omega (
+    arith,
+    changing.areas weight,
+    sum_by-cons weight area (olds_of done),
+    sum_by-cons weight changed (news_of done),
+    sum_by_pushed (λ (s : Shown). weight s.area) shown rest (shown_of board.areas) moves.before,
+    sum_by_pushed (λ (s : Shown). weight s.area) now (rest ++ board.moved.items) (shown_of after.areas ++ after.moved.items) m.all,
+    sum_by-append (λ (s : Shown). weight s.area) rest board.moved.items,
+    sum_by-append (λ (s : Shown). weight s.area) (shown_of board.areas) board.moved.items,
+  );
+  there = left_then (IsShown (shown_of board.areas)) (IsShown (shown_of after.areas)) (olds_of done) (areas_of start.areas) area
+      (shown_then (shown_of board.areas) (shown_of after.areas) rest slot area m.is) changing.there;
+  still = rw changes.written.slots (left_then (IsStill (slots start.writer) (slots board.writer) (shown_of board.areas))
+      (IsStill (slots start.writer) (set (slots board.writer) slot state) (shown_of after.areas)) (olds_of done) (areas_of start.areas) area
+      (still_then (shown_of board.areas) (shown_of after.areas) rest slot area m.is (slots start.writer) (slots board.writer) state alone_there)
+      changing.still);
+  unused = rw changes.written.slots (unused_more (slots start.writer) (slots board.writer) slot state board.slots.free after.slots.free
+      (ap (λ (s : SlotSet). times slot s.free) set_is ∙ one.taken.not_free) (λ other. omega (arith, ap (λ (s : SlotSet). times other s.free) set_is)) changing.unused);
   free = omega (arith, changing.free, ap (λ (s : SlotSet). length s.free) set_is, sum_by-cons adds (Alter area changed) done);
   leaving = subst (λ (s : SlotSet). All (λ (l : Leaving). l.tree ≤ tree) s.left) (sym set_is) changing.leaving;
-  still = rw changes.written.slots (rw hand (rw set_is (stills_more (slots start.writer) (slots board.writer) slot state board.hand.items (board.hand.items ++ now ∷ [])
-      board.slots.left board.slots.left
-      (λ other none. omega (arith, in_hand other board.hand.items now, none))
-      (λ other none. none)
-      (λ none away. omega (arith, in_hand slot board.hand.items now, self slot, none)) changing.still)));
+  same = tree_step start.areas board.areas after.areas changing.same changes.same;
+  moved_room = changes.moved_room ∙ changing.moved_room;
+  few_moved = omega (arith, m.few, changing.few_moved);
   marks = rw changes.written.slots (marks_more (slots start.writer) (slots board.writer) slot state within changing.marks
       (λ same. packed_apart area changed sane.0 sane.1 sane.2 (sym (same ∙ ap (λ (s : SlotState). s.row) (sym was) ∙ shows))));
-  order_room = changes.order_room ∙ changing.order_room;
-  order_count = changes.order_count ∙ changing.order_count;
-  hand_room = changes.hand_room ∙ changing.hand_room;
-  moved_room = changes.moved_room ∙ changing.moved_room;
-  follows = subst (λ (l : List Shown). Follows after.order.items l after.tree after.moved.items) (sym hand)
-      (follows_moves board.order.items after.order.items board.hand.items board.tree after.tree board.moved.items after.moved.items slot area changed
-      changing.follows out moves);
-  same = tree_step start.tree board.tree after.tree changing.same (same_moves board.tree after.tree board.moved.items after.moved.items area.span now moves);
 }
   where
     seq : ℕ
     seq = (sight board.writer).desk.seq
+
+    rest : List Shown
+    rest = moves.rest
 
     shown : Shown
     shown = record { slot = slot; area = area }
@@ -207,51 +324,66 @@ alter_step start board after done tree area changed changing sane (slot, changes
     state : SlotState
     state = record { lock_seq = seq; row = packed changed }
 
-    there : Hangs (slots board.writer) (shown ∷ (after.order.items ++ board.hand.items)) board.slots
-    there = hangs_out (slots board.writer) board.order.items after.order.items board.hand.items board.slots slot area changing.hangs out
+    m : IsMoved board after rest slot area changed
+    m = is_moved board after slot area changed moves
 
-    one : IsAlone shown (after.order.items ++ board.hand.items) board.slots
-    one = alone (slots board.writer) shown (after.order.items ++ board.hand.items) board.slots there
+    there : Hangs (slots board.writer) (shown ∷ (rest ++ board.moved.items)) board.slots
+    there = hangs_out (slots board.writer) (shown_of board.areas) rest board.moved.items board.slots shown changing.hangs moves.before
+
+    one : IsAlone shown (rest ++ board.moved.items) board.slots
+    one = alone (slots board.writer) shown (rest ++ board.moved.items) board.slots there
+
+    alone_there : times_shown slot rest ≡ 0
+    alone_there = omega (arith, one.no_other, sum_by-append (λ (s : Shown). one_at slot s.slot) rest board.moved.items)
 
     within : slot < length (slots board.writer)
     within = omega (arith, there.sized, one.taken.below)
 
     shows : (slot_at (slots board.writer) slot).row ≡ packed area
-    shows = All-head (ShowsIt (slots board.writer)) shown (after.order.items ++ board.hand.items) there.rows
+    shows = All-head (ShowsIt (slots board.writer)) shown (rest ++ board.moved.items) there.rows
 
     was : slot_at (slots board.writer) slot ≡ slot_at (slots start.writer) slot
-    was = changing.still slot (omega (arith, one.no_other, sum_by-append (λ (s : Shown). one_at slot s.slot) after.order.items board.hand.items)) one.taken.not_left
+    was = All-contains (IsStill (slots start.writer) (slots board.writer) (shown_of board.areas)) (without (olds_of done) (areas_of start.areas)) area changing.still member
+        slot (first_there (shown_of board.areas) (shown_of after.areas) rest slot area m.is)
+
+-- a free slot shows no area of the tree
+not_shown : (slot : ℕ) (tree : List Shown) (area : Record) → times_shown slot tree ≡ 0 → (place : ℕ) → Contains tree (record { slot = place; area = area }) → place ≢ slot
+not_shown slot tree area none place member same =
+    let some = get_or-le-sum_by (λ (s : Shown). one_at slot s.slot) tree member.0 (record { slot = place; area = area }) member.1 in
+    omega (arith, some, ap (λ (s : Shown). one_at slot s.slot) member.2, none, self slot, ap (one_at slot) same)
 
 pub add_step : (start board after : Board) (done : List Change) (tree : ℕ) (area : Record) → IsChanging start board done tree
     → Carries board after (Add area) tree → IsChanging start after (Add area ∷ done) tree
-add_step start board after done tree area changing (slot, changes, order, hand, set_is, tree_is, moved) = record {
+add_step start board after done tree area changing (slot, changes, tree_is, moved, set_is) = record {
   table = changes.table ∙ changing.table;
   mine = changes.mine;
   beside = beside_beside changing.beside changes.written.beside;
-  hangs = rw changes.written.slots (rw hand (rw order (behind (set (slots board.writer) slot state) board.order.items board.hand.items now after.slots
-      (added (slots board.writer) (board.order.items ++ board.hand.items) board.slots after.slots slot seq area changing.hangs set_is))));
+  hangs = rw changes.written.slots (hangs_permuted (set (slots board.writer) slot state) (now ∷ (shown_of board.areas ++ board.moved.items))
+      (shown_of after.areas ++ after.moved.items) after.slots all
+      (added (slots board.writer) (shown_of board.areas ++ board.moved.items) board.slots after.slots slot seq area changing.hangs set_is));
   count = sym (ap (λ (s : SlotSet). s.count) set_is) ∙ changing.count;
-  order = ap areas_of order ∙ changing.order;
-  hand = ap areas_of hand ∙ hand_more board.hand.items (news_of done) slot area changing.hand;
+  ascend = changing.ascend;
+  areas = λ weight. omega (
+    arith,
+    changing.areas weight,
+    sum_by-cons weight area (news_of done),
+    sum_by_pushed (λ (s : Shown). weight s.area) now (shown_of board.areas ++ board.moved.items) (shown_of after.areas ++ after.moved.items) all,
+  );
+  there = subst (λ (t : AreaTreeView). All (IsShown (shown_of t)) (without (olds_of done) (areas_of start.areas))) (sym tree_is) changing.there;
+  still = rw changes.written.slots (subst (λ (t : AreaTreeView). All (IsStill (slots start.writer) (set (slots board.writer) slot state) (shown_of t))
+      (without (olds_of done) (areas_of start.areas))) (sym tree_is)
+      (λ k d within place member. get_or-set_other (slots board.writer) slot place state free_slot
+      (not_shown slot (shown_of board.areas) (get_or (without (olds_of done) (areas_of start.areas)) k d) none place member)
+      ∙ changing.still k d within place member));
+  unused = rw changes.written.slots (unused_more (slots start.writer) (slots board.writer) slot state board.slots.free after.slots.free taken_out
+      (λ other. omega (arith, ap (λ (s : SlotSet). times other s.free) set_is, sum_by_push (one_at other) after.slots.free slot)) changing.unused);
   free = omega (arith, changing.free, ap (λ (s : SlotSet). length s.free) set_is, length-append after.slots.free (slot ∷ []), sum_by-cons adds (Add area) done);
   leaving = subst (λ (left : List Leaving). All (λ (l : Leaving). l.tree ≤ tree) left) (ap (λ (s : SlotSet). s.left) set_is) changing.leaving;
-  still = rw changes.written.slots (rw hand (stills_more (slots start.writer) (slots board.writer) slot state board.hand.items (board.hand.items ++ now ∷ [])
-      board.slots.left after.slots.left
-      (λ other none. omega (arith, in_hand other board.hand.items now, none))
-      (λ other none. ap (λ (s : SlotSet). times_left other s.left) set_is ∙ none)
-      (λ none away. omega (arith, in_hand slot board.hand.items now, self slot, none)) changing.still));
+  same = tree_step start.areas board.areas after.areas changing.same changes.same;
+  moved_room = changes.moved_room ∙ changing.moved_room;
+  few_moved = omega (arith, ap length moved, length-append board.moved.items (now ∷ []), changing.few_moved);
   marks = rw changes.written.slots (marks_more (slots start.writer) (slots board.writer) slot state within changing.marks
       (λ same. not_packed (slot_at (slots board.writer) slot).row area (changing.hangs.others slot free.1) (ap (λ (s : SlotState). s.row) was ∙ sym same)));
-  order_room = changes.order_room ∙ changing.order_room;
-  order_count = changes.order_count ∙ changing.order_count;
-  hand_room = changes.hand_room ∙ changing.hand_room;
-  moved_room = changes.moved_room ∙ changing.moved_room;
-  follows = subst (λ (l : List Shown). Follows l after.hand.items after.tree after.moved.items) (sym order)
-      (subst (λ (l : List Shown). Follows board.order.items l after.tree after.moved.items) (sym hand)
-      (subst (λ (t : SpanView). Follows board.order.items (board.hand.items ++ now ∷ []) t after.moved.items) (sym tree_is)
-      (subst (Follows board.order.items (board.hand.items ++ now ∷ []) board.tree) (sym moved)
-      (follows_in board.order.items board.hand.items board.tree board.moved.items now changing.follows))));
-  same = tree_step start.tree board.tree after.tree changing.same (same_tree board.tree after.tree tree_is);
 }
   where
     seq : ℕ
@@ -263,56 +395,73 @@ add_step start board after done tree area changing (slot, changes, order, hand, 
     state : SlotState
     state = record { lock_seq = seq; row = packed area }
 
-    free : (slot < board.slots.count) × (times_shown slot (board.order.items ++ board.hand.items) ≡ 0)
-    free = free_is_none (slots board.writer) (board.order.items ++ board.hand.items) board.slots after.slots slot changing.hangs set_is
+    all : IsPermutation (now ∷ (shown_of board.areas ++ board.moved.items)) (shown_of after.areas ++ after.moved.items)
+    all = rw (tree_is, moved) (subst (IsPermutation (now ∷ (shown_of board.areas ++ board.moved.items))) (append_assoc (shown_of board.areas) board.moved.items (now ∷ []))
+        (IsPermutation-sym ((shown_of board.areas ++ board.moved.items) ++ now ∷ []) (now ∷ (shown_of board.areas ++ board.moved.items))
+        (IsPermutation-to_front (shown_of board.areas ++ board.moved.items) now)))
+
+    free : (slot < board.slots.count) × (times_shown slot (shown_of board.areas ++ board.moved.items) ≡ 0)
+    free = free_is_none (slots board.writer) (shown_of board.areas ++ board.moved.items) board.slots after.slots slot changing.hangs set_is
+
+    none : times_shown slot (shown_of board.areas) ≡ 0
+    none = omega (arith, free.1, sum_by-append (λ (s : Shown). one_at slot s.slot) (shown_of board.areas) board.moved.items)
 
     within : slot < length (slots board.writer)
     within = omega (arith, changing.hangs.sized, free.0)
 
-    not_left : times_left slot board.slots.left ≡ 0
-    not_left =
-        let once = changing.hangs.once slot in
-        let some = ap (λ (s : SlotSet). times slot s.free) set_is ∙ sum_by_push (one_at slot) after.slots.free slot in
-        let one = self slot in
-        by (cases_lt slot board.slots.count) once some one
+    freed : times slot board.slots.free ≡ times slot after.slots.free + 1
+    freed = omega (arith, ap (λ (s : SlotSet). times slot s.free) set_is, sum_by_push (one_at slot) after.slots.free slot, self slot)
+
+    taken_out : times slot after.slots.free ≡ 0
+    taken_out = by (cases_lt slot board.slots.count) (changing.hangs.once slot)
       where
         by : ((slot < board.slots.count) ⊎ (board.slots.count ≤ slot))
-            → times_shown slot (board.order.items ++ board.hand.items) + times slot board.slots.free + times_left slot board.slots.left ≡ (if nat_lt slot board.slots.count then 1 else 0)
-            → times slot board.slots.free ≡ times slot after.slots.free + one_at slot slot → one_at slot slot ≡ 1 → times_left slot board.slots.left ≡ 0
-        by (inl below) once some one =
-            let bit : ◌≡◌ {A = ℕ} (if nat_lt slot board.slots.count then 1 else 0) 1 = grind (arith, nat_tests, below) in omega arith
-        by (inr above) once some one = absurd (omega (arith, free.0, above))
+            → times_shown slot (shown_of board.areas ++ board.moved.items) + times slot board.slots.free + times_left slot board.slots.left ≡ (if nat_lt slot board.slots.count then 1 else 0)
+            → times slot after.slots.free ≡ 0
+        by (inl below) once =
+            let bit : ◌≡◌ {A = ℕ} (if nat_lt slot board.slots.count then 1 else 0) 1 = grind (arith, nat_tests, below) in omega (arith, once, bit, freed)
+        by (inr above) once = absurd (omega (arith, free.0, above))
 
     was : slot_at (slots board.writer) slot ≡ slot_at (slots start.writer) slot
-    was = changing.still slot (omega (arith, free.1, sum_by-append (λ (s : Shown). one_at slot s.slot) board.order.items board.hand.items)) not_left
+    was = changing.unused slot (omega (arith, freed))
 
--- any change
-pub change_step : (start board after : Board) (done : List Change) (tree : ℕ) (change : Change) → IsChanging start board done tree → IsSane change
+-- any change of what is still to go
+pub change_step : (start board after : Board) (done : List Change) (tree : ℕ) (change : Change) → IsChanging start board done tree
+    → All (Contains (without (olds_of done) (areas_of start.areas))) (olds_of (change ∷ [])) → IsSane change
     → Carries board after change tree → IsChanging start after (change ∷ done) tree
-change_step start board after done tree (Detach area) changing sane carried = detach_step start board after done tree area changing carried
-change_step start board after done tree (Alter area changed) changing sane carried = alter_step start board after done tree area changed changing sane carried
-change_step start board after done tree (Add area) changing sane carried = add_step start board after done tree area changing carried
+change_step start board after done tree (Detach area) changing members sane carried =
+    detach_step start board after done tree area changing (All-head (Contains (without (olds_of done) (areas_of start.areas))) area [] members) carried
+change_step start board after done tree (Alter area changed) changing members sane carried =
+    alter_step start board after done tree area changed changing (All-head (Contains (without (olds_of done) (areas_of start.areas))) area [] members) sane carried
+change_step start board after done tree (Add area) changing members sane carried = add_step start board after done tree area changing carried
+
+-- what a tree shows is shown
+pub all_shown : (tree : List Shown) → All (IsShown tree) (areas_shown tree)
+all_shown tree = All-map (IsShown tree) (λ (s : Shown). s.area) tree (λ k d within. ((get_or tree k d).slot, Contains-get_or tree k d within))
 
 -- nothing was carried out
-pub none_changed : (board : Board) (tree : ℕ) → Writes board.writer board.table → Hangs (slots board.writer) (board.order.items ++ board.hand.items) board.slots
-    → board.hand.items ≡ [] → All (λ leaving. leaving.tree ≤ tree) board.slots.left → Follows board.order.items board.hand.items board.tree board.moved.items
-    → IsChanging board board [] tree
-none_changed board tree mine hangs empty leaving follows = record {
+pub none_changed : (board : Board) (tree : ℕ) → Writes board.writer board.table → Hangs (slots board.writer) (shown_of board.areas ++ board.moved.items) board.slots
+    → board.moved.items ≡ [] → All (λ leaving. leaving.tree ≤ tree) board.slots.left → BeginsAscend (areas_of board.areas) → IsChanging board board [] tree
+none_changed board tree mine hangs empty leaving ascend = record {
   table = refl;
   mine = mine;
   beside = record { config = refl; seen = refl; turn = refl; seq = refl };
   hangs = hangs;
   count = refl;
-  order = refl;
-  hand = ap areas_of empty;
+  ascend = ascend;
+  areas = λ weight. omega (
+    arith,
+    sum_by-append (λ (s : Shown). weight s.area) (shown_of board.areas) board.moved.items,
+    ap (weigh weight) empty,
+    weigh_map weight (shown_of board.areas),
+  );
+  there = all_shown (shown_of board.areas);
+  still = λ k d within slot member. refl;
+  unused = λ slot some. refl;
   free = omega arith;
   leaving = leaving;
-  follows = follows;
   same = refl;
   moved_room = refl;
-  still = λ slot none away. refl;
+  few_moved = omega (arith, ap length empty);
   marks = λ slot rose same. rose refl;
-  order_room = refl;
-  order_count = refl;
-  hand_room = refl;
 }

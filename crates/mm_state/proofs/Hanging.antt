@@ -1,5 +1,6 @@
 -- For all calls of `Board`: how slots hang together, step by step.
 use Rattle.std.proofs.Common.{◌≡◌, ◌≢◌, ◌≤◌, ◌<◌, ◌+◌, ℕ, true, nat_lt, not, List, [], ◌∷◌, ◌++◌, length, get_or, set, sum_by, All, refl, sym, ap, ◌∙◌, subst, ◌⊎◌, inl, inr, arith, if◌then◌else◌, length-append}
+use Rattle.std.specs.List.{Contains}
 use Rattle.std.specs.List.Sorted.{IsPermutation}
 use Rattle.std.proofs.lemmas.Bool.{cases_eq, cases_lt, cond-true, cond-false}
 use Rattle.std.proofs.lemmas.Bool.Decides.{nat_tests}
@@ -16,10 +17,10 @@ use Rattle.lock_core.proofs.Weighing.{attached-set}
 use Rattle.area_slots.specs.declared.leaving.Leaving.{Leaving}
 use Rattle.area_slots.specs.Slots.{SlotSet, IsTaken, one_at, times, times_left, left_by, gone_by, gone_after, slots_of}
 use Rattle.area_slots.proofs.Counting.{times-slots_of}
-use Rattle.mm_state.specs.declared.order.Shown.{Shown}
-use Rattle.mm_state.specs.Shelves.{areas_of, times_shown, ShowsIt, Hangs}
-use Rattle.mm_state.specs.Spans.{IsFreed}
-use Rattle.mm_state.specs.Boards.{after_leaving}
+use Rattle.area_tree.specs.declared.shown.Shown.{Shown}
+use Rattle.area_tree.specs.AreaTrees.{areas_shown, times_shown}
+use Rattle.mm_state.specs.Shelves.{ShowsIt, Hangs}
+use Rattle.mm_state.specs.Boards.{IsFreed, after_leaving}
 use Rattle.mm_state.proofs.Rows.{packed_attached}
 
 -- the weight of an area
@@ -33,7 +34,7 @@ hangs_permuted states shown others slots moved hangs = record {
   once = λ slot. rw (sum_by-IsPermutation (λ (s : Shown). one_at slot s.slot) shown others moved) (hangs.once slot);
   rows = All-permutation (ShowsIt states) shown others moved hangs.rows;
   others = λ slot none. hangs.others slot (sym (sum_by-IsPermutation (λ (s : Shown). one_at slot s.slot) shown others moved) ∙ none);
-  exactly = λ weight. hangs.exactly weight ∙ sym (sum_by-IsPermutation (λ (area : Record). weight (packed area)) (areas_of shown) (areas_of others)
+  exactly = λ weight. hangs.exactly weight ∙ sym (sum_by-IsPermutation (λ (area : Record). weight (packed area)) (areas_shown shown) (areas_shown others)
       (IsPermutation-map (λ (s : Shown). s.area) shown others moved));
 }
 
@@ -63,6 +64,25 @@ alone states shown rest slots hangs =
         let bit : ◌≡◌ {A = ℕ} (if nat_lt shown.slot slots.count then 1 else 0) 0 = grind (arith, nat_tests, above) in
         absurd (omega arith)
 
+-- the slot of an area of the tree is taken
+pub taken_in : (states : List SlotState) (tree moved : List Shown) (slots : SlotSet) (shown : Shown) → Hangs states (tree ++ moved) slots → Contains tree shown
+    → IsTaken slots shown.slot
+taken_in states tree moved slots shown hangs member =
+    let some = get_or-le-sum_by (λ (s : Shown). one_at shown.slot s.slot) tree member.0 shown member.1 in
+    let one = ap (λ (s : Shown). one_at shown.slot s.slot) member.2 ∙ self shown.slot in
+    let both = sum_by-append (λ (s : Shown). one_at shown.slot s.slot) tree moved in
+    by (cases_lt shown.slot slots.count) (omega (arith, some, one, both)) (hangs.once shown.slot)
+  where
+    by : ((shown.slot < slots.count) ⊎ (slots.count ≤ shown.slot)) → 1 ≤ times_shown shown.slot (tree ++ moved)
+        → times_shown shown.slot (tree ++ moved) + times shown.slot slots.free + times_left shown.slot slots.left ≡ (if nat_lt shown.slot slots.count then 1 else 0)
+        → IsTaken slots shown.slot
+    by (inl below) some once =
+        let bit : ◌≡◌ {A = ℕ} (if nat_lt shown.slot slots.count then 1 else 0) 1 = grind (arith, nat_tests, below) in
+        record { below = below; not_free = omega arith; not_left = omega arith }
+    by (inr above) some once =
+        let bit : ◌≡◌ {A = ℕ} (if nat_lt shown.slot slots.count then 1 else 0) 0 = grind (arith, nat_tests, above) in
+        absurd (omega arith)
+
 -- the rows of other slots are as they were
 rows_beside : (states : List SlotState) (slot : ℕ) (state : SlotState) (rest : List Shown) → times_shown slot rest ≡ 0
     → All (ShowsIt states) rest → All (ShowsIt (set states slot state)) rest
@@ -88,8 +108,8 @@ packed_weighs : (weight : List ℕ → ℕ) (seq : ℕ) (area : Record) → atta
 packed_weighs weight seq area = cond-false (is_detached (packed area)) 0 (weight (packed area)) (packed_attached area)
 
 areas-cons : (weight : List ℕ → ℕ) (shown : Shown) (rest : List Shown)
-    → sum_by (λ area. weight (packed area)) (areas_of (shown ∷ rest)) ≡ weight (packed shown.area) + sum_by (λ area. weight (packed area)) (areas_of rest)
-areas-cons weight shown rest = sum_by-cons (λ (area : Record). weight (packed area)) shown.area (areas_of rest)
+    → sum_by (λ area. weight (packed area)) (areas_shown (shown ∷ rest)) ≡ weight (packed shown.area) + sum_by (λ area. weight (packed area)) (areas_shown rest)
+areas-cons weight shown rest = sum_by-cons (λ (area : Record). weight (packed area)) shown.area (areas_shown rest)
 
 -- those that left and one more
 pub left_more : (slots : SlotSet) (slot tree : ℕ) → IsPermutation (record { slot = slot; tree = tree } ∷ slots.left) (after_leaving slots slot tree).left

@@ -1,153 +1,206 @@
--- For `Board::enter` and `MmState::facts`: pairs in order are told by their weights.
-use Rattle.std.proofs.Common.{ℕ, ◌≡◌, ◌≢◌, ◌<◌, ◌≤◌, ◌+◌, Bool, true, false, if◌then◌else◌, nat_eq, List, [], ◌∷◌, sum_by, All, refl, sym, ap, subst, ◌∙◌, arith, ◌⊎◌, inl, inr}
+-- For `Board::change_all`, `Board::enter` and `store_moved`: areas in order are told by their weights.
+use Rattle.std.proofs.Common.{ℕ, ◌≡◌, ◌≢◌, ◌<◌, ◌≤◌, ◌+◌, Bool, true, false, if◌then◌else◌, nat_eq, nat_lt, nat_le, ◌&&◌, ◌*◌, get_or, List, [], ◌∷◌, length, sum_by, All, refl, sym, ap, subst, ◌∙◌, arith, ◌⊎◌, inl, inr}
 use Rattle.std.proofs.lemmas.Bool.{cases_lt}
 use Rattle.std.proofs.lemmas.Bool.Decides.{nat_tests}
-use Rattle.std.proofs.lemmas.List.Elements.{All-nil, All-cons, All-head, All-tail}
-use Rattle.std.proofs.lemmas.List.Sums.{sum_by-cons}
-use Rattle.std.specs.List.{AllByRecursion as Each}
+use Rattle.std.proofs.lemmas.List.Elements.{All-nil, All-cons, All-weaker}
+use Rattle.std.proofs.lemmas.List.Kept.{AllPairs-cons}
+use Rattle.std.proofs.lemmas.List.Sums.{sum_by-cons, get_or-le-sum_by}
+use Rattle.mm_types.specs.declared.area.Prot.{Prot}
+use Rattle.mm_types.specs.declared.area.Attr.{Attr}
 use Rattle.mm_types.specs.declared.area.Record.{Record}
-use Rattle.mm_types.specs.Records.{IsValid}
-use Rattle.area_list.specs.Areas.{IsCanonical}
-use Rattle.area_list.proofs.Elements.{Pairs}
-use Rattle.area_list.proofs.Order.{Before}
-use Rattle.split_merge.proofs.Walking.{in_order}
-use Rattle.maple_node.specs.Trees.{Pair}
-use Rattle.maple_items.specs.Pairs.{has_page}
-use Rattle.span_tree.specs.SpanTrees.{ArePairs}
-use Rattle.mm_state.specs.declared.order.Shown.{Shown}
-use Rattle.mm_state.specs.Shelves.{areas_of}
-use Rattle.mm_state.specs.Spans.{shown_pair, shown_pairs, at_page, IsWithin, Rises, AreasRise}
-use Rattle.mm_state.proofs.Weights.{Same}
+use Rattle.area_list.specs.Areas.{has_page}
+use Rattle.sys_map.specs.BinarySearch.{BeginsAscend}
+use Rattle.area_tree.specs.declared.shown.Shown.{Shown}
+use Rattle.area_tree.specs.AreaTrees.{areas_shown, times_shown, AreasRise}
+use Rattle.mm_state.specs.Boards.{at_page, weigh, IsWithin, CanHold}
 
--- a weight of the pairs that begin at a page
-at_lo : ℕ → (Pair → ℕ) → Pair → ℕ
-at_lo page weight pair = if nat_eq pair.lo page then weight pair else 0
+pub weigh_map : (weight : Record → ℕ) (shown : List Shown) → sum_by weight (areas_shown shown) ≡ weigh weight shown
+weigh_map weight [] = refl
+weigh_map weight (s ∷ shown) = omega (arith, sum_by-cons weight s.area (areas_shown shown), sum_by-cons (λ (t : Shown). weight t.area) s shown, weigh_map weight shown)
 
-lo_here : (weight : Pair → ℕ) (pair : Pair) (page : ℕ) → pair.lo ≡ page → at_lo page weight pair ≡ weight pair
+pub ones : {A : Type 0} (xs : List A) → sum_by (λ x. 1) xs ≡ length xs
+ones [] = refl
+ones (x ∷ xs) = omega (arith, sum_by-cons (λ y. 1) x xs, ones xs)
+
+-- a weight of the areas that begin at a page
+at_lo : ℕ → (Record → ℕ) → Record → ℕ
+at_lo page weight area = if nat_eq area.span.lo page then weight area else 0
+
+lo_here : (weight : Record → ℕ) (area : Record) (page : ℕ) → area.span.lo ≡ page → at_lo page weight area ≡ weight area
 unfolding at_lo
-lo_here weight pair page is =
-    let test : nat_eq pair.lo page ≡ true = grind (arith, nat_tests) in rw test refl
+lo_here weight area page is =
+    let test : nat_eq area.span.lo page ≡ true = grind (arith, nat_tests) in rw test refl
 
-lo_away : (weight : Pair → ℕ) (pair : Pair) (page : ℕ) → pair.lo ≢ page → at_lo page weight pair ≡ 0
+lo_away : (weight : Record → ℕ) (area : Record) (page : ℕ) → area.span.lo ≢ page → at_lo page weight area ≡ 0
 unfolding at_lo
-lo_away weight pair page apart =
-    let test : nat_eq pair.lo page ≡ false = grind (arith, nat_tests) in rw test refl
+lo_away weight area page apart =
+    let test : nat_eq area.span.lo page ≡ false = grind (arith, nat_tests) in rw test refl
 
 -- none begins below the page from which on they stand
-lo_none : (page start : ℕ) (weight : Pair → ℕ) (pairs : List Pair) → Rises start pairs → page < start → sum_by (at_lo page weight) pairs ≡ 0
-lo_none page start weight [] rises below = refl
-lo_none page start weight (pair ∷ pairs) (begins, some, rest) below = omega (
+lo_none : (limit page start : ℕ) (weight : Record → ℕ) (areas : List Record) → AreasRise limit start areas → page < start → sum_by (at_lo page weight) areas ≡ 0
+lo_none limit page start weight [] rises below = refl
+lo_none limit page start weight (area ∷ areas) (begins, some, upto, rest) below = omega (
   arith,
-  sum_by-cons (at_lo page weight) pair pairs,
-  lo_away weight pair page (λ same. omega arith),
-  lo_none page pair.hi weight pairs rest (omega arith),
+  sum_by-cons (at_lo page weight) area areas,
+  lo_away weight area page (λ same. omega arith),
+  lo_none limit page area.span.hi weight areas rest (omega arith),
 )
 
--- lists in order with the same pairs are the same
-pub same_order : (start : ℕ) (xs ys : List Pair) → Rises start xs → Rises start ys → Same xs ys → xs ≡ ys
-same_order start [] [] first second same = refl
-same_order start [] (y ∷ ys) first second same = absurd (omega (arith, same (λ p. 1), sum_by-cons (λ (p : Pair). 1) y ys))
-same_order start (x ∷ xs) [] first second same = absurd (omega (arith, same (λ p. 1), sum_by-cons (λ (p : Pair). 1) x xs))
-same_order start (x ∷ xs) (y ∷ ys) (x_begins, x_some, x_rest) (y_begins, y_some, y_rest) same =
-    by (λ rises. same_order x.hi xs ys x_rest rises) (cases_lt x.lo y.lo) (cases_lt y.lo x.lo)
+bit : Bool → ℕ
+bit b = if b then 1 else 0
+
+same_bit : (a b : Bool) → bit a ≡ bit b → a ≡ b
+unfolding bit
+same_bit true true is = refl
+same_bit true false is = absurd (omega (arith, is))
+same_bit false true is = absurd (omega (arith, is))
+same_bit false false is = refl
+
+module _ (a b : Record) (same : (weight : Record → ℕ) → weight a ≡ weight b) where
+  same_flag : (flag : Record → Bool) → flag a ≡ flag b
+  same_flag flag = same_bit (flag a) (flag b) (same (λ r. bit (flag r)))
+
+  same_prot_of : (prot : Record → Prot) → prot a ≡ prot b
+  same_prot_of prot = ap (λ v. record { read = v; write = (prot a).write; exec = (prot a).exec }) (same_flag (λ r. (prot r).read))
+      ∙ ap (λ v. record { read = (prot b).read; write = v; exec = (prot a).exec }) (same_flag (λ r. (prot r).write))
+      ∙ ap (λ v. record { read = (prot b).read; write = (prot b).write; exec = v }) (same_flag (λ r. (prot r).exec))
+
+  same_attr_of : a.attr ≡ b.attr
+  same_attr_of = ap (λ (v : Prot). record a.attr { prot = v }) (same_prot_of (λ r. r.attr.prot))
+      ∙ ap (λ (v : Prot). record a.attr { prot = b.attr.prot; most = v }) (same_prot_of (λ r. r.attr.most))
+      ∙ ap (λ v. record a.attr { prot = b.attr.prot; most = b.attr.most; shared = v }) (same_flag (λ r. r.attr.shared))
+      ∙ ap (λ v. record b.attr { grows = v; sealed = a.attr.sealed; heap = a.attr.heap }) (same_flag (λ r. r.attr.grows))
+      ∙ ap (λ v. record b.attr { sealed = v; heap = a.attr.heap }) (same_flag (λ r. r.attr.sealed))
+      ∙ ap (λ v. record b.attr { heap = v }) (same_flag (λ r. r.attr.heap))
+
+  -- areas that weigh the same are the same
+  same_area : a ≡ b
+  same_area = ap (λ v. record a { span = record { lo = v; hi = a.span.hi } }) (same (λ r. r.span.lo))
+      ∙ ap (λ v. record a { span = record { lo = b.span.lo; hi = v } }) (same (λ r. r.span.hi))
+      ∙ ap (λ (v : Attr). record a { span = b.span; attr = v }) same_attr_of
+      ∙ ap (λ v. record b { object = v; offset = a.offset }) (same (λ r. r.object))
+      ∙ ap (λ v. record b { offset = v }) (same (λ r. r.offset))
+
+-- lists in order with the same areas are the same
+pub same_order : (limit start : ℕ) (xs ys : List Record) → AreasRise limit start xs → AreasRise limit start ys
+    → ((weight : Record → ℕ) → sum_by weight xs ≡ sum_by weight ys) → xs ≡ ys
+same_order limit start [] [] first second same = refl
+same_order limit start [] (y ∷ ys) first second same = absurd (omega (arith, same (λ p. 1), sum_by-cons (λ (p : Record). 1) y ys))
+same_order limit start (x ∷ xs) [] first second same = absurd (omega (arith, same (λ p. 1), sum_by-cons (λ (p : Record). 1) x xs))
+same_order limit start (x ∷ xs) (y ∷ ys) (x_begins, x_some, x_upto, x_rest) (y_begins, y_some, y_upto, y_rest) same =
+    by (λ rises. same_order limit x.span.hi xs ys x_rest rises) (cases_lt x.span.lo y.span.lo) (cases_lt y.span.lo x.span.lo)
   where
-    weighs : (page : ℕ) (weight : Pair → ℕ) → at_lo page weight x + sum_by (at_lo page weight) xs ≡ at_lo page weight y + sum_by (at_lo page weight) ys
+    weighs : (page : ℕ) (weight : Record → ℕ) → at_lo page weight x + sum_by (at_lo page weight) xs ≡ at_lo page weight y + sum_by (at_lo page weight) ys
     weighs page weight = omega (arith, same (at_lo page weight), sum_by-cons (at_lo page weight) x xs, sum_by-cons (at_lo page weight) y ys)
 
-    xs_none : (page : ℕ) (weight : Pair → ℕ) → page ≤ x.lo → sum_by (at_lo page weight) xs ≡ 0
-    xs_none page weight upto = lo_none page x.hi weight xs x_rest (omega (arith, x_some, upto))
+    xs_none : (page : ℕ) (weight : Record → ℕ) → page ≤ x.span.lo → sum_by (at_lo page weight) xs ≡ 0
+    xs_none page weight upto = lo_none limit page x.span.hi weight xs x_rest (omega (arith, x_some, upto))
 
-    ys_none : (page : ℕ) (weight : Pair → ℕ) → page ≤ y.lo → sum_by (at_lo page weight) ys ≡ 0
-    ys_none page weight upto = lo_none page y.hi weight ys y_rest (omega (arith, y_some, upto))
+    ys_none : (page : ℕ) (weight : Record → ℕ) → page ≤ y.span.lo → sum_by (at_lo page weight) ys ≡ 0
+    ys_none page weight upto = lo_none limit page y.span.hi weight ys y_rest (omega (arith, y_some, upto))
 
-    heads : x.lo ≡ y.lo → (weight : Pair → ℕ) → weight x ≡ weight y
+    heads : x.span.lo ≡ y.span.lo → (weight : Record → ℕ) → weight x ≡ weight y
     heads is weight = omega (
       arith,
-      weighs x.lo weight,
-      lo_here weight x x.lo refl,
-      lo_here weight y x.lo (sym is),
-      xs_none x.lo weight (omega arith),
-      ys_none x.lo weight (omega (arith, is)),
+      weighs x.span.lo weight,
+      lo_here weight x x.span.lo refl,
+      lo_here weight y x.span.lo (sym is),
+      xs_none x.span.lo weight (omega arith),
+      ys_none x.span.lo weight (omega (arith, is)),
     )
 
-    head : x.lo ≡ y.lo → x ≡ y
-    head is = ap (λ n. record { lo = n; hi = x.hi; slot = x.slot }) is ∙ ap (λ n. record { lo = y.lo; hi = n; slot = x.slot }) (heads is (λ p. p.hi))
-        ∙ ap (λ n. record { lo = y.lo; hi = y.hi; slot = n }) (heads is (λ p. p.slot))
-
-    by : (Rises x.hi ys → Same xs ys → xs ≡ ys) → ((x.lo < y.lo) ⊎ (y.lo ≤ x.lo)) → ((y.lo < x.lo) ⊎ (x.lo ≤ y.lo)) → x ∷ xs ≡ y ∷ ys
+    by : (AreasRise limit x.span.hi ys → ((weight : Record → ℕ) → sum_by weight xs ≡ sum_by weight ys) → xs ≡ ys)
+        → ((x.span.lo < y.span.lo) ⊎ (y.span.lo ≤ x.span.lo)) → ((y.span.lo < x.span.lo) ⊎ (x.span.lo ≤ y.span.lo)) → x ∷ xs ≡ y ∷ ys
     by later (inl less) more = absurd (omega (
       arith,
-      weighs x.lo (λ p. 1),
-      lo_here (λ p. 1) x x.lo refl,
-      lo_away (λ p. 1) y x.lo (λ is. omega arith),
-      ys_none x.lo (λ p. 1) (omega arith),
+      weighs x.span.lo (λ p. 1),
+      lo_here (λ p. 1) x x.span.lo refl,
+      lo_away (λ p. 1) y x.span.lo (λ is. omega arith),
+      ys_none x.span.lo (λ p. 1) (omega arith),
     ))
     by later (inr above) (inl less) = absurd (omega (
       arith,
-      weighs y.lo (λ p. 1),
-      lo_here (λ p. 1) y y.lo refl,
-      lo_away (λ p. 1) x y.lo (λ is. omega arith),
-      xs_none y.lo (λ p. 1) (omega arith),
+      weighs y.span.lo (λ p. 1),
+      lo_here (λ p. 1) y y.span.lo refl,
+      lo_away (λ p. 1) x y.span.lo (λ is. omega arith),
+      xs_none y.span.lo (λ p. 1) (omega arith),
     ))
     by later (inr above) (inr upto) =
-        let is : x.lo ≡ y.lo = omega arith in
-        let rest : xs ≡ ys = later (subst (λ n. Rises n ys) (sym (heads is (λ p. p.hi))) y_rest)
+        let is : x.span.lo ≡ y.span.lo = omega arith in
+        let rest : xs ≡ ys = later (subst (λ n. AreasRise limit n ys) (sym (heads is (λ p. p.span.hi))) y_rest)
         (λ weight. omega (arith, same weight, sum_by-cons weight x xs, sum_by-cons weight y ys, heads is weight)) in
-        ap (λ p. p ∷ xs) (head is) ∙ ap (λ ps. y ∷ ps) rest
+        ap (λ p. p ∷ xs) (same_area x y (heads is)) ∙ ap (λ ps. y ∷ ps) rest
 
--- no page is in two pairs in order, and none before them in any
-page_none : (page start : ℕ) (pairs : List Pair) → Rises start pairs → page < start → sum_by (at_page page) pairs ≡ 0
-page_none page start [] rises below = refl
-page_none page start (pair ∷ pairs) (begins, some, rest) below =
-    let none : at_page page pair ≡ 0 = grind (arith, nat_tests) in
-    omega (arith, sum_by-cons (at_page page) pair pairs, none, page_none page pair.hi pairs rest (omega arith))
+-- no page is in two areas in order, and none before them in any
+page_none : (limit page start : ℕ) (areas : List Record) → AreasRise limit start areas → page < start → sum_by (at_page page) areas ≡ 0
+page_none limit page start [] rises below = refl
+page_none limit page start (area ∷ areas) (begins, some, upto, rest) below =
+    let none : at_page page area ≡ 0 = grind (arith, nat_tests) in
+    omega (arith, sum_by-cons (at_page page) area areas, none, page_none limit page area.span.hi areas rest (omega arith))
 
 at_most_one : (b : Bool) → (if b then 1 else 0) ≤ 1
 at_most_one true = omega arith
 at_most_one false = omega arith
 
-pub page_once : (page start : ℕ) (pairs : List Pair) → Rises start pairs → sum_by (at_page page) pairs ≤ 1
-page_once page start [] rises = omega arith
-page_once page start (pair ∷ pairs) (begins, some, rest) = by (page_once page pair.hi pairs rest) (cases_lt page pair.hi)
+pub page_once : (limit page start : ℕ) (areas : List Record) → AreasRise limit start areas → sum_by (at_page page) areas ≤ 1
+page_once limit page start [] rises = omega arith
+page_once limit page start (area ∷ areas) (begins, some, upto, rest) = by (page_once limit page area.span.hi areas rest) (cases_lt page area.span.hi)
   where
-    upto : at_page page pair ≤ 1
-    upto = at_most_one (has_page page pair)
+    single : at_page page area ≤ 1
+    single = at_most_one (has_page area.span page)
 
-    by : sum_by (at_page page) pairs ≤ 1 → ((page < pair.hi) ⊎ (pair.hi ≤ page)) → sum_by (at_page page) (pair ∷ pairs) ≤ 1
-    by later (inl below) = omega (arith, sum_by-cons (at_page page) pair pairs, upto, page_none page pair.hi pairs rest below)
+    by : sum_by (at_page page) areas ≤ 1 → ((page < area.span.hi) ⊎ (area.span.hi ≤ page)) → sum_by (at_page page) (area ∷ areas) ≤ 1
+    by later (inl below) = omega (arith, sum_by-cons (at_page page) area areas, single, page_none limit page area.span.hi areas rest below)
     by later (inr above) =
-        let none : at_page page pair ≡ 0 = grind (arith, nat_tests) in
-        omega (arith, sum_by-cons (at_page page) pair pairs, none, later)
+        let none : at_page page area ≡ 0 = grind (arith, nat_tests) in
+        omega (arith, sum_by-cons (at_page page) area areas, none, later)
 
--- the pairs of slots that show areas in order
-pub pairs_rise : (limit start : ℕ) (shown : List Shown) → AreasRise limit start (areas_of shown) → Rises start (shown_pairs shown)
-pairs_rise limit start [] rise = tt
-pairs_rise limit start (s ∷ shown) (begins, some, upto, rest) = (begins, some, pairs_rise limit s.area.span.hi shown rest)
+-- areas in order begin each above the one before
+pub rise_ascend : (limit start : ℕ) (areas : List Record) → AreasRise limit start areas → All (λ area. start ≤ area.span.lo) areas × BeginsAscend areas
+rise_ascend limit start [] rise = (All-nil (λ (area : Record). start ≤ area.span.lo), λ i j d before within. absurd (omega (arith, within)))
+rise_ascend limit start (area ∷ areas) (begins, some, upto, rest) =
+    let later = rise_ascend limit area.span.hi areas rest in (
+      All-cons (λ (a : Record). start ≤ a.span.lo) area areas begins
+          (All-weaker (λ (a : Record). area.span.hi ≤ a.span.lo) (λ (a : Record). start ≤ a.span.lo) (λ a above. omega arith) areas later.0),
+      AllPairs-cons (λ (a b : Record). a.span.lo < b.span.lo) area areas
+          (All-weaker (λ (a : Record). area.span.hi ≤ a.span.lo) (λ (a : Record). area.span.lo < a.span.lo) (λ a above. omega arith) areas later.0) later.1,
+    )
 
-pub pairs_within : (limit start : ℕ) (shown : List Shown) → AreasRise limit start (areas_of shown) → All (IsWithin limit) (shown_pairs shown)
-pairs_within limit start [] rise = All-nil (IsWithin limit)
-pairs_within limit start (s ∷ shown) (begins, some, upto, rest) = All-cons (IsWithin limit) (shown_pair s) (shown_pairs shown) (some, upto)
-    (pairs_within limit s.area.span.hi shown rest)
+-- 1 for an area that has no page, or ends above the limit
+outside : ℕ → Record → ℕ
+outside limit area = if nat_lt area.span.lo area.span.hi && nat_le area.span.hi limit then 0 else 1
 
--- the pairs of a tree that was published are in order
-pub published_rise : (slots limit start : ℕ) (pairs : List Pair) → ArePairs slots limit start pairs → Rises start pairs
-published_rise slots limit start [] are = tt
-published_rise slots limit start (pair ∷ pairs) (begins, some, slot, rest) = (begins, some, published_rise slots limit pair.hi pairs rest)
+none_outside : (limit start : ℕ) (areas : List Record) → AreasRise limit start areas → sum_by (outside limit) areas ≡ 0
+unfolding outside
+none_outside limit start [] rise = refl
+none_outside limit start (area ∷ areas) (begins, some, upto, rest) =
+    let none : outside limit area ≡ 0 = grind (arith, nat_tests) in
+    omega (arith, sum_by-cons (outside limit) area areas, none, none_outside limit area.span.hi areas rest)
 
--- a canonical list is in order
-rise_each : (end start : ℕ) (areas : List Record) → Each IsValid areas → Pairs Before areas → Each (λ area. area.span.hi ≤ end) areas
-    → Each (λ area. start ≤ area.span.lo) areas → AreasRise end start areas
-rise_each end start [] valid order ends from = tt
-rise_each end start (area ∷ areas) valid order ends from =
-    (from.0, valid.0.some_pages, ends.0, rise_each end area.span.hi areas valid.1 order.1 ends.1 order.0)
+is_within : (limit : ℕ) (area : Record) → outside limit area ≤ 0 → IsWithin limit area
+unfolding outside
+is_within limit area none = by (cases_lt area.span.lo area.span.hi) (cases_lt limit area.span.hi)
+  where
+    by : ((area.span.lo < area.span.hi) ⊎ (area.span.hi ≤ area.span.lo)) → ((limit < area.span.hi) ⊎ (area.span.hi ≤ limit)) → IsWithin limit area
+    by (inl some) (inr upto) = (some, upto)
+    by (inl some) (inl above) =
+        let one : outside limit area ≡ 1 = grind (arith, nat_tests) in absurd (omega (arith, one, none))
+    by (inr empty) end =
+        let one : outside limit area ≡ 1 = grind (arith, nat_tests) in absurd (omega (arith, one, none))
 
-from_zero : (areas : List Record) → Each (λ area. 0 ≤ area.span.lo) areas
-from_zero [] = tt
-from_zero (area ∷ areas) = (omega arith, from_zero areas)
-
-ends_each : (end : ℕ) (areas : List Record) → All (λ area. area.span.hi ≤ end) areas → Each (λ area. area.span.hi ≤ end) areas
-ends_each end [] all = tt
-ends_each end (area ∷ areas) all = (All-head (λ (a : Record). a.span.hi ≤ end) area areas all, ends_each end areas (All-tail (λ (a : Record). a.span.hi ≤ end) area areas all))
-
-pub canonical_rise : (end : ℕ) (areas : List Record) → IsCanonical end areas → AreasRise end 0 areas
-canonical_rise end areas c = let o = in_order end areas c in rise_each end 0 areas o.valid o.ordered (ends_each end areas c.below_end) (from_zero areas)
+-- a tree can hold what weighs as areas in order do, at slots that show one area each
+pub can_hold : (most limit : ℕ) (areas : List Record) (shown : List Shown) → AreasRise limit 0 areas → length areas ≤ most
+    → ((weight : Record → ℕ) → weigh weight shown ≡ sum_by weight areas) → ((slot : ℕ) → times_shown slot shown ≤ 1)
+    → All (λ s. s.slot < 2 * most + 2) shown → CanHold most limit shown
+can_hold most limit areas shown rise few same once slots = record {
+  few = omega (arith, same (λ a. 1), ones areas, ones shown, few);
+  within = λ k d within. is_within limit (get_or shown k d).area (omega (
+    arith,
+    get_or-le-sum_by (λ (s : Shown). outside limit s.area) shown k d within,
+    same (outside limit),
+    none_outside limit 0 areas rise,
+  ));
+  apart = λ page. omega (arith, same (at_page page), page_once limit page 0 areas rise);
+  once = once;
+  slots = slots;
+}

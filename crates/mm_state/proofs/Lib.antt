@@ -1,11 +1,8 @@
-pub mod Placing
-pub mod Ordering
 pub mod Rows
 pub mod Hanging
 pub mod Writing
-pub mod Weights
 pub mod InOrder
-pub mod Following
+pub mod Weights
 pub mod Changing
 pub mod Carrying
 pub mod Readying
@@ -13,3 +10,4 @@ pub mod Telling
 pub mod Sane
 pub mod Opening
 pub mod Entering
+pub mod Storing

@@ -1,183 +1,74 @@
--- For `store_moved`, `Board::change_all` and `Board::enter`: what pairs with some pages overwritten weigh.
-use Rattle.std.proofs.Common.{ℕ, ◌≡◌, ◌≢◌, ◌<◌, ◌≤◌, ◌+◌, ◌-◌, min, max, true, false, if◌then◌else◌, nat_eq, ◌&&◌, List, [], ◌∷◌, ◌++◌, length, get_or, map, sum_by, All, refl, sym, ap, subst, ◌∙◌, arith, ◌⊎◌, inl, inr}
-use Rattle.std.specs.Prelude.{nat_lt}
-use Rattle.std.specs.List.{flat_map}
-use Rattle.std.proofs.lemmas.Bool.{cases_lt, cases_eq}
-use Rattle.std.proofs.lemmas.Bool.Decides.{nat_tests}
-use Rattle.std.proofs.lemmas.List.Elements.{All-head, All-tail}
-use Rattle.std.proofs.lemmas.List.Sums.{sum_by-cons, sum_by-append, get_or-le-sum_by}
-use Rattle.maple_node.specs.Trees.{Pair, pair_of}
-use Rattle.maple_items.specs.Pairs.{lower_part, upper_part, overwritten}
-use Rattle.mm_state.specs.Spans.{at_page, IsWithin}
+-- For `Board::enter`: what a list weighs after a plan.
+use Rattle.std.proofs.Common.{ℕ, ◌≡◌, ◌≢◌, ◌+◌, ◌⊎◌, inl, inr, Bool, true, false, not, if◌then◌else◌, nat_lt, List, [], ◌∷◌, sum_by, sym, ap, subst, arith}
+use Rattle.std.specs.List.{filter, Contains, AllByRecursion as Each}
+use Rattle.std.proofs.lemmas.Bool.{cond-true, not_from_false}
+use Rattle.std.proofs.lemmas.List.Elements.{All-contains, All-from_recursion, recursion_from_All}
+use Rattle.std.proofs.lemmas.List.Sums.{sum_by-cons}
+use Rattle.mm_types.specs.declared.area.Record.{Record}
+use Rattle.area_list.specs.Changes.{insert_area}
+use Rattle.area_list.proofs.Elements.{Pairs, Each-also}
+use Rattle.split_merge.specs.declared.plan.Change.{Change}
+use Rattle.split_merge.specs.Plans.{olds_of, news_of, starts_alike, without, with_all, applied, IsPlanOf}
+use Rattle.split_merge.proofs.Ascending.{Below, Pairs-filter}
+use Rattle.split_merge.proofs.Counting.{contains_cases, contains_filter, unlike, Pairs-from_AllPairs}
+use Rattle.split_merge.proofs.Replacing.{without_first, apart}
+use Rattle.sys_map.specs.BinarySearch.{BeginsAscend}
+use Rattle.sys_map.proofs.Going.{ascending_pairs}
 
--- the two lists have the same pairs, in whatever order
-abbrev pub Same : List Pair → List Pair → Type 0
-Same xs ys = (weight : Pair → ℕ) → sum_by weight xs ≡ sum_by weight ys
+-- the areas that stay where one goes out
+abbrev others : Record → List Record → List Record
+others old areas = filter (λ area. not (starts_alike area old)) areas
 
-pub flat_weighs : {A B : Type 0} (weight : B → ℕ) (f : A → List B) (xs : List A) → sum_by weight (flat_map f xs) ≡ sum_by (λ x. sum_by weight (f x)) xs
-flat_weighs weight f [] = refl
-flat_weighs weight f (x ∷ xs) = sum_by-append weight (f x) (flat_map f xs) ∙ ap (λ n. sum_by weight (f x) + n) (flat_weighs weight f xs)
-    ∙ sym (sum_by-cons (λ y. sum_by weight (f y)) x xs)
+others_weigh : (weight : Record → ℕ) (areas : List Record) (old : Record) → Pairs Below areas → Contains areas old
+    → sum_by weight (others old areas) + weight old ≡ sum_by weight areas
+others_weigh weight [] old pairs member = absurd (omega (arith, member.1))
+others_weigh weight (first ∷ areas) old pairs member = by (contains_cases first areas old member) (λ later. others_weigh weight areas old pairs.1 later)
+  where
+    by : (first ≡ old) ⊎ Contains areas old → (Contains areas old → sum_by weight (others old areas) + weight old ≡ sum_by weight areas)
+        → sum_by weight (others old (first ∷ areas)) + weight old ≡ sum_by weight (first ∷ areas)
+    by (inl same) before =
+        let left = subst (λ (area : Record). others area (first ∷ areas) ≡ areas) same (without_first first areas pairs.0) in
+        omega (arith, ap (sum_by weight) left, ap weight same, sum_by-cons weight first areas)
+    by (inr later) before =
+        let stays = cond-true (not (starts_alike first old)) (first ∷ others old areas) (others old areas)
+        (not_from_false (starts_alike first old) (apart first.span.lo old.span.lo
+        (All-contains (Below first) areas old (All-from_recursion (Below first) areas pairs.0) later))) in
+        omega (arith, ap (sum_by weight) stays, before later, sum_by-cons weight first areas, sum_by-cons weight first (others old areas))
 
-pub map_weighs : {A B : Type 0} (weight : B → ℕ) (f : A → B) (xs : List A) → sum_by weight (map f xs) ≡ sum_by (λ x. weight (f x)) xs
-map_weighs weight f [] = refl
-map_weighs weight f (x ∷ xs) = sum_by-cons weight (f x) (map f xs) ∙ ap (λ n. weight (f x) + n) (map_weighs weight f xs)
-    ∙ sym (sum_by-cons (λ y. weight (f y)) x xs)
+-- a list weighs as what is left of it and what went
+without_weighs : (weight : Record → ℕ) (olds areas : List Record) → Pairs Below areas → Each (Contains areas) olds → Pairs (λ a b. a ≢ b) olds
+    → sum_by weight (without olds areas) + sum_by weight olds ≡ sum_by weight areas
+without_weighs weight [] areas pairs members distinct = omega arith
+without_weighs weight (old ∷ olds) areas pairs members distinct =
+    let later = without_weighs weight olds (others old areas) (Pairs-filter Below (λ area. not (starts_alike area old)) areas pairs)
+    (Each-also (Contains areas) (λ other. old ≢ other) (Contains (others old areas))
+    (λ other member differs. contains_filter (λ area. not (starts_alike area old)) areas other member
+    (not_from_false (starts_alike other old) (unlike areas other old pairs member members.0 (λ same. differs (sym same)))))
+    olds members.1 distinct.0)
+    distinct.1 in
+    omega (arith, later, others_weigh weight areas old pairs members.0, sum_by-cons weight old olds)
 
-sum_both : {A : Type 0} (f g : A → ℕ) (xs : List A) → sum_by f xs + sum_by g xs ≡ sum_by (λ x. f x + g x) xs
-sum_both f g [] = refl
-sum_both f g (x ∷ xs) = omega (arith, sum_by-cons f x xs, sum_by-cons g x xs, sum_by-cons (λ y. f y + g y) x xs, sum_both f g xs)
+insert_weighs : (weight : Record → ℕ) (new : Record) (areas : List Record) → sum_by weight (insert_area new areas) ≡ weight new + sum_by weight areas
+insert_weighs weight new [] = sum_by-cons weight new []
+insert_weighs weight new (first ∷ areas) = by (nat_lt first.span.lo new.span.lo) (insert_weighs weight new areas)
+  where
+    by : (test : Bool) → sum_by weight (insert_area new areas) ≡ weight new + sum_by weight areas
+        → sum_by weight (if test then first ∷ insert_area new areas else new ∷ (first ∷ areas)) ≡ weight new + sum_by weight (first ∷ areas)
+    by true before = omega (arith, before, sum_by-cons weight first (insert_area new areas), sum_by-cons weight first areas)
+    by false before = sum_by-cons weight new (first ∷ areas)
 
-sum_same : {A : Type 0} (f g : A → ℕ) (xs : List A) → All (λ x. f x ≡ g x) xs → sum_by f xs ≡ sum_by g xs
-sum_same f g [] same = refl
-sum_same f g (x ∷ xs) same = omega (
+with_all_weighs : (weight : Record → ℕ) (news areas : List Record) → sum_by weight (with_all news areas) ≡ sum_by weight areas + sum_by weight news
+with_all_weighs weight [] areas = omega arith
+with_all_weighs weight (new ∷ news) areas =
+    omega (arith, with_all_weighs weight news (insert_area new areas), insert_weighs weight new areas, sum_by-cons weight new news)
+
+-- what a list weighs after a plan, and what went
+pub applied_weighs : (weight : Record → ℕ) (plan : List Change) (areas : List Record) → BeginsAscend areas → IsPlanOf areas plan
+    → sum_by weight (applied plan areas) + sum_by weight (olds_of plan) ≡ sum_by weight areas + sum_by weight (news_of plan)
+unfolding applied
+applied_weighs weight plan areas ascend p = omega (
   arith,
-  sum_by-cons f x xs,
-  sum_by-cons g x xs,
-  All-head (λ y. f y ≡ g y) x xs same,
-  sum_same f g xs (All-tail (λ y. f y ≡ g y) x xs same),
+  with_all_weighs weight (news_of plan) (without (olds_of plan) areas),
+  without_weighs weight (olds_of plan) areas (ascending_pairs areas ascend) (recursion_from_All (Contains areas) (olds_of plan) p.members)
+      (Pairs-from_AllPairs (λ a b. a ≢ b) (olds_of plan) p.distinct),
 )
-
-pub ones : {A : Type 0} (xs : List A) → sum_by (λ x. 1) xs ≡ length xs
-ones [] = refl
-ones (x ∷ xs) = omega (arith, sum_by-cons (λ y. 1) x xs, ones xs)
-
--- what overwriting leaves of a pair
-leaves : (Pair → ℕ) → ℕ → ℕ → Pair → ℕ
-leaves weight lo hi pair = sum_by weight (lower_part lo pair) + sum_by weight (upper_part hi pair)
-
-overwritten_weighs : (weight : Pair → ℕ) (lo hi word : ℕ) (pairs : List Pair)
-    → sum_by weight (overwritten lo hi word pairs) ≡ sum_by weight (pair_of lo (record { end = hi; word = word; gap = 0 })) + sum_by (leaves weight lo hi) pairs
-unfolding leaves
-overwritten_weighs weight lo hi word pairs = omega (
-  arith,
-  sum_by-append weight (flat_map (lower_part lo) pairs) (middle ++ flat_map (upper_part hi) pairs),
-  sum_by-append weight middle (flat_map (upper_part hi) pairs),
-  flat_weighs weight (lower_part lo) pairs,
-  flat_weighs weight (upper_part hi) pairs,
-  sum_both (λ pair. sum_by weight (lower_part lo pair)) (λ pair. sum_by weight (upper_part hi pair)) pairs,
-)
-  where
-    middle : List Pair
-    middle = pair_of lo (record { end = hi; word = word; gap = 0 })
-
--- a pair has its pages on one side of these
-abbrev pub OneSide : ℕ → ℕ → Pair → Type 0
-OneSide lo hi pair = (pair.hi ≤ lo) ⊎ (hi ≤ pair.lo)
-
-whole : (weight : Pair → ℕ) (lo hi : ℕ) (pair : Pair) → lo < hi → pair.lo < pair.hi → OneSide lo hi pair → leaves weight lo hi pair ≡ weight pair
-unfolding leaves
-whole weight lo hi pair some pages (inl below) =
-    let lower : nat_lt pair.lo lo ≡ true = grind (arith, nat_tests) in
-    let upper : nat_lt hi pair.hi ≡ false = grind (arith, nat_tests) in
-    let all : min pair.hi lo ≡ pair.hi = omega arith in
-    rw (lower, upper, all) (omega (arith, sum_by-cons weight pair []))
-whole weight lo hi pair some pages (inr above) =
-    let lower : nat_lt pair.lo lo ≡ false = grind (arith, nat_tests) in
-    let upper : nat_lt hi pair.hi ≡ true = grind (arith, nat_tests) in
-    let all : max pair.lo hi ≡ pair.lo = omega arith in
-    rw (lower, upper, all) (omega (arith, sum_by-cons weight pair []))
-
-gone : (weight : Pair → ℕ) (pair : Pair) → leaves weight pair.lo pair.hi pair ≡ 0
-unfolding leaves
-gone weight pair =
-    let lower : nat_lt pair.lo pair.lo ≡ false = grind (arith, nat_tests) in
-    let upper : nat_lt pair.hi pair.hi ≡ false = grind (arith, nat_tests) in
-    rw (lower, upper) refl
-
--- 1 for this very pair
-one_of : Pair → Pair → ℕ
-one_of a b = if nat_eq a.lo b.lo && (nat_eq a.hi b.hi && nat_eq a.slot b.slot) then 1 else 0
-
-one_self : (a : Pair) → one_of a a ≡ 1
-unfolding one_of
-one_self a = grind (arith, nat_tests)
-
-one_other : (a b : Pair) → ((a ≡ b) → ⊥) → one_of a b ≡ 0
-unfolding one_of
-one_other a b apart = by (cases_eq a.lo b.lo) (cases_eq a.hi b.hi) (cases_eq a.slot b.slot)
-  where
-    same : a.lo ≡ b.lo → a.hi ≡ b.hi → a.slot ≡ b.slot → a ≡ b
-    same lo hi slot = ap (λ n. record { lo = n; hi = a.hi; slot = a.slot }) lo ∙ ap (λ n. record { lo = b.lo; hi = n; slot = a.slot }) hi
-        ∙ ap (λ n. record { lo = b.lo; hi = b.hi; slot = n }) slot
-
-    by : ((a.lo ≡ b.lo) ⊎ (a.lo ≢ b.lo)) → ((a.hi ≡ b.hi) ⊎ (a.hi ≢ b.hi)) → ((a.slot ≡ b.slot) ⊎ (a.slot ≢ b.slot))
-        → ◌≡◌ {A = ℕ} (if nat_eq a.lo b.lo && (nat_eq a.hi b.hi && nat_eq a.slot b.slot) then 1 else 0) 0
-    by (inl lo) (inl hi) (inl slot) = absurd (apart (same lo hi slot))
-    by (inr lo) hi slot = grind (arith, nat_tests)
-    by (inl lo) (inr hi) slot = grind (arith, nat_tests)
-    by (inl lo) (inl hi) (inr slot) = grind (arith, nat_tests)
-
-found : (P : Pair → Type 0) (pair : Pair) (xs : List Pair) → All P xs → 1 ≤ sum_by (one_of pair) xs → P pair
-found P pair [] all some = absurd (omega (arith, some))
-found P pair (x ∷ xs) all some = by (λ later. found P pair xs (All-tail P x xs all) later) (cases_eq pair.lo x.lo) (cases_eq pair.hi x.hi) (cases_eq pair.slot x.slot)
-  where
-    later : ((pair ≡ x) → ⊥) → 1 ≤ sum_by (one_of pair) xs
-    later apart = omega (arith, sum_by-cons (one_of pair) x xs, one_other pair x apart, some)
-
-    by : (1 ≤ sum_by (one_of pair) xs → P pair) → ((pair.lo ≡ x.lo) ⊎ (pair.lo ≢ x.lo)) → ((pair.hi ≡ x.hi) ⊎ (pair.hi ≢ x.hi)) → ((pair.slot ≡ x.slot) ⊎ (pair.slot ≢ x.slot)) → P pair
-    by rest (inl lo) (inl hi) (inl slot) = subst P (sym (ap (λ n. record { lo = n; hi = pair.hi; slot = pair.slot }) lo
-        ∙ ap (λ n. record { lo = x.lo; hi = n; slot = pair.slot }) hi
-        ∙ ap (λ n. record { lo = x.lo; hi = x.hi; slot = n }) slot)) (All-head P x xs all)
-    by rest (inr lo) hi slot = rest (later (λ same. lo (ap (λ (p : Pair). p.lo) same)))
-    by rest (inl lo) (inr hi) slot = rest (later (λ same. hi (ap (λ (p : Pair). p.hi) same)))
-    by rest (inl lo) (inl hi) (inr slot) = rest (later (λ same. slot (ap (λ (p : Pair). p.slot) same)))
-
--- what holds of all pairs of a list holds of all of one with the same pairs
-pub all_same : (P : Pair → Type 0) (xs ys : List Pair) → Same xs ys → All P xs → All P ys
-all_same P xs ys same all k d within = found P (get_or ys k d) xs all (omega (
-  arith,
-  same (one_of (get_or ys k d)),
-  get_or-le-sum_by (one_of (get_or ys k d)) ys k d within,
-  one_self (get_or ys k d),
-))
-
--- pairs that have no page of a pair stand on its sides
-pub sides : (limit : ℕ) (pair : Pair) (rest : List Pair) → pair.lo < pair.hi → All (IsWithin limit) rest
-    → ((page : ℕ) → at_page page pair + sum_by (at_page page) rest ≤ 1) → All (OneSide pair.lo pair.hi) rest
-sides limit pair rest some within apart k d below = by (cases_lt pair.lo other.hi) (cases_lt other.lo pair.hi) (cases_lt pair.lo other.lo)
-  where
-    other : Pair
-    other = get_or rest k d
-
-    two : (page : ℕ) → at_page page pair ≡ 1 → at_page page other ≡ 1 → ⊥
-    two page one more = omega (arith, apart page, get_or-le-sum_by (at_page page) rest k d below, one, more)
-
-    by : ((pair.lo < other.hi) ⊎ (other.hi ≤ pair.lo)) → ((other.lo < pair.hi) ⊎ (pair.hi ≤ other.lo)) → ((pair.lo < other.lo) ⊎ (other.lo ≤ pair.lo))
-        → OneSide pair.lo pair.hi other
-    by (inr under) begins order = inl under
-    by (inl above) (inr over) order = inr over
-    by (inl above) (inl under) (inl first) =
-        let pages = (within k d below).0 in
-        let one : at_page other.lo pair ≡ 1 = grind (arith, nat_tests) in
-        let more : at_page other.lo other ≡ 1 = grind (arith, nat_tests) in
-        absurd (two other.lo one more)
-    by (inl above) (inl under) (inr later) =
-        let one : at_page pair.lo pair ≡ 1 = grind (arith, nat_tests) in
-        let more : at_page pair.lo other ≡ 1 = grind (arith, nat_tests) in
-        absurd (two pair.lo one more)
-
--- a gap over exactly the pages of a pair takes it out
-pub cleared : (limit : ℕ) (pair : Pair) (pairs rest : List Pair) → ((weight : Pair → ℕ) → sum_by weight pairs ≡ weight pair + sum_by weight rest)
-    → pair.lo < pair.hi → All (IsWithin limit) rest → ((page : ℕ) → sum_by (at_page page) pairs ≤ 1) → Same (overwritten pair.lo pair.hi 0 pairs) rest
-cleared limit pair pairs rest same some within apart weight =
-    let on_sides = sides limit pair rest some within (λ page. omega (arith, same (at_page page), apart page)) in
-    let kept = sum_same (leaves weight pair.lo pair.hi) weight rest
-    (λ k d below. whole weight pair.lo pair.hi (get_or rest k d) some (within k d below).0 (on_sides k d below)) in
-    omega (arith, overwritten_weighs weight pair.lo pair.hi 0 pairs, same (leaves weight pair.lo pair.hi), gone weight pair, kept)
-
--- a slot for pages that no pair has adds a pair
-pub stored : (limit : ℕ) (pair : Pair) (pairs : List Pair) → pair.lo < pair.hi → All (IsWithin limit) pairs
-    → ((page : ℕ) → at_page page pair + sum_by (at_page page) pairs ≤ 1)
-    → (weight : Pair → ℕ) → sum_by weight (overwritten pair.lo pair.hi (pair.slot + 1) pairs) ≡ weight pair + sum_by weight pairs
-stored limit pair pairs some within apart weight =
-    let on_sides = sides limit pair pairs some within apart in
-    let kept = sum_same (leaves weight pair.lo pair.hi) weight pairs
-    (λ k d below. whole weight pair.lo pair.hi (get_or pairs k d) some (within k d below).0 (on_sides k d below)) in
-    omega (arith, overwritten_weighs weight pair.lo pair.hi (pair.slot + 1) pairs, kept, one)
-  where
-    one : sum_by weight (pair_of pair.lo (record { end = pair.hi; word = pair.slot + 1; gap = 0 })) ≡ weight pair
-    one =
-        let some_word : nat_eq (pair.slot + 1) 0 ≡ false = grind (arith, nat_tests) in
-        let slot : pair.slot + 1 - 1 ≡ pair.slot = omega arith in
-        rw (some_word, slot) (omega (arith, sum_by-cons weight pair []))

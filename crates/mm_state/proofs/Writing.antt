@@ -1,17 +1,17 @@
--- For `Board::alter`, `Board::detach` and `write_slot`: a slot is marked and its row is written.
+-- For `Board::change_all` and `write_slot`: a slot is marked and its row is written.
 use Rattle.std.proofs.Common.{◌≡◌, ◌<◌, ℕ, suc, zero, List, ◌∷◌, ◌++◌, [], length, set, refl, ap, ◌∙◌}
 use Rattle.std.proofs.lemmas.List.{get_or-set_same}
+use Rattle.std.specs.List.Sorted.{IsPermutation}
 use Rattle.std.proofs.lemmas.List.Sorted.{IsPermutation-append_left, IsPermutation-sym}
-use Rattle.mm_types.specs.declared.area.Record.{Record}
 use Rattle.lock_core.specs.declared.stage.SlotState.{SlotState}
 use Rattle.lock_core.specs.Core.{slot_at, free_slot}
 use Rattle.vma_lock.specs.declared.view.View.{View}
 use Rattle.vma_lock.specs.Views.{write_at}
-use Rattle.area_slots.specs.Slots.{SlotSet, IsTaken}
-use Rattle.mm_state.specs.declared.order.Shown.{Shown}
+use Rattle.area_slots.specs.Slots.{SlotSet}
+use Rattle.area_tree.specs.declared.shown.Shown.{Shown}
 use Rattle.mm_state.specs.Shelves.{Hangs}
-use Rattle.mm_state.specs.Boards.{IsWritten, TakesOut}
-use Rattle.mm_state.proofs.Hanging.{hangs_permuted, alone}
+use Rattle.mm_state.specs.Boards.{IsWritten}
+use Rattle.mm_state.proofs.Hanging.{hangs_permuted}
 
 set_again : (states : List SlotState) (slot : ℕ) (a b : SlotState) → set (set states slot a) slot b ≡ set states slot b
 set_again [] slot a b = refl
@@ -36,15 +36,8 @@ written old marked new slot row within mark is = record {
     first : SlotState
     first = record { lock_seq = old.desk.seq; row = (slot_at old.desk.slots slot).row }
 
--- what is taken out of the order stands before the rest
-pub hangs_out : (states : List SlotState) (order after hand : List Shown) (slots : SlotSet) (slot : ℕ) (area : Record) → Hangs states (order ++ hand) slots
-    → TakesOut order after slot area → Hangs states (record { slot = slot; area = area } ∷ (after ++ hand)) slots
-hangs_out states order after hand slots slot area hangs out =
-    let first : Shown = record { slot = slot; area = area } in
-    hangs_permuted states (order ++ hand) (first ∷ (after ++ hand)) slots
-    (IsPermutation-sym (first ∷ (after ++ hand)) (order ++ hand) (IsPermutation-append_left hand (first ∷ after) order out.shown)) hangs
-
-pub taken_slot : (states : List SlotState) (order after hand : List Shown) (slots : SlotSet) (slot : ℕ) (area : Record) → Hangs states (order ++ hand) slots
-    → TakesOut order after slot area → IsTaken slots slot
-taken_slot states order after hand slots slot area hangs out =
-    (alone states (record { slot = slot; area = area }) (after ++ hand) slots (hangs_out states order after hand slots slot area hangs out)).taken
+-- an area of the tree stands before the rest
+pub hangs_out : (states : List SlotState) (tree rest moved : List Shown) (slots : SlotSet) (shown : Shown) → Hangs states (tree ++ moved) slots
+    → IsPermutation (shown ∷ rest) tree → Hangs states (shown ∷ (rest ++ moved)) slots
+hangs_out states tree rest moved slots shown hangs out = hangs_permuted states (tree ++ moved) (shown ∷ (rest ++ moved)) slots
+    (IsPermutation-sym (shown ∷ (rest ++ moved)) (tree ++ moved) (IsPermutation-append_left moved (shown ∷ rest) tree out)) hangs

@@ -9,7 +9,7 @@ use Rattle.split_merge.specs.Plans.{IsKept, IsFresh}
 use Rattle.vma_lock.specs.Seats.{config_of, table_of, journal, slots}
 use Rattle.mm_state.specs.declared.state.MmState.TheInside.{Inside}
 use Rattle.mm_state.specs.Boards.{IsAtRest}
-use Rattle.mm_state.specs.Shelves.{areas_of}
+use Rattle.area_tree.specs.AreaTrees.{areas_of}
 use Rattle.mm_state.specs.States.{StateView}
 
 -- the state that the fields are
@@ -20,25 +20,23 @@ state_of state = record {
   slots = slots state.board.writer;
   journal = state.journal.items;
   room = state.room;
-  nodes = state.board.tree.table;
-  number = state.board.tree.number;
-  pairs = state.board.tree.shown;
+  nodes = state.board.areas.tree.table;
+  number = state.board.areas.tree.number;
+  pairs = state.board.areas.tree.shown;
 }
 
 -- The board is at rest, its table has this configuration, which is valid, and its writer has seen this journal, which is
--- legal and has room. The list and the count of objects are those after the journal, the slots show the list, and the
--- plan is fresh.
+-- legal and has room. The areas and the count of objects are those after the journal, and the plan is fresh.
 pub record IsState (state : Inside) : Type 0 where
   pub rest : IsAtRest state.board
   pub settings : config_of state.board.table ≡ state.config
   pub valid : IsValidConfig state.config
   pub journal : journal state.board.writer ≡ state.journal.items
   pub legal : IsLegalJournal state.config state.journal.items
-  pub space : space_of state.areas.list state.objects ≡ after state.config state.journal.items
-  pub shown : areas_of state.board.order.items ≡ state.areas.list
-  pub bounds : state.areas.bounds ≡ bounds_of state.config
-  pub most : state.areas.most ≡ state.config.areas
-  pub kept : IsKept state.areas.bounds state.areas.most state.areas.list
+  pub space : space_of (areas_of state.board.areas) state.objects ≡ after state.config state.journal.items
+  pub bounds : state.board.areas.bounds ≡ bounds_of state.config
+  pub most : state.board.areas.tree.areas ≡ state.config.areas
+  pub kept : IsKept state.board.areas.bounds state.board.areas.tree.areas (areas_of state.board.areas)
   pub fresh : IsFresh state.config.areas state.plan
   pub room : length state.journal.items ≤ state.room
   pub entries : state.room ≤ 2 ^ 31

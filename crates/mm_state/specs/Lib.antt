@@ -1,5 +1,4 @@
 pub mod States
 pub mod Shelves
-pub mod Spans
 pub mod Boards
 pub mod Kept

@@ -3,7 +3,6 @@
 #![tactic(auto)]
 
 mod board;
-mod order;
 mod spans;
 mod state;
 

@@ -1,13 +1,11 @@
-//! The tree of the areas' spans and slots, as a call changes it.
-ghost use Rattle.std.specs.Prelude.{◌≡◌, ◌≤◌, ◌<◌, ◌+◌, ◌++◌, [], ℕ, length, vec_len, vec_capacity, sum_by};
-ghost use Rattle.maple_node.specs.Trees.{Pair};
+//! Slots that are free again, and areas that moved, as a call needs them.
+ghost use Rattle.std.specs.Prelude.{◌≡◌, ◌≤◌, ◌++◌, [], length, vec_capacity, IsPermutation};
 ghost use Rattle.area_slots.specs.Slots.{slots_of, gone_by, gone_after};
-ghost use Rattle.mm_state.specs.Spans.{adds_of, weigh, IsFreed, CanClear, Moves, CanStore};
+ghost use Rattle.area_tree.specs.AreaTrees.{shown_of};
+ghost use Rattle.mm_state.specs.Boards.{adds_of, IsFreed, CanStore, IsSameTree};
 
-use crate::order::Shown;
 use area_slots::AreaSlots;
-use mm_types::{Slot, Span};
-use span_tree::SpanTree;
+use area_tree::{AreaTree, Shown};
 use split_merge::Change;
 use std::sync::Wait;
 use std::thread;
@@ -26,61 +24,46 @@ pub(crate) fn count_adds(changes: &[Change]) -> usize
 }
 
 /// Frees the slots that left with trees up to the settled one: no reader finds them in a tree any more.
-fn free_settled(tree: &SpanTree, slots: &mut AreaSlots)
+fn free_settled(areas: &AreaTree, slots: &mut AreaSlots)
     ensures { slots.new ≡ record slots.old {
-      free = slots.old.free ++ slots_of (gone_by tree.now.settled slots.old.left);
-      left = gone_after tree.now.settled slots.old.left;
+      free = slots.old.free ++ slots_of (gone_by areas.now.tree.settled slots.old.left);
+      left = gone_after areas.now.tree.settled slots.old.left;
     } }
 {
-    slots.seen(tree.settled());
+    slots.seen(areas.settled());
 }
 
 /// Scans until so many slots are free, which waits for the readers of the trees with which others left.
 pub(crate) fn wait_for_slots<R: Wait>(
     rt: &R,
-    tree: &mut SpanTree,
+    areas: &mut AreaTree,
     slots: &mut AreaSlots,
     wanted: usize,
 )
-    ensures tree { tree.new ≡ record tree.old { settled = tree.new.settled } }
+    ensures areas { areas.new ≡ record areas.old { tree = record areas.old.tree { settled = areas.new.tree.settled } } }
     ensures slots { IsFreed slots.old slots.new }
     ensures free { wanted ≤ length slots.new.free }
 {
     for _ in rt.forever() {
-        free_settled(tree, slots);
+        free_settled(areas, slots);
         if slots.count_free() >= wanted {
             return;
         }
-        tree.scan();
+        areas.scan();
         thread::yield_now();
     }
     unreachable!()
 }
 
-/// A slot shows an area in the place of one with these pages. Where it has other pages, the tree has none for the slot until
-/// what moved is stored.
-pub(crate) fn move_span(tree: &mut SpanTree, moved: &mut Vec<Shown>, old: Span, shown: Shown)
-    requires clear { CanClear tree.old old }
-    requires room { vec_len moved.old < vec_capacity moved.old }
-    ensures moves { Moves tree.old moved.old.items tree.new moved.new.items old shown }
-    ensures room { vec_capacity moved.new ≡ vec_capacity moved.old }
-{
-    let new = shown.area.span;
-    if old.lo != new.lo || old.hi != new.hi {
-        tree.store(old, None);
-        moved.push_reserved(shown);
-    }
-}
-
-/// Stores what moved.
-pub(crate) fn store_moved(tree: &mut SpanTree, moved: &mut Vec<Shown>)
-    requires { CanStore tree.old moved.old.items }
-    ensures pairs { (weight : Pair → ℕ) → sum_by weight tree.new.pairs ≡ weigh weight moved.old.items + sum_by weight tree.old.pairs }
+/// The tree gets what moved.
+pub(crate) fn store_moved(areas: &mut AreaTree, moved: &mut Vec<Shown>)
+    requires { CanStore areas.old moved.old.items }
+    ensures shown { IsPermutation (shown_of areas.old ++ moved.old.items) (shown_of areas.new) }
     ensures none { moved.new.items ≡ [] }
     ensures room { vec_capacity moved.new ≡ vec_capacity moved.old }
-    ensures same { tree.new ≡ record tree.old { pairs = tree.new.pairs; changed = tree.new.changed } }
+    ensures same { IsSameTree areas.old areas.new }
 {
     while let Some(shown) = moved.pop() {
-        tree.store(shown.area.span, Some(Slot(shown.slot)));
+        areas.insert(shown);
     }
 }

@@ -11,7 +11,6 @@ ghost use Rattle.span_tree.specs.SpanTrees.{IsFreshWriter};
 ghost use Rattle.vma_lock.specs.Seats.{view, seen, stage, sight, HasTurn};
 
 use crate::board::Board;
-use area_list::page_of;
 use area_model::area_verdict;
 use mm_types::{Access, AreaList, Call, Config, Entry, NoMemory, Page, Reply, Verdict};
 use node_slots::NodeWriter;
@@ -20,7 +19,6 @@ use std::alloc::Global;
 use std::marker::Model;
 use std::sync::Wait;
 use sys_calls::plan_call;
-use sys_map::VecAreas;
 use vma_lock::{ReaderSeat, WriterSeat};
 
 /// The state behind the mmap lock. All memory of its calls is taken when it is made.
@@ -28,7 +26,6 @@ use vma_lock::{ReaderSeat, WriterSeat};
 pub struct MmState {
     config: Config,
     board: Board,
-    areas: VecAreas,
     /// How many objects are numbered.
     objects: u32,
     /// Empty between two calls.
@@ -77,16 +74,13 @@ impl MmState {
           pairs = [];
         }) }
     {
-        let limit = Page(page_of(config.limit));
-        let board = Board::new(alloc, writer, config.areas, limit, nodes)?;
-        let areas = VecAreas::with_room(alloc, &config)?;
+        let board = Board::new(alloc, &config, writer, nodes)?;
         let plan = Plan::with_room(alloc, config.areas)?;
         let journal = Vec::with_capacity(alloc, entries as usize)?;
         let objects = config.files.items().len() as u32;
         Ok(MmState {
             config,
             board,
-            areas,
             objects,
             plan,
             journal,
@@ -120,7 +114,7 @@ impl MmState {
         let called = plan_call(
             &self.config,
             self.objects,
-            &self.areas,
+            &self.board.areas,
             call,
             &mut self.plan,
         );
@@ -130,7 +124,6 @@ impl MmState {
             reply: called.reply,
         };
         self.board.enter(rt, seat, self.plan.changes(), entry);
-        self.areas.apply(&self.plan);
         self.plan.clear();
         self.objects = called.objects;
         self.journal.push_reserved(entry);
@@ -155,7 +148,7 @@ impl MmState {
     pub fn verdict(&self, page: Page, access: Access) -> Verdict
         ensures { result ≡ verdict self.now.config.files (list_of self.now) page.0 access }
     {
-        match area_at(&self.areas, page.0) {
+        match area_at(&self.board.areas, page.0) {
             Some(area) => area_verdict(self.config.files.items(), page.0, access, &area),
             None => Verdict::MapErr,
         }
@@ -172,7 +165,7 @@ impl MmState {
     pub fn copy_list(&self, alloc: Global) -> Result<AreaList, NoMemory>
         ensures { IfOk result (λ list. list ≡ list_of self.now) }
     {
-        Ok(AreaList::of(Vec::from_slice(alloc, self.areas.list())?))
+        self.board.areas.copy_list(alloc)
     }
 
     /// Hands the journal and the list out.
@@ -181,7 +174,8 @@ impl MmState {
         ensures list { result.1 ≡ list_of self }
         ensures legal { IsLegalJournal self.config self.journal }
     {
-        (self.journal, self.areas.into_list())
+        let board = self.board;
+        (self.journal, board.areas.into_list())
     }
 
     /// What the type keeps: the journal is legal, and within its room. The present tree is that of the journal, and its pairs are
@@ -192,6 +186,6 @@ impl MmState {
         ensures tree { self.now.number ≡ length self.now.journal }
         ensures pairs { ArePairsOf self.now.slots (list_of self.now) self.now.pairs }
     {
-        let _room = self.room;
+        self.board.areas.facts();
     }
 }

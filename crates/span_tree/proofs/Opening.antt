@@ -5,7 +5,6 @@ use Rattle.std.proofs.lemmas.Bool.Decides.{eqb_tells}
 use Rattle.std.proofs.lemmas.List.{get_or-replicate}
 use Rattle.mm_types.specs.declared.area.Page.{Page}
 use Rattle.grace_core.specs.Core.{has_row, row_at}
-use Rattle.maple_node.specs.declared.root.Root.{Root}
 use Rattle.maple_node.specs.Levels.{at_of}
 use Rattle.maple_node.specs.Trees.{Pair, IsFirst}
 use Rattle.maple_node.proofs.Trees.{first-pairs}
@@ -15,13 +14,14 @@ use Rattle.node_slots.specs.declared.seats.NodeWriter.{NodeWriter}
 use Rattle.node_slots.specs.declared.tree.Tree.{Tree}
 use Rattle.node_slots.specs.Trees.{first_root, empty_row, first_tree, grace_tree}
 use Rattle.node_slots.specs.Seats.{Writes, desk, row_count, is_present}
-use Rattle.node_slots.specs.Built.{IsBlank, words_at, pairs_now}
+use Rattle.node_slots.specs.Built.{IsBlank, pairs_now}
 use Rattle.node_slots.proofs.Starting.{first_has, first_else}
 use Rattle.maple_write.proofs.Blanks.{blank_new}
 use Rattle.span_tree.specs.SpanTrees.{IsFreshWriter, size_for}
 use Rattle.span_tree.specs.Kept.{IsSpanTree, view_of}
 use Rattle.span_tree.specs.Rows.{settled_of, shown_pairs}
 use Rattle.span_tree.proofs.Writing.{pairs_in, settled_most}
+use Rattle.span_tree.proofs.Spans.{first_pairs}
 
 -- the table has this size
 fresh_rows : (areas : ℕ) (writer : NodeWriter) → IsFreshWriter areas writer → row_count writer ≡ areas + 128
@@ -56,14 +56,7 @@ fresh_blank areas writer tree fresh root height some =
 -- there are no pairs
 fresh_pairs : (areas : ℕ) (writer : NodeWriter) (tree : Tree) → IsFreshWriter areas writer → tree.root.0 ≡ 0 → tree.height ≡ 1
     → pairs_now writer tree ≡ []
-fresh_pairs areas writer tree fresh root height =
-    let named : ℕ → ℕ → Root = λ levels row. record { tree = 0; height = levels; row = record { 0 = row } } in
-    let is : IsFirst (words_at writer) (0 ∷ []) (named tree.height tree.root.0) = record {
-      named = ap (λ levels. named levels tree.root.0) height ∙ ap (named 1) root;
-      words = fresh_words areas writer fresh;
-      row = refl;
-    } in
-    first-pairs (words_at writer) (0 ∷ []) (named tree.height tree.root.0) is
+fresh_pairs areas writer tree fresh root height = first_pairs writer tree (fresh_words areas writer fresh) root height
 
 fresh_shown : (areas : ℕ) (writer : NodeWriter) → IsFreshWriter areas writer → shown_pairs writer ≡ []
 unfolding pairs_in

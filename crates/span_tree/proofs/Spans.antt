@@ -1,9 +1,13 @@
 -- For `SpanTree::scan`, `SpanTree::prepare` and others: what the fields keep.
-use Rattle.std.proofs.Common.{ℕ, ◌≡◌, ◌<◌, ◌≤◌, ◌+◌, ◌*◌, ◌∙◌, true, arith, sym, ap, subst}
-use Rattle.grace_core.specs.Core.{since_at}
+use Rattle.std.proofs.Common.{ℕ, ◌≡◌, ◌<◌, ◌≤◌, ◌+◌, ◌*◌, ◌∙◌, true, List, [], ◌∷◌, replicate, arith, inl, inr, refl, sym, ap, subst}
+use Rattle.grace_core.specs.Core.{since_at, row_at}
+use Rattle.maple_node.specs.declared.root.Root.{Root}
+use Rattle.maple_node.specs.Trees.{Pair, IsFirst}
+use Rattle.maple_node.proofs.Trees.{first-pairs}
 use Rattle.node_slots.specs.declared.seats.NodeWriter.{NodeWriter}
+use Rattle.node_slots.specs.declared.tree.Tree.{Tree}
 use Rattle.node_slots.specs.Seats.{Writes, sight, desk, is_waiting, row_count}
-use Rattle.node_slots.specs.Built.{IsBuilt, words_at, built, built_rows, pairs_now}
+use Rattle.node_slots.specs.Built.{IsBuilt, IsWriters, words_at, built, built_rows, pairs_now}
 use Rattle.span_tree.specs.declared.tree.SpanTree.TheInside.{Inside}
 use Rattle.span_tree.specs.SpanTrees.{ArePairs}
 use Rattle.span_tree.specs.Kept.{IsSpanTree}
@@ -70,3 +74,23 @@ built_pairs fields kept is =
     (built fields.writer fields.tree) is.layout in
     let at : ℕ → ℕ → Type 0 = λ slots limit. ArePairs slots limit 0 (pairs_now fields.writer fields.tree) in
     subst (at (2 * fields.areas + 2)) is.limit (subst (λ n. at n (built fields.writer fields.tree).top.end) kept.slots pairs)
+
+-- a root in row 0 whose words are zeros has no pairs
+pub first_pairs : (writer : NodeWriter) (tree : Tree) → row_at (desk writer).words 0 ≡ replicate 32 0 → tree.root.0 ≡ 0 → tree.height ≡ 1
+    → pairs_now writer tree ≡ []
+first_pairs writer tree words root height =
+    let named : ℕ → ℕ → Root = λ levels row. record { tree = 0; height = levels; row = record { 0 = row } } in
+    let is : IsFirst (words_at writer) (0 ∷ []) (named tree.height tree.root.0) = record {
+      named = ap (λ levels. named levels tree.root.0) height ∙ ap (named 1) root;
+      words = words;
+      row = refl;
+    } in
+    first-pairs (words_at writer) (0 ∷ []) (named tree.height tree.root.0) is
+
+-- the pairs of a tree that was built, or of none
+pub writers_pairs : (fields : Inside) → IsSpanTree fields → IsWriters fields.writer fields.tree
+    → ArePairs (2 * fields.areas + 2) fields.tree.limit.0 0 (pairs_now fields.writer fields.tree)
+writers_pairs fields kept (inl is) = built_pairs fields kept is
+writers_pairs fields kept (inr blank) =
+    subst (λ (pairs : List Pair). ArePairs (2 * fields.areas + 2) fields.tree.limit.0 0 pairs)
+    (sym (first_pairs fields.writer fields.tree blank.words blank.root blank.height)) (omega (arith, kept.some_pages))

@@ -134,6 +134,14 @@ impl SpanTree {
         self.nodes.settled(&self.writer)
     }
 
+    /// What the type keeps: the pairs stand in order, with no page in common, up to the limit, and are no more than may be.
+    pub fn facts(&self)
+        ensures pairs { ArePairs (2 * self.now.areas + 2) self.now.limit 0 self.now.pairs }
+        ensures few { length self.now.pairs ≤ self.now.areas }
+    {
+        let _areas = self.areas;
+    }
+
     /// Scans every pin once: rows that no reader may read any more are free again.
     pub fn scan(&mut self)
         ensures view { self.new ≡ record self.old { settled = self.new.settled } }

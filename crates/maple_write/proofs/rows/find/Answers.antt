@@ -1,5 +1,7 @@
 -- For `find`: the step into the node that has the page.
-use Rattle.std.proofs.Common.{◌∙◌, ◌-◌, arith}
+use Rattle.std.proofs.Common.{◌-◌, ap, arith}
+use Rattle.maple_node.specs.Nodes.{items_of}
+use Rattle.maple_node.specs.Levels.{is_leaf}
 use Rattle.node_slots.specs.Seats.{desk}
 use Rattle.node_slots.specs.Built.{words_at}
 use Rattle.maple_write.proofs.Writers.{rows_counted}
@@ -17,8 +19,8 @@ loop-level-init c =
       above = omega arith;
     }
 
-pub node-items-requires-clause-row : goal.node-items-requires-clause-row
-node-items-requires-clause-row c =
+pub words-words-requires-clause-row : goal.words-words-requires-clause-row
+words-words-requires-clause-row c =
     let writer = c.args.writer.now in
     let tree = c.args.tree in
     let level = c.loop-level.level in
@@ -29,25 +31,25 @@ node-items-requires-clause-row c =
     let long = rows_counted writer in
     omega arith
 
-pub item_at-place-requires-clause-ascends : goal.item_at-place-requires-clause-ascends
-item_at-place-requires-clause-ascends c =
+pub item_in-place-requires-clause-ascends : goal.item_in-place-requires-clause-ascends
+item_in-place-requires-clause-ascends c =
     let tree = c.args.tree in
     let level = c.loop-level.level in
     let is = c.loop-level.invariant in
     let test = c.loop-level-test.true in
     (inside_at (desk c.args.writer.now).words tree.top.end tree.height c.args.low level (level - 1) c.args.page c.loop-level.place.start tree.top
-    c.loop-level.place.item c.items.result.now c.requires.tower (omega arith) (omega arith) is.high is.found is.begins
-    (c.items.ensures.items ∙ c.node-items.ensures.items)).ascends
+    c.loop-level.place.item (items_of (is_leaf (level - 1)) c.words-words.result) c.requires.tower (omega arith) (omega arith) is.high is.found is.begins
+    (ap (items_of (is_leaf (level - 1))) c.words-words.ensures)).ascends
 
-pub item_at-place-requires-clause-within : goal.item_at-place-requires-clause-within
-item_at-place-requires-clause-within c =
+pub item_in-place-requires-clause-within : goal.item_in-place-requires-clause-within
+item_in-place-requires-clause-within c =
     let tree = c.args.tree in
     let level = c.loop-level.level in
     let is = c.loop-level.invariant in
     let test = c.loop-level-test.true in
     (inside_at (desk c.args.writer.now).words tree.top.end tree.height c.args.low level (level - 1) c.args.page c.loop-level.place.start tree.top
-    c.loop-level.place.item c.items.result.now c.requires.tower (omega arith) (omega arith) is.high is.found is.begins
-    (c.items.ensures.items ∙ c.node-items.ensures.items)).within
+    c.loop-level.place.item (items_of (is_leaf (level - 1)) c.words-words.result) c.requires.tower (omega arith) (omega arith) is.high is.found is.begins
+    (ap (items_of (is_leaf (level - 1))) c.words-words.ensures)).within
 
 pub loop-level-preserved : goal.loop-level-preserved
 loop-level-preserved c =
@@ -57,12 +59,12 @@ loop-level-preserved c =
     let test = c.loop-level-test.true in
     let high = is.high in
     let step = inside_at (desk c.args.writer.now).words tree.top.end tree.height c.args.low level (level - 1) c.args.page c.loop-level.place.start tree.top
-    c.loop-level.place.item c.items.result.now c.requires.tower (omega arith) (omega arith) is.high is.found is.begins
-    (c.items.ensures.items ∙ c.node-items.ensures.items) in
+    c.loop-level.place.item (items_of (is_leaf (level - 1)) c.words-words.result) c.requires.tower (omega arith) (omega arith) is.high is.found is.begins
+    (ap (items_of (is_leaf (level - 1))) c.words-words.ensures) in
     record {
       order = omega arith;
       high = omega arith;
-      found = step.found c.item_at-place.result.item c.item_at-place.ensures.item;
-      begins = step.begins c.item_at-place.result.start c.item_at-place.ensures.start;
-      above = c.item_at-place.ensures.above;
+      found = step.found c.item_in-place.result.item c.item_in-place.ensures.item;
+      begins = step.begins c.item_in-place.result.start c.item_in-place.ensures.start;
+      above = c.item_in-place.ensures.above;
     }

@@ -1,46 +1,58 @@
 -- For `store_moved`: the last of what moved is stored.
-use Rattle.std.proofs.Common.{◌+◌, ◌∙◌, ap, sym, subst, sum_by, List, ◌≡◌, true}
-use Rattle.maple_node.specs.Trees.{Pair}
-use Rattle.span_tree.specs.SpanTrees.{SpanView}
-use Rattle.mm_state.specs.declared.order.Shown.{Shown}
-use Rattle.mm_state.specs.Spans.{weigh, CanStore}
-use Rattle.mm_state.proofs.Following.{store_step, last_fits}
+use Rattle.std.proofs.Common.{◌++◌, ◌∙◌, ap, subst, sym, refl}
+use Rattle.std.proofs.lemmas.List.Sorted.{IsPermutation-refl, IsPermutation-trans}
+use Rattle.area_tree.specs.AreaTrees.{AreaTreeView, shown_of}
+use Rattle.mm_state.specs.Boards.{CanHold}
+use Rattle.mm_state.proofs.Changing.{tree_step}
+use Rattle.mm_state.proofs.Storing.{hold_permuted, moved_in, last_within, last_slot, last_free, last_few, last_pages}
 use Rattle.mm_state.proofs.spans.store_moved.Goals as goal
 
-pub store-requires-clause-span : goal.store-requires-clause-span
-store-requires-clause-span c =
-    let fits = last_fits c.loop-shown.tree c.pop.new.self.items c.in-Some.shown
-    (subst (CanStore c.loop-shown.tree) c.in-Some.ensures.items c.loop-shown.invariant.can) in
-    (fits.0, fits.1)
+pub insert-requires-clause-roomy : goal.insert-requires-clause-roomy
+insert-requires-clause-roomy c = c.loop-shown.invariant.can.0
 
-pub store-requires-clause-slot : goal.store-requires-clause-slot
-store-requires-clause-slot c =
-    let fits = last_fits c.loop-shown.tree c.pop.new.self.items c.in-Some.shown
-    (subst (CanStore c.loop-shown.tree) c.in-Some.ensures.items c.loop-shown.invariant.can) in
-    fits.2
+pub insert-requires-clause-span : goal.insert-requires-clause-span
+insert-requires-clause-span c = last_within c.loop-shown.areas.tree.areas c.loop-shown.areas.tree.limit (shown_of c.loop-shown.areas) c.loop-shown.moved.items
+    c.pop.new.self.items c.in-Some.shown c.in-Some.ensures.items c.loop-shown.invariant.can.1
 
-pub store-requires-clause-few : goal.store-requires-clause-few
-store-requires-clause-few c =
-    let fits = last_fits c.loop-shown.tree c.pop.new.self.items c.in-Some.shown
-    (subst (CanStore c.loop-shown.tree) c.in-Some.ensures.items c.loop-shown.invariant.can) in
-    fits.3
+pub insert-requires-clause-pages : goal.insert-requires-clause-pages
+insert-requires-clause-pages c = last_pages c.loop-shown.areas.tree.areas c.loop-shown.areas.tree.limit (shown_of c.loop-shown.areas) c.loop-shown.moved.items
+    c.pop.new.self.items c.in-Some.shown c.in-Some.ensures.items c.loop-shown.invariant.can.1
 
--- a store more leaves the same tree but for its pairs
-same_step : (start before now : SpanView) (pairs : List Pair) → before ≡ record start { pairs = before.pairs; changed = before.changed }
-    → now ≡ record before { pairs = pairs; changed = true } → now ≡ record start { pairs = now.pairs; changed = now.changed }
-same_step start before now pairs same stored =
-    subst (λ (t : SpanView). t ≡ record start { pairs = t.pairs; changed = t.changed }) (sym stored)
-    (ap (λ (t : SpanView). record t { pairs = pairs; changed = true }) same)
+pub insert-requires-clause-slot : goal.insert-requires-clause-slot
+insert-requires-clause-slot c = last_slot c.loop-shown.areas.tree.areas c.loop-shown.areas.tree.limit (shown_of c.loop-shown.areas) c.loop-shown.moved.items
+    c.pop.new.self.items c.in-Some.shown c.in-Some.ensures.items c.loop-shown.invariant.can.1
+
+pub insert-requires-clause-free : goal.insert-requires-clause-free
+insert-requires-clause-free c = last_free c.loop-shown.areas.tree.areas c.loop-shown.areas.tree.limit (shown_of c.loop-shown.areas) c.loop-shown.moved.items
+    c.pop.new.self.items c.in-Some.shown c.in-Some.ensures.items c.loop-shown.invariant.can.1
+
+pub insert-requires-clause-few : goal.insert-requires-clause-few
+insert-requires-clause-few c = last_few c.loop-shown.areas.tree.areas c.loop-shown.areas.tree.limit (shown_of c.loop-shown.areas) c.loop-shown.moved.items
+    c.pop.new.self.items c.in-Some.shown c.in-Some.ensures.items c.loop-shown.invariant.can.1
+
+pub loop-shown-init : goal.loop-shown-init
+loop-shown-init c = record {
+  can = c.requires;
+  shown = IsPermutation-refl (shown_of c.args.areas.now ++ c.args.moved.now.items);
+  room = refl;
+  same = refl;
+}
 
 pub loop-shown-preserved : goal.loop-shown-preserved
 loop-shown-preserved c =
-    let last = c.in-Some.ensures.items in
-    let step = store_step c.loop-shown.tree c.store.new.self c.pop.new.self.items c.in-Some.shown
-    (subst (CanStore c.loop-shown.tree) last c.loop-shown.invariant.can) c.store.ensures in
+    let old = c.loop-shown.areas in
+    let new = c.insert.new.self in
+    let moved = moved_in (shown_of old) c.loop-shown.moved.items (shown_of new) c.pop.new.self.items c.in-Some.shown c.in-Some.ensures.items c.insert.ensures.shown in
+    let same = c.insert.ensures.same in
     record {
-      can = step.can;
-      pairs = λ weight. step.weighs weight ∙ ap (λ (list : List Shown). weigh weight list + sum_by weight c.loop-shown.tree.pairs) (sym last)
-          ∙ c.loop-shown.invariant.pairs weight;
+      can = (
+        ap (λ (t : AreaTreeView). t.tree.roomy) same ∙ c.loop-shown.invariant.can.0,
+        subst (λ (t : AreaTreeView). CanHold t.tree.areas t.tree.limit (shown_of new ++ c.pop.new.self.items)) (sym same)
+            (hold_permuted old.tree.areas old.tree.limit (shown_of old ++ c.loop-shown.moved.items) (shown_of new ++ c.pop.new.self.items) moved c.loop-shown.invariant.can.1),
+      );
+      shown = IsPermutation-trans (shown_of c.args.areas.now ++ c.args.moved.now.items) (shown_of old ++ c.loop-shown.moved.items) (shown_of new ++ c.pop.new.self.items)
+          c.loop-shown.invariant.shown moved;
       room = c.pop.ensures.capacity ∙ c.loop-shown.invariant.room;
-      same = same_step c.args.tree.now c.loop-shown.tree c.store.new.self _ c.loop-shown.invariant.same c.store.ensures;
+      same = tree_step c.args.areas.now old new c.loop-shown.invariant.same
+          (same ∙ ap (λ (t : AreaTreeView). record old { tree = record old.tree { pairs = t.tree.pairs; changed = t.tree.changed }; records = t.records }) (sym same));
     }

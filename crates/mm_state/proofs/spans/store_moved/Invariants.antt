@@ -1,15 +1,16 @@
--- For `store_moved`: what is left can be stored, and with it the tree has the same pairs in the end.
-use Rattle.std.proofs.Common.{◌≡◌, ◌+◌, ℕ, sum_by, vec_len, vec_capacity}
-use Rattle.maple_node.specs.Trees.{Pair}
-use Rattle.mm_state.specs.Spans.{weigh, CanStore}
+-- For `store_moved`: what is left can be stored, and with it the tree shows the same areas in the end.
+use Rattle.std.proofs.Common.{◌≡◌, ◌++◌, vec_len, vec_capacity}
+use Rattle.std.specs.List.Sorted.{IsPermutation}
+use Rattle.area_tree.specs.AreaTrees.{shown_of}
+use Rattle.mm_state.specs.Boards.{CanStore, IsSameTree}
 use Rattle.mm_state.proofs.spans.store_moved.Given as goal
 
 abbrev pub invariant-loop-shown : goal.invariant-loop-shown
 invariant-loop-shown l = record {
-  can : CanStore l.tree l.moved.items;
-  pairs : (weight : Pair → ℕ) → weigh weight l.moved.items + sum_by weight l.tree.pairs ≡ weigh weight l.fn.moved.items + sum_by weight l.fn.tree.pairs;
+  can : CanStore l.areas l.moved.items;
+  shown : IsPermutation (shown_of l.fn.areas ++ l.fn.moved.items) (shown_of l.areas ++ l.moved.items);
   room : vec_capacity l.moved ≡ vec_capacity l.fn.moved;
-  same : l.tree ≡ record l.fn.tree { pairs = l.tree.pairs; changed = l.tree.changed };
+  same : IsSameTree l.fn.areas l.areas;
 }
 
 abbrev pub decreases-loop-shown : goal.decreases-loop-shown

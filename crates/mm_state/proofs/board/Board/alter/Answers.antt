@@ -1,8 +1,14 @@
--- For `Board::alter`: the slot that is taken out is one of the table.
-use Rattle.std.proofs.Common.{arith}
-use Rattle.vma_lock.specs.Seats.{slots}
-use Rattle.mm_state.proofs.Writing.{taken_slot}
-use Rattle.mm_state.proofs.Following.{can_clear, few_moved}
+-- For `Board::alter`: the slot of an area of the tree shows another.
+use Rattle.std.proofs.Common.{◌++◌, refl, sym, subst, inl, inr, arith}
+use Rattle.std.proofs.lemmas.List.Sums.{sum_by-append}
+use Rattle.std.proofs.lemmas.List.Sorted.{IsPermutation-refl}
+use Rattle.area_slots.specs.Slots.{one_at}
+use Rattle.vma_lock.specs.Seats.{sight, slots}
+use Rattle.area_tree.specs.declared.shown.Shown.{Shown}
+use Rattle.area_tree.specs.AreaTrees.{shown_of}
+use Rattle.mm_state.specs.Boards.{IsSameTree, IsWritten}
+use Rattle.mm_state.proofs.Changing.{same_span}
+use Rattle.mm_state.proofs.Hanging.{taken_in, at_most_once}
 use Rattle.mm_state.proofs.board.Board.alter.Goals as goal
 
 pub write_slot-requires-clause-slot : goal.write_slot-requires-clause-slot
@@ -10,25 +16,52 @@ write_slot-requires-clause-slot g c =
     let board = c.args.self.now in
     omega (
       arith,
-      (taken_slot (slots board.writer) board.order.items c.take_out-slot.new.self.items board.hand.items board.slots c.take_out-slot.result c.args.old.now
-          c.requires.can.hangs c.take_out-slot.ensures.taken).below,
+      (taken_in (slots board.writer) (shown_of board.areas) board.moved.items board.slots _ c.requires.can.hangs c.slot_of-slot.ensures).below,
       c.requires.can.count,
     )
 
-pub move_span-requires-clause-clear : goal.move_span-requires-clause-clear
-move_span-requires-clause-clear g c =
-    let board = c.args.self.now in
-    can_clear board.order.items c.take_out-slot.new.self.items board.hand.items board.tree board.moved.items c.take_out-slot.result c.args.old.now
-    c.requires.can.follows c.take_out-slot.ensures.taken
-
-pub move_span-requires-clause-room : goal.move_span-requires-clause-room
-move_span-requires-clause-room g c =
+pub update-requires-clause-once : goal.update-requires-clause-once
+update-requires-clause-once g c =
     let board = c.args.self.now in
     omega (
       arith,
-      few_moved board.order.items board.hand.items board.tree board.moved.items c.requires.can.follows,
-      board.moved.ok.0,
-      board.hand.ok.0,
-      c.requires.can.spare,
-      c.requires.room,
+      at_most_once (slots board.writer) (shown_of board.areas ++ board.moved.items) board.slots c.slot_of-slot.result.0 c.requires.can.hangs,
+      sum_by-append (λ (s : Shown). one_at c.slot_of-slot.result.0 s.slot) (shown_of board.areas) board.moved.items,
+    )
+
+pub returns-then-eq : goal.returns-then-eq
+returns-then-eq g c =
+    let board = c.args.self.now in
+    let out = c.update.ensures.shown c.args.old.now c.slot_of-slot.ensures in
+    λ tree. (
+      c.slot_of-slot.result.0,
+      record {
+        table = refl;
+        mine = c.write_slot.ensures.table;
+        written = subst (λ row. IsWritten (sight board.writer) c.slot_of-slot.result.0 row (sight c.write_slot.new.writer)) c.pack-row.ensures c.write_slot.ensures.written;
+        same = subst (IsSameTree board.areas) (sym c.update.ensures.same) refl;
+        moved_room = refl;
+      },
+      record { rest = out.0; before = out.1; after = inl (out.2, refl, same_span c.args.old.now.span c.args.new.now.span c.eq.result c.if-eq.true c.eq.ensures) },
+      refl,
+    )
+
+pub returns : goal.returns
+returns g c =
+    let board = c.args.self.now in
+    λ tree. (
+      c.slot_of-slot.result.0,
+      record {
+        table = refl;
+        mine = c.write_slot.ensures.table;
+        written = subst (λ row. IsWritten (sight board.writer) c.slot_of-slot.result.0 row (sight c.write_slot.new.writer)) c.pack-row.ensures c.write_slot.ensures.written;
+        same = subst (IsSameTree board.areas) (sym c.remove.ensures.same) refl;
+        moved_room = c.push_reserved.ensures.capacity;
+      },
+      record {
+        rest = shown_of c.remove.new.self;
+        before = c.remove.ensures.shown c.slot_of-slot.result.0 c.slot_of-slot.ensures;
+        after = inr (IsPermutation-refl (shown_of c.remove.new.self), c.push_reserved.ensures.items);
+      },
+      refl,
     )

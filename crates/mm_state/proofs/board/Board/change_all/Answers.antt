@@ -1,19 +1,28 @@
 -- For `Board::change_all`: one change more, from the last on.
-use Rattle.std.proofs.Common.{◌-◌, ◌<◌, length, List, drop, subst, arith}
+use Rattle.std.proofs.Common.{◌-◌, ◌<◌, length, List, drop, subst, sym, arith}
+use Rattle.std.proofs.lemmas.List.{drop_all}
 use Rattle.split_merge.specs.declared.plan.Change.{Change}
-use Rattle.sys_map.proofs.Leaving.{there_in}
-use Rattle.mm_state.specs.Shelves.{areas_of}
+use Rattle.area_tree.specs.AreaTrees.{areas_of}
 use Rattle.mm_state.specs.Boards.{IsChanging}
-use Rattle.mm_state.proofs.Carrying.{can_change, free_left, room_left, drop_one}
-use Rattle.mm_state.proofs.Changing.{change_step}
+use Rattle.mm_state.proofs.InOrder.{rise_ascend}
+use Rattle.mm_state.proofs.Carrying.{can_change, free_left, room_left, left_there, in_tree, drop_one}
+use Rattle.mm_state.proofs.Changing.{change_step, none_changed}
 use Rattle.mm_state.proofs.board.Board.change_all.Goals as goal
+
+pub loop-left-init : goal.loop-left-init
+loop-left-init g c = record {
+  within = omega arith;
+  changing = subst (λ (done : List Change). IsChanging c.args.self.now c.args.self.now done c.args.tree) (sym (drop_all (length c.args.changes.now) c.args.changes.now (omega arith)))
+      (none_changed c.args.self.now c.args.tree c.requires.can.table c.requires.can.hangs c.requires.moved c.requires.leaving
+      (rise_ascend c.args.self.now.areas.tree.limit 0 (areas_of c.args.self.now.areas) c.facts.ensures.rise).1);
+}
 
 pub change-requires-clause-can : goal.change-requires-clause-can
 change-requires-clause-can g c = can_change c.args.self.now c.loop-left.self (drop c.loop-left.left c.args.changes.now) c.args.tree c.requires.can c.loop-left.invariant.changing
 
 pub change-requires-clause-old : goal.change-requires-clause-old
-change-requires-clause-old g c = there_in (areas_of c.args.self.now.order.items) (areas_of c.loop-left.self.order.items) c.args.changes.now (c.loop-left.left - 1) c.loop-left.left _
-    c.requires.can.ascend c.requires.plan.members c.requires.plan.distinct (omega (arith, c.loop-left.invariant.within)) (omega arith) c.loop-left.invariant.changing.order
+change-requires-clause-old g c = in_tree c.args.self.now c.loop-left.self c.args.changes.now (c.loop-left.left - 1) c.loop-left.left _ c.args.tree
+    c.loop-left.invariant.changing c.requires.plan (omega (arith, c.loop-left.invariant.within)) (omega arith)
 
 pub change-requires-clause-free : goal.change-requires-clause-free
 change-requires-clause-free g c = free_left c.args.self.now c.loop-left.self c.args.changes.now (c.loop-left.left - 1) c.loop-left.left _ c.args.tree
@@ -21,7 +30,7 @@ change-requires-clause-free g c = free_left c.args.self.now c.loop-left.self c.a
 
 pub change-requires-clause-room : goal.change-requires-clause-room
 change-requires-clause-room g c = room_left c.args.self.now c.loop-left.self c.args.changes.now (c.loop-left.left - 1) c.loop-left.left _ c.args.tree
-    c.loop-left.invariant.changing (omega (arith, c.loop-left.invariant.within)) (omega arith) c.requires.hand_room
+    c.loop-left.invariant.changing (omega (arith, c.loop-left.invariant.within)) (omega arith) c.requires.room
 
 pub loop-left-preserved : goal.loop-left-preserved
 loop-left-preserved g c =
@@ -31,5 +40,7 @@ loop-left-preserved g c =
       changing = subst (λ (done : List Change). IsChanging c.args.self.now c.change.new.self done c.args.tree)
           (drop_one c.args.changes.now (c.loop-left.left - 1) c.loop-left.left _ within (omega arith))
           (change_step c.args.self.now c.loop-left.self c.change.new.self (drop c.loop-left.left c.args.changes.now) c.args.tree _ c.loop-left.invariant.changing
+          (left_there c.args.self.now c.loop-left.self c.args.changes.now (c.loop-left.left - 1) c.loop-left.left _ c.args.tree
+          c.loop-left.invariant.changing c.requires.plan within (omega arith))
           (c.requires.sane (c.loop-left.left - 1) _ within) c.change.ensures);
     }

@@ -1,5 +1,6 @@
 -- For `MmState::apply`: the plan makes the list after the entry, and the state is kept.
-use Rattle.std.proofs.Common.{◌<◌, ◌++◌, ◌∷◌, [], List, length, subst, sym, ap, ◌∙◌, arith, length-append}
+use Rattle.std.proofs.Common.{ℕ, ◌<◌, ◌++◌, ◌∷◌, [], List, length, subst, sym, ap, ◌∙◌, arith, length-append}
+use Rattle.mm_types.specs.declared.area.Record.{Record}
 use Rattle.mm_types.specs.declared.call.Entry.{Entry}
 use Rattle.area_model.specs.declared.placement.Bounds.{Bounds}
 use Rattle.area_model.specs.Steps.{step, after, IsLegalJournal}
@@ -9,9 +10,8 @@ use Rattle.area_model.proofs.Journals.{legal-push}
 use Rattle.split_merge.specs.declared.plan.Change.{Change}
 use Rattle.split_merge.specs.Plans.{Planned, IsKept, applied}
 use Rattle.sys_calls.proofs.Keeping.{made_space}
-use Rattle.sys_map.specs.Stored.{Stored}
 use Rattle.vma_lock.specs.Seats.{config_of}
-use Rattle.mm_state.specs.Shelves.{areas_of}
+use Rattle.area_tree.specs.AreaTrees.{areas_of}
 use Rattle.mm_state.specs.Boards.{IsEntered}
 use Rattle.mm_state.specs.States.{StateView}
 use Rattle.mm_state.proofs.Entering.{ready_now, space_after, entered}
@@ -21,7 +21,12 @@ pub plan_call-called-requires-clause-ready : goal.plan_call-called-requires-clau
 plan_call-called-requires-clause-ready g c =
     let s = c.self.inside in
     let i = c.self.invariant in
-    ready_now s.config s.journal.items s.areas.list s.objects i.valid (omega (arith, i.room, i.entries)) i.space
+    ready_now s.config s.journal.items (areas_of s.board.areas) s.objects i.valid (omega (arith, i.room, i.entries)) i.space
+
+pub plan_call-called-requires-clause-prepared : goal.plan_call-called-requires-clause-prepared
+plan_call-called-requires-clause-prepared g c =
+    let i = c.self.invariant in
+    record { numbers = i.bounds; allowed = i.most; fresh = i.fresh }
 
 pub enter-requires-clause-plan : goal.enter-requires-clause-plan
 enter-requires-clause-plan g c =
@@ -30,16 +35,14 @@ enter-requires-clause-plan g c =
     let entry : Entry = record { caller = c.caller.result; call = c.args.call.now; reply = c.plan_call-called.result.reply } in
     let room = subst (λ (v : StateView). length v.journal < v.room) (sym c.self.view_is) c.requires.room in
     subst (λ (changes : List Change). IsEntered s.board changes entry) (sym c.changes.ensures)
-    (entered s.board s.config s.journal.items s.areas.list s.objects s.areas.bounds s.areas.most entry s.plan c.plan_call-called.new.plan record {
+    (entered s.board s.config s.journal.items s.objects entry s.plan c.plan_call-called.new.plan record {
       settings = i.settings;
       journal_is = i.journal;
-      shown = i.shown;
       space = i.space;
       valid = i.valid;
       room = omega (arith, i.entries, room);
       most_is = i.most;
       limit_is = ap (λ (b : Bounds). b.limit) i.bounds;
-      kept = i.kept;
       planned = c.plan_call-called.ensures.planned;
     })
 
@@ -50,8 +53,10 @@ invariant_of-self g c =
     let entry : Entry = record { caller = c.caller.result; call = c.args.call.now; reply = c.plan_call-called.result.reply } in
     let planned = c.plan_call-called.ensures.planned in
     let room = subst (λ (v : StateView). length v.journal < v.room) (sym c.self.view_is) c.requires.room in
-    let stored = c.apply.ensures in
     let pushed = c.push_reserved.ensures in
+    let list = c.enter.ensures.areas ∙ ap (λ (changes : List Change). applied changes (areas_of s.board.areas)) c.changes.ensures in
+    let bounds = c.enter.ensures.bounds.0 in
+    let most = c.enter.ensures.bounds.1 in
     record {
       rest = c.enter.ensures.rest;
       settings = ap config_of c.enter.ensures.table.0 ∙ i.settings;
@@ -61,14 +66,14 @@ invariant_of-self g c =
         i.legal,
         planned.reply ∙ ap (λ (space : AddressSpace). (step s.config space c.args.call.now).reply) i.space,
       ));
-      space = made_space c.apply.new.self.list c.plan_call-called.result.objects (step s.config (space_of s.areas.list s.objects) c.args.call.now).space
-          (ap (λ (a : Stored). a.list) stored ∙ planned.makes.result) c.plan_call-called.ensures.counter
-          ∙ space_after s.config s.journal.items s.areas.list s.objects entry i.space ∙ ap (after s.config) (sym pushed.items);
-      shown = c.enter.ensures.areas ∙ ap (λ (changes : List Change). applied changes (areas_of s.board.order.items)) c.changes.ensures
-          ∙ ap (applied c.plan_call-called.new.plan.changes) i.shown ∙ sym (ap (λ (a : Stored). a.list) stored);
-      bounds = ap (λ (a : Stored). a.bounds) stored ∙ i.bounds;
-      most = ap (λ (a : Stored). a.most) stored ∙ i.most;
-      kept = subst (λ (a : Stored). IsKept a.bounds a.most a.list) (sym stored) planned.kept;
+      space = made_space (areas_of c.enter.new.self.areas) c.plan_call-called.result.objects (step s.config (space_of (areas_of s.board.areas) s.objects) c.args.call.now).space
+          (list ∙ planned.makes.result) c.plan_call-called.ensures.counter
+          ∙ space_after s.config s.journal.items (areas_of s.board.areas) s.objects entry i.space ∙ ap (after s.config) (sym pushed.items);
+      bounds = bounds ∙ i.bounds;
+      most = most ∙ i.most;
+      kept = subst (λ (b : Bounds). IsKept b c.enter.new.self.areas.tree.areas (areas_of c.enter.new.self.areas)) (sym bounds)
+          (subst (λ (n : ℕ). IsKept s.board.areas.bounds n (areas_of c.enter.new.self.areas)) (sym most)
+          (subst (λ (areas : List Record). IsKept s.board.areas.bounds s.board.areas.tree.areas areas) (sym list) planned.kept));
       fresh = record {
         empty = ap (λ (p : Planned). p.changes) c.clear.ensures;
         room = omega (arith, ap (λ (p : Planned). p.room) c.clear.ensures, planned.room, i.fresh.room);

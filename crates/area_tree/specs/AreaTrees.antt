@@ -1,0 +1,66 @@
+-- What contracts see of a tree of areas.
+use Rattle.std.specs.Prelude.{ℕ, ◌≡◌, ◌≤◌, ◌<◌, false, List, [], ◌∷◌, All, map, sum_by, slice_index_or}
+use Rattle.mm_types.specs.declared.area.Span.{Span}
+use Rattle.mm_types.specs.declared.area.Prot.{Prot}
+use Rattle.mm_types.specs.declared.area.Record.{Record}
+use Rattle.area_model.specs.declared.placement.Bounds.{Bounds}
+use Rattle.maple_node.specs.Trees.{Pair}
+use Rattle.area_slots.specs.Slots.{one_at}
+use Rattle.span_tree.specs.SpanTrees.{SpanView}
+use Rattle.area_tree.specs.declared.shown.Shown.{Shown}
+
+-- the tree of spans and slots, what each slot shows or showed last, and the pages between which areas are placed
+pub record AreaTreeView : Type 0 where
+  pub tree : SpanView
+  pub records : List Record
+  pub bounds : Bounds
+
+-- no access
+abbrev pub none : Prot
+none = record { read = false; write = false; exec = false }
+
+-- what a slot shows before it showed an area
+abbrev pub no_area : Record
+no_area = record {
+  span = record { lo = 0; hi = 0 };
+  attr = record { prot = none; most = none; shared = false; grows = false; sealed = false; heap = false };
+  object = 0;
+  offset = 0;
+}
+
+-- what a slot shows
+abbrev pub area_in : List Record → ℕ → Record
+area_in records slot = slice_index_or records slot no_area
+
+-- the slot of a pair, with what it shows
+abbrev pub shown_at : List Record → Pair → Shown
+shown_at records pair = record { slot = pair.slot; area = area_in records pair.slot }
+
+-- the slots of the tree in order, each with the area that it shows
+abbrev pub shown_of : AreaTreeView → List Shown
+shown_of areas = map (shown_at areas.records) areas.tree.pairs
+
+-- the areas that are shown
+abbrev pub areas_shown : List Shown → List Record
+areas_shown shown = map (λ s. s.area) shown
+
+-- the areas, in order
+abbrev pub areas_of : AreaTreeView → List Record
+areas_of areas = areas_shown (shown_of areas)
+
+-- how often a slot shows an area
+abbrev pub times_shown : ℕ → List Shown → ℕ
+times_shown slot shown = sum_by (λ s. one_at slot s.slot) shown
+
+-- the pages of a pair
+abbrev pub span_of : Pair → Span
+span_of pair = record { lo = pair.lo; hi = pair.hi }
+
+-- areas from a page on stand in order, up to a limit, each has a page, and no two have a page in common
+abbrev pub AreasRise : ℕ → ℕ → List Record → Type 0
+AreasRise limit start [] = Unit {0}
+AreasRise limit start (area ∷ areas) = (start ≤ area.span.lo) × (area.span.lo < area.span.hi) × (area.span.hi ≤ limit) × AreasRise limit area.span.hi areas
+
+-- what the slot of each pair shows has the pages of the pair
+abbrev pub AreRecords : List Record → List Pair → Type 0
+AreRecords records pairs = All (λ pair. (area_in records pair.slot).span ≡ span_of pair) pairs

@@ -1,0 +1,2 @@
+pub mod AreaTrees
+pub mod Kept

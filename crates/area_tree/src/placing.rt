@@ -1,0 +1,47 @@
+//! The areas beside a page, and where new areas go, by searches of the tree.
+ghost use Rattle.std.specs.Prelude.{◌≡◌, Option};
+ghost use Rattle.std.specs.Option.{option_map};
+ghost use Rattle.area_tree.specs.AreaTrees.{area_in};
+
+use crate::shown::area_in;
+use crate::tree::AreaTree;
+use area_model::FLOOR;
+use mm_types::{Page, Record, Slot};
+use split_merge::Areas;
+
+/// What a slot shows, if there is one.
+pub(crate) fn shown_by(records: &[Record], slot: Option<Slot>) -> Option<Record>
+    ensures { result ≡ option_map (λ slot. area_in records.now slot.0) slot }
+{
+    slot.map(|slot| area_in(records, slot.0))
+}
+
+impl Areas for AreaTree {
+    ghost use Rattle.area_tree.specs.AreaTrees.{areas_of};
+
+    ghost list = { areas_of };
+
+    ghost bounds = { λ areas. areas.bounds };
+
+    ghost most = { λ areas. areas.tree.areas };
+
+    fn count(&self) -> u64 {
+        self.count
+    }
+
+    fn from(&self, page: Page) -> Option<Record> {
+        shown_by(self.records.as_slice(), self.tree.next_slot(page))
+    }
+
+    fn before(&self, page: Page) -> Option<Record> {
+        shown_by(self.records.as_slice(), self.tree.before_slot(page))
+    }
+
+    fn place(&self, len: u64) -> Option<Page> {
+        let bounds = self.bounds;
+        match self.tree.highest(len, bounds.low, bounds.top) {
+            Some(start) => Some(start),
+            None => self.tree.lowest(len, bounds.low.max(FLOOR), bounds.limit),
+        }
+    }
+}

@@ -1,0 +1,44 @@
+//! What slots show.
+ghost use Rattle.std.specs.Prelude.{◌≡◌};
+ghost use Rattle.area_tree.specs.AreaTrees.{area_in};
+
+use mm_types::{Attr, Prot, Record, Span};
+
+/// No access.
+const NONE: Prot = Prot {
+    read: false,
+    write: false,
+    exec: false,
+};
+
+/// What a slot shows before it showed an area.
+pub(crate) const NO_AREA: Record = Record {
+    span: Span { lo: 0, hi: 0 },
+    attr: Attr {
+        prot: NONE,
+        most: NONE,
+        shared: false,
+        grows: false,
+        sealed: false,
+        heap: false,
+    },
+    object: 0,
+    offset: 0,
+};
+
+/// An area, and the slot that shows it.
+#[derive(Clone, Copy, Debug, PartialEq, Eq)]
+pub struct Shown {
+    pub slot: u32,
+    pub area: Record,
+}
+
+/// What a slot shows.
+pub(crate) fn area_in(records: &[Record], slot: u32) -> Record
+    ensures { result ≡ area_in records.now slot }
+{
+    match records.get(slot as usize) {
+        Some(area) => *area,
+        None => NO_AREA,
+    }
+}

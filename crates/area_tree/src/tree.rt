@@ -1,0 +1,196 @@
+//! The tree of areas.
+ghost use Rattle.std.specs.Prelude.{◌≡◌, ◌≤◌, ◌<◌, ◌+◌, ◌*◌, ◌^◌, ◌-◌, ◌∷◌, ℕ, true, false, nat_eq, List, [], length, map, replicate, slice_set, Contains, IsPermutation, IfOk};
+ghost use Rattle.mm_types.specs.declared.area.Record.{Record};
+ghost use Rattle.mm_types.specs.Config.{IsValidConfig};
+ghost use Rattle.area_list.specs.Areas.{page_of};
+ghost use Rattle.area_model.specs.Placement.{bounds_of, is_free};
+ghost use Rattle.span_tree.specs.SpanTrees.{IsFreshWriter, ArePairs};
+ghost use Rattle.area_tree.specs.declared.shown.Shown.{Shown};
+ghost use Rattle.area_tree.specs.AreaTrees.{no_area, shown_of, areas_of, times_shown, span_of, AreasRise};
+
+use crate::shown::{NO_AREA, Shown};
+use area_list::page_of;
+use area_model::{Bounds, bounds_of};
+use mm_types::{Config, NoMemory, Page, Record, Slot};
+use node_slots::NodeWriter;
+use span_tree::SpanTree;
+use std::alloc::Global;
+use std::marker::Model;
+use std::sync::Wait;
+
+/// The areas of an address space: the tree of their spans and slots, and what each slot shows. Contracts see the tree, the
+/// records by slot, and the pages between which areas are placed. It never holds two areas with a page in common.
+#[derive(Drop)]
+pub struct AreaTree {
+    pub(crate) tree: SpanTree,
+    /// What each slot shows, or showed last.
+    pub(crate) records: Vec<Record>,
+    pub(crate) bounds: Bounds,
+    /// How many areas there are.
+    pub(crate) count: u64,
+    /// Where the areas are handed out in order: empty until then.
+    pub(crate) list: Vec<Record>,
+}
+
+impl Model for AreaTree {
+    ghost use Rattle.area_tree.specs.AreaTrees.{AreaTreeView};
+
+    ghost Value = { AreaTreeView };
+
+    ghost use Rattle.area_tree.specs.Kept.{view_of, IsAreaTree};
+
+    ghost view = { view_of };
+
+    ghost invariant = { IsAreaTree };
+}
+
+impl AreaTree {
+    /// No area, in a table of nodes that was just made, of which the writer is given: it has `config.areas + 128` rows, and
+    /// `2 config.areas + 2` slots.
+    pub fn new(alloc: Global, config: &Config, nodes: NodeWriter) -> Result<AreaTree, NoMemory>
+        requires config { IsValidConfig config.now }
+        requires fresh { IsFreshWriter config.now.areas nodes }
+        ensures { IfOk result (λ areas. areas ≡ record {
+          tree = record {
+            table = nodes.desk.seat.table_id;
+            areas = config.now.areas;
+            limit = page_of config.now.limit;
+            number = 0;
+            settled = 0;
+            pairs = [];
+            shown = [];
+            changed = false;
+            roomy = false;
+          };
+          records = replicate (2 * config.now.areas + 2) no_area;
+          bounds = bounds_of config.now;
+        }) }
+    {
+        let tree = SpanTree::new(config.areas, Page(page_of(config.limit)), nodes)?;
+        let slots = 2 * config.areas as usize + 2;
+        Ok(AreaTree {
+            tree,
+            records: vec![in alloc; NO_AREA; slots]?,
+            bounds: bounds_of(config),
+            count: 0,
+            list: Vec::with_capacity(alloc, config.areas as usize)?,
+        })
+    }
+
+    /// The slot that shows an area of the tree.
+    pub fn slot_of(&self, area: &Record) -> Slot
+        requires { Contains (areas_of self.now) area.now }
+        ensures { Contains (shown_of self.now) (record { slot = result.0; area = area.now }) }
+    {
+        self.tree.facts();
+        match self.tree.next_slot(Page(area.span.lo)) {
+            Some(slot) => slot,
+            None => unreachable!(),
+        }
+    }
+
+    /// Takes an area out of the tree.
+    pub fn remove(&mut self, area: &Record)
+        requires roomy { self.old.tree.roomy ≡ true }
+        requires member { Contains (areas_of self.old) area.now }
+        ensures shown { (slot : ℕ) → Contains (shown_of self.old) (record { slot = slot; area = area.now })
+            → IsPermutation (record { slot = slot; area = area.now } ∷ shown_of self.new) (shown_of self.old) }
+        ensures same { self.new ≡ record self.old { tree = record self.old.tree { pairs = self.new.tree.pairs; changed = true } } }
+    {
+        self.tree.facts();
+        self.tree.store(area.span, None);
+        self.count -= 1;
+    }
+
+    /// A slot of the tree shows another area, with the pages of the one before.
+    pub fn update(&mut self, shown: Shown)
+        requires member { (old : Record) × Contains (shown_of self.old) (record { slot = shown.slot; area = old }) × (old.span ≡ shown.area.span) }
+        requires once { times_shown shown.slot (shown_of self.old) ≤ 1 }
+        ensures shown { (old : Record) → Contains (shown_of self.old) (record { slot = shown.slot; area = old })
+            → (rest : List Shown) × IsPermutation (record { slot = shown.slot; area = old } ∷ rest) (shown_of self.old)
+            × IsPermutation (shown ∷ rest) (shown_of self.new) }
+        ensures same { self.new ≡ record self.old { records = slice_set self.old.records shown.slot shown.area } }
+    {
+        self.tree.facts();
+        self.records[shown.slot as usize] = shown.area;
+    }
+
+    /// A slot that shows no area of the tree shows one at free pages.
+    pub fn insert(&mut self, shown: Shown)
+        requires roomy { self.old.tree.roomy ≡ true }
+        requires span { (shown.area.span.lo < shown.area.span.hi) × (shown.area.span.hi ≤ self.old.tree.limit) }
+        requires pages { is_free (areas_of self.old) (shown.area.span.hi - shown.area.span.lo) shown.area.span.lo ≡ true }
+        requires slot { shown.slot < 2 * self.old.tree.areas + 2 }
+        requires free { times_shown shown.slot (shown_of self.old) ≡ 0 }
+        requires few { length (areas_of self.old) < self.old.tree.areas }
+        ensures shown { IsPermutation (shown ∷ shown_of self.old) (shown_of self.new) }
+        ensures same { self.new ≡ record self.old {
+          tree = record self.old.tree { pairs = self.new.tree.pairs; changed = true };
+          records = slice_set self.old.records shown.slot shown.area;
+        } }
+    {
+        self.tree.facts();
+        self.records[shown.slot as usize] = shown.area;
+        self.tree.store(shown.area.span, Some(Slot(shown.slot)));
+        self.count += 1;
+    }
+
+    /// Scans until enough rows are free for all changes up to the next publish, which waits for readers. Where tree 0 is present,
+    /// which has no entries, a tree of one gap is built.
+    pub fn prepare<R: Wait>(&mut self, rt: &R)
+        requires { self.old.tree.changed ≡ false }
+        ensures same { self.new ≡ record self.old {
+          tree = record self.old.tree { changed = nat_eq self.old.tree.number 0; roomy = true; settled = self.new.tree.settled };
+        } }
+        ensures settled { self.old.tree.settled ≤ self.new.tree.settled }
+        ensures shown { self.old.tree.shown ≡ self.old.tree.pairs }
+    {
+        self.tree.prepare(rt);
+    }
+
+    /// Publishes the tree: it is the present one, with the next number.
+    pub fn publish(&mut self)
+        requires roomy { self.old.tree.roomy ≡ true }
+        requires number { self.old.tree.number < 2 ^ 40 - 1 }
+        ensures same { self.new ≡ record self.old {
+          tree = record self.old.tree {
+            number = self.old.tree.number + 1;
+            shown = self.old.tree.pairs;
+            changed = false;
+            roomy = false;
+            settled = self.new.tree.settled;
+          };
+        } }
+        ensures settled { self.old.tree.settled ≤ self.new.tree.settled }
+    {
+        self.tree.publish();
+    }
+
+    /// The greatest tree, at most the present one, such that no row waits that left at its publish or before.
+    pub fn settled(&self) -> u64
+        ensures settled { result ≡ self.now.tree.settled }
+        ensures most { result ≤ self.now.tree.number }
+    {
+        self.tree.settled()
+    }
+
+    /// Scans every pin once: rows that no reader may read any more are free again.
+    pub fn scan(&mut self)
+        ensures same { self.new ≡ record self.old { tree = record self.old.tree { settled = self.new.tree.settled } } }
+        ensures settled { self.old.tree.settled ≤ self.new.tree.settled }
+    {
+        self.tree.scan();
+    }
+
+    /// What the type keeps: the areas stand in order up to the limit, no more than may be; each has the pages of its pair; and
+    /// there is a record for each slot.
+    pub fn facts(&self)
+        ensures rise { AreasRise self.now.tree.limit 0 (areas_of self.now) }
+        ensures few { length (areas_of self.now) ≤ self.now.tree.areas }
+        ensures spans { map span_of self.now.tree.pairs ≡ map (λ area. area.span) (areas_of self.now) }
+        ensures slots { length self.now.records ≡ 2 * self.now.tree.areas + 2 }
+        ensures limit { self.now.bounds.limit ≡ self.now.tree.limit }
+    {
+        self.tree.facts();
+    }
+}
