@@ -58,3 +58,6 @@ fn main(rt: HostRuntime) -> ExitCode {
         None => ExitCode::from(2),
     }
 }
+
+#[cfg(test)]
+mod tests;
