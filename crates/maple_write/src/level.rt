@@ -9,17 +9,26 @@ ghost use Rattle.node_slots.specs.Built.{words_at};
 ghost use Rattle.maple_write.specs.Tables.{table_at, rows_in, gone, FillsRows};
 ghost use Rattle.maple_write.specs.Stores.{old_level, new_level, new_entries, Partly, Cut};
 
+use crate::few::FewItems;
 use crate::rows::{Rooted, find, node, pack};
 use maple_items::{ItemList, least};
 use mm_types::Row;
 use node_slots::{NodeTable, NodeWriter};
 
-/// A stretch of a level: items beside each other, the page where they begin, and the page where they end.
+/// New items of a level beside each other, at most three, the page where they begin, and the page where they end.
 #[derive(Drop)]
 pub(crate) struct Stretch {
     pub(crate) begin: u64,
     pub(crate) end: u64,
-    pub(crate) items: ItemList,
+    pub(crate) items: FewItems,
+}
+
+/// The items of whole nodes of a level, the page where they begin, and the page where they end.
+#[derive(Drop)]
+struct Block {
+    begin: u64,
+    end: u64,
+    items: ItemList,
 }
 
 /// Leaves the nodes of a level of an old tree from page `lo` up to page `hi`, where one ends.
@@ -87,7 +96,7 @@ fn cut(
     level: u32,
     lo: u64,
     new: &Stretch,
-) -> Stretch
+) -> Block
     requires table { Writes writer.now nodes.now }
     requires partly { Partly (table_at writer.now) old.top old.height level lo new.now.end new.now.items }
     requires below { level < old.height }
@@ -95,7 +104,7 @@ fn cut(
 {
     let left = find(nodes, writer, old, level + 1, lo);
     let right = find(nodes, writer, old, level + 1, new.end - 1);
-    Stretch {
+    Block {
         begin: left.start,
         end: right.item.end,
         items: joined(
@@ -118,7 +127,7 @@ fn stretched(
     level: u32,
     lo: u64,
     new: &Stretch,
-) -> Stretch
+) -> Block
     requires table { Writes writer.now nodes.now }
     requires partly { Partly (table_at writer.now) old.top old.height level lo new.now.end new.now.items }
     requires below { level < old.height }

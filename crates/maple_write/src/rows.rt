@@ -9,6 +9,7 @@ ghost use Rattle.node_slots.specs.Built.{words_at};
 ghost use Rattle.maple_write.specs.Tables.{table_at, rows_in, FillsRows};
 ghost use Rattle.maple_write.specs.Stores.{old_level};
 
+use crate::few::FewItems;
 use maple_items::{ItemList, Place, gap_of, node_items, node_words, share};
 use maple_node::{Item, Steps};
 use mm_types::Row;
@@ -138,7 +139,7 @@ pub(crate) fn pack(
     leaf: bool,
     start: u64,
     items: &[Item],
-) -> ItemList
+) -> FewItems
     requires table { Writes writer.old nodes.now }
     requires free { 3 ≤ length (free_of writer.old) }
     requires some { 1 ≤ length items.now }
@@ -157,7 +158,7 @@ pub(crate) fn pack(
     ensures free { length (free_of writer.old) ≡ length (free_of writer.new) + length result }
     ensures left { left_of writer.new ≡ left_of writer.old }
 {
-    let mut packed = ItemList::new();
+    let mut packed = FewItems::new();
     let mut begin = start;
     let mut place = 0;
     while place < items.len() {

@@ -12,7 +12,6 @@ ghost use Rattle.node_slots.specs.Built.{words_at, built, IsBuilt, IsWriters, pa
 ghost use Rattle.maple_write.specs.Tables.{table_at, FillsRows};
 ghost use Rattle.maple_write.specs.Stores.{IsShaped, IsWhole, Finds, tree_under, all_gap};
 
-use crate::level::Stretch;
 use crate::rows::{Rooted, find, node, put};
 use crate::tree::{first, replace};
 use maple_items::{ItemList, Place, gap_of};
@@ -192,11 +191,8 @@ fn first_entries(limit: u64, lo: u64, hi: u64, word: u64) -> ItemList
         item: gap,
     };
     let stretch = first(place, lo, hi, word);
-    let Stretch {
-        begin: _,
-        end: _,
-        items: mut entries,
-    } = stretch;
+    let mut entries = ItemList::new();
+    entries.push_all(stretch.items.items());
     entries.push_beyond(hi, &[gap]);
     entries
 }

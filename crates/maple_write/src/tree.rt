@@ -10,9 +10,10 @@ ghost use Rattle.node_slots.specs.Built.{words_at};
 ghost use Rattle.maple_write.specs.Tables.{table_at, gone, FillsRows, Stand};
 ghost use Rattle.maple_write.specs.Stores.{IsShaped, tree_under};
 
+use crate::few::FewItems;
 use crate::level::{Stretch, leave_block, rise};
 use crate::rows::{Rooted, find, put};
-use maple_items::{ItemList, Place};
+use maple_items::Place;
 use maple_node::Item;
 use node_slots::{NodeTable, NodeWriter};
 
@@ -23,7 +24,7 @@ pub(crate) fn first(place: Place, lo: u64, hi: u64, word: u64) -> Stretch
     ensures end { result.end ≡ hi }
     ensures items { result.items ≡ piece_of place.start lo (Some place.item) ++ record { end = hi; word = word; gap = 0 } ∷ [] }
 {
-    let mut items = ItemList::new();
+    let mut items = FewItems::new();
     if place.start < lo {
         items.push(Item {
             end: lo,
@@ -79,7 +80,7 @@ pub(crate) fn crown(
     nodes: &NodeTable,
     writer: &mut NodeWriter,
     level: u32,
-    items: &ItemList,
+    items: &FewItems,
 ) -> Rooted
     requires table { Writes writer.old nodes.now }
     requires tall { 1 ≤ level }
