@@ -23,12 +23,11 @@ pub(crate) struct Stretch {
     pub(crate) items: FewItems,
 }
 
-/// The items of whole nodes of a level, the page where they begin, and the page where they end.
-#[derive(Drop)]
-struct Block {
+/// The page where the items of whole nodes of a level begin, and the page where they end.
+#[derive(Clone, Copy)]
+struct Edges {
     begin: u64,
     end: u64,
-    items: ItemList,
 }
 
 /// Leaves the nodes of a level of an old tree from page `lo` up to page `hi`, where one ends.
@@ -63,7 +62,7 @@ pub(crate) fn leave_block(
     }
 }
 
-/// The items of two nodes of a level with new ones between: those of the left one up to page `lo`, and those of the right one
+/// Lists the items of two nodes of a level with new ones between: those of the left one up to page `lo`, and those of the right one
 /// above the page where the new ones end.
 fn joined(
     nodes: &NodeTable,
@@ -73,22 +72,23 @@ fn joined(
     right: u64,
     lo: u64,
     new: &Stretch,
-) -> ItemList
+    items: &mut ItemList,
+)
     requires table { Writes writer.now nodes.now }
     requires left { left < row_count writer.now }
     requires right { right < row_count writer.now }
     requires few { length new.now.items ≤ 3 }
-    ensures { result ≡ upto lo (read (words_at writer.now) leaf left)
+    requires none { items.old ≡ [] }
+    ensures { items.new ≡ upto lo (read (words_at writer.now) leaf left)
         ++ (new.now.items ++ beyond new.now.end (read (words_at writer.now) leaf right)) }
 {
-    let mut items = ItemList::new();
     items.push_upto(lo, node(nodes, writer, leaf, left).items());
     items.push_all(new.items.items());
     items.push_beyond(new.end, node(nodes, writer, leaf, right).items());
-    items
 }
 
-/// The new items of a level from the beginning of the node that has page `lo` to the end of the node where they end.
+/// Lists the new items of a level from the beginning of the node that has page `lo` to the end of the node where they end, and
+/// answers these pages.
 fn cut(
     nodes: &NodeTable,
     writer: &NodeWriter,
@@ -96,26 +96,29 @@ fn cut(
     level: u32,
     lo: u64,
     new: &Stretch,
-) -> Block
+    items: &mut ItemList,
+) -> Edges
     requires table { Writes writer.now nodes.now }
     requires partly { Partly (table_at writer.now) old.top old.height level lo new.now.end new.now.items }
     requires below { level < old.height }
-    ensures { Cut (table_at writer.now) old.top old.height level lo new.now.end new.now.items result.begin result.end result.items }
+    requires none { items.old ≡ [] }
+    ensures { Cut (table_at writer.now) old.top old.height level lo new.now.end new.now.items result.begin result.end items.new }
 {
     let left = find(nodes, writer, old, level + 1, lo);
     let right = find(nodes, writer, old, level + 1, new.end - 1);
-    Block {
+    joined(
+        nodes,
+        writer,
+        level == 0,
+        left.item.word,
+        right.item.word,
+        lo,
+        new,
+        items,
+    );
+    Edges {
         begin: left.start,
         end: right.item.end,
-        items: joined(
-            nodes,
-            writer,
-            level == 0,
-            left.item.word,
-            right.item.word,
-            lo,
-            new,
-        ),
     }
 }
 
@@ -127,22 +130,22 @@ fn stretched(
     level: u32,
     lo: u64,
     new: &Stretch,
-) -> Block
+    items: &mut ItemList,
+) -> Edges
     requires table { Writes writer.now nodes.now }
     requires partly { Partly (table_at writer.now) old.top old.height level lo new.now.end new.now.items }
     requires below { level < old.height }
-    ensures cut { Cut (table_at writer.now) old.top old.height level lo new.now.end new.now.items result.begin result.end result.items }
-    ensures least { result.end < old.top.end → least (is_leaf level) ≤ length result.items }
+    requires none { items.old ≡ [] }
+    ensures cut { Cut (table_at writer.now) old.top old.height level lo new.now.end new.now.items result.begin result.end items.new }
+    ensures least { result.end < old.top.end → least (is_leaf level) ≤ length items.new }
 {
-    let mut stretch = cut(nodes, writer, old, level, lo, new);
-    if stretch.items.len() < least(level == 0) && stretch.end < old.top.end {
-        let next = find(nodes, writer, old, level + 1, stretch.end);
-        stretch
-            .items
-            .push_all(node(nodes, writer, level == 0, next.item.word).items());
-        stretch.end = next.item.end;
+    let mut edges = cut(nodes, writer, old, level, lo, new, items);
+    if items.len() < least(level == 0) && edges.end < old.top.end {
+        let next = find(nodes, writer, old, level + 1, edges.end);
+        items.push_all(node(nodes, writer, level == 0, next.item.word).items());
+        edges.end = next.item.end;
     }
-    stretch
+    edges
 }
 
 /// Makes the nodes of a level anew where items of it are replaced, and leaves the old nodes there. Answers the items of the
@@ -168,18 +171,13 @@ pub(crate) fn rise(
     ensures under { below (words_at writer.new) (is_leaf level) (new_level (table_at writer.new) old.top old.height (level + 1) lo result.end result.items)
         ≡ new_level (table_at writer.old) old.top old.height level lo new.now.end new.now.items }
 {
-    let stretch = stretched(nodes, writer, old, level, lo, new);
-    let items = pack(
-        nodes,
-        writer,
-        level == 0,
-        stretch.begin,
-        stretch.items.items(),
-    );
-    leave_block(nodes, writer, old, level + 1, lo, stretch.end);
+    let mut list = ItemList::new();
+    let edges = stretched(nodes, writer, old, level, lo, new, &mut list);
+    let items = pack(nodes, writer, level == 0, edges.begin, list.items());
+    leave_block(nodes, writer, old, level + 1, lo, edges.end);
     Stretch {
-        begin: stretch.begin,
-        end: stretch.end,
+        begin: edges.begin,
+        end: edges.end,
         items,
     }
 }

@@ -8,9 +8,9 @@ use Rattle.maple_write.proofs.level.joined.Goals as goal
 
 pub push_all-requires : goal.push_all-requires
 push_all-requires c =
-    let none = ap (λ (xs : List Item). length xs) c.new-items.ensures in
+    let none = ap (λ (xs : List Item). length xs) c.requires.none in
     let first = ap (λ (xs : List Item). length xs) c.push_upto.ensures in
-    let joined = length-append c.new-items.result (upto c.args.lo c.items.result.now) in
+    let joined = length-append c.args.items.now (upto c.args.lo c.items.result.now) in
     let fewer = length-upto c.args.lo c.items.result.now in
     let of_node = ap (λ (xs : List Item). length xs) c.items.ensures.items in
     let new = ap (λ (xs : List Item). length xs) c.items-2.ensures.items in
@@ -21,10 +21,10 @@ push_all-requires c =
 
 pub push_beyond-requires : goal.push_beyond-requires
 push_beyond-requires c =
-    let none = ap (λ (xs : List Item). length xs) c.new-items.ensures in
+    let none = ap (λ (xs : List Item). length xs) c.requires.none in
     let first = ap (λ (xs : List Item). length xs) c.push_upto.ensures in
     let second = ap (λ (xs : List Item). length xs) c.push_all.ensures in
-    let joined = length-append c.new-items.result (upto c.args.lo c.items.result.now) in
+    let joined = length-append c.args.items.now (upto c.args.lo c.items.result.now) in
     let joined' = length-append c.push_upto.new.self c.items-2.result.now in
     let fewer = length-upto c.args.lo c.items.result.now in
     let of_node = ap (λ (xs : List Item). length xs) c.items.ensures.items in

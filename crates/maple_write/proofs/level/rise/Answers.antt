@@ -15,9 +15,9 @@ leave_block-requires-clause-tower c =
     let packed = c.pack-items.new.writer in
     let tree = c.args.old in
     let new = c.args.new.now in
-    let stretch = c.stretched-stretch.result in
-    let is = ready (table_at old) (table_at packed) tree.top tree.height c.args.level c.args.lo new.end stretch.begin stretch.end new.items stretch.items
-    c.requires.partly c.requires.below c.stretched-stretch.ensures.cut c.pack-items.ensures.kept c.pack-items.ensures.same.long
+    let stretch = c.stretched-edges.result in
+    let is = ready (table_at old) (table_at packed) tree.top tree.height c.args.level c.args.lo new.end stretch.begin stretch.end new.items c.stretched-edges.new.items
+    c.requires.partly c.requires.below c.stretched-edges.ensures.cut c.pack-items.ensures.kept c.pack-items.ensures.same.long
     c.pack-items.ensures.left (λ row. let t = c.pack-items.ensures.taken row in omega arith) in
     is.tower
 
@@ -27,9 +27,9 @@ leave_block-requires-clause-edge c =
     let packed = c.pack-items.new.writer in
     let tree = c.args.old in
     let new = c.args.new.now in
-    let stretch = c.stretched-stretch.result in
-    let is = ready (table_at old) (table_at packed) tree.top tree.height c.args.level c.args.lo new.end stretch.begin stretch.end new.items stretch.items
-    c.requires.partly c.requires.below c.stretched-stretch.ensures.cut c.pack-items.ensures.kept c.pack-items.ensures.same.long
+    let stretch = c.stretched-edges.result in
+    let is = ready (table_at old) (table_at packed) tree.top tree.height c.args.level c.args.lo new.end stretch.begin stretch.end new.items c.stretched-edges.new.items
+    c.requires.partly c.requires.below c.stretched-edges.ensures.cut c.pack-items.ensures.kept c.pack-items.ensures.same.long
     c.pack-items.ensures.left (λ row. let t = c.pack-items.ensures.taken row in omega arith) in
     is.edge
 
@@ -39,9 +39,9 @@ leave_block-requires-clause-apart c row =
     let packed = c.pack-items.new.writer in
     let tree = c.args.old in
     let new = c.args.new.now in
-    let stretch = c.stretched-stretch.result in
-    let is = ready (table_at old) (table_at packed) tree.top tree.height c.args.level c.args.lo new.end stretch.begin stretch.end new.items stretch.items
-    c.requires.partly c.requires.below c.stretched-stretch.ensures.cut c.pack-items.ensures.kept c.pack-items.ensures.same.long
+    let stretch = c.stretched-edges.result in
+    let is = ready (table_at old) (table_at packed) tree.top tree.height c.args.level c.args.lo new.end stretch.begin stretch.end new.items c.stretched-edges.new.items
+    c.requires.partly c.requires.below c.stretched-edges.ensures.cut c.pack-items.ensures.kept c.pack-items.ensures.same.long
     c.pack-items.ensures.left (λ row. let t = c.pack-items.ensures.taken row in omega arith) in
     let few = is.apart row in
     let bound = ap (λ (n : ℕ). cond {A = ℕ} (nat_lt row n) 1 0) (rows_counted packed) in
@@ -54,15 +54,15 @@ returns-clause-partly c =
     let after = c.leave_block.new.writer in
     let tree = c.args.old in
     let new = c.args.new.now in
-    let stretch = c.stretched-stretch.result in
+    let stretch = c.stretched-edges.result in
     let same = c.items.ensures.items in
-    let cut = c.stretched-stretch.ensures.cut in
+    let cut = c.stretched-edges.ensures.cut in
     let full : end_of stretch.begin c.items.result.now < tree.top.end → least (is_leaf c.args.level) ≤ length c.items.result.now = λ less.
     let ends = ap (end_of stretch.begin) same in
     let until = cut.ending in
-    subst (λ (xs : List Item). least (is_leaf c.args.level) ≤ length xs) (sym same) (c.stretched-stretch.ensures.least (omega arith)) in
+    subst (λ (xs : List Item). least (is_leaf c.args.level) ≤ length xs) (sym same) (c.stretched-edges.ensures.least (omega arith)) in
     (rose (table_at old) (table_at packed) (table_at after) tree.top tree.height c.args.level c.args.lo new.end stretch.begin stretch.end new.items
-    stretch.items c.pack-items.result c.requires.partly c.requires.below cut (c.pack-items.ensures.nodes tree.top.end full)
+    c.stretched-edges.new.items c.pack-items.result c.requires.partly c.requires.below cut (c.pack-items.ensures.nodes tree.top.end full)
     (c.pack-items.ensures.below ∙ same) c.pack-items.ensures.some c.pack-items.ensures.few c.pack-items.ensures.kept c.pack-items.ensures.same.long
     c.pack-items.ensures.taken c.pack-items.ensures.free c.pack-items.ensures.left
     (ap (λ (v : NodeView). v.known.desk.words) c.leave_block.ensures.view) c.leave_block.ensures.free c.leave_block.ensures.gone).partly
@@ -74,15 +74,15 @@ returns-clause-begin c =
     let after = c.leave_block.new.writer in
     let tree = c.args.old in
     let new = c.args.new.now in
-    let stretch = c.stretched-stretch.result in
+    let stretch = c.stretched-edges.result in
     let same = c.items.ensures.items in
-    let cut = c.stretched-stretch.ensures.cut in
+    let cut = c.stretched-edges.ensures.cut in
     let full : end_of stretch.begin c.items.result.now < tree.top.end → least (is_leaf c.args.level) ≤ length c.items.result.now = λ less.
     let ends = ap (end_of stretch.begin) same in
     let until = cut.ending in
-    subst (λ (xs : List Item). least (is_leaf c.args.level) ≤ length xs) (sym same) (c.stretched-stretch.ensures.least (omega arith)) in
+    subst (λ (xs : List Item). least (is_leaf c.args.level) ≤ length xs) (sym same) (c.stretched-edges.ensures.least (omega arith)) in
     (rose (table_at old) (table_at packed) (table_at after) tree.top tree.height c.args.level c.args.lo new.end stretch.begin stretch.end new.items
-    stretch.items c.pack-items.result c.requires.partly c.requires.below cut (c.pack-items.ensures.nodes tree.top.end full)
+    c.stretched-edges.new.items c.pack-items.result c.requires.partly c.requires.below cut (c.pack-items.ensures.nodes tree.top.end full)
     (c.pack-items.ensures.below ∙ same) c.pack-items.ensures.some c.pack-items.ensures.few c.pack-items.ensures.kept c.pack-items.ensures.same.long
     c.pack-items.ensures.taken c.pack-items.ensures.free c.pack-items.ensures.left
     (ap (λ (v : NodeView). v.known.desk.words) c.leave_block.ensures.view) c.leave_block.ensures.free c.leave_block.ensures.gone).starts
@@ -94,15 +94,15 @@ returns-clause-entries c =
     let after = c.leave_block.new.writer in
     let tree = c.args.old in
     let new = c.args.new.now in
-    let stretch = c.stretched-stretch.result in
+    let stretch = c.stretched-edges.result in
     let same = c.items.ensures.items in
-    let cut = c.stretched-stretch.ensures.cut in
+    let cut = c.stretched-edges.ensures.cut in
     let full : end_of stretch.begin c.items.result.now < tree.top.end → least (is_leaf c.args.level) ≤ length c.items.result.now = λ less.
     let ends = ap (end_of stretch.begin) same in
     let until = cut.ending in
-    subst (λ (xs : List Item). least (is_leaf c.args.level) ≤ length xs) (sym same) (c.stretched-stretch.ensures.least (omega arith)) in
+    subst (λ (xs : List Item). least (is_leaf c.args.level) ≤ length xs) (sym same) (c.stretched-edges.ensures.least (omega arith)) in
     (rose (table_at old) (table_at packed) (table_at after) tree.top tree.height c.args.level c.args.lo new.end stretch.begin stretch.end new.items
-    stretch.items c.pack-items.result c.requires.partly c.requires.below cut (c.pack-items.ensures.nodes tree.top.end full)
+    c.stretched-edges.new.items c.pack-items.result c.requires.partly c.requires.below cut (c.pack-items.ensures.nodes tree.top.end full)
     (c.pack-items.ensures.below ∙ same) c.pack-items.ensures.some c.pack-items.ensures.few c.pack-items.ensures.kept c.pack-items.ensures.same.long
     c.pack-items.ensures.taken c.pack-items.ensures.free c.pack-items.ensures.left
     (ap (λ (v : NodeView). v.known.desk.words) c.leave_block.ensures.view) c.leave_block.ensures.free c.leave_block.ensures.gone).entries
@@ -114,15 +114,15 @@ returns-clause-under c =
     let after = c.leave_block.new.writer in
     let tree = c.args.old in
     let new = c.args.new.now in
-    let stretch = c.stretched-stretch.result in
+    let stretch = c.stretched-edges.result in
     let same = c.items.ensures.items in
-    let cut = c.stretched-stretch.ensures.cut in
+    let cut = c.stretched-edges.ensures.cut in
     let full : end_of stretch.begin c.items.result.now < tree.top.end → least (is_leaf c.args.level) ≤ length c.items.result.now = λ less.
     let ends = ap (end_of stretch.begin) same in
     let until = cut.ending in
-    subst (λ (xs : List Item). least (is_leaf c.args.level) ≤ length xs) (sym same) (c.stretched-stretch.ensures.least (omega arith)) in
+    subst (λ (xs : List Item). least (is_leaf c.args.level) ≤ length xs) (sym same) (c.stretched-edges.ensures.least (omega arith)) in
     (rose (table_at old) (table_at packed) (table_at after) tree.top tree.height c.args.level c.args.lo new.end stretch.begin stretch.end new.items
-    stretch.items c.pack-items.result c.requires.partly c.requires.below cut (c.pack-items.ensures.nodes tree.top.end full)
+    c.stretched-edges.new.items c.pack-items.result c.requires.partly c.requires.below cut (c.pack-items.ensures.nodes tree.top.end full)
     (c.pack-items.ensures.below ∙ same) c.pack-items.ensures.some c.pack-items.ensures.few c.pack-items.ensures.kept c.pack-items.ensures.same.long
     c.pack-items.ensures.taken c.pack-items.ensures.free c.pack-items.ensures.left
     (ap (λ (v : NodeView). v.known.desk.words) c.leave_block.ensures.view) c.leave_block.ensures.free c.leave_block.ensures.gone).under

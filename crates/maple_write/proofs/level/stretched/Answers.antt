@@ -18,33 +18,35 @@ find-next-requires-clause-tower c =
 pub node-requires-clause-row : goal.node-requires-clause-row
 node-requires-clause-row c =
     let there = there_at (table_at c.args.writer.now) c.args.old.top c.args.old.height c.args.level c.args.lo c.args.new.now.end
-    c.cut-stretch.result.end c.args.new.now.items c.find-next.result.item c.requires.partly c.requires.below c.find-next.ensures.item in
+    c.cut-edges.result.end c.args.new.now.items c.find-next.result.item c.requires.partly c.requires.below c.find-next.ensures.item in
     let row = there.row in
     let long = rows_counted c.args.writer.now in
     omega arith
 
-pub returns-then-stretch-old-clause-cut : goal.returns-then-stretch-old-clause-cut
-returns-then-stretch-old-clause-cut c =
+pub returns-then-edges-old-clause-cut : goal.returns-then-edges-old-clause-cut
+returns-then-edges-old-clause-cut c =
     let table = table_at c.args.writer.now in
     let old = c.args.old in
     let new = c.args.new.now in
-    let cut = c.cut-stretch.result in
+    let cut = c.cut-edges.result in
+    let begun = c.cut-edges.new.items in
     let short = c.if-len-least.true in
     let count = c.len.ensures.count in
     let bound = c.least.ensures in
     let more = read (words_at c.args.writer.now) (is_leaf c.args.level) c.find-next.result.item.word in
-    let joined = c.push_all.ensures ∙ ap (λ (xs : List Item). cut.items ++ xs) (c.items.ensures.items ∙ c.node.ensures.items) in
+    let joined = c.push_all.ensures ∙ ap (λ (xs : List Item). begun ++ xs) (c.items.ensures.items ∙ c.node.ensures.items) in
     subst (λ (xs : List Item). Cut table old.top old.height c.args.level c.args.lo new.end new.items cut.begin c.find-next.result.item.end xs) (sym joined)
-    (cut_more table old.top old.height c.args.level c.args.lo new.end cut.begin cut.end new.items cut.items c.find-next.result.item c.requires.partly
-    c.requires.below c.cut-stretch.ensures c.find-next.ensures.item (omega arith))
+    (cut_more table old.top old.height c.args.level c.args.lo new.end cut.begin cut.end new.items begun c.find-next.result.item c.requires.partly
+    c.requires.below c.cut-edges.ensures c.find-next.ensures.item (omega arith))
 
-pub returns-then-stretch-old-clause-least : goal.returns-then-stretch-old-clause-least
-returns-then-stretch-old-clause-least c inner =
+pub returns-then-edges-old-clause-least : goal.returns-then-edges-old-clause-least
+returns-then-edges-old-clause-least c inner =
     let table = table_at c.args.writer.now in
     let old = c.args.old in
     let new = c.args.new.now in
-    let cut = c.cut-stretch.result in
-    let joined = c.push_all.ensures ∙ ap (λ (xs : List Item). cut.items ++ xs) (c.items.ensures.items ∙ c.node.ensures.items) in
+    let cut = c.cut-edges.result in
+    let begun = c.cut-edges.new.items in
+    let joined = c.push_all.ensures ∙ ap (λ (xs : List Item). begun ++ xs) (c.items.ensures.items ∙ c.node.ensures.items) in
     subst (λ (xs : List Item). least (is_leaf c.args.level) ≤ length xs) (sym joined)
-    (cut_enough table old.top old.height c.args.level c.args.lo new.end cut.begin cut.end new.items cut.items c.find-next.result.item c.requires.partly
-    c.requires.below c.cut-stretch.ensures c.find-next.ensures.item inner)
+    (cut_enough table old.top old.height c.args.level c.args.lo new.end cut.begin cut.end new.items begun c.find-next.result.item c.requires.partly
+    c.requires.below c.cut-edges.ensures c.find-next.ensures.item inner)
