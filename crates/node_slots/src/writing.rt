@@ -25,12 +25,11 @@ impl NodeTable {
         ensures view { seat_sight seat.new ≡ store_at (seat_sight seat.old) row.0 place word }
         ensures same { seat.new.table ≡ seat.old.table }
     {
-        let mut words = seat.words[row.0 as usize];
+        let words = &mut seat.words[row.0 as usize];
         if words[place] == word {
             return;
         }
         words[place] = word;
-        seat.words[row.0 as usize] = words;
         let at = (self.size.readers as usize + 1) * 8 + row.0 as usize * 32 + place;
         self.table.shared.store::<Stored>(&mut seat.seat, at, word);
     }

@@ -16,18 +16,3 @@ store-requires c =
       store_owes _ _ _ _ _ _ _ _ sized.size_is kept.kind (omega (arith, c.requires.row, rows)) c.requires.place c.requires.free,
     )
 
-pub invariant_of-seat : goal.invariant_of-seat
-invariant_of-seat c =
-    let kept = c.args.seat.now.kept in
-    let told = c.store.ensures.2 c.args.row.0 c.args.place c.requires.place
-    (ap (λ s. (s.readers + 1) * 8 + c.args.row.0 * 32 + c.args.place) (sym (kept.size_is ∙ c.requires.table.size_is))) in
-    record {
-      kept = store_kept _ _ _ _ _ _ _ _ _ _ kept c.requires.row c.index.ensures told;
-      table_is = c.store.ensures.0 ∙ c.args.seat.now.table_is;
-    }
-
-pub returns-clause-view : goal.returns-clause-view
-returns-clause-view c =
-    let kept = c.args.seat.now.kept in
-    ap (λ m. m.0) (c.store.ensures.2 c.args.row.0 c.args.place c.requires.place
-    (ap (λ s. (s.readers + 1) * 8 + c.args.row.0 * 32 + c.args.place) (sym (kept.size_is ∙ c.requires.table.size_is))))
