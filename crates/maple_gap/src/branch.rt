@@ -10,7 +10,7 @@ ghost use Rattle.node_slots.specs.Built.{words_at, IsWriters};
 ghost use Rattle.maple_gap.specs.Searches.{may_have, entries_under, best_under, best_of, spare_from, IsBranch, IsSpare, IsFar, IsRootOf};
 
 use crate::window::{Side, Window, choose};
-use maple_items::{ItemList, Place, gap_of, item_at, node_items};
+use maple_items::{ItemList, Place, gap_of, item_in, node_items};
 use maple_node::{Item, Steps};
 use mm_types::Row;
 use node_slots::{NodeTable, NodeWriter, Tree};
@@ -29,6 +29,21 @@ pub(crate) struct Descent {
     pub(crate) spare: Option<Branch>,
 }
 
+/// The words of a row. Counts one step.
+fn words<'a, L>(
+    nodes: &NodeTable,
+    writer: &'a NodeWriter,
+    row: u64,
+    steps: &mut Steps<L>,
+) -> &'a [u64; 32]
+    requires table { Writes writer.now nodes.now }
+    requires row { row < row_count writer.now }
+    ensures words { result.now ≡ words_at writer.now row }
+    ensures steps { steps.new ≡ steps.old + 1 }
+{
+    nodes.written(writer, Row(row as u32), steps)
+}
+
 /// The items of the node in a row. Counts one step.
 fn node<L>(
     nodes: &NodeTable,
@@ -43,8 +58,7 @@ fn node<L>(
     ensures most { length result ≤ most leaf }
     ensures steps { steps.new ≡ steps.old + 1 }
 {
-    let words = nodes.written(writer, Row(row as u32), steps);
-    node_items(leaf, &words)
+    node_items(leaf, words(nodes, writer, row, steps))
 }
 
 /// The whole tree as a branch. Tree 0, whose root lists nothing, is one gap.
@@ -159,9 +173,9 @@ pub(crate) fn entry_at<L>(
     while branch.level > 0 {
         let level = branch.level - 1;
         let Place { start, item } = branch.place;
-        let items = node(nodes, writer, level == 0, item.word, steps);
+        let words = words(nodes, writer, item.word, steps);
         branch = Branch {
-            place: item_at(items.items(), start, page),
+            place: item_in(level == 0, words, start, page),
             level,
         };
     }

@@ -1,5 +1,7 @@
 pub mod Lists
 pub mod Places
+pub mod Listed
+pub mod Parts
 pub mod Words
 pub mod Pairs
 pub mod Pages

@@ -1,6 +1,6 @@
 -- For `node_items`, `node_words` and the law `written_items_are_read`: the words of a node.
-use Rattle.std.proofs.Common.{ℕ, zero, suc, ◌≡◌, ◌≢◌, ◌<◌, ◌≤◌, ◌+◌, ◌-◌, ◌*◌, Bool, true, false, nat_eq, List, [], ◌∷◌, ◌++◌, length, drop, take, get_or, set, replicate, All, refl, sym, ap, ◌∙◌, arith, append_assoc, append-nil, length-append}
-use Rattle.std.proofs.lemmas.List.{drop_more, drop_all, take_all, length-take-le, length-drop}
+use Rattle.std.proofs.Common.{ℕ, zero, suc, ◌≡◌, ◌≢◌, ◌<◌, ◌≤◌, ◌+◌, ◌-◌, ◌*◌, Bool, true, false, nat_eq, List, [], ◌∷◌, ◌++◌, length, drop, take, get_or, set, replicate, All, refl, sym, ap, arith}
+use Rattle.std.proofs.lemmas.List.{drop_more, take_all, length-take-le}
 use Rattle.std.proofs.lemmas.Bool.Decides.{nat_tests}
 use Rattle.std.specs.List.{flat_map}
 use Rattle.maple_node.specs.declared.item.Item.{Item}
@@ -19,10 +19,6 @@ leaf_items-more words place room some =
     rw (first, next, test, both) refl
 
 -- or none
-leaf_nil : leaf_items [] ≡ []
-unfolding leaf_items
-leaf_nil = refl
-
 leaf_zero : (words : List ℕ) → leaf_items (0 ∷ words) ≡ []
 unfolding leaf_items
 leaf_zero [] = refl
@@ -60,84 +56,6 @@ pub inner_items-zero : (words : List ℕ) (place : ℕ) → place < length words
 inner_items-zero words place room none =
     let first : drop place words ≡ get_or words place 0 ∷ drop (place + 1) words = drop_more words place 0 room in
     rw (first, none) (inner_zero (drop (place + 1) words))
-
--- no child has place in fewer than three words
-inner_short : (words : List ℕ) → length words < 3 → inner_items words ≡ []
-unfolding inner_items
-inner_short [] short = refl
-inner_short (end ∷ []) short = refl
-inner_short (end ∷ word ∷ []) short = refl
-inner_short (end ∷ word ∷ gap ∷ words) short = absurd (omega arith)
-
-pub inner_items-past : (words : List ℕ) (place : ℕ) → length words < place + 3 → inner_items (drop place words) ≡ []
-inner_items-past words place past = inner_short (drop place words) (omega (arith, length-drop place words))
-
--- so many entries were read of a leaf
-pub record LeafRead (words : List ℕ) (place : ℕ) (items : List Item) : Type 0 where
-  pub whole : leaf_items words ≡ items ++ leaf_items (drop (2 * place) words)
-  pub count : length items ≡ place
-
--- one more
-pub leaf_read_more : (words : List ℕ) (place : ℕ) (items next : List Item) → LeafRead words place items → place < 16 → length words ≡ 32
-    → get_or words (2 * place) 0 ≢ 0
-    → next ≡ items ++ record { end = get_or words (2 * place) 0; word = get_or words (2 * place + 1) 0; gap = 0 } ∷ []
-    → LeafRead words (place + 1) next
-leaf_read_more words place items next read within sized some is =
-    let item : Item = record { end = get_or words (2 * place) 0; word = get_or words (2 * place + 1) 0; gap = 0 } in
-    let more = leaf_items-more words (2 * place) (omega arith) some in
-    let after : 2 * place + 2 ≡ 2 * (place + 1) = omega arith in
-    let rest = leaf_items (drop (2 * (place + 1)) words) in
-    record {
-      whole = read.whole ∙ ap (λ (xs : List Item). items ++ xs) more
-          ∙ ap (λ (n : ℕ). items ++ (item ∷ leaf_items (drop n words))) after
-          ∙ sym (append_assoc items (item ∷ []) rest) ∙ ap (λ (xs : List Item). xs ++ rest) (sym is);
-      count = ap length is ∙ (omega (arith, length-append items (item ∷ []), read.count));
-    }
-
--- all of them, at a place that is not used, and after the last place
-pub leaf_read_end : (words : List ℕ) (place : ℕ) (items : List Item) → LeafRead words place items → place < 16 → length words ≡ 32
-    → get_or words (2 * place) 0 ≡ 0 → items ≡ leaf_items words
-leaf_read_end words place items read within sized none =
-    sym (read.whole ∙ ap (λ (xs : List Item). items ++ xs) (leaf_items-zero words (2 * place) (omega arith) none) ∙ append-nil items)
-
-pub leaf_read_all : (words : List ℕ) (place : ℕ) (items : List Item) → LeafRead words place items → 16 ≤ place → length words ≡ 32
-    → items ≡ leaf_items words
-leaf_read_all words place items read past sized =
-    let none : leaf_items (drop (2 * place) words) ≡ [] = ap leaf_items (drop_all (2 * place) words (omega arith)) ∙ leaf_nil in
-    sym (read.whole ∙ ap (λ (xs : List Item). items ++ xs) none ∙ append-nil items)
-
--- so many children were read of an inner node
-pub record InnerRead (words : List ℕ) (place : ℕ) (items : List Item) : Type 0 where
-  pub whole : inner_items words ≡ items ++ inner_items (drop (3 * place) words)
-  pub count : length items ≡ place
-
--- one more
-pub inner_read_more : (words : List ℕ) (place : ℕ) (items next : List Item) → InnerRead words place items → place < 10 → length words ≡ 32
-    → get_or words (3 * place) 0 ≢ 0
-    → next ≡ items ++ record { end = get_or words (3 * place) 0; word = get_or words (3 * place + 1) 0; gap = get_or words (3 * place + 2) 0 } ∷ []
-    → InnerRead words (place + 1) next
-inner_read_more words place items next read within sized some is =
-    let item : Item = record { end = get_or words (3 * place) 0; word = get_or words (3 * place + 1) 0; gap = get_or words (3 * place + 2) 0 } in
-    let more = inner_items-more words (3 * place) (omega arith) some in
-    let after : 3 * place + 3 ≡ 3 * (place + 1) = omega arith in
-    let rest = inner_items (drop (3 * (place + 1)) words) in
-    record {
-      whole = read.whole ∙ ap (λ (xs : List Item). items ++ xs) more
-          ∙ ap (λ (n : ℕ). items ++ (item ∷ inner_items (drop n words))) after
-          ∙ sym (append_assoc items (item ∷ []) rest) ∙ ap (λ (xs : List Item). xs ++ rest) (sym is);
-      count = ap length is ∙ (omega (arith, length-append items (item ∷ []), read.count));
-    }
-
--- all of them, at a place that is not used, and after the last place
-pub inner_read_end : (words : List ℕ) (place : ℕ) (items : List Item) → InnerRead words place items → place < 10 → length words ≡ 32
-    → get_or words (3 * place) 0 ≡ 0 → items ≡ inner_items words
-inner_read_end words place items read within sized none =
-    sym (read.whole ∙ ap (λ (xs : List Item). items ++ xs) (inner_items-zero words (3 * place) (omega arith) none) ∙ append-nil items)
-
-pub inner_read_all : (words : List ℕ) (place : ℕ) (items : List Item) → InnerRead words place items → 10 ≤ place → length words ≡ 32
-    → items ≡ inner_items words
-inner_read_all words place items read past sized =
-    sym (read.whole ∙ ap (λ (xs : List Item). items ++ xs) (inner_items-past words (3 * place) (omega arith)) ∙ append-nil items)
 
 -- the words of the first entries of a leaf, and then zeros
 abbrev pub leaf_front : List Item → ℕ → List ℕ

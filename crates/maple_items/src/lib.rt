@@ -5,6 +5,7 @@
 mod laws;
 mod list;
 mod node;
+mod part;
 mod place;
 
 pub use laws::{
@@ -12,4 +13,5 @@ pub use laws::{
 };
 pub use list::ItemList;
 pub use node::{gap_of, least, most, node_items, node_words, share};
-pub use place::{Place, item_at};
+pub use part::Part;
+pub use place::{Place, item_at, item_in};

@@ -1,7 +1,7 @@
 //! Short lists of items.
 
 ghost use Rattle.std.specs.Prelude.{◌≡◌, ◌<◌, ◌≤◌, ◌+◌, [], ◌∷◌, ◌++◌, length};
-ghost use Rattle.maple_items.specs.Splices.{upto, beyond};
+ghost use Rattle.maple_items.specs.Splices.{beyond};
 
 use maple_node::Item;
 use std::marker::Model;
@@ -68,18 +68,6 @@ impl ItemList {
     {
         self.places[self.used] = item;
         self.used += 1;
-    }
-
-    /// Adds those of the items that end up to a page.
-    pub fn push_upto(&mut self, page: u64, items: &[Item])
-        requires { length self.old + length items.now ≤ 40 }
-        ensures { self.new ≡ self.old ++ upto page items.now }
-    {
-        for item in items {
-            if item.end <= page {
-                self.push(*item);
-            }
-        }
     }
 
     /// Adds those of the items that end above a page.

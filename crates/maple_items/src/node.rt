@@ -1,9 +1,10 @@
 //! Nodes: their words as items, how many items they have, and their largest gap.
 
 ghost use Rattle.std.specs.Prelude.{◌≡◌, ◌<◌, ◌≤◌, ◌-◌, ◌*◌, true, false, length};
-ghost use Rattle.maple_node.specs.Nodes.{items_of, leaf_items, inner_items, words_of, most, least, gap_of, item_gap, Ascends};
+ghost use Rattle.maple_node.specs.Nodes.{items_of, words_of, most, least, gap_of, item_gap, Ascends};
 
 use crate::list::ItemList;
+use crate::part::Part;
 use maple_node::Item;
 
 /// The words of a node.
@@ -28,50 +29,8 @@ pub fn node_items(leaf: bool, words: &[u64; 32]) -> ItemList
     ensures items { result ≡ items_of leaf words.now }
     ensures most { length result ≤ most leaf }
 {
-    if leaf {
-        leaf_items(words)
-    } else {
-        inner_items(words)
-    }
-}
-
-/// The entries of a leaf.
-fn leaf_items(words: &[u64; 32]) -> ItemList
-    ensures items { result ≡ leaf_items words.now }
-    ensures most { length result ≤ 16 }
-{
     let mut items = ItemList::new();
-    for place in 0..16 {
-        let end = words[2 * place];
-        if end == 0 {
-            return items;
-        }
-        items.push(Item {
-            end,
-            word: words[2 * place + 1],
-            gap: 0,
-        });
-    }
-    items
-}
-
-/// The children of an inner node.
-fn inner_items(words: &[u64; 32]) -> ItemList
-    ensures items { result ≡ inner_items words.now }
-    ensures most { length result ≤ 10 }
-{
-    let mut items = ItemList::new();
-    for place in 0..10 {
-        let end = words[3 * place];
-        if end == 0 {
-            return items;
-        }
-        items.push(Item {
-            end,
-            word: words[3 * place + 1],
-            gap: words[3 * place + 2],
-        });
-    }
+    items.push_part(Part::Whole, leaf, words);
     items
 }
 

@@ -1,7 +1,7 @@
 //! The item that has a page.
 
 ghost use Rattle.std.specs.Prelude.{◌≡◌, ◌<◌, ◌≤◌, Some};
-ghost use Rattle.maple_node.specs.Nodes.{Ascends, end_of};
+ghost use Rattle.maple_node.specs.Nodes.{items_of, Ascends, end_of};
 ghost use Rattle.maple_node.specs.Levels.{item_at};
 ghost use Rattle.maple_items.specs.Splices.{upto};
 
@@ -38,10 +38,36 @@ pub fn item_at(items: &[Item], start: u64, page: u64) -> Place
     }
 }
 
+/// The item of a node that has `page`, as the words of the node tell, where its first item begins at `start`. No list of the
+/// others is made.
+pub fn item_in(leaf: bool, words: &[u64; 32], start: u64, page: u64) -> Place
+    requires ascends { Ascends start (items_of leaf words.now) }
+    requires above { start ≤ page }
+    requires within { page < end_of start (items_of leaf words.now) }
+    ensures item { item_at page (items_of leaf words.now) ≡ Some result.item }
+    ensures start { result.start ≡ end_of start (upto page (items_of leaf words.now)) }
+    ensures above { result.start ≤ page }
+{
+    let width = if leaf { 2 } else { 3 };
+    let mut start = start;
+    let mut place = 0;
+    while words[place] <= page {
+        start = words[place];
+        place += width;
+    }
+    Place {
+        start,
+        item: Item {
+            end: words[place],
+            word: words[place + 1],
+            gap: if leaf { 0 } else { words[place + 2] },
+        },
+    }
+}
+
 #[cfg(test)]
 mod tests {
     use super::item_at;
-    use crate::list::ItemList;
     use maple_node::Item;
 
     const ITEMS: [Item; 3] = [
@@ -73,16 +99,5 @@ mod tests {
             }
         }
         assert_eq!(rt; item_at(&ITEMS, 0x10, 0x1f).item.end, 0x20);
-    }
-
-    #[test]
-    fn parts_of_items(rt: HostRuntime) {
-        let mut list = ItemList::new();
-        list.push_upto(0x13, &ITEMS);
-        assert_eq!(rt; list.len(), 2);
-        list.push_all(&ITEMS);
-        list.push_beyond(0x12, &ITEMS);
-        assert_eq!(rt; list.len(), 7);
-        assert_eq!(rt; list.items()[5].end, 0x13);
     }
 }

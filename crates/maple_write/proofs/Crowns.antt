@@ -206,15 +206,14 @@ single table level items top one tall tower ascends wide stand =
 pub crowned : (old after : Table) (level : ℕ) (items : List Item) (node : Item) (words : List ℕ) → 1 ≤ level
     → IsTower (at_of old.rows) (end_of 0 items) 0 level items → Ascends 0 items → 2 ≤ length items → Stand old (rows_of (at_of old.rows) 0 level items)
     → IsNode (at_of after.rows) false (end_of 0 items) 0 node → read (at_of after.rows) false node.word ≡ items → node.end ≡ end_of 0 items
-    → after.rows ≡ set old.rows node.word words → old.free ≡ node.word ∷ after.free → after.left ≡ old.left
+    → after.rows ≡ set old.rows node.word words → ((row : ℕ) → times row old.free ≡ times row (node.word ∷ after.free)) → after.left ≡ old.left
     → Crowned old after level items (record { top = node; height = level + 1 })
 crowned old after level items node words tall tower ascends two stand is reads ends rows free left =
     let at = at_of old.rows in
     let at' = at_of after.rows in
     let limit = end_of 0 items in
     let inner : is_leaf level ≡ false = let test : nat_eq level 0 ≡ false = grind (arith, nat_tests) in test in
-    let split : (row : ℕ) → times row old.free ≡ times row (node.word ∷ after.free) = λ row. ap (times row) free in
-    let here : times node.word old.free ≡ 1 + times node.word after.free = split node.word ∙ times_same node.word after.free in
+    let here : times node.word old.free ≡ 1 + times node.word after.free = free node.word ∙ times_same node.word after.free in
     let agree : Agree at at' (rows_of at 0 level items) = λ row some.
     let none = kept_rows old (rows_of at 0 level items) stand row some in
     let other : row ≢ node.word = apart row node.word old.free (omega arith) (omega arith) in
@@ -237,7 +236,7 @@ crowned old after level items node words tall tower ascends two stand is reads e
               let a = stand.each row in
               let b = up.rows row in
               let d = ap (times row) kept.rows in
-              let f = split row in
+              let f = free row in
               let g = ap (times row) left in
               let long : length after.rows ≡ length old.rows = ap (λ (rs : List (List ℕ)). length rs) rows ∙ length-set old.rows node.word words in
               let bound : cond {A = ℕ} (nat_lt row (length after.rows)) 1 0 ≡ cond (nat_lt row (length old.rows)) 1 0 =
@@ -295,7 +294,7 @@ pub root_made : (old after : Table) (level : ℕ) (items told : List Item) (node
     → Stand old (rows_of (at_of old.rows) 0 level items) → told ≡ items
     → ((limit : ℕ) → (end_of 0 told < limit → least false ≤ length told) → IsNode (at_of after.rows) false limit 0 node)
     → read (at_of after.rows) false node.word ≡ told → node.end ≡ end_of 0 told
-    → after.rows ≡ set old.rows node.word (words_of false told) → old.free ≡ node.word ∷ after.free → after.left ≡ old.left
+    → after.rows ≡ set old.rows node.word (words_of false told) → ((row : ℕ) → times row old.free ≡ times row (node.word ∷ after.free)) → after.left ≡ old.left
     → Crowned old after level items (record { top = node; height = level + 1 })
 root_made old after level items told node tall tower ascends some several stand same is reads ends rows free left =
     let two : 2 ≤ length items = elim (cases_lt (length items) 2) as (λ _. 2 ≤ length items) [

@@ -6,7 +6,6 @@ pub mod Rising
 pub mod Writers
 pub mod Waiting
 pub mod Packing
-pub mod Places
 pub mod Finding
 pub mod Crowns
 pub mod Stores

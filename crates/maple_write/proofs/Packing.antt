@@ -155,13 +155,12 @@ pub pack_more : (rows0 rows rows' : List (List ℕ)) (free0 free free' : List �
     → IsNode (at_of rows') leaf limit begin node)
     → read (at_of rows') leaf node.word ≡ take (end - place) (drop place items)
     → node.end ≡ end_of begin (take (end - place) (drop place items))
-    → rows' ≡ set rows node.word words → free ≡ node.word ∷ free' → packed' ≡ packed ++ node ∷ []
+    → rows' ≡ set rows node.word words → length free ≡ length free' + 1 → ((row : ℕ) → times row free ≡ times row (node.word ∷ free')) → packed' ≡ packed ++ node ∷ []
     → Packed rows0 rows' free0 free' leaf start node.end end items packed'
-pack_more rows0 rows rows' free0 free free' leaf start begin place end count items packed packed' node words before less ends_is share ascends plain once nodes reads until rows_is free_is packed_is =
+pack_more rows0 rows rows' free0 free free' leaf start begin place end count items packed packed' node words before less ends_is share ascends plain once nodes reads until rows_is fewer split packed_is =
     let part = take (end - place) (drop place items) in
     let bound = share.within in
     let is = part_of leaf start begin place end items (omega arith) (omega arith) before.begins ascends plain in
-    let split : (row : ℕ) → times row free ≡ times row (node.word ∷ free') = λ row. ap (times row) free_is in
     let here : times node.word free ≡ 1 + times node.word free' = split node.word ∙ times_same node.word free' in
     let differ : (row : ℕ) → 1 ≤ times row (rows_in packed) → row ≢ node.word = λ row some same.
     let a = before.taken row in let o = once row in
@@ -206,7 +205,7 @@ pack_more rows0 rows rows' free0 free free' leaf start begin place end count ite
           let a = before.taken row in let b = split row in
           let d = ap (λ (xs : List Item). times row (rows_in xs)) packed_is in
           let e = times-rows_in row packed (node ∷ []) in omega arith;
-      room = let a = before.room in let b = ap (λ (xs : List ℕ). length xs) free_is in omega arith;
+      room = let a = before.room in omega (arith, fewer);
     }
 
 -- all items are packed

@@ -9,7 +9,7 @@ use Rattle.maple_node.proofs.Lists.{end_of-append, Ascends-append}
 use Rattle.maple_node.proofs.Levels.{nodes-ascend, end_of-below, level-ends}
 use Rattle.maple_node.proofs.Frames.{times-append}
 use Rattle.maple_items.specs.Splices.{upto, beyond}
-use Rattle.maple_items.proofs.Lists.{Ascends-left, Ascends-right, IsPlain-append, IsPlain-upto, IsPlain-beyond, stands, AllFrom-at, beyond-ends}
+use Rattle.maple_items.proofs.Lists.{Ascends-left, Ascends-right, IsPlain-append, IsPlain-upto, IsPlain-beyond, item_at-first, item_at-later, stands, AllFrom-at, beyond-ends}
 use Rattle.maple_write.specs.Tables.{Table, rows_in, gone, Stand}
 use Rattle.maple_write.specs.Stores.{old_level, new_level, Partly, Cut}
 use Rattle.maple_write.proofs.Levels.{AreNodes, upto-below, beyond-below, descend, nodes-upto, row_there, Step, step_down}
@@ -45,6 +45,20 @@ there_at table top height level lo hi page new item partly less found =
       few = node.most;
       node = node;
     }
+
+-- the item that has a page has each later one up to where it ends
+pub item_at-same : (page later : ℕ) (xs : List Item) (item : Item) → item_at page xs ≡ Some item → page ≤ later → later < item.end
+    → item_at later xs ≡ Some item
+item_at-same page later [] item found after within = absurd (cc)
+item_at-same page later (x ∷ xs) item found after within = elim (cases_lt page x.end) as (λ _. item_at later (x ∷ xs) ≡ Some item) [
+  | inl above ↦
+      let first : Some x ≡ Some item = sym (item_at-first page x xs above) ∙ found in
+      let same : x ≡ item = cc in
+      let end = ap (λ (y : Item). y.end) same in
+      item_at-first later x xs (omega (arith, end, within)) ∙ first
+  | inr past ↦ item_at-later later x xs (omega (arith, past, after))
+      ∙ item_at-same page later xs item (sym (item_at-later page x xs past) ∙ found) after within
+]
 
 -- new items between the beginning of one node and the end of another
 joined_parts : (a b c d e : List Item) → (a ++ b) ++ (c ++ (d ++ e)) ≡ a ++ ((b ++ (c ++ d)) ++ e)

@@ -185,7 +185,7 @@ pub leaf_planted : (old made after : Table) (limit : ℕ) (items : List Item) (t
     → 0 < limit → end_of 0 items ≡ limit
     → ((most : ℕ) → (end_of 0 items < most → least true ≤ length items) → IsNode (at_of made.rows) true most 0 top)
     → read (at_of made.rows) true top.word ≡ items → top.end ≡ end_of 0 items
-    → made.rows ≡ set old.rows top.word words → old.free ≡ top.word ∷ made.free → made.left ≡ old.left
+    → made.rows ≡ set old.rows top.word words → ((row : ℕ) → times row old.free ≡ times row (top.word ∷ made.free)) → made.left ≡ old.left
     → after.rows ≡ made.rows → ((row : ℕ) → gone after row ≡ gone made row + times row (0 ∷ []))
     → Planted after limit items top
 unfolding IsTower rows_of level_of
@@ -205,7 +205,7 @@ leaf_planted old made after limit items top words kept some ends node reads unti
           each = λ row.
               let a = kept row in
               let b = gone' row in
-              let d = ap (times row) free in
+              let d = free row in
               let e = ap (times row) left in
               let f = zero_once row in
               let long : length after.rows ≡ length old.rows =
@@ -439,13 +439,13 @@ gap_entries limit lo hi word new items some within news are =
 
 -- row 0 is kept until it is left
 pub kept_after_put : (old made : NodeWriter) (word : ℕ) → ((row : ℕ) → is_kept old row ≡ nat_eq row 0) → 1 ≤ row_count old → FillsRows old made
-    → free_of old ≡ word ∷ free_of made → left_of made ≡ left_of old → is_kept made 0 ≡ true
+    → ((row : ℕ) → times row (free_of old) ≡ times row (word ∷ free_of made)) → left_of made ≡ left_of old → is_kept made 0 ≡ true
 kept_after_put old made word kept rows fills free left =
     let count = kept_counts old 0 in
     let here = ap count_of (kept 0) in
     let bound = (counts 0 (length (desk old).words) (gone (table_at old) 0 + 1) (omega arith)).0 in
     let same = ap (λ (v : NodeView). v.size.rows) fills.seen in
-    let a = ap (times 0) free in
+    let a = free 0 in
     let b = ap (times 0) left in
     is_kept_from made 0 (omega arith) (omega arith)
 

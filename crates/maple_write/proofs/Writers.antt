@@ -1,6 +1,6 @@
 -- For `node`, `put`, `leave_block` and others: what a writer's table tells, and what stays of a writer.
 use Rattle.std.proofs.Common.{ℕ, ◌≡◌, ◌<◌, ◌≤◌, ◌+◌, ◌^◌, Bool, true, false, nat_lt, cond, List, [], ◌∷◌, ◌++◌, length, set, Option, Some, sym, ap, subst, ◌∙◌, arith, inl, inr, length-append, if◌then◌else◌}
-use Rattle.std.specs.Prelude.{IfSome}
+use Rattle.std.specs.Prelude.{IfSome, MatchOption}
 use Rattle.std.proofs.lemmas.Bool.{cases_Bool, cases_lt, cond-true, cond-false, lt-ltb}
 use Rattle.std.proofs.lemmas.Bool.Decides.{nat_tests}
 use Rattle.mm_types.specs.declared.slot.Row.{Row}
@@ -163,3 +163,21 @@ taken_row old taken found row is some seen =
     let within = taken_there taken row.0 here in
     let same = ap (λ (v : NodeView). length v.known.desk.words) seen in
     omega arith
+
+-- and it is free no more: as often as before it and the free rows have each row, and there is one free row less
+pub record TakenFrom (rows : List ℕ) (row : ℕ) (rest : List ℕ) : Type 0 where
+  pub fewer : length rows ≡ length rest + 1
+  pub times_are : (other : ℕ) → times other rows ≡ times other (row ∷ rest)
+
+pub taken_free : (rows rest rest' : List ℕ) (found : Option Row) (row : Row) (none : Type 0) → found ≡ Some row
+    → MatchOption found none (λ r. rows ≡ rest ++ r.0 ∷ []) → rest' ≡ rest → TakenFrom rows row.0 rest'
+taken_free rows rest rest' found row none is free kept =
+    let here : rows ≡ rest' ++ row.0 ∷ [] =
+    subst (λ (o : Option Row). MatchOption o none (λ r. rows ≡ rest ++ r.0 ∷ [])) is free ∙ ap (λ (l : List ℕ). l ++ row.0 ∷ []) (sym kept) in
+    record {
+      fewer = ap (λ (l : List ℕ). length l) here ∙ length-append rest' (row.0 ∷ []);
+      times_are = λ other.
+          let parts = times-append other rest' (row.0 ∷ []) in
+          let front = times-append other (row.0 ∷ []) rest' in
+          omega (arith, ap (times other) here, parts, front);
+    }

@@ -1,8 +1,8 @@
 //! One level of a store: the items that are to stand anew, and the nodes that are made of them.
 
-ghost use Rattle.std.specs.Prelude.{◌≡◌, ◌<◌, ◌≤◌, ◌+◌, ◌-◌, ℕ, [], ◌∷◌, ◌++◌, length, if◌then◌else◌, nat_lt};
+ghost use Rattle.std.specs.Prelude.{◌≡◌, ◌<◌, ◌≤◌, ◌+◌, ◌-◌, ℕ, Some, [], ◌∷◌, ◌++◌, length, if◌then◌else◌, nat_lt};
 ghost use Rattle.maple_node.specs.Nodes.{least, end_of};
-ghost use Rattle.maple_node.specs.Levels.{is_leaf, read, below, IsTower, times};
+ghost use Rattle.maple_node.specs.Levels.{is_leaf, read, below, item_at, IsTower, times};
 ghost use Rattle.maple_items.specs.Splices.{upto, beyond};
 ghost use Rattle.node_slots.specs.Seats.{Writes, sight, row_count, free_of, is_waiting};
 ghost use Rattle.node_slots.specs.Built.{words_at};
@@ -10,8 +10,8 @@ ghost use Rattle.maple_write.specs.Tables.{table_at, rows_in, gone, FillsRows};
 ghost use Rattle.maple_write.specs.Stores.{old_level, new_level, new_entries, Partly, Cut};
 
 use crate::few::FewItems;
-use crate::rows::{Rooted, find, node, pack};
-use maple_items::{ItemList, least};
+use crate::rows::{Rooted, find, pack, words};
+use maple_items::{ItemList, Part, Place, least};
 use mm_types::Row;
 use node_slots::{NodeTable, NodeWriter};
 
@@ -82,9 +82,32 @@ fn joined(
     ensures { items.new ≡ upto lo (read (words_at writer.now) leaf left)
         ++ (new.now.items ++ beyond new.now.end (read (words_at writer.now) leaf right)) }
 {
-    items.push_upto(lo, node(nodes, writer, leaf, left).items());
+    items.push_part(Part::Upto(lo), leaf, words(nodes, writer, left));
     items.push_all(new.items.items());
-    items.push_beyond(new.end, node(nodes, writer, leaf, right).items());
+    items.push_part(Part::Beyond(new.end), leaf, words(nodes, writer, right));
+}
+
+/// The node where the new items of a level end, of which the one where they begin is given. Most end in it.
+fn last(
+    nodes: &NodeTable,
+    writer: &NodeWriter,
+    old: Rooted,
+    level: u32,
+    lo: u64,
+    new: &Stretch,
+    left: Place,
+) -> Place
+    requires table { Writes writer.now nodes.now }
+    requires partly { Partly (table_at writer.now) old.top old.height level lo new.now.end new.now.items }
+    requires below { level < old.height }
+    requires left { item_at lo (old_level (table_at writer.now) old.top old.height (level + 1)) ≡ Some left.item }
+    ensures { item_at (new.now.end - 1) (old_level (table_at writer.now) old.top old.height (level + 1)) ≡ Some result.item }
+{
+    if new.end <= left.item.end {
+        left
+    } else {
+        find(nodes, writer, old, level + 1, new.end - 1)
+    }
 }
 
 /// Lists the new items of a level from the beginning of the node that has page `lo` to the end of the node where they end, and
@@ -105,7 +128,7 @@ fn cut(
     ensures { Cut (table_at writer.now) old.top old.height level lo new.now.end new.now.items result.begin result.end items.new }
 {
     let left = find(nodes, writer, old, level + 1, lo);
-    let right = find(nodes, writer, old, level + 1, new.end - 1);
+    let right = last(nodes, writer, old, level, lo, new, left);
     joined(
         nodes,
         writer,
@@ -142,7 +165,8 @@ fn stretched(
     let mut edges = cut(nodes, writer, old, level, lo, new, items);
     if items.len() < least(level == 0) && edges.end < old.top.end {
         let next = find(nodes, writer, old, level + 1, edges.end);
-        items.push_all(node(nodes, writer, level == 0, next.item.word).items());
+        let next_words = words(nodes, writer, next.item.word);
+        items.push_part(Part::Whole, level == 0, next_words);
         edges.end = next.item.end;
     }
     edges

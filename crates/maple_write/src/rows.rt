@@ -10,7 +10,7 @@ ghost use Rattle.maple_write.specs.Tables.{table_at, rows_in, FillsRows};
 ghost use Rattle.maple_write.specs.Stores.{old_level};
 
 use crate::few::FewItems;
-use maple_items::{ItemList, Place, gap_of, node_items, node_words, share};
+use maple_items::{Place, gap_of, item_in, node_words, share};
 use maple_node::{Item, Steps};
 use mm_types::Row;
 use node_slots::{NodeTable, NodeWriter};
@@ -26,48 +26,12 @@ pub(crate) struct Rooted {
 }
 
 /// The words of a row.
-fn words(nodes: &NodeTable, writer: &NodeWriter, row: u64) -> [u64; 32]
+pub(crate) fn words<'a>(nodes: &NodeTable, writer: &'a NodeWriter, row: u64) -> &'a [u64; 32]
     requires table { Writes writer.now nodes.now }
     requires row { row < row_count writer.now }
-    ensures { result ≡ words_at writer.now row }
+    ensures { result.now ≡ words_at writer.now row }
 {
     nodes.written(writer, Row(row as u32), &mut Steps::<Reads>::new())
-}
-
-/// The items of the node in a row.
-pub(crate) fn node(nodes: &NodeTable, writer: &NodeWriter, leaf: bool, row: u64) -> ItemList
-    requires table { Writes writer.now nodes.now }
-    requires row { row < row_count writer.now }
-    ensures items { result ≡ read (words_at writer.now) leaf row }
-    ensures most { length result ≤ most leaf }
-{
-    node_items(leaf, &words(nodes, writer, row))
-}
-
-/// The item of a node that has a page, and the page where it begins, as the words of the node tell. No list of the others is made.
-fn item_in(leaf: bool, words: &[u64; 32], start: u64, page: u64) -> Place
-    requires ascends { Ascends start (items_of leaf words.now) }
-    requires above { start ≤ page }
-    requires within { page < end_of start (items_of leaf words.now) }
-    ensures item { item_at page (items_of leaf words.now) ≡ Some result.item }
-    ensures start { result.start ≡ end_of start (upto page (items_of leaf words.now)) }
-    ensures above { result.start ≤ page }
-{
-    let width = if leaf { 2 } else { 3 };
-    let mut start = start;
-    let mut place = 0;
-    while words[place] <= page {
-        start = words[place];
-        place += width;
-    }
-    Place {
-        start,
-        item: Item {
-            end: words[place],
-            word: words[place + 1],
-            gap: if leaf { 0 } else { words[place + 2] },
-        },
-    }
 }
 
 /// The item of a level that has a page, in the tree under a root, and the page where it begins.
@@ -94,7 +58,7 @@ pub(crate) fn find(
     while level > low {
         level -= 1;
         let words = words(nodes, writer, place.item.word);
-        place = item_in(level == 0, &words, place.start, page);
+        place = item_in(level == 0, words, place.start, page);
     }
     place
 }
@@ -120,7 +84,8 @@ pub(crate) fn put(
     ensures items { read (words_at writer.new) leaf result.word ≡ items.now }
     ensures until { result.end ≡ end_of start items.now }
     ensures words { (desk writer.new).words ≡ slice_set (desk writer.old).words result.word (words_of leaf items.now) }
-    ensures free { free_of writer.old ≡ result.word ∷ free_of writer.new }
+    ensures free { length (free_of writer.old) ≡ length (free_of writer.new) + 1 }
+    ensures taken { (row : ℕ) → times row (free_of writer.old) ≡ times row (result.word ∷ free_of writer.new) }
     ensures left { left_of writer.new ≡ left_of writer.old }
 {
     let row = nodes.take_row(writer).unwrap();

@@ -12,9 +12,9 @@ ghost use Rattle.node_slots.specs.Built.{words_at, built, IsBuilt, IsWriters, pa
 ghost use Rattle.maple_write.specs.Tables.{table_at, FillsRows};
 ghost use Rattle.maple_write.specs.Stores.{IsShaped, IsWhole, Finds, tree_under, all_gap};
 
-use crate::rows::{Rooted, find, node, put};
+use crate::rows::{Rooted, find, put, words};
 use crate::tree::{first, replace};
-use maple_items::{ItemList, Place, gap_of};
+use maple_items::{ItemList, Part, Place, gap_of};
 use maple_node::Item;
 use mm_types::{Row, Slot, Span};
 use node_slots::{NodeTable, NodeWriter, Tree};
@@ -94,7 +94,8 @@ fn rooted(nodes: &NodeTable, writer: &NodeWriter, tree: &Tree) -> Rooted
 {
     let leaf = tree.height == 1;
     let root = u64::from(tree.root.0);
-    let items = node(nodes, writer, leaf, root);
+    let mut items = ItemList::new();
+    items.push_part(Part::Whole, leaf, words(nodes, writer, root));
     Rooted {
         top: Item {
             end: end_of(items.items()),

@@ -96,17 +96,17 @@ first_alone rows free left other is none within =
     ]
 
 -- where a row is taken and the one before it is left, it is the one that is neither free nor left
-pub next_alone : (other row next : ℕ) (here : Bool) (first free left free_new left_new : List ℕ) → first ≡ next ∷ free
+pub next_alone : (other row next : ℕ) (here : Bool) (first free left free_new left_new : List ℕ) → first ≡ free ++ next ∷ []
     → free_new ≡ cond here free (free ++ row ∷ []) → left_new ≡ cond here (left ++ row ∷ []) left
     → times other first + times other left + cond (nat_eq row other) 1 0 ≡ 1
     → times other free_new + times other left_new + cond (nat_eq next other) 1 0 ≡ 1
 next_alone other row next true first free left free_new left_new taken is_free is_left alone =
-    let count = ap (times other) taken ∙ times_first other next free in
+    let count = ap (times other) taken ∙ times_last other next free in
     let same = ap (times other) is_free in
     let more = ap (times other) is_left ∙ times_last other row left in
     omega (arith, count, same, more, alone)
 next_alone other row next false first free left free_new left_new taken is_free is_left alone =
-    let count = ap (times other) taken ∙ times_first other next free in
+    let count = ap (times other) taken ∙ times_last other next free in
     let more = ap (times other) is_free ∙ times_last other row free in
     let same = ap (times other) is_left in
     omega (arith, count, same, more, alone)

@@ -26,14 +26,13 @@ left_last : (left : List Left) (one : Left) (row : ℕ)
 left_last left one row =
     ap (times row) (map-append (λ (l : Left). l.row.0) left (one ∷ [])) ∙ times_last row one.row.0 (left_numbers left)
 
--- the first free row is taken
+-- the last free row is taken
 pub take_lists : (rows : ℕ) (row : Row) (free : List Row) (left : List Left) (firsts : List ℕ) (desk : Desk)
-    → RowsKept rows (row ∷ free) left firsts desk
+    → RowsKept rows (free ++ row ∷ []) left firsts desk
     → RowsKept rows free left (set firsts row.0 (desk.tree.number + 1)) desk
 take_lists rows row free left firsts desk kept =
     let next : ℕ = desk.tree.number + 1 in
-    let count : (other : ℕ) → times other (free_numbers (row ∷ free)) ≡ cond (nat_eq row.0 other) 1 0 + times other (free_numbers free) =
-    λ other. times_first other row.0 (free_numbers free) in
+    let count = free_last free row in
     let one = one_if row.0 row.0 refl in
     let there : row.0 < length firsts = omega (arith, kept.sized, kept.inside row.0 (omega (arith, count row.0, one))) in
     let firsts_are : (other : ℕ) → other ≢ row.0 → first_at (set firsts row.0 next) other ≡ first_at firsts other =
@@ -387,17 +386,17 @@ taken_free rows row free left firsts desk kept within gone out = kept.taken row 
 
 -- the row that was taken just now
 pub take_within : (rows : ℕ) (row : Row) (free : List Row) (left : List Left) (firsts : List ℕ) (desk : Desk)
-    → RowsKept rows (row ∷ free) left firsts desk
+    → RowsKept rows (free ++ row ∷ []) left firsts desk
     → row.0 < rows
 take_within rows row free left firsts desk kept =
-    kept.inside row.0 (let one = one_if row.0 row.0 refl in omega (arith, times_first row.0 row.0 (free_numbers free), one))
+    kept.inside row.0 (let one = one_if row.0 row.0 refl in omega (arith, free_last free row row.0, one))
 
 pub take_is_taken : (rows : ℕ) (row : Row) (free : List Row) (left : List Left) (firsts : List ℕ) (desk : Desk)
-    → RowsKept rows (row ∷ free) left firsts desk
+    → RowsKept rows (free ++ row ∷ []) left firsts desk
     → ((nat_lt row.0 rows && nat_eq (times_gone free left row.0) 0) && not (has_row desk.tree row.0)) ≡ true
 take_is_taken rows row free left firsts desk kept =
     let one = one_if row.0 row.0 refl in
-    let count = times_first row.0 row.0 (free_numbers free) in
+    let count = free_last free row row.0 in
     let none : times_gone free left row.0 ≡ 0 = omega (arith, kept.once row.0, count, one) in
     let free_now = free_parts desk row.0 (kept.free_is row.0 (omega (arith, count, one))) in
     and_from (nat_lt row.0 rows && nat_eq (times_gone free left row.0) 0) (not (has_row desk.tree row.0))

@@ -16,17 +16,18 @@ use mm_types::{NoMemory, Row};
 use std::sync::Arc;
 
 impl NodeTable {
-    /// Takes a row from the writer's free list. None exactly where the list is empty.
+    /// Takes the row that came last into the writer's free list, whose words are likely in the caches. None exactly where the list
+    /// is empty.
     pub fn take_row(&self, writer: &mut NodeWriter) -> Option<Row>
         requires table { Writes writer.old self.now }
         ensures table { Writes writer.new self.now }
         ensures free { MatchOption result ((free_of writer.old ≡ []) × (free_of writer.new ≡ []))
-            (λ row. free_of writer.old ≡ row.0 ∷ free_of writer.new) }
+            (λ row. free_of writer.old ≡ free_of writer.new ++ row.0 ∷ []) }
         ensures taken { IfSome result (λ row. is_taken writer.new row.0 ≡ true) }
         ensures left { left_of writer.new ≡ left_of writer.old }
         ensures view { sight writer.new ≡ sight writer.old }
     {
-        let row = writer.free.pop_front()?;
+        let row = writer.free.pop_back()?;
         writer.firsts[row.0 as usize] = writer.desk.root.tree + 1;
         Some(row)
     }
@@ -108,14 +109,19 @@ impl NodeTable {
     }
 
     /// The words that the table has in a row. Counts one step.
-    pub fn written<L>(&self, writer: &NodeWriter, row: Row, steps: &mut Steps<L>) -> [u64; 32]
+    pub fn written<'a, L>(
+        &self,
+        writer: &'a NodeWriter,
+        row: Row,
+        steps: &mut Steps<L>,
+    ) -> &'a [u64; 32]
         requires table { Writes writer.now self.now }
         requires row { row.0 < row_count writer.now }
-        ensures words { result ≡ row_at (desk writer.now).words row.0 }
+        ensures words { result.now ≡ row_at (desk writer.now).words row.0 }
         ensures steps { steps.new ≡ steps.old + 1 }
     {
         steps.tick();
-        writer.desk.words[row.0 as usize]
+        &writer.desk.words[row.0 as usize]
     }
 
     /// The greatest tree, at most the present one, such that no row waits that left at its publish or before.

@@ -1,5 +1,6 @@
 -- For `entry_at`: the node that is read, and the item in it that has the page.
-use Rattle.std.proofs.Common.{◌-◌, refl, ◌∙◌, arith}
+use Rattle.std.proofs.Common.{◌-◌, refl, ap, arith}
+use Rattle.maple_node.specs.Nodes.{items_of}
 use Rattle.maple_node.specs.Levels.{is_leaf}
 use Rattle.node_slots.specs.Built.{words_at}
 use Rattle.maple_gap.proofs.Rows.{node_there}
@@ -10,8 +11,8 @@ pub loop-branch-init : goal.loop-branch-init
 loop-branch-init g c =
     reach_root (words_at c.args.writer.now) c.args.page c.args.root c.requires.branch c.requires.above c.requires.within
 
-pub node-items-requires-clause-row : goal.node-items-requires-clause-row
-node-items-requires-clause-row g c =
+pub words-words-requires-clause-row : goal.words-words-requires-clause-row
+words-words-requires-clause-row g c =
     let branch = c.loop-branch.branch in
     let is = c.loop-branch.invariant in
     let level = branch.level - 1 in
@@ -19,29 +20,29 @@ node-items-requires-clause-row g c =
     node_there c.args.writer.now (is_leaf level) is.limit branch.place.start branch.place.item
     (reach_node (words_at c.args.writer.now) c.args.page c.args.root branch level is (omega arith))
 
-pub item_at-requires-clause-ascends : goal.item_at-requires-clause-ascends
-item_at-requires-clause-ascends g c =
+pub item_in-requires-clause-ascends : goal.item_in-requires-clause-ascends
+item_in-requires-clause-ascends g c =
     let branch = c.loop-branch.branch in
     let level = branch.level - 1 in
     let test = c.loop-branch-test.true in
-    (inside (words_at c.args.writer.now) c.args.page c.args.root branch level (is_leaf level) c.items.result.now c.loop-branch.invariant (omega arith) refl
-    (c.items.ensures.items ∙ c.node-items.ensures.items)).ascends
+    (inside (words_at c.args.writer.now) c.args.page c.args.root branch level (is_leaf level) (items_of (is_leaf level) c.words-words.result.now) c.loop-branch.invariant (omega arith) refl
+    (ap (items_of (is_leaf level)) c.words-words.ensures.words)).ascends
 
-pub item_at-requires-clause-within : goal.item_at-requires-clause-within
-item_at-requires-clause-within g c =
+pub item_in-requires-clause-within : goal.item_in-requires-clause-within
+item_in-requires-clause-within g c =
     let branch = c.loop-branch.branch in
     let level = branch.level - 1 in
     let test = c.loop-branch-test.true in
-    (inside (words_at c.args.writer.now) c.args.page c.args.root branch level (is_leaf level) c.items.result.now c.loop-branch.invariant (omega arith) refl
-    (c.items.ensures.items ∙ c.node-items.ensures.items)).within
+    (inside (words_at c.args.writer.now) c.args.page c.args.root branch level (is_leaf level) (items_of (is_leaf level) c.words-words.result.now) c.loop-branch.invariant (omega arith) refl
+    (ap (items_of (is_leaf level)) c.words-words.ensures.words)).within
 
 pub loop-branch-preserved : goal.loop-branch-preserved
 loop-branch-preserved g c =
     let branch = c.loop-branch.branch in
     let level = branch.level - 1 in
     let test = c.loop-branch-test.true in
-    reach_down (words_at c.args.writer.now) c.args.page c.args.root branch level (is_leaf level) c.items.result.now c.item_at.result c.loop-branch.invariant
-    (omega arith) refl (c.items.ensures.items ∙ c.node-items.ensures.items) c.item_at.ensures.item c.item_at.ensures.start
+    reach_down (words_at c.args.writer.now) c.args.page c.args.root branch level (is_leaf level) (items_of (is_leaf level) c.words-words.result.now) c.item_in.result c.loop-branch.invariant
+    (omega arith) refl (ap (items_of (is_leaf level)) c.words-words.ensures.words) c.item_in.ensures.item c.item_in.ensures.start
 
 pub returns-clause-item : goal.returns-clause-item
 returns-clause-item g c =

@@ -12,11 +12,6 @@ find-left-requires-clause-tower c =
     (upper_of (table_at c.args.writer.now) c.args.old.top c.args.old.height c.args.level c.args.lo c.args.new.now.end c.args.new.now.items
     c.requires.partly c.requires.below).above
 
-pub find-right-requires-clause-tower : goal.find-right-requires-clause-tower
-find-right-requires-clause-tower c =
-    (upper_of (table_at c.args.writer.now) c.args.old.top c.args.old.height c.args.level c.args.lo c.args.new.now.end c.args.new.now.items
-    c.requires.partly c.requires.below).above
-
 pub joined-requires-clause-left : goal.joined-requires-clause-left
 joined-requires-clause-left c =
     let there = there_at (table_at c.args.writer.now) c.args.old.top c.args.old.height c.args.level c.args.lo c.args.new.now.end c.args.lo
@@ -28,7 +23,7 @@ joined-requires-clause-left c =
 pub joined-requires-clause-right : goal.joined-requires-clause-right
 joined-requires-clause-right c =
     let there = there_at (table_at c.args.writer.now) c.args.old.top c.args.old.height c.args.level c.args.lo c.args.new.now.end
-    (c.args.new.now.end - 1) c.args.new.now.items c.find-right.result.item c.requires.partly c.requires.below c.find-right.ensures.item in
+    (c.args.new.now.end - 1) c.args.new.now.items c.last-right.result.item c.requires.partly c.requires.below c.last-right.ensures in
     let row = there.row in
     let long = rows_counted c.args.writer.now in
     omega arith
@@ -40,7 +35,7 @@ returns c =
     let new = c.args.new.now in
     let pages = c.requires.partly.pages in
     let is = cut_of table old.top old.height c.args.level c.args.lo new.end (new.end - 1) c.find-left.result.start new.items c.find-left.result.item
-    c.find-right.result.item c.requires.partly c.requires.below c.find-left.ensures.item (omega arith) c.find-right.ensures.item
+    c.last-right.result.item c.requires.partly c.requires.below c.find-left.ensures.item (omega arith) c.last-right.ensures
     c.find-left.ensures.start in
-    subst (λ (xs : List Item). Cut table old.top old.height c.args.level c.args.lo new.end new.items c.find-left.result.start c.find-right.result.item.end xs)
+    subst (λ (xs : List Item). Cut table old.top old.height c.args.level c.args.lo new.end new.items c.find-left.result.start c.last-right.result.item.end xs)
     (sym c.joined.ensures) is

@@ -1,7 +1,7 @@
 -- For `stretched`: the next node, whole.
-use Rattle.std.proofs.Common.{◌∙◌, ◌++◌, ◌≤◌, List, length, ap, sym, subst, arith}
+use Rattle.std.proofs.Common.{◌∙◌, ◌++◌, ◌≤◌, ℕ, List, length, ap, sym, subst, arith}
 use Rattle.maple_node.specs.declared.item.Item.{Item}
-use Rattle.maple_node.specs.Nodes.{least}
+use Rattle.maple_node.specs.Nodes.{least, items_of}
 use Rattle.maple_node.specs.Levels.{is_leaf, read}
 use Rattle.node_slots.specs.Built.{words_at}
 use Rattle.maple_write.specs.Tables.{table_at}
@@ -15,8 +15,8 @@ find-next-requires-clause-tower c =
     (upper_of (table_at c.args.writer.now) c.args.old.top c.args.old.height c.args.level c.args.lo c.args.new.now.end c.args.new.now.items
     c.requires.partly c.requires.below).above
 
-pub node-requires-clause-row : goal.node-requires-clause-row
-node-requires-clause-row c =
+pub words-next_words-requires-clause-row : goal.words-next_words-requires-clause-row
+words-next_words-requires-clause-row c =
     let there = there_at (table_at c.args.writer.now) c.args.old.top c.args.old.height c.args.level c.args.lo c.args.new.now.end
     c.cut-edges.result.end c.args.new.now.items c.find-next.result.item c.requires.partly c.requires.below c.find-next.ensures.item in
     let row = there.row in
@@ -34,7 +34,7 @@ returns-then-edges-old-clause-cut c =
     let count = c.len.ensures.count in
     let bound = c.least.ensures in
     let more = read (words_at c.args.writer.now) (is_leaf c.args.level) c.find-next.result.item.word in
-    let joined = c.push_all.ensures ∙ ap (λ (xs : List Item). begun ++ xs) (c.items.ensures.items ∙ c.node.ensures.items) in
+    let joined = c.push_part.ensures.items ∙ ap (λ (words : List ℕ). begun ++ items_of (is_leaf c.args.level) words) c.words-next_words.ensures in
     subst (λ (xs : List Item). Cut table old.top old.height c.args.level c.args.lo new.end new.items cut.begin c.find-next.result.item.end xs) (sym joined)
     (cut_more table old.top old.height c.args.level c.args.lo new.end cut.begin cut.end new.items begun c.find-next.result.item c.requires.partly
     c.requires.below c.cut-edges.ensures c.find-next.ensures.item (omega arith))
@@ -46,7 +46,7 @@ returns-then-edges-old-clause-least c inner =
     let new = c.args.new.now in
     let cut = c.cut-edges.result in
     let begun = c.cut-edges.new.items in
-    let joined = c.push_all.ensures ∙ ap (λ (xs : List Item). begun ++ xs) (c.items.ensures.items ∙ c.node.ensures.items) in
+    let joined = c.push_part.ensures.items ∙ ap (λ (words : List ℕ). begun ++ items_of (is_leaf c.args.level) words) c.words-next_words.ensures in
     subst (λ (xs : List Item). least (is_leaf c.args.level) ≤ length xs) (sym joined)
     (cut_enough table old.top old.height c.args.level c.args.lo new.end cut.begin cut.end new.items begun c.find-next.result.item c.requires.partly
     c.requires.below c.cut-edges.ensures c.find-next.ensures.item inner)

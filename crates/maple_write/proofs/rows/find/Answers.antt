@@ -38,7 +38,7 @@ item_in-place-requires-clause-ascends c =
     let is = c.loop-level.invariant in
     let test = c.loop-level-test.true in
     (inside_at (desk c.args.writer.now).words tree.top.end tree.height c.args.low level (level - 1) c.args.page c.loop-level.place.start tree.top
-    c.loop-level.place.item (items_of (is_leaf (level - 1)) c.words-words.result) c.requires.tower (omega arith) (omega arith) is.high is.found is.begins
+    c.loop-level.place.item (items_of (is_leaf (level - 1)) c.words-words.result.now) c.requires.tower (omega arith) (omega arith) is.high is.found is.begins
     (ap (items_of (is_leaf (level - 1))) c.words-words.ensures)).ascends
 
 pub item_in-place-requires-clause-within : goal.item_in-place-requires-clause-within
@@ -48,7 +48,7 @@ item_in-place-requires-clause-within c =
     let is = c.loop-level.invariant in
     let test = c.loop-level-test.true in
     (inside_at (desk c.args.writer.now).words tree.top.end tree.height c.args.low level (level - 1) c.args.page c.loop-level.place.start tree.top
-    c.loop-level.place.item (items_of (is_leaf (level - 1)) c.words-words.result) c.requires.tower (omega arith) (omega arith) is.high is.found is.begins
+    c.loop-level.place.item (items_of (is_leaf (level - 1)) c.words-words.result.now) c.requires.tower (omega arith) (omega arith) is.high is.found is.begins
     (ap (items_of (is_leaf (level - 1))) c.words-words.ensures)).within
 
 pub loop-level-preserved : goal.loop-level-preserved
@@ -59,7 +59,7 @@ loop-level-preserved c =
     let test = c.loop-level-test.true in
     let high = is.high in
     let step = inside_at (desk c.args.writer.now).words tree.top.end tree.height c.args.low level (level - 1) c.args.page c.loop-level.place.start tree.top
-    c.loop-level.place.item (items_of (is_leaf (level - 1)) c.words-words.result) c.requires.tower (omega arith) (omega arith) is.high is.found is.begins
+    c.loop-level.place.item (items_of (is_leaf (level - 1)) c.words-words.result.now) c.requires.tower (omega arith) (omega arith) is.high is.found is.begins
     (ap (items_of (is_leaf (level - 1))) c.words-words.ensures) in
     record {
       order = omega arith;

@@ -50,6 +50,6 @@ loop-place-preserved c =
             two = c.share.ensures.two;
             three = c.share.ensures.three;
           }) c.requires.ascends c.requires.plain (once_free old) c.put-node.ensures.node c.put-node.ensures.items c.put-node.ensures.until
-          c.put-node.ensures.words c.put-node.ensures.free c.push.ensures;
+          c.put-node.ensures.words c.put-node.ensures.free c.put-node.ensures.taken c.push.ensures;
       left = c.put-node.ensures.left ∙ is.left;
     }

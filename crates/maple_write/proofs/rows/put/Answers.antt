@@ -1,9 +1,9 @@
 -- For `put`: the row that was taken is a node of the items.
-use Rattle.std.proofs.Common.{◌∙◌, ◌<◌, ◌-◌, length, get_or, sym, ap, subst, List, ℕ}
+use Rattle.std.proofs.Common.{◌∙◌, ◌∷◌, ◌<◌, ◌-◌, length, get_or, sym, ap, subst, List, ℕ}
 use Rattle.maple_node.specs.declared.item.Item.{Item}
-use Rattle.maple_node.specs.Levels.{at_of, read, IsNode}
-use Rattle.node_slots.specs.Seats.{desk}
-use Rattle.maple_write.proofs.Writers.{filled_words, taken_row}
+use Rattle.maple_node.specs.Levels.{at_of, read, IsNode, times}
+use Rattle.node_slots.specs.Seats.{desk, free_of}
+use Rattle.maple_write.proofs.Writers.{filled_words, taken_row, taken_free}
 use Rattle.maple_write.proofs.Waiting.{fills_one}
 use Rattle.maple_write.proofs.Packing.{last_end, made-items, made-node}
 use Rattle.maple_write.proofs.rows.put.Goals as goal
@@ -43,3 +43,14 @@ pub returns-clause-same : goal.returns-clause-same
 returns-clause-same c =
     fills_one c.args.writer.now c.take_row.new.writer c.fill.new.writer c.unwrap-row.result.0 c.node_words.result
     c.take_row.ensures.view c.fill.ensures.view c.take_row.ensures.left c.fill.ensures.lists.1
+
+pub returns-clause-free : goal.returns-clause-free
+returns-clause-free c =
+    (taken_free (free_of c.args.writer.now) (free_of c.take_row.new.writer) (free_of c.fill.new.writer) c.take_row.result c.unwrap-row.result _
+    c.unwrap-row.ensures c.take_row.ensures.free c.fill.ensures.lists.0).fewer
+
+pub returns-clause-taken : goal.returns-clause-taken
+returns-clause-taken c row =
+    (taken_free (free_of c.args.writer.now) (free_of c.take_row.new.writer) (free_of c.fill.new.writer) c.take_row.result c.unwrap-row.result _
+    c.unwrap-row.ensures c.take_row.ensures.free c.fill.ensures.lists.0).times_are row
+    ∙ ap (λ (r : ℕ). times row (r ∷ free_of c.fill.new.writer)) (sym c.from.ensures)

@@ -1,5 +1,5 @@
 -- For `planted`: the leaf is the tree, and row 0 is kept until it is left.
-use Rattle.std.proofs.Common.{◌≡◌, ◌∙◌, ℕ, List, length, true, ap, sym, subst, arith}
+use Rattle.std.proofs.Common.{◌≡◌, ◌∙◌, List, true, ap, sym, subst, arith}
 use Rattle.maple_node.specs.declared.item.Item.{Item}
 use Rattle.maple_node.specs.Nodes.{Ascends, IsPlain, words_of, end_of}
 use Rattle.maple_items.proofs.Entries.{overwrite-ascends, overwrite-ends, overwrite-plain}
@@ -33,7 +33,7 @@ put-top-requires-clause-plain c =
 
 pub leave-requires-clause-kept : goal.leave-requires-clause-kept
 leave-requires-clause-kept c =
-    kept_after_put c.args.writer.now c.put-top.new.writer c.put-top.result.word c.requires.kept c.requires.rows c.put-top.ensures.same c.put-top.ensures.free
+    kept_after_put c.args.writer.now c.put-top.new.writer c.put-top.result.word c.requires.kept c.requires.rows c.put-top.ensures.same c.put-top.ensures.taken
     c.put-top.ensures.left
 
 pub returns-clause-shaped : goal.returns-clause-shaped
@@ -51,7 +51,7 @@ returns-clause-shaped c =
     let after = c.leave.new.writer in
     let is = leaf_planted (table_at old) (table_at made) (table_at after) c.args.limit c.items.result.now c.put-top.result (words_of true c.items.result.now)
     (kept_zero old c.requires.kept) (omega arith) ends c.put-top.ensures.node c.put-top.ensures.items c.put-top.ensures.until c.put-top.ensures.words
-    c.put-top.ensures.free c.put-top.ensures.left (ap (λ (v : NodeView). v.known.desk.words) c.leave.ensures.view)
+    c.put-top.ensures.taken c.put-top.ensures.left (ap (λ (v : NodeView). v.known.desk.words) c.leave.ensures.view)
     (λ row. left_more made after 0 row c.leave.ensures.free c.leave.ensures.left) in
     is.shaped
 
@@ -70,7 +70,7 @@ returns-clause-entries c =
     let after = c.leave.new.writer in
     let is = leaf_planted (table_at old) (table_at made) (table_at after) c.args.limit c.items.result.now c.put-top.result (words_of true c.items.result.now)
     (kept_zero old c.requires.kept) (omega arith) ends c.put-top.ensures.node c.put-top.ensures.items c.put-top.ensures.until c.put-top.ensures.words
-    c.put-top.ensures.free c.put-top.ensures.left (ap (λ (v : NodeView). v.known.desk.words) c.leave.ensures.view)
+    c.put-top.ensures.taken c.put-top.ensures.left (ap (λ (v : NodeView). v.known.desk.words) c.leave.ensures.view)
     (λ row. left_more made after 0 row c.leave.ensures.free c.leave.ensures.left) in
     is.entries ∙ are
 
@@ -86,7 +86,7 @@ returns-clause-limit c =
 
 pub returns-clause-free : goal.returns-clause-free
 returns-clause-free c =
-    let taken = ap (λ (rows : List ℕ). length rows) c.put-top.ensures.free in
+    let taken = c.put-top.ensures.free in
     let back = free_more c.put-top.new.writer c.leave.new.writer 0 c.leave.ensures.free in
     omega arith
 

@@ -1,5 +1,5 @@
 -- For `crown`: the new root is a node over the tree under the items.
-use Rattle.std.proofs.Common.{◌∙◌, ℕ, List, length, ap, arith}
+use Rattle.std.proofs.Common.{◌∙◌, arith}
 use Rattle.maple_write.specs.Tables.{table_at}
 use Rattle.maple_write.proofs.Blocks.{inner-plain}
 use Rattle.maple_write.proofs.Crowns.{root_made}
@@ -12,13 +12,13 @@ pub returns-clause-shaped : goal.returns-clause-shaped
 returns-clause-shaped c =
     (root_made (table_at c.args.writer.now) (table_at c.put.new.writer) c.args.level c.args.items.now c.items-2.result.now c.put.result
     c.requires.tall c.requires.tower c.requires.ascends c.requires.some (λ one. c.if-len-eq1.false (c.len.ensures.count ∙ one)) c.requires.stand
-    c.items-2.ensures.items c.put.ensures.node c.put.ensures.items c.put.ensures.until c.put.ensures.words c.put.ensures.free c.put.ensures.left).shaped
+    c.items-2.ensures.items c.put.ensures.node c.put.ensures.items c.put.ensures.until c.put.ensures.words c.put.ensures.taken c.put.ensures.left).shaped
 
 pub returns-clause-entries : goal.returns-clause-entries
 returns-clause-entries c =
     (root_made (table_at c.args.writer.now) (table_at c.put.new.writer) c.args.level c.args.items.now c.items-2.result.now c.put.result
     c.requires.tall c.requires.tower c.requires.ascends c.requires.some (λ one. c.if-len-eq1.false (c.len.ensures.count ∙ one)) c.requires.stand
-    c.items-2.ensures.items c.put.ensures.node c.put.ensures.items c.put.ensures.until c.put.ensures.words c.put.ensures.free c.put.ensures.left).entries
+    c.items-2.ensures.items c.put.ensures.node c.put.ensures.items c.put.ensures.until c.put.ensures.words c.put.ensures.taken c.put.ensures.left).entries
 
 pub returns-clause-free : goal.returns-clause-free
-returns-clause-free c = let taken = ap (λ (rows : List ℕ). length rows) c.put.ensures.free in omega arith
+returns-clause-free c = let taken = c.put.ensures.free in omega arith

@@ -15,4 +15,3 @@ store-requires c =
       omega (arith, sized.words_are, c.requires.row, rows, c.requires.place),
       store_owes _ _ _ _ _ _ _ _ sized.size_is kept.kind (omega (arith, c.requires.row, rows)) c.requires.place c.requires.free,
     )
-

@@ -19,7 +19,7 @@ invariant_of-writer-2 c =
     let kept = subst (λ (l : List Row). RowsKept writer.desk.table.size.rows l writer.left.items writer.firsts.items writer.desk.seat.me.0.known.desk)
     c.in_ok-row.ensures.items writer.rows in
     record {
-      rows = subst (λ n. RowsKept writer.desk.table.size.rows c.pop_front.new.self.items writer.left.items
+      rows = subst (λ n. RowsKept writer.desk.table.size.rows c.pop_back.new.self.items writer.left.items
           (set writer.firsts.items c.in_ok-row.row.0 (n + 1)) writer.desk.seat.me.0.known.desk)
           writer.desk.kept.number_is (take_lists _ _ _ _ _ _ kept);
       free_room = omega (arith, writer.free_room, c.in_ok-row.ensures.capacity);

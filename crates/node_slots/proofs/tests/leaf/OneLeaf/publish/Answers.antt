@@ -1,11 +1,11 @@
 -- For `OneLeaf::publish`: the new tree is a leaf in the row that was taken, and each other row is free or was left.
-use Rattle.std.proofs.Common.{◌<◌, ◌∙◌, ◌+◌, ◌∷◌, ℕ, refl, sym, ap, subst, arith, List, length, get_or-set_same}
+use Rattle.std.proofs.Common.{◌<◌, ◌∙◌, ◌+◌, ◌∷◌, ◌++◌, [], ℕ, refl, sym, ap, subst, arith, List, length, get_or-set_same}
 use Rattle.grace_core.specs.Core.{times}
 use Rattle.maple_node.specs.Levels.{at_of}
 use Rattle.node_slots.specs.declared.view.NodeView.{NodeView}
 use Rattle.node_slots.specs.declared.view.Size.{Size}
 use Rattle.node_slots.specs.Seats.{sight, desk, free_of, left_of, row_count, is_present}
-use Rattle.node_slots.proofs.Counting.{times_first, one_if}
+use Rattle.node_slots.proofs.Counting.{times_last, one_if}
 use Rattle.node_slots.proofs.Listing.{kept_from}
 use Rattle.node_slots.proofs.Leaves.{leaf_rows, leaf_layout, next_alone, alone_reached}
 use Rattle.node_slots.proofs.Writers.{writer_taken}
@@ -19,7 +19,7 @@ leave-requires-clause-kept c =
     let kept = c.args.self.now.kept.1 in
     let sizes = ap (λ (v : NodeView). v.size) c.fill.ensures.view ∙ ap (λ (v : NodeView). v.size) c.in_ok-row.ensures.view in
     let within : row < row_count filled = subst (λ (s : Size). row < s.rows) (sym sizes) kept.within in
-    let count = ap (times row) c.in_ok-row.ensures.free ∙ times_first row c.in_ok-row.row.0 (free_of c.take_row.new.writer) in
+    let count = ap (times row) c.in_ok-row.ensures.free ∙ times_last row c.in_ok-row.row.0 (free_of c.take_row.new.writer) in
     let free = ap (times row) c.fill.ensures.lists.0 in
     let left = ap (times row) (c.fill.ensures.lists.1 ∙ c.in_ok-row.ensures.left) in
     kept_from (row_count filled) row (times row (free_of filled) + times row (left_of filled)) within
@@ -56,7 +56,7 @@ publish-requires-clause-rows c = λ other.
     ap (times other) (leaf_rows (desk next).words ((desk next).tree.number + 1) row)
     ∙ alone_reached (row_count next) row other (times other (free_of next) + times other (left_of next)) low
     (λ inside. next_alone other c.args.self.now.row.0 row (is_present filled c.args.self.now.row.0) (free_of old) (free_of filled) (left_of filled)
-    (free_of next) (left_of next) (c.in_ok-row.ensures.free ∙ ap (λ (l : List ℕ). row ∷ l) (sym c.fill.ensures.lists.0)) c.leave.ensures.free
+    (free_of next) (left_of next) (c.in_ok-row.ensures.free ∙ ap (λ (l : List ℕ). l ++ row ∷ []) (sym c.fill.ensures.lists.0)) c.leave.ensures.free
     c.leave.ensures.left
     (omega (arith, left, c.args.self.now.kept.1.alone other (subst (λ (s : Size). other < s.rows) sizes inside))))
 
@@ -80,7 +80,7 @@ invariant_of-self-2 c =
               let left = ap (times other) (c.fill.ensures.lists.1 ∙ c.in_ok-row.ensures.left) in
               let alone = next_alone other c.args.self.now.row.0 row (is_present filled c.args.self.now.row.0) (free_of old) (free_of filled)
               (left_of filled) (free_of next) (left_of next)
-              (c.in_ok-row.ensures.free ∙ ap (λ (l : List ℕ). row ∷ l) (sym c.fill.ensures.lists.0)) c.leave.ensures.free c.leave.ensures.left
+              (c.in_ok-row.ensures.free ∙ ap (λ (l : List ℕ). l ++ row ∷ []) (sym c.fill.ensures.lists.0)) c.leave.ensures.free c.leave.ensures.left
               (omega (arith, left, c.args.self.now.kept.1.alone other (subst (λ (s : Size). other < s.rows) sizes low))) in
               omega (arith, alone, ap (times other) c.publish.ensures.lists.0, ap (times other) c.publish.ensures.lists.1);
           slots = ap (λ (s : Size). s.slots) sizes ∙ c.args.self.now.kept.1.slots;

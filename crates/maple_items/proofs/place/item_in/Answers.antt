@@ -3,8 +3,9 @@ use Rattle.std.proofs.Common.{ℕ, ◌≡◌, ◌≤◌, ◌<◌, ◌+◌, Bool,
 use Rattle.maple_node.specs.Nodes.{items_of, end_of}
 use Rattle.maple_node.specs.Levels.{item_at}
 use Rattle.maple_items.specs.Splices.{upto}
-use Rattle.maple_write.proofs.Places.{width_of, item_of, Comes, Listed, listed, comes_more, comes_there}
-use Rattle.maple_write.proofs.rows.item_in.Goals as goal
+use Rattle.maple_items.specs.Parts.{width_of, listed_at}
+use Rattle.maple_items.proofs.Listed.{Comes, listed, comes_more, comes_there}
+use Rattle.maple_items.proofs.place.item_in.Goals as goal
 
 -- an item has at least two words
 some_words : (leaf : Bool) → 2 ≤ width_of leaf
@@ -16,15 +17,15 @@ there leaf start page place begin width words wide comes =
     let room = (listed leaf words place begin page comes.above comes.within).room in omega (arith, room, wide)
 
 -- where it ends, and what it is
-ends_at : (leaf : Bool) (words : List ℕ) (place : ℕ) → (item_of leaf words place).end ≡ get_or words place 0
+ends_at : (leaf : Bool) (words : List ℕ) (place : ℕ) → (listed_at leaf words place).end ≡ get_or words place 0
 ends_at true words place = refl
 ends_at false words place = refl
 
 reads : (leaf which : Bool) (start page begin place : ℕ) (words : List ℕ) → leaf ≡ which → Comes leaf start page place begin words → page < get_or words place 0
-    → item_at page (items_of leaf words) ≡ Some (item_of which words place)
+    → item_at page (items_of leaf words) ≡ Some (listed_at which words place)
 reads leaf which start page begin place words is comes past =
     (comes_there leaf start page place begin words comes (omega (arith, ends_at leaf words place, past))).found
-    ∙ ap (λ (b : Bool). Some (item_of b words place)) is
+    ∙ ap (λ (b : Bool). Some (listed_at b words place)) is
 
 begins : (leaf : Bool) (start page begin place : ℕ) (words : List ℕ) → Comes leaf start page place begin words → page < get_or words place 0
     → begin ≡ end_of start (upto page (items_of leaf words))

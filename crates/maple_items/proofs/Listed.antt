@@ -1,32 +1,23 @@
 -- For `item_in`: the items that the words of a node list from a place on.
-use Rattle.std.proofs.Common.{ℕ, ◌≡◌, ◌<◌, ◌≤◌, ◌+◌, ◌-◌, Bool, true, false, List, [], ◌∷◌, length, drop, get_or, Some, refl, sym, ap, subst, ◌∙◌, arith, inl, inr, ◌⊎◌}
+use Rattle.std.proofs.Common.{ℕ, ◌≡◌, ◌<◌, ◌≤◌, ◌+◌, Bool, true, false, List, [], ◌∷◌, length, drop, Some, refl, sym, ap, subst, ◌∙◌, arith, inl, inr, ◌⊎◌}
 use Rattle.std.proofs.lemmas.List.{length-drop}
 use Rattle.std.proofs.lemmas.Bool.{cases_lt}
 use Rattle.maple_node.specs.declared.item.Item.{Item}
 use Rattle.maple_node.specs.Nodes.{leaf_items, inner_items, items_of, end_of, Ascends}
 use Rattle.maple_node.specs.Levels.{item_at}
 use Rattle.maple_items.specs.Splices.{upto}
+use Rattle.maple_items.specs.Parts.{width_of, listed_at}
 use Rattle.maple_items.proofs.Lists.{upto-first, upto_first, item_at-first, item_at-later}
 use Rattle.maple_items.proofs.Words.{leaf_items-more, leaf_items-zero, inner_items-more, inner_items-zero}
 
--- how many words an item has
-abbrev pub width_of : Bool → ℕ
-width_of true = 2
-width_of false = 3
-
--- the item that the words list at a place
-abbrev pub item_of : Bool → List ℕ → ℕ → Item
-item_of true words place = record { end = get_or words place 0; word = get_or words (place + 1) 0; gap = 0 }
-item_of false words place = record { end = get_or words place 0; word = get_or words (place + 1) 0; gap = get_or words (place + 2) 0 }
-
 -- too few words list no item
-short_leaf : (words : List ℕ) → length words < 2 → leaf_items words ≡ []
+pub short_leaf : (words : List ℕ) → length words < 2 → leaf_items words ≡ []
 unfolding leaf_items
 short_leaf [] few = refl
 short_leaf (end ∷ []) few = refl
 short_leaf (end ∷ word ∷ rest) few = absurd (omega arith)
 
-short_inner : (words : List ℕ) → length words < 3 → inner_items words ≡ []
+pub short_inner : (words : List ℕ) → length words < 3 → inner_items words ≡ []
 unfolding inner_items
 short_inner [] few = refl
 short_inner (end ∷ []) few = refl
@@ -36,7 +27,7 @@ short_inner (end ∷ word ∷ gap ∷ rest) few = absurd (omega arith)
 -- there is an item at a place, where the items from it on end above where they begin
 pub record Listed (leaf : Bool) (words : List ℕ) (place : ℕ) : Type 0 where
   pub room : place + width_of leaf ≤ length words
-  pub is : items_of leaf (drop place words) ≡ item_of leaf words place ∷ items_of leaf (drop (place + width_of leaf) words)
+  pub is : items_of leaf (drop place words) ≡ listed_at leaf words place ∷ items_of leaf (drop (place + width_of leaf) words)
 
 no_items : (items : List Item) (begin page : ℕ) → items ≡ [] → begin ≤ page → page < end_of begin items → ⊥
 no_items items begin page none above within =
@@ -71,9 +62,9 @@ pub record Comes (leaf : Bool) (start page place begin : ℕ) (words : List ℕ)
 
 -- the item at the place ends up to the page
 pub comes_more : (leaf : Bool) (start page place begin : ℕ) (words : List ℕ) → Comes leaf start page place begin words
-    → (item_of leaf words place).end ≤ page → Comes leaf start page (place + width_of leaf) (item_of leaf words place).end words
+    → (listed_at leaf words place).end ≤ page → Comes leaf start page (place + width_of leaf) (listed_at leaf words place).end words
 comes_more leaf start page place begin words comes ends =
-    let item = item_of leaf words place in
+    let item = listed_at leaf words place in
     let rest = items_of leaf (drop (place + width_of leaf) words) in
     let more = (listed leaf words place begin page comes.above comes.within).is in
     record {
@@ -90,9 +81,9 @@ pub record Found (leaf : Bool) (start page begin : ℕ) (words : List ℕ) (item
   pub front : begin ≡ end_of start (upto page (items_of leaf words))
 
 pub comes_there : (leaf : Bool) (start page place begin : ℕ) (words : List ℕ) → Comes leaf start page place begin words
-    → page < (item_of leaf words place).end → Found leaf start page begin words (item_of leaf words place)
+    → page < (listed_at leaf words place).end → Found leaf start page begin words (listed_at leaf words place)
 comes_there leaf start page place begin words comes past =
-    let item = item_of leaf words place in
+    let item = listed_at leaf words place in
     let rest = items_of leaf (drop (place + width_of leaf) words) in
     let more = (listed leaf words place begin page comes.above comes.within).is in
     record {

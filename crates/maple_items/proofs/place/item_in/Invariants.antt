@@ -1,7 +1,8 @@
 -- The loop of `item_in`.
 use Rattle.std.proofs.Common.{◌-◌, ◌≡◌}
-use Rattle.maple_write.proofs.Places.{Comes, width_of}
-use Rattle.maple_write.proofs.rows.item_in.Given as goal
+use Rattle.maple_items.specs.Parts.{width_of}
+use Rattle.maple_items.proofs.Listed.{Comes}
+use Rattle.maple_items.proofs.place.item_in.Given as goal
 
 -- the items before the place end up to the page
 abbrev pub invariant-loop-place : goal.invariant-loop-place
