@@ -9,7 +9,7 @@ use Rattle.maple_gap.specs.Gaps.{first_from, slot_in}
 use Rattle.span_tree.specs.SpanTrees.{SpanView, ArePairs}
 use Rattle.area_tree.specs.declared.shown.Shown.{Shown}
 use Rattle.area_tree.specs.declared.tree.AreaTree.TheInside.{Inside}
-use Rattle.area_tree.specs.AreaTrees.{AreaTreeView, area_in, shown_of, areas_of, times_shown, AreRecords}
+use Rattle.area_tree.specs.AreaTrees.{AreaTreeView, shown_of, areas_of, times_shown, AreRecords}
 use Rattle.area_tree.specs.Kept.{view_of, IsAreaTree}
 use Rattle.area_tree.proofs.Order.{count_areas}
 use Rattle.area_tree.proofs.Finding.{slot_found}

@@ -1,6 +1,6 @@
 -- For `AreaTree::from`, `AreaTree::before` and `AreaTree::slot_of`: searches of pairs, and of the areas that their slots show.
-use Rattle.std.proofs.Common.{ℕ, zero, suc, ◌≡◌, ◌<◌, ◌≤◌, ◌∙◌, Bool, true, false, cond, List, [], ◌∷◌, length, get_or, map, All, Option, Some, None, refl, sym, ap, arith, ◌⊎◌, inl, inr}
-use Rattle.std.specs.Prelude.{Contains, nat_lt, find, filter}
+use Rattle.std.proofs.Common.{ℕ, zero, suc, ◌≡◌, ◌<◌, ◌∙◌, true, false, cond, List, [], ◌∷◌, length, get_or, map, Option, Some, None, refl, sym, ap, arith, ◌⊎◌, inl, inr}
+use Rattle.std.specs.Prelude.{Contains, nat_lt, filter}
 use Rattle.std.specs.List.{last_or}
 use Rattle.std.specs.Option.{option_map}
 use Rattle.std.proofs.lemmas.Bool.{cases_Bool, lt-ltb, le-ltb}
@@ -15,7 +15,7 @@ use Rattle.split_merge.specs.Finding.{first_from as first_area, last_before as l
 use Rattle.span_tree.specs.SpanTrees.{ArePairs}
 use Rattle.area_tree.specs.declared.shown.Shown.{Shown}
 use Rattle.area_tree.specs.AreaTrees.{area_in, shown_at, areas_shown, span_of, AreRecords}
-use Rattle.area_tree.proofs.Order.{IsPair, each_pair, contained_twice}
+use Rattle.area_tree.proofs.Order.{each_pair, contained_twice}
 
 -- what a slot shows, if there is one
 abbrev pub shown_in : List Record → Option Slot → Option Record

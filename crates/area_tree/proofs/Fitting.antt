@@ -1,9 +1,9 @@
 -- For `AreaTree::place`: free pages among pairs, and among the areas that their slots show.
-use Rattle.std.proofs.Common.{ℕ, ◌≡◌, ◌<◌, ◌≤◌, ◌+◌, ◌∙◌, max, Bool, true, false, List, [], ◌∷◌, map, Option, Some, None, refl, sym, ap, arith, inl, inr}
+use Rattle.std.proofs.Common.{ℕ, ◌≡◌, ◌<◌, ◌+◌, ◌∙◌, max, Bool, true, List, [], ◌∷◌, map, Option, Some, None, refl, sym, ap, arith}
 use Rattle.std.specs.Prelude.{MatchOption, nat_le, ◌&&◌, ◌||◌}
 use Rattle.std.specs.List.{list_all}
 use Rattle.std.specs.Option.{option_or}
-use Rattle.std.proofs.lemmas.Bool.{and_parts, leb-true, both_ways, cases_Bool}
+use Rattle.std.proofs.lemmas.Bool.{and_parts, leb-true}
 use Rattle.std.proofs.lemmas.List.Elements.{All-head, All-tail}
 use Rattle.mm_types.specs.declared.area.Span.{Span}
 use Rattle.mm_types.specs.declared.area.Page.{Page}
@@ -11,7 +11,6 @@ use Rattle.mm_types.specs.declared.area.Record.{Record}
 use Rattle.area_model.specs.declared.placement.Bounds.{Bounds}
 use Rattle.area_model.specs.declared.placement.TheConstants.{FLOOR}
 use Rattle.area_model.specs.Placement.{is_free, greatest_below, least_below, hinted_place, high_place, low_place, place}
-use Rattle.area_model.specs.Placement as model
 use Rattle.area_model.proofs.Searching.{greatest_is, greatest_none, least_is, least_none}
 use Rattle.maple_node.specs.Trees.{Pair}
 use Rattle.maple_gap.specs.Gaps.{fits, IsGreatest, IsLeast, NonePasses}

@@ -5,3 +5,4 @@ pub mod Finding
 pub mod Above
 pub mod Fitting
 pub mod Changing
+pub mod Holding

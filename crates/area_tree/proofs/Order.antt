@@ -7,7 +7,6 @@ use Rattle.mm_types.specs.declared.area.Span.{Span}
 use Rattle.mm_types.specs.declared.area.Record.{Record}
 use Rattle.maple_node.specs.Trees.{Pair}
 use Rattle.span_tree.specs.SpanTrees.{ArePairs}
-use Rattle.area_tree.specs.declared.shown.Shown.{Shown}
 use Rattle.area_tree.specs.AreaTrees.{area_in, shown_at, areas_shown, span_of, AreasRise, AreRecords}
 
 -- a list of pairs ends at the limit or below it

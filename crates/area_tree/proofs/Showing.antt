@@ -1,10 +1,10 @@
 -- For `AreaTree::remove`, `AreaTree::update` and `AreaTree::insert`: what slots show where one more shows something else.
-use Rattle.std.proofs.Common.{ℕ, zero, suc, ◌≡◌, ◌≢◌, ◌<◌, ◌≤◌, ◌+◌, ◌-◌, ◌∙◌, Bool, true, if◌then◌else◌, nat_eq, List, [], ◌∷◌, length, get_or, set, map, sum_by, All, refl, sym, ap, subst, arith, ◌⊎◌, inl, inr, get_or-set_same, get_or-set_other}
+use Rattle.std.proofs.Common.{ℕ, zero, suc, ◌≡◌, ◌≢◌, ◌<◌, ◌≤◌, ◌+◌, ◌-◌, ◌∙◌, true, nat_eq, List, [], ◌∷◌, length, get_or, set, map, All, refl, sym, ap, subst, arith, ◌⊎◌, inl, inr, get_or-set_same, get_or-set_other}
 use Rattle.std.specs.Prelude.{Contains, ◌||◌, nat_le}
 use Rattle.std.specs.List.{insert, remove, list_all}
 use Rattle.std.specs.List.Sorted.{IsPermutation}
 use Rattle.std.proofs.lemmas.Bool.{cases_eq, cond-true, cond-false, eq-eqb, ne_eqb, and_parts, or_cases, leb-true}
-use Rattle.std.proofs.lemmas.List.{length-set, get_or_default}
+use Rattle.std.proofs.lemmas.List.{get_or_default}
 use Rattle.std.proofs.lemmas.List.Edits.{length-insert, length-remove}
 use Rattle.std.proofs.lemmas.List.Elements.{All-nil, All-cons, All-head, All-tail}
 use Rattle.std.proofs.lemmas.List.Sorted.{IsPermutation-refl, IsPermutation-sym, IsPermutation-trans, IsPermutation-cons, IsPermutation-map, IsPermutation-middle, IsPermutation-insert, IsPermutation-remove, All-permutation}
@@ -18,7 +18,7 @@ use Rattle.area_slots.specs.Slots.{one_at}
 use Rattle.span_tree.specs.SpanTrees.{ArePairs}
 use Rattle.area_tree.specs.declared.shown.Shown.{Shown}
 use Rattle.area_tree.specs.AreaTrees.{no_area, area_in, shown_at, areas_shown, times_shown, span_of, AreRecords}
-use Rattle.area_tree.proofs.Order.{IsPair, each_pair, contained}
+use Rattle.area_tree.proofs.Order.{each_pair, contained}
 use Rattle.area_tree.proofs.Storing.{OneSide, taken_out, put_in}
 
 -- the slots of pairs, with what they show

@@ -1,5 +1,5 @@
 -- For `AreaTree::remove` and `AreaTree::insert`: pairs in order with some pages overwritten.
-use Rattle.std.proofs.Common.{ℕ, zero, suc, ◌≡◌, ◌<◌, ◌≤◌, ◌+◌, ◌-◌, min, max, true, false, nat_eq, List, [], ◌∷◌, ◌++◌, length, get_or, All, refl, sym, ap, subst, ◌∙◌, arith, ◌⊎◌, inl, inr}
+use Rattle.std.proofs.Common.{ℕ, zero, suc, ◌≡◌, ◌<◌, ◌≤◌, ◌+◌, ◌-◌, min, max, true, false, nat_eq, List, [], ◌∷◌, ◌++◌, length, get_or, All, refl, ap, ◌∙◌, arith, ◌⊎◌, inl, inr}
 use Rattle.std.specs.Prelude.{nat_lt}
 use Rattle.std.specs.List.{flat_map, insert, remove}
 use Rattle.std.proofs.lemmas.Bool.{lt-ltb, le-ltb, ne_eqb}
@@ -7,7 +7,7 @@ use Rattle.std.proofs.lemmas.List.Elements.{All-head, All-tail}
 use Rattle.maple_node.specs.Trees.{Pair, pair_of}
 use Rattle.maple_items.specs.Pairs.{lower_part, upper_part, overwritten}
 use Rattle.span_tree.specs.SpanTrees.{ArePairs}
-use Rattle.area_tree.proofs.Order.{IsPair, each_pair}
+use Rattle.area_tree.proofs.Order.{each_pair}
 
 -- what is left of a pair on one side of a page
 lower_whole : (page : ℕ) (pair : Pair) → pair.lo < pair.hi → pair.hi ≤ page → lower_part page pair ≡ pair ∷ []

@@ -1,2 +1,3 @@
 pub mod AreaTrees
 pub mod Kept
+pub mod Tests

@@ -10,3 +10,6 @@ mod tree;
 
 pub use shown::Shown;
 pub use tree::AreaTree;
+
+#[cfg(test)]
+mod tests;

@@ -1,5 +1,5 @@
 -- For `append`: a turn moves an area from those above the page to the list.
-use Rattle.std.proofs.Common.{ℕ, ◌≡◌, ◌<◌, ◌+◌, ◌*◌, ◌++◌, ◌∷◌, [], List, length, map, append_assoc, append-nil, length-append, rules, refl, ap, sym, ◌∙◌, arith}
+use Rattle.std.proofs.Common.{◌<◌, ◌+◌, ◌*◌, ◌++◌, ◌∷◌, [], List, length, map, append_assoc, append-nil, length-append, rules, refl, ap, sym, ◌∙◌, arith}
 use Rattle.std.specs.Vec.{vec_capacity}
 use Rattle.mm_types.specs.declared.area.Record.{Record}
 use Rattle.area_tree.specs.AreaTrees.{shown_at, areas_shown}

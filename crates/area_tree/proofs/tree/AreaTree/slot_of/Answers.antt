@@ -1,5 +1,5 @@
 -- For `AreaTree::slot_of`: the first pair above the area's first page is its own.
-use Rattle.std.proofs.Common.{◌≡◌, Some, sym, subst, ◌∙◌}
+use Rattle.std.proofs.Common.{sym, subst, ◌∙◌}
 use Rattle.std.specs.Prelude.{Contains}
 use Rattle.std.proofs.lemmas.Option.{same_Some, none-some}
 use Rattle.mm_types.specs.declared.slot.Slot.{Slot}
