@@ -1,6 +1,5 @@
 -- What contracts see of the state behind the mmap lock.
 use Rattle.std.specs.Prelude.{ℕ, ◌≡◌, List, map}
-use Rattle.mm_types.specs.declared.area.Span.{Span}
 use Rattle.mm_types.specs.declared.area.Record.{Record}
 use Rattle.mm_types.specs.declared.call.Entry.{Entry}
 use Rattle.mm_types.specs.declared.config.Config.{Config}
@@ -10,6 +9,7 @@ use Rattle.mm_types.specs.Packed.{packed}
 use Rattle.lock_core.specs.Core.{slot_at}
 use Rattle.maple_node.specs.Trees.{Pair}
 use Rattle.atomic_table.specs.Seated.{TableId}
+use Rattle.area_tree.specs.AreaTrees.{span_of}
 
 -- The state behind the mmap lock as contracts see it: its table and configuration, the slots as they are, the journal, and for
 -- how many entries it has room; the table of the nodes of its trees, and the number and the pairs of the present tree.
@@ -26,10 +26,6 @@ pub record StateView : Type 0 where
 -- the list of areas after the journal
 abbrev pub list_of : StateView → List Record
 list_of state = list_after state.config state.journal
-
--- the pages of a pair
-abbrev pub span_of : Pair → Span
-span_of pair = record { lo = pair.lo; hi = pair.hi }
 
 -- the row of the slot of a pair
 abbrev pub row_of : List SlotState → Pair → List ℕ

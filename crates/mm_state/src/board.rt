@@ -1,5 +1,5 @@
 //! The table with its writer, the tree of areas, and which slots are free.
-ghost use Rattle.std.specs.Prelude.{◌≡◌, ◌≢◌, ◌<◌, ◌≤◌, ◌+◌, ◌*◌, ◌/◌, ◌^◌, ◌∷◌, ◌++◌, [], ℕ, false, length, vec_len, vec_capacity, All, Contains, IfOk};
+ghost use Rattle.std.specs.Prelude.{◌≡◌, ◌≢◌, ◌<◌, ◌≤◌, ◌+◌, ◌-◌, ◌*◌, ◌/◌, ◌^◌, ◌∷◌, ◌++◌, [], ℕ, true, false, length, vec_len, vec_capacity, All, Contains, IfOk};
 ghost use Rattle.mm_types.specs.declared.config.Config.{Config};
 ghost use Rattle.mm_types.specs.Config.{IsValidConfig};
 ghost use Rattle.mm_types.specs.Records.{IsValid};
@@ -147,7 +147,7 @@ impl Board {
         self.change_all(rt, changes, tree);
         store_moved(&mut self.areas, &mut self.moved);
         self.areas.facts();
-        self.areas.publish();
+        self.publish_areas();
         self.table.end(&mut self.writer, entry);
         self.table.meet(&mut self.writer, seat);
     }
@@ -161,6 +161,26 @@ impl Board {
         self.areas.prepare(rt);
         let adds = count_adds(changes);
         wait_for_slots(rt, &mut self.areas, &mut self.slots, adds);
+    }
+
+    /// Publishes the tree in an open call. Readers may only meet a new tree while the sequence is odd: at an even sequence the
+    /// present tree is that of the journal.
+    fn publish_areas(&mut self)
+        requires open_call { IsOpen self.old.writer }
+        requires roomy { self.old.areas.tree.roomy ≡ true }
+        requires number { self.old.areas.tree.number < 2 ^ 40 - 1 }
+        ensures same { self.new ≡ record self.old { areas = self.new.areas } }
+        ensures areas { self.new.areas ≡ record self.old.areas {
+          tree = record self.old.areas.tree {
+            number = self.old.areas.tree.number + 1;
+            shown = self.old.areas.tree.pairs;
+            changed = false;
+            roomy = false;
+            settled = self.new.areas.tree.settled;
+          };
+        } }
+    {
+        self.areas.publish();
     }
 
     /// Carries out the changes of a plan, from the last on, but for the areas that come to other pages, which have moved. What

@@ -7,12 +7,16 @@ use Rattle.mm_types.specs.declared.config.Config.{Config}
 use Rattle.mm_types.specs.Packed.{packed}
 use Rattle.lock_core.specs.declared.stage.SlotState.{SlotState}
 use Rattle.lock_core.specs.Facts.{list_after}
+use Rattle.lock_core.specs.Rows.{Exactly}
 use Rattle.area_list.specs.Areas.{page_of}
 use Rattle.split_merge.specs.Plans.{applied, IsPlanOf}
+use Rattle.area_slots.specs.Slots.{SlotSet}
 use Rattle.vma_lock.specs.declared.view.View.{View}
+use Rattle.vma_lock.specs.declared.seats.WriterSeat.{WriterSeat}
 use Rattle.vma_lock.specs.Views.{begin_at, end_at, lent_at}
 use Rattle.vma_lock.specs.Seats.{config_of, slots_of, view, sight, journal, slots, kept_turn, is_turn_of}
 use Rattle.area_tree.specs.AreaTrees.{AreaTreeView, shown_of, areas_of, AreasRise}
+use Rattle.mm_state.specs.declared.board.Board.{Board}
 use Rattle.mm_state.specs.Shelves.{Hangs}
 use Rattle.mm_state.proofs.Changing.{tree_step}
 use Rattle.mm_state.proofs.Hanging.{hangs_permuted}
@@ -80,13 +84,13 @@ store_moved-requires g c =
           (omega (arith, changing.count, ready.slots.count, c.requires.rest.count, areas)),
     )
 
-pub publish-requires-clause-roomy : goal.publish-requires-clause-roomy
-publish-requires-clause-roomy g c =
+pub publish_areas-requires-clause-roomy : goal.publish_areas-requires-clause-roomy
+publish_areas-requires-clause-roomy g c =
     ap (λ (t : AreaTreeView). t.tree.roomy) c.store_moved.ensures.same ∙ ap (λ (t : AreaTreeView). t.tree.roomy) c.change_all.ensures.same
     ∙ ap (λ (t : AreaTreeView). t.tree.roomy) c.make_ready.ensures.ready.areas
 
-pub publish-requires-clause-number : goal.publish-requires-clause-number
-publish-requires-clause-number g c = omega (
+pub publish_areas-requires-clause-number : goal.publish_areas-requires-clause-number
+publish_areas-requires-clause-number g c = omega (
   arith,
   ap (λ (t : AreaTreeView). t.tree.number) c.store_moved.ensures.same,
   ap (λ (t : AreaTreeView). t.tree.number) c.change_all.ensures.same,
@@ -108,7 +112,8 @@ end-requires-clause-exact g c =
     ap (λ (t : AreaTreeView). applied c.args.changes.now (areas_of t)) ready.areas ∙ c.requires.plan.result
     ∙ sym (ap (λ (k : Config). list_after k (journal c.args.self.now.writer ++ c.args.entry ∷ [])) config)
     ∙ sym (ap (λ (j : List Entry). list_after (sight board.writer).config (j ++ c.args.entry ∷ [])) seen) in
-    λ weight. rows_then _ board c.args.changes.now _ changing plan weight ∙ ap (sum_by (λ (area : Record). weight (packed area))) list
+    subst (λ (w : WriterSeat). Exactly (slots w) (list_after (sight w).config (journal w ++ c.args.entry ∷ []))) (sym (ap (λ (b : Board). b.writer) c.publish_areas.ensures.same))
+    (λ weight. rows_then _ board c.args.changes.now _ changing plan weight ∙ ap (sum_by (λ (area : Record). weight (packed area))) list)
 
 pub returns-clause-areas : goal.returns-clause-areas
 returns-clause-areas g c =
@@ -123,22 +128,22 @@ returns-clause-areas g c =
     let plan = subst (λ (t : AreaTreeView). IsPlanOf (areas_of t) c.args.changes.now) (sym ready.areas) c.requires.plan.plan in
     let rise = subst (λ (t : AreaTreeView). AreasRise (page_of (config_of c.args.self.now.table).limit) 0 (applied c.args.changes.now (areas_of t))) (sym ready.areas)
     c.requires.plan.rise_after in
-    ap areas_of c.publish.ensures.same
+    ap areas_of c.publish_areas.ensures.areas
     ∙ areas_then _ board c.args.changes.now _ changing plan after after.tree.limit c.store_moved.ensures.shown c.facts.ensures.rise
     (subst (λ n. AreasRise n 0 (applied c.args.changes.now (areas_of start.areas))) (sym limit) rise)
     ∙ ap (λ (t : AreaTreeView). applied c.args.changes.now (areas_of t)) ready.areas
 
 pub returns-clause-bounds : goal.returns-clause-bounds
 returns-clause-bounds g c = (
-  ap (λ (t : AreaTreeView). t.bounds) c.publish.ensures.same ∙ ap (λ (t : AreaTreeView). t.bounds) c.store_moved.ensures.same
+  ap (λ (t : AreaTreeView). t.bounds) c.publish_areas.ensures.areas ∙ ap (λ (t : AreaTreeView). t.bounds) c.store_moved.ensures.same
       ∙ ap (λ (t : AreaTreeView). t.bounds) c.change_all.ensures.same ∙ ap (λ (t : AreaTreeView). t.bounds) c.make_ready.ensures.ready.areas,
-  ap (λ (t : AreaTreeView). t.tree.areas) c.publish.ensures.same ∙ ap (λ (t : AreaTreeView). t.tree.areas) c.store_moved.ensures.same
+  ap (λ (t : AreaTreeView). t.tree.areas) c.publish_areas.ensures.areas ∙ ap (λ (t : AreaTreeView). t.tree.areas) c.store_moved.ensures.same
       ∙ ap (λ (t : AreaTreeView). t.tree.areas) c.change_all.ensures.same ∙ ap (λ (t : AreaTreeView). t.tree.areas) c.make_ready.ensures.ready.areas,
 )
 
 pub returns-clause-nodes : goal.returns-clause-nodes
 returns-clause-nodes g c =
-    ap (λ (t : AreaTreeView). t.tree.table) c.publish.ensures.same ∙ ap (λ (t : AreaTreeView). t.tree.table) c.store_moved.ensures.same
+    ap (λ (t : AreaTreeView). t.tree.table) c.publish_areas.ensures.areas ∙ ap (λ (t : AreaTreeView). t.tree.table) c.store_moved.ensures.same
     ∙ ap (λ (t : AreaTreeView). t.tree.table) c.change_all.ensures.same ∙ ap (λ (t : AreaTreeView). t.tree.table) c.make_ready.ensures.ready.areas
 
 -- a turn that was lent is given back
@@ -150,22 +155,28 @@ returns-clause-rest g c =
     let ready = c.make_ready.ensures.ready in
     let changing = c.change_all.ensures in
     let board = c.change_all.new.self in
-    let table = changing.table ∙ ready.table in
+    let published = c.publish_areas.new.self in
+    let same = c.publish_areas.ensures.same in
+    let table = ap (λ (b : Board). b.table) same ∙ changing.table ∙ ready.table in
+    let writer : published.writer ≡ board.writer = ap (λ (b : Board). b.writer) same in
+    let set : published.slots ≡ board.slots = ap (λ (b : Board). b.slots) same in
+    let moved : published.moved ≡ c.store_moved.new.moved = ap (λ (b : Board). b.moved) same in
     let met : sight c.meet.new.writer ≡ record (end_at (sight board.writer) c.args.entry) {
       turn = kept_turn (sight c.end.new.writer) (view c.lend.new.seat);
       joined = journal c.end.new.writer;
     } =
-    c.meet.ensures.writer ∙ ap (λ (v : View). record v { turn = kept_turn (sight c.end.new.writer) (view c.lend.new.seat); joined = journal c.end.new.writer }) c.end.ensures.view in
+    c.meet.ensures.writer ∙ ap (λ (v : View). record v { turn = kept_turn (sight c.end.new.writer) (view c.lend.new.seat); joined = journal c.end.new.writer })
+    (c.end.ensures.view ∙ ap (λ (w : WriterSeat). end_at (sight w) c.args.entry) writer) in
     let begun = c.begin.ensures.view ∙ ap begin_at (c.lend.ensures.writer ∙ ap (λ w. lent_at (sight w) (view c.args.seat.now)) ready.writer) in
     let stored = c.store_moved.ensures in
-    let published = c.publish.ensures.same in
-    let same = tree_step c.make_ready.new.self.areas board.areas c.store_moved.new.areas changing.same stored.same in
-    let limit : c.publish.new.self.tree.limit ≡ page_of (config_of c.args.self.now.table).limit =
-    ap (λ (t : AreaTreeView). t.tree.limit) published ∙ ap (λ (t : AreaTreeView). t.tree.limit) same ∙ ap (λ (t : AreaTreeView). t.tree.limit) ready.areas ∙ c.requires.rest.tree.limit in
-    let areas : c.publish.new.self.tree.areas ≡ (config_of c.args.self.now.table).areas =
-    ap (λ (t : AreaTreeView). t.tree.areas) published ∙ ap (λ (t : AreaTreeView). t.tree.areas) same ∙ ap (λ (t : AreaTreeView). t.tree.areas) ready.areas ∙ c.requires.rest.tree.areas in
-    let number : c.publish.new.self.tree.number ≡ length (journal c.args.self.now.writer) + 1 =
-    ap (λ (t : AreaTreeView). t.tree.number) published ∙ ap (λ (t : AreaTreeView). t.tree.number + 1) same ∙ ap (λ (t : AreaTreeView). t.tree.number + 1) ready.areas
+    let shown = c.publish_areas.ensures.areas in
+    let tree = tree_step c.make_ready.new.self.areas board.areas c.store_moved.new.areas changing.same stored.same in
+    let limit : published.areas.tree.limit ≡ page_of (config_of c.args.self.now.table).limit =
+    ap (λ (t : AreaTreeView). t.tree.limit) shown ∙ ap (λ (t : AreaTreeView). t.tree.limit) tree ∙ ap (λ (t : AreaTreeView). t.tree.limit) ready.areas ∙ c.requires.rest.tree.limit in
+    let areas : published.areas.tree.areas ≡ (config_of c.args.self.now.table).areas =
+    ap (λ (t : AreaTreeView). t.tree.areas) shown ∙ ap (λ (t : AreaTreeView). t.tree.areas) tree ∙ ap (λ (t : AreaTreeView). t.tree.areas) ready.areas ∙ c.requires.rest.tree.areas in
+    let number : published.areas.tree.number ≡ length (journal c.args.self.now.writer) + 1 =
+    ap (λ (t : AreaTreeView). t.tree.number) shown ∙ ap (λ (t : AreaTreeView). t.tree.number + 1) tree ∙ ap (λ (t : AreaTreeView). t.tree.number + 1) ready.areas
     ∙ ap (λ n. n + 1) c.requires.rest.tree.number in
     let seen : journal c.meet.new.writer ≡ journal c.args.self.now.writer ++ c.args.entry ∷ [] =
     ap (λ (v : View). v.seen) met ∙ ap (λ j. j ++ c.args.entry ∷ []) (changing.beside.seen ∙ ap (λ (v : View). v.seen) begun) in
@@ -174,22 +185,24 @@ returns-clause-rest g c =
       config = ap (λ (v : View). v.config) met ∙ changing.beside.config ∙ ap (λ (v : View). v.config) begun ∙ c.requires.rest.config ∙ ap config_of (sym table);
       closed = omega (arith, ap (λ (v : View). v.desk.seq) met, changing.beside.seq, ap (λ (v : View). v.desk.seq) begun, c.requires.rest.closed);
       turn = ap (λ (v : View). v.turn) met ∙ given_back (view c.lend.new.seat).caller (sight c.end.new.writer).turn
-          (ap (λ (v : View). v.turn) c.end.ensures.view ∙ changing.beside.turn ∙ ap (λ (v : View). v.turn) begun ∙ c.requires.turn.0
+          (ap (λ (v : View). v.turn) c.end.ensures.view ∙ ap (λ (w : WriterSeat). (sight w).turn) writer ∙ changing.beside.turn ∙ ap (λ (v : View). v.turn) begun ∙ c.requires.turn.0
           ∙ ap Some (sym (ap (λ (v : View). v.caller) c.lend.ensures.seat)));
-      count = changing.count ∙ ready.slots.count ∙ c.requires.rest.count ∙ ap slots_of (sym table);
-      records = omega (arith, changing.count, ready.slots.count, c.requires.rest.records, c.requires.rest.tree.areas, areas);
-      hangs = subst (λ (states : List SlotState). Hangs states (shown_of c.publish.new.self) board.slots) (sym (ap (λ (v : View). v.desk.slots) met))
-          (subst (λ (t : AreaTreeView). Hangs (slots board.writer) (shown_of t) board.slots) (sym published)
-          (hangs_permuted (slots board.writer) (shown_of board.areas ++ board.moved.items) (shown_of c.store_moved.new.areas) board.slots stored.shown changing.hangs));
+      count = ap (λ (s : SlotSet). s.count) set ∙ changing.count ∙ ready.slots.count ∙ c.requires.rest.count ∙ ap slots_of (sym table);
+      records = omega (arith, ap (λ (s : SlotSet). s.count) set, changing.count, ready.slots.count, c.requires.rest.records, c.requires.rest.tree.areas, areas);
+      hangs = subst (λ (states : List SlotState). Hangs states (shown_of published.areas) published.slots) (sym (ap (λ (v : View). v.desk.slots) met))
+          (subst (λ (s : SlotSet). Hangs (slots board.writer) (shown_of published.areas) s) (sym set)
+          (subst (λ (t : AreaTreeView). Hangs (slots board.writer) (shown_of t) board.slots) (sym shown)
+          (hangs_permuted (slots board.writer) (shown_of board.areas ++ board.moved.items) (shown_of c.store_moved.new.areas) board.slots stored.shown changing.hangs)));
       tree = record {
-        shown = ap (λ (t : AreaTreeView). t.tree.shown) published ∙ sym (ap (λ (t : AreaTreeView). t.tree.pairs) published);
-        still = ap (λ (t : AreaTreeView). t.tree.changed) published;
+        shown = ap (λ (t : AreaTreeView). t.tree.shown) shown ∙ sym (ap (λ (t : AreaTreeView). t.tree.pairs) shown);
+        still = ap (λ (t : AreaTreeView). t.tree.changed) shown;
         number = number ∙ sym (ap length seen ∙ length-append (journal c.args.self.now.writer) (c.args.entry ∷ []));
         areas = areas ∙ ap (λ t. (config_of t).areas) (sym table);
         limit = limit ∙ ap (λ t. page_of (config_of t).limit) (sym table);
-        leaving = subst (λ n. All (λ leaving. leaving.tree ≤ n) board.slots.left)
-            (ap (λ n. n + 1) (c.version-tree.ensures ∙ ap (λ (v : View). length v.seen) begun) ∙ sym number) changing.leaving;
-        moved = stored.none;
-        spare = omega (arith, ap (λ t. (config_of t).areas) table, stored.room, changing.moved_room, ap vec_capacity ready.moved, c.requires.rest.tree.spare);
+        leaving = subst (λ (s : SlotSet). All (λ leaving. leaving.tree ≤ published.areas.tree.number) s.left) (sym set)
+            (subst (λ n. All (λ leaving. leaving.tree ≤ n) board.slots.left)
+            (ap (λ n. n + 1) (c.version-tree.ensures ∙ ap (λ (v : View). length v.seen) begun) ∙ sym number) changing.leaving);
+        moved = ap (λ m. m.items) moved ∙ stored.none;
+        spare = omega (arith, ap (λ t. (config_of t).areas) table, ap vec_capacity moved, stored.room, changing.moved_room, ap vec_capacity ready.moved, c.requires.rest.tree.spare);
       };
     }
