@@ -1,5 +1,5 @@
-//! The state behind the mmap lock: the list of areas, a table whose slots show them, the tree of
-//! their spans and slots, which each call publishes, and the journal of the calls.
+//! The state behind the mmap lock: the tree of areas, which each call publishes, a table whose slots show them, and the journal of
+//! the calls.
 #![tactic(auto)]
 
 mod board;
