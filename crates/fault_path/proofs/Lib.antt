@@ -3,6 +3,7 @@ pub mod Passes
 pub mod Members
 pub mod Slots
 pub mod Walking
+pub mod Tries
 pub mod Answers
 pub mod Holding
 pub mod Benches
