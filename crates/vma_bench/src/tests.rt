@@ -1,10 +1,14 @@
-//! An area that a reader holds for the length of many calls elsewhere.
-ghost use Rattle.std.specs.Prelude.{◌≡◌, ◌∷◌, [], IfSome, slice_get, Some};
-ghost use Rattle.fault_path.specs.Passes.{IsPassOf};
+//! Spaces as a library: two callers that share one, and an area that a reader holds for the length of many calls elsewhere.
+ghost use Rattle.std.specs.Prelude.{◌≡◌, ◌∷◌, [], length, IfSome, IfOk, slice_get, Some};
+ghost use Rattle.fault_path.specs.Passes.{caller, IsPassOf, ArePasses};
 
 use fault_path::Pass;
-use mm_space::{Ready, Space, SpaceName};
-use mm_types::{Call, Config, Files, MAP_ANONYMOUS, MAP_FIXED, MAP_PRIVATE, MmapArgs, Page, Prot};
+use mm_space::{Closed, Path, Ready, Space, SpaceName};
+use mm_types::{
+    Access, Call, Config, Files, MAP_ANONYMOUS, MAP_FIXED, MAP_PRIVATE, MmapArgs, NoMemory, Page,
+    Prot, Reply, Verdict,
+};
+use std::alloc::Global;
 use std::marker::Brand;
 use std::process::Abort;
 use std::sync::Wait;
@@ -62,6 +66,59 @@ fn call_elsewhere<N: SpaceName, R: Wait>(rt: &R, space: &Space<N>, pass: &mut Pa
         };
         space.call(rt, pass, &call);
     }
+}
+
+/// The passes of a space again, each in its caller's place.
+fn all_of<N: SpaceName>(alloc: Global, one: Pass, other: Pass) -> Result<Vec<Pass>, NoMemory>
+    requires two { length N.operations ≡ 2 }
+    requires one { IsPassOf N.table N.nodes N.config N.operations one × (caller one ≡ 0) }
+    requires other { IsPassOf N.table N.nodes N.config N.operations other × (caller other ≡ 1) }
+    ensures { IfOk result (λ passes. ArePasses N.table N.nodes N.config N.operations passes.items) }
+{
+    let mut passes = Vec::with_capacity(alloc, 2)?;
+    passes.push(one)?;
+    passes.push(other)?;
+    Ok(passes)
+}
+
+#[test]
+fn two_callers_share_a_space(rt: HostRuntime) -> Result<(), Fail> {
+    let config = Config::with_files(Files::of(Vec::new(rt.alloc())));
+    assert!(rt; config.valid());
+    let ready = Ready::make(rt.alloc(), config, &[2, 1])?;
+    let closed = share::<Brand, HostRuntime>(&rt, rt.alloc(), ready)?;
+    assert_eq!(rt; closed.journal().len(), 2);
+    assert_eq!(rt; closed.logs().len(), 2);
+    assert_eq!(rt; closed.list().items().len(), 2);
+    Ok(())
+}
+
+/// One caller maps a page. The other is served there without the lock, and holds the area while the first maps another page. Then the
+/// run is closed.
+fn share<N: SpaceName, R: Wait + Abort>(
+    rt: &R,
+    alloc: Global,
+    ready: Ready,
+) -> Result<Closed, NoMemory>
+    requires name { (ready.table ≡ N.table) × (ready.nodes ≡ N.nodes) × (ready.config ≡ N.config) × (ready.operations ≡ N.operations) }
+    requires two { ready.operations ≡ 2 ∷ 1 ∷ [] }
+{
+    let (space, passes) = Space::<N>::open(ready);
+    let Some((mut one, mut other)) = both(passes) else {
+        panic!(rt; "there are not two passes")
+    };
+    let called = space.call(rt, &mut one, &mapping(0x2_0000));
+    assert_eq!(rt; called.reply, Reply::Addr(0x2_0000));
+    let faulted = space.fault(rt, &mut other, Page(0x20), Access::Read);
+    assert!(rt; matches!(faulted.verdict, Verdict::Served { .. }));
+    assert_eq!(rt; faulted.path, Path::Fast);
+    let Ok(mut held) = space.view().read_lock(other, Page(0x20)) else {
+        panic!(rt; "the area is not held")
+    };
+    space.call(rt, &mut one, &mapping(0x8_0000));
+    assert_eq!(rt; held.look(), 2);
+    let other = held.unlock();
+    Ok(space.close(all_of::<N>(alloc, one, other)?))
 }
 
 #[test]

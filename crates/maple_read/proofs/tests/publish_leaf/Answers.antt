@@ -1,11 +1,11 @@
 -- For `publish_leaf`: the new tree is a leaf in the row that was taken, and each other row is free or was left.
-use Rattle.std.proofs.Common.{◌<◌, ◌∙◌, ◌+◌, ◌∷◌, refl, sym, ap, subst, arith, List, ℕ, length, get_or-set_same}
+use Rattle.std.proofs.Common.{◌<◌, ◌∙◌, ◌+◌, ◌∷◌, ◌++◌, [], refl, sym, ap, subst, arith, List, ℕ, length, get_or-set_same}
 use Rattle.grace_core.specs.Core.{times}
 use Rattle.maple_node.specs.Levels.{at_of}
 use Rattle.node_slots.specs.declared.view.NodeView.{NodeView}
 use Rattle.node_slots.specs.declared.view.Size.{Size}
 use Rattle.node_slots.specs.Seats.{sight, desk, free_of, left_of, row_count, is_present}
-use Rattle.node_slots.proofs.Counting.{times_first, one_if}
+use Rattle.node_slots.proofs.Counting.{times_last, one_if}
 use Rattle.node_slots.proofs.Listing.{kept_from}
 use Rattle.node_slots.proofs.Leaves.{leaf_rows, leaf_layout, next_alone, alone_reached}
 use Rattle.node_slots.proofs.Writers.{writer_taken}
@@ -17,7 +17,7 @@ leave-requires-clause-kept c =
     let kept = c.requires.alone in
     let sizes = ap (λ (v : NodeView). v.size) c.fill.ensures.view ∙ ap (λ (v : NodeView). v.size) c.in_ok-row.ensures.view in
     let within : 0 < row_count filled = subst (λ (s : Size). 0 < s.rows) (sym sizes) kept.within in
-    let count = ap (times 0) c.in_ok-row.ensures.free ∙ times_first 0 c.in_ok-row.row.0 (free_of c.take_row.new.writer) in
+    let count = ap (times 0) c.in_ok-row.ensures.free ∙ times_last 0 c.in_ok-row.row.0 (free_of c.take_row.new.writer) in
     let free = ap (times 0) c.fill.ensures.lists.0 in
     let left = ap (times 0) (c.fill.ensures.lists.1 ∙ c.in_ok-row.ensures.left) in
     kept_from (row_count filled) 0 (times 0 (free_of filled) + times 0 (left_of filled)) within
@@ -63,6 +63,6 @@ publish-requires-clause-rows c = λ other.
     ap (times other) (leaf_rows (desk next).words ((desk next).tree.number + 1) row)
     ∙ alone_reached (row_count next) row other (times other (free_of next) + times other (left_of next)) low
     (λ inside. next_alone other 0 row (is_present filled 0) (free_of old) (free_of filled) (left_of filled)
-    (free_of next) (left_of next) (c.in_ok-row.ensures.free ∙ ap (λ (l : List ℕ). row ∷ l) (sym c.fill.ensures.lists.0)) c.leave.ensures.free
+    (free_of next) (left_of next) (c.in_ok-row.ensures.free ∙ ap (λ (l : List ℕ). l ++ row ∷ []) (sym c.fill.ensures.lists.0)) c.leave.ensures.free
     c.leave.ensures.left
     (omega (arith, left, c.requires.alone.alone other (subst (λ (s : Size). other < s.rows) sizes inside))))

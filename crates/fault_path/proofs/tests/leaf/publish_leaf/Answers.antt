@@ -1,5 +1,5 @@
 -- For `publish_leaf`: the new tree is a leaf in the row that was taken, and each other row is free or was left.
-use Rattle.std.proofs.Common.{◌<◌, ◌∙◌, ◌+◌, ◌∷◌, sym, ap, subst, arith, List, ℕ, length, get_or-set_same}
+use Rattle.std.proofs.Common.{◌<◌, ◌∙◌, ◌+◌, ◌∷◌, ◌++◌, [], sym, ap, subst, arith, List, ℕ, length, get_or-set_same}
 use Rattle.grace_core.specs.Core.{times}
 use Rattle.maple_node.specs.Levels.{at_of}
 use Rattle.node_slots.specs.declared.view.NodeView.{NodeView}
@@ -39,6 +39,6 @@ publish-requires-clause-rows c = λ other.
     ap (times other) (leaf_rows (desk next).words ((desk next).tree.number + 1) row)
     ∙ alone_reached (row_count next) row other (times other (free_of next) + times other (left_of next)) low
     (λ inside. next_alone other 0 row (is_present filled 0) (free_of old) (free_of filled) (left_of filled)
-    (free_of next) (left_of next) (c.in_ok-row.ensures.free ∙ ap (λ (l : List ℕ). row ∷ l) (sym c.fill.ensures.lists.0)) c.leave.ensures.free
+    (free_of next) (left_of next) (c.in_ok-row.ensures.free ∙ ap (λ (l : List ℕ). l ++ row ∷ []) (sym c.fill.ensures.lists.0)) c.leave.ensures.free
     c.leave.ensures.left
     (omega (arith, left, c.requires.alone.alone other (subst (λ (s : Size). other < s.rows) sizes inside))))
