@@ -1,5 +1,5 @@
 -- When a source or a sink may answer an error, by its count of faults before and after the call.
-use Rattle.std.specs.Prelude.{◌≡◌, ℕ, ◌+◌, ◌-◌, ◌^◌, ◌≤◌, min, Result, OnOk, OnErr, IsErrOf}
+use Rattle.std.specs.Prelude.{◌≡◌, ℕ, ◌+◌, ◌-◌, ◌^◌, ◌≤◌, min, Bool, true, false, Option, IfSome, Result, OnOk, OnErr, IsErrOf}
 use Rattle.io_edge.specs.declared.fault.GiveFault.{GiveFault}
 use Rattle.io_edge.specs.declared.fault.GiveFault.TheVariants.{Failed, NoMemory}
 
@@ -7,19 +7,34 @@ use Rattle.io_edge.specs.declared.fault.GiveFault.TheVariants.{Failed, NoMemory}
 abbrev pub counted : ℕ → ℕ
 counted count = min (count + 1) (2 ^ 64 - 1)
 
--- a count went up by one at least, or stood at the most that 64 bits hold
-abbrev pub Rose : ℕ → ℕ → Type 0
-Rose before now = counted before ≤ now
-
--- a source's count never falls, an `Ok` leaves it, and it rose at `Failed`
+-- a source's count never falls, an `Ok` leaves it, and a `Failed` is counted once
 pub record HasCause {T E : Type 0} (before now : ℕ) (result : Result T E) : Type 0 where
   pub later : before ≤ now
   pub ok : OnOk result (now ≡ before)
-  pub failed : OnErr result (Rose before now)
+  pub failed : OnErr result (now ≡ counted before)
 
--- a sink's count never falls, an `Ok` and a `NoMemory` leave it, and it rose at `Failed`
+-- a sink's count never falls, an `Ok` and a `NoMemory` leave it, and a `Failed` is counted once
 pub record HasGiveCause {T : Type 0} (before now : ℕ) (result : Result T GiveFault) : Type 0 where
   pub later : before ≤ now
   pub ok : OnOk result (now ≡ before)
-  pub failed : IsErrOf result Failed → Rose before now
+  pub failed : IsErrOf result Failed → now ≡ counted before
   pub no_memory : IsErrOf result NoMemory → now ≡ before
+
+-- the last call failed, where that is told
+abbrev pub FailedLast : Option Bool → Type 0
+FailedLast told = IfSome told (λ has_failed. has_failed ≡ true)
+
+-- the last call did not fail, where that is told
+abbrev pub WentWell : Option Bool → Type 0
+WentWell told = IfSome told (λ has_failed. has_failed ≡ false)
+
+-- after a call of a source: it failed last exactly where this call failed
+pub record TellsFault {T E : Type 0} (told : Option Bool) (result : Result T E) : Type 0 where
+  pub ok : OnOk result (WentWell told)
+  pub failed : OnErr result (FailedLast told)
+
+-- the same of a sink, where want of memory is no failure
+pub record TellsGiveFault {T : Type 0} (told : Option Bool) (result : Result T GiveFault) : Type 0 where
+  pub ok : OnOk result (WentWell told)
+  pub failed : IsErrOf result Failed → FailedLast told
+  pub no_memory : IsErrOf result NoMemory → WentWell told

@@ -1,9 +1,9 @@
 //! A source and a sink over memory that fail at chosen calls and move few bytes at a call: for tests of how a
 //! caller bears faults and short moves.
-ghost use Rattle.std.specs.Prelude.{◌≡◌, ◌↔◌, ◌<◌, ◌≤◌, ℕ, List, [], min, length, drop, Contains, Some, IfOk, OnErr, IsErr, IsErrOf};
+ghost use Rattle.std.specs.Prelude.{◌≡◌, ◌↔◌, ◌<◌, ◌≤◌, ℕ, false, List, [], min, length, drop, Contains, Some, IfOk, OnErr, IsErr, IsErrOf};
 ghost use Rattle.std.specs.Io.{ReadsAtMost, WritesAtMost};
 ghost use Rattle.std.specs.Io.KnownBytes.{ReadConsumes, WriteAppends};
-ghost use Rattle.io_edge.specs.Edge.{HasCause, HasGiveCause, counted};
+ghost use Rattle.io_edge.specs.Edge.{HasCause, HasGiveCause, TellsFault, TellsGiveFault, counted};
 ghost use Rattle.io_edge.specs.Memory.{Failing, CountsCall};
 ghost use Rattle.io_edge.specs.declared.fault.GiveFault.TheVariants.{Failed as failed};
 
@@ -34,6 +34,7 @@ impl Model for MemSource {
       fail = source.schedule.fail.items;
       calls = source.schedule.calls;
       faults = source.schedule.faults;
+      just_failed = source.schedule.just_failed;
     } };
 
     ghost invariant = { λ source. source.at ≤ length source.bytes.items };
@@ -42,7 +43,7 @@ impl Model for MemSource {
 impl MemSource {
     /// A source with all of these bytes left, which fails at the calls with these numbers.
     pub fn new(bytes: Vec<u8>, fail: Vec<u64>) -> MemSource
-        ensures { result ≡ record { bytes = bytes.items; fail = fail.items; calls = 0; faults = 0 } }
+        ensures { result ≡ record { bytes = bytes.items; fail = fail.items; calls = 0; faults = 0; just_failed = false } }
     {
         MemSource {
             bytes,
@@ -57,12 +58,15 @@ impl Source for MemSource {
 
     ghost faults = { λ source. source.faults };
 
+    ghost just_failed = { λ source. Some source.just_failed };
+
     /// Fails at a call in the list. Else moves as many bytes as the piece holds or all that are left, and at
     /// most `MOST_AT_A_CALL`.
     fn take(&mut self, into: &mut [u8]) -> Result<usize, Failed>
         ensures bound { ReadsAtMost result into.new }
         ensures bytes { ReadConsumes (Some self.old.bytes) (Some self.new.bytes) result into.new }
         ensures cause { HasCause self.old.faults self.new.faults result }
+        ensures told { TellsFault (Some self.new.just_failed) result }
 
         ensures fails { IsErr result ↔ Contains self.old.fail self.old.calls }
         ensures count { IfOk result (λ k. k ≡ min MOST_AT_A_CALL (min (length self.old.bytes) (length into.old))) }
@@ -97,6 +101,7 @@ impl Model for MemSink {
       fail = sink.schedule.fail.items;
       calls = sink.schedule.calls;
       faults = sink.schedule.faults;
+      just_failed = sink.schedule.just_failed;
     } };
 }
 
@@ -104,7 +109,7 @@ impl MemSink {
     /// A sink to which nothing was written, which fails at the calls with these numbers. It allocates when bytes
     /// come.
     pub fn new(alloc: Global, fail: Vec<u64>) -> MemSink
-        ensures { result ≡ record { bytes = []; fail = fail.items; calls = 0; faults = 0 } }
+        ensures { result ≡ record { bytes = []; fail = fail.items; calls = 0; faults = 0; just_failed = false } }
     {
         MemSink {
             bytes: Vec::new(alloc),
@@ -125,6 +130,8 @@ impl Sink for MemSink {
 
     ghost faults = { λ sink. sink.faults };
 
+    ghost just_failed = { λ sink. Some sink.just_failed };
+
     /// Fails at a call in the list. Else takes the piece, or of a longer one its first `MOST_AT_A_CALL` bytes, or
     /// answers that it is out of memory and takes nothing.
     fn give(&mut self, piece: &[u8]) -> Result<usize, GiveFault>
@@ -132,6 +139,7 @@ impl Sink for MemSink {
         ensures some { IfOk result (λ count. 0 < length piece.now → 0 < count) }
         ensures bytes { WriteAppends (Some self.old.bytes) (Some self.new.bytes) result piece.now }
         ensures cause { HasGiveCause self.old.faults self.new.faults result }
+        ensures told { TellsGiveFault (Some self.new.just_failed) result }
 
         ensures fails { IsErrOf result failed ↔ Contains self.old.fail self.old.calls }
         ensures count { IfOk result (λ count. count ≡ min MOST_AT_A_CALL (length piece.now)) }

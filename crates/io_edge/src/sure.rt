@@ -1,8 +1,8 @@
 //! A source and a sink over memory that never fail.
-ghost use Rattle.std.specs.Prelude.{◌≡◌, ◌<◌, ◌≤◌, ℕ, List, [], min, length, drop, Some, Ok, IfOk, IfErr};
+ghost use Rattle.std.specs.Prelude.{◌≡◌, ◌<◌, ◌≤◌, ℕ, false, List, [], min, length, drop, Some, Ok, IfOk, IfErr};
 ghost use Rattle.std.specs.Io.{ReadsAtMost, WritesAtMost};
 ghost use Rattle.std.specs.Io.KnownBytes.{ReadConsumes, WriteAppends};
-ghost use Rattle.io_edge.specs.Edge.{HasCause, HasGiveCause};
+ghost use Rattle.io_edge.specs.Edge.{HasCause, HasGiveCause, TellsFault, TellsGiveFault};
 ghost use Rattle.io_edge.specs.declared.fault.GiveFault.TheVariants.{NoMemory};
 
 use crate::piece::fill_piece;
@@ -39,11 +39,14 @@ impl Source for SureSource {
 
     ghost faults = { λ _. 0 };
 
+    ghost just_failed = { λ _. Some false };
+
     /// Moves as many bytes as the piece holds, or all that are left.
     fn take(&mut self, into: &mut [u8]) -> Result<usize, Failed>
         ensures bound { ReadsAtMost result into.new }
         ensures bytes { ReadConsumes (Some self.old) (Some self.new) result into.new }
         ensures cause { HasCause 0 0 result }
+        ensures told { TellsFault (Some false) result }
         ensures count { result ≡ Ok (min (length self.old) (length into.old)) }
         ensures rest { IfOk result (λ count. drop count into.new ≡ drop count into.old) }
     {
@@ -88,12 +91,15 @@ impl Sink for SureSink {
 
     ghost faults = { λ _. 0 };
 
+    ghost just_failed = { λ _. Some false };
+
     /// Takes the whole piece, or answers that it is out of memory and takes nothing.
     fn give(&mut self, piece: &[u8]) -> Result<usize, GiveFault>
         ensures bound { WritesAtMost result piece.now }
         ensures some { IfOk result (λ count. 0 < length piece.now → 0 < count) }
         ensures bytes { WriteAppends (Some self.old) (Some self.new) result piece.now }
         ensures cause { HasGiveCause 0 0 result }
+        ensures told { TellsGiveFault (Some false) result }
         ensures whole { IfOk result (λ count. count ≡ length piece.now) }
         ensures error { IfErr result (λ fault. fault ≡ NoMemory) }
     {

@@ -8,5 +8,5 @@ mod mapped;
 #[cfg(test)]
 mod tests;
 
-pub use line::{print_line, push_range};
+pub use line::{print_line, push_line, push_range};
 pub use list::{print_list, push_list};

@@ -28,7 +28,7 @@ pub fn print_line(alloc: Global, area: &Record, files: &Files) -> Result<Vec<u8>
 
 /// Appends the line of one area, with the newline that ends it.
 #[tactic(auto, unfolding(mm_types::specs::MapsText::area_text))]
-pub(crate) fn push_line(text: &mut Vec<u8>, area: &Record, files: &Files) -> Result<(), NoMemory>
+pub fn push_line(text: &mut Vec<u8>, area: &Record, files: &Files) -> Result<(), NoMemory>
     ensures ok { OnOk result (text.new.items ≡ text.old.items ++ area_text files.now area.now) }
     ensures no_memory { OnErr result (AppendsFront text.old.items text.new.items (area_text files.now area.now)) }
 {
