@@ -1,5 +1,5 @@
 -- For `job_of`: what `clap` finds in words of which none begins with `-`, and that other words name no job.
-use Rattle.std.proofs.Common.{ℕ, ap, refl, codes, true, false, map, fold, List, Option, Some, None, [], ◌∷◌, ◌++◌, ◌≡◌, ◌∙◌, ◌==◌, ◌||◌, Bool, slice_index, string_bytes, sym, append_assoc, append-nil, inl, inr, arith}
+use Rattle.std.proofs.Common.{ℕ, ap, refl, codes, true, false, map, fold, List, Option, Some, None, [], ◌∷◌, ◌++◌, ◌≡◌, ◌∙◌, ◌==◌, ◌||◌, Bool, slice_index, string_bytes, sym, append_assoc, append-nil, inl, inr}
 use Rattle.std.specs.Prelude.{String, ◌&&◌, ◌⊎◌, length, nat_le, nat_lt, option_and_then, if◌then◌else◌}
 use Rattle.std.specs.declared.alloc.Global.{Global}
 use Rattle.std.specs.List.{list_any}
@@ -9,7 +9,7 @@ use Rattle.std.proofs.lemmas.Bool.{eqb-true, false_from_ne_true}
 use Rattle.std.proofs.lemmas.Slice.Eq.{bytes_eq-Decides}
 use Rattle.clap.specs.Lexer.{long_of, short_of}
 use Rattle.clap.specs.Simple.{built}
-use Rattle.clap.specs.Walk.{Rule, Text, Walk, finished, idle, is_empty, positional, nothing_held, settled_rows, walk_from, walked}
+use Rattle.clap.specs.Walk.{Rule, Text, Walk, finished, idle, positional, nothing_held, settled_rows, walk_from, walked}
 use Rattle.clap.specs.Words.{matches_of, takes}
 use Rattle.clap.proofs.OnLiterals.{clap_on_literals}
 use Rattle.trace_reader.specs.Numbers.{decimal_of, digits_of}

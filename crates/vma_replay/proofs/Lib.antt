@@ -1,4 +1,6 @@
 pub mod Given
+pub mod Pieces
+pub mod Outputs
 pub mod Taken
 pub mod CommandLine
 pub mod Telling

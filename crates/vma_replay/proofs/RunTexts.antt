@@ -1,6 +1,6 @@
--- Serves `run_text`: the history of a closed run is legal, and ends with its list.
+-- Serves `give_output`: the history of a closed run is legal, and ends with its list.
 use Rattle.std.proofs.Common.{ℕ, ◌≡◌, ◌<◌, ◌^◌, ◌∙◌, refl, sym, ap, subst, nat_eq, List, [], ◌∷◌, ◌++◌, append-nil, length, map, take, filter, fold, filter_map, slice_get, unwrap_or, All, Some, arith}
-use Rattle.std.specs.Prelude.{Result, Ok, Err, IfOk, Option, None, Vec}
+use Rattle.std.specs.Prelude.{Bool, Option, None, Vec}
 use Rattle.std.specs.declared.alloc.Global.{Global}
 use Rattle.std.specs.Io.KnownBytes.{Appends}
 use Rattle.std.proofs.lemmas.List.{length-map}
@@ -131,11 +131,6 @@ given_for_run mode trace run text is list told = record {
   text_is = told;
 }
 
--- what follows on a success
-pub if_ok : {X E : Type 0} (result : Result X E) (P Q : X → Type 0) → ((x : X) → P x → Q x) → IfOk result P → IfOk result Q
-if_ok (Ok x) P Q follows holds = follows x holds
-if_ok (Err e) P Q follows holds = tt
-
 -- the logs of a run are few
 pub few_logs : (lines : List TraceLine) (shown : List (Vec Seen Global)) (logs : List (List Seen)) → map (λ log. log.items) shown ≡ logs
     → length logs ≡ callers_of lines → length shown < 2 ^ 32
@@ -152,8 +147,8 @@ pub none_given : (old : Option (List ℕ)) (text : List ℕ) → Appends old old
 none_given None text = tt
 none_given (Some xs) text = sym (append-nil xs)
 
-pub wants_memory : (mode : Mode) (trace : Trace) (old : Option (List ℕ)) (faults : ℕ) (status : Status) (runs : List ClosedView)
-    → (status ≡ statuses.NoMemory) × (runs ≡ []) → IsGivingRun mode trace old old faults faults status runs
-wants_memory mode trace old faults status runs failed =
-    subst (λ (s : Status). IsGivingRun mode trace old old faults faults s runs) (sym failed.0)
+pub wants_memory : (mode : Mode) (trace : Trace) (old : Option (List ℕ)) (faults : ℕ) (last : Option Bool) (status : Status) (runs : List ClosedView)
+    → (status ≡ statuses.NoMemory) × (runs ≡ []) → IsGivingRun mode trace old old faults faults last status runs
+wants_memory mode trace old faults last status runs failed =
+    subst (λ (s : Status). IsGivingRun mode trace old old faults faults last s runs) (sym failed.0)
     (refl, failed.1, serial_output trace, some_output mode trace, 0, none_given old (serial_output trace))

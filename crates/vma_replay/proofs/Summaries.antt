@@ -9,14 +9,13 @@ use Rattle.mm_types.specs.declared.call.Seen.TheVariants as reads
 use Rattle.mm_types.specs.declared.config.Config.{Config}
 use Rattle.mm_types.specs.Sorts.{insert_in_order, sort_stably}
 use Rattle.lock_core.specs.Facts.{list_after}
-use Rattle.trace_reader.specs.declared.trace.Op.{Op}
 use Rattle.trace_reader.specs.declared.trace.Trace.{Trace}
 use Rattle.trace_reader.specs.declared.trace.TraceLine.{TraceLine}
 use Rattle.history.specs.declared.items.Content.{Content}
 use Rattle.history.specs.declared.items.Content.TheVariants as contents
 use Rattle.history.specs.declared.items.Item.{Item}
 use Rattle.history.specs.Histories.{caller_of, is_call, journal_of, op_of, gather, serial_history, goes_first}
-use Rattle.history.specs.Runs.{asked, content_of, entry_items, history_of, log_items, logs_items, ops_of, own_of, read_item}
+use Rattle.history.specs.Runs.{content_of, entry_items, history_of, log_items, logs_items, ops_of, own_of, read_item}
 use Rattle.history.specs.Labels.{labelled, label_of, IsSerialRun}
 use Rattle.history.proofs.Labels.{label_is_serial}
 use Rattle.history.proofs.Placed.{count_calls}
@@ -207,32 +206,32 @@ unfolding summary_text
 text_is_summary count seed run text is list told = told ∙ ap text_of_summary (tally_is_summary (load_trace count seed) run is list)
 
 -- nothing is given where memory runs out before there is a text
-pub gives_none : (count seed : ℕ) (old : Option (List ℕ)) (faults : ℕ) (status : Status) (runs : List ClosedView)
-    → (status ≡ statuses.NoMemory) × (runs ≡ []) → IsGivingSummary count seed old old faults faults status runs
-gives_none count seed old faults status runs failed =
-    subst (λ (s : Status). IsGivingSummary count seed old old faults faults s runs) (sym failed.0)
+pub gives_none : (count seed : ℕ) (old : Option (List ℕ)) (faults : ℕ) (last : Option Bool) (status : Status) (runs : List ClosedView)
+    → (status ≡ statuses.NoMemory) × (runs ≡ []) → IsGivingSummary count seed old old faults faults last status runs
+gives_none count seed old faults last status runs failed =
+    subst (λ (s : Status). IsGivingSummary count seed old old faults faults last s runs) (sym failed.0)
     (refl, failed.1, 0, none_given old (summary_text count seed))
 
 -- What giving the text of what is counted of a run results in: the summary was given, or a beginning of it.
-pub gives_summary : (count seed : ℕ) (run : ClosedView) (text : List ℕ) (old new : Option (List ℕ)) (before now : ℕ) (runs : List ClosedView)
+pub gives_summary : (count seed : ℕ) (run : ClosedView) (text : List ℕ) (old new : Option (List ℕ)) (before now : ℕ) (last : Option Bool) (runs : List ClosedView)
     → IsRunOf modes.Serial (load_trace count seed) run → run.list ≡ list_after (load_trace count seed).config run.journal
-    → text ≡ text_of_summary (tally_of run) → runs ≡ run ∷ [] → IsGiving text old new before now statuses.Done
-    → IsGivingSummary count seed old new before now statuses.Done runs
-gives_summary count seed run text old new before now runs is list told kept giving =
+    → text ≡ text_of_summary (tally_of run) → runs ≡ run ∷ [] → IsGiving text old new before now last statuses.Done
+    → IsGivingSummary count seed old new before now last statuses.Done runs
+gives_summary count seed run text old new before now last runs is list told kept giving =
     (giving.0, (run, kept, is, list, subst (λ (t : List ℕ). Appends old new t) (text_is_summary count seed run text is list told) giving.1))
 
-pub gives_beginning : (count seed : ℕ) (run : ClosedView) (text : List ℕ) (old new : Option (List ℕ)) (before now : ℕ) (runs : List ClosedView)
+pub gives_beginning : (count seed : ℕ) (run : ClosedView) (text : List ℕ) (old new : Option (List ℕ)) (before now : ℕ) (last : Option Bool) (runs : List ClosedView)
     → IsRunOf modes.Serial (load_trace count seed) run → run.list ≡ list_after (load_trace count seed).config run.journal
-    → text ≡ text_of_summary (tally_of run) → (status : Status) → (status ≡ statuses.Done → ⊥) → IsGiving text old new before now status
-    → (answer : Status) → (answer ≡ status) × (runs ≡ []) → IsGivingSummary count seed old new before now answer runs
-gives_beginning count seed run text old new before now runs is list told status other giving answer failed =
-    subst (λ (s : Status). IsGivingSummary count seed old new before now s runs) (sym failed.0)
-    (by_status status other (subst (λ (t : List ℕ). IsGiving t old new before now status) (text_is_summary count seed run text is list told) giving))
+    → text ≡ text_of_summary (tally_of run) → (status : Status) → (status ≡ statuses.Done → ⊥) → IsGiving text old new before now last status
+    → (answer : Status) → (answer ≡ status) × (runs ≡ []) → IsGivingSummary count seed old new before now last answer runs
+gives_beginning count seed run text old new before now last runs is list told status other giving answer failed =
+    subst (λ (s : Status). IsGivingSummary count seed old new before now last s runs) (sym failed.0)
+    (by_status status other (subst (λ (t : List ℕ). IsGiving t old new before now last status) (text_is_summary count seed run text is list told) giving))
   where
-    by_status : (status : Status) → (status ≡ statuses.Done → ⊥) → IsGiving (summary_text count seed) old new before now status
-        → IsGivingSummary count seed old new before now status runs
+    by_status : (status : Status) → (status ≡ statuses.Done → ⊥) → IsGiving (summary_text count seed) old new before now last status
+        → IsGivingSummary count seed old new before now last status runs
     by_status statuses.Done other giving = absurd (other refl)
-    by_status statuses.WriteFault other giving = (giving.0, failed.1, giving.1, giving.2, giving.3)
+    by_status statuses.WriteFault other giving = (giving.0, giving.1, failed.1, giving.2, giving.3, giving.4)
     by_status statuses.NoMemory other giving = (giving.0, failed.1, giving.1, giving.2)
     by_status statuses.Words other giving = absurd giving
     by_status (statuses.Trace line cause) other giving = absurd giving

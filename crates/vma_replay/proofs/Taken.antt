@@ -1,5 +1,5 @@
 -- Serves `read_source` and `run_source`: the bytes that were taken from a source, up to its end or past the limit, settle what it is read as.
-use Rattle.std.proofs.Common.{◌≡◌, ◌≤◌, ◌<◌, ℕ, ◌+◌, List, ◌++◌, length, take, Option, Some, None, Result, Ok, Err, IfSome, sym, ap, subst, ◌∙◌, inl, inr, arith, append-nil}
+use Rattle.std.proofs.Common.{◌≡◌, ◌≤◌, ◌<◌, Bool, ℕ, ◌+◌, List, ◌++◌, length, take, Option, Some, None, Result, Ok, Err, IfSome, sym, ap, subst, ◌∙◌, inl, inr, arith, append-nil}
 use Rattle.std.proofs.lemmas.Bool.{cases_lt}
 use Rattle.std.proofs.lemmas.List.{take-append-le}
 use Rattle.std.specs.Io.KnownBytes.{Consumes, IsAtEnd}
@@ -48,20 +48,20 @@ settled : {Y : Type 0} (read : List ℕ → Result Y TraceFault) → IsBounded r
 settled read bounded old new bytes answer taken e = taken_settles read trace_limit bounded.front old new bytes answer taken.moved taken.whole e
 
 -- where what was taken is read, the source gave it whole
-found_whole : {Y : Type 0} (read : List ℕ → Result Y TraceFault) → IsBounded read → (old new : Option (List ℕ)) (before now : ℕ)
-    (bytes : List ℕ) (found : Y) → IsTaking old new before now (Ok bytes) → read bytes ≡ Ok found
-    → IsReading read old new before now (Ok found)
-found_whole read bounded old new before now bytes found taken is =
+found_whole : {Y : Type 0} (read : List ℕ → Result Y TraceFault) → IsBounded read → (old new : Option (List ℕ)) (before now : ℕ) (last : Option Bool)
+    (bytes : List ℕ) (found : Y) → IsTaking old new before now last (Ok bytes) → read bytes ≡ Ok found
+    → IsReading read old new before now last (Ok found)
+found_whole read bounded old new before now last bytes found taken is =
     (taken.0, (bytes, taken.1), taken.1.whole (bounded.within bytes found is), settled read bounded old new bytes (Ok found) taken.1 is)
 
 -- where it is not, it has the source's first bad line, or memory ran out
-refused_first : {Y : Type 0} (read : List ℕ → Result Y TraceFault) → IsBounded read → (old new : Option (List ℕ)) (before now : ℕ)
-    (bytes : List ℕ) (error : ReadError) (status : Status) → IsTaking old new before now (Ok bytes) → IsFault error (read bytes)
-    → status ≡ refused_as error → IsReading read old new before now (Err status)
-refused_first {Y} read bounded old new before now bytes error status taken fault is =
-    subst (λ (s : Status). IsReading read old new before now (Err s)) (sym is) (by_error error fault)
+refused_first : {Y : Type 0} (read : List ℕ → Result Y TraceFault) → IsBounded read → (old new : Option (List ℕ)) (before now : ℕ) (last : Option Bool)
+    (bytes : List ℕ) (error : ReadError) (status : Status) → IsTaking old new before now last (Ok bytes) → IsFault error (read bytes)
+    → status ≡ refused_as error → IsReading read old new before now last (Err status)
+refused_first {Y} read bounded old new before now last bytes error status taken fault is =
+    subst (λ (s : Status). IsReading read old new before now last (Err s)) (sym is) (by_error error fault)
   where
-    by_error : (error : ReadError) → IsFault error (read bytes) → IsReading read old new before now (Err (refused_as error))
+    by_error : (error : ReadError) → IsFault error (read bytes) → IsReading read old new before now last (Err (refused_as error))
     by_error (reads.Bad first) fault = (taken.0, (bytes, taken.1), settled read bounded old new bytes (Err first) taken.1 fault)
     by_error reads.NoMemory fault = taken.0
 
@@ -77,22 +77,22 @@ trace_fault (reads.Bad first) read is = is
 trace_fault reads.NoMemory read is = is
 
 -- of traces
-pub reads_trace : (old new : Option (List ℕ)) (before now : ℕ) (bytes : List ℕ) (trace : Trace)
-    → IsTaking old new before now (Ok bytes) → trace_of bytes ≡ Ok trace → IsReading trace_of old new before now (Ok trace)
+pub reads_trace : (old new : Option (List ℕ)) (before now : ℕ) (last : Option Bool) (bytes : List ℕ) (trace : Trace)
+    → IsTaking old new before now last (Ok bytes) → trace_of bytes ≡ Ok trace → IsReading trace_of old new before now last (Ok trace)
 reads_trace = found_whole trace_of bounded_trace
 
-pub reads_no_trace : (old new : Option (List ℕ)) (before now : ℕ) (bytes : List ℕ) (error : ReadError) (status : Status)
-    → IsTaking old new before now (Ok bytes) → GivesTrace (Err error) (trace_of bytes) → status ≡ refused_as error
-    → IsReading trace_of old new before now (Err status)
-reads_no_trace old new before now bytes error status taken given =
-    refused_first trace_of bounded_trace old new before now bytes error status taken (trace_fault error (trace_of bytes) given)
+pub reads_no_trace : (old new : Option (List ℕ)) (before now : ℕ) (last : Option Bool) (bytes : List ℕ) (error : ReadError) (status : Status)
+    → IsTaking old new before now last (Ok bytes) → GivesTrace (Err error) (trace_of bytes) → status ≡ refused_as error
+    → IsReading trace_of old new before now last (Err status)
+reads_no_trace old new before now last bytes error status taken given =
+    refused_first trace_of bounded_trace old new before now last bytes error status taken (trace_fault error (trace_of bytes) given)
 
 -- of scripts
-pub reads_script : (old new : Option (List ℕ)) (before now : ℕ) (bytes text : List ℕ)
-    → IsTaking old new before now (Ok bytes) → script_output bytes ≡ Ok text → IsReading script_output old new before now (Ok text)
+pub reads_script : (old new : Option (List ℕ)) (before now : ℕ) (last : Option Bool) (bytes text : List ℕ)
+    → IsTaking old new before now last (Ok bytes) → script_output bytes ≡ Ok text → IsReading script_output old new before now last (Ok text)
 reads_script = found_whole script_output bounded_script
 
-pub reads_no_script : (old new : Option (List ℕ)) (before now : ℕ) (bytes : List ℕ) (error : ReadError) (status : Status)
-    → IsTaking old new before now (Ok bytes) → IsFault error (script_output bytes) → status ≡ refused_as error
-    → IsReading script_output old new before now (Err status)
+pub reads_no_script : (old new : Option (List ℕ)) (before now : ℕ) (last : Option Bool) (bytes : List ℕ) (error : ReadError) (status : Status)
+    → IsTaking old new before now last (Ok bytes) → IsFault error (script_output bytes) → status ≡ refused_as error
+    → IsReading script_output old new before now last (Err status)
 reads_no_script = refused_first script_output bounded_script

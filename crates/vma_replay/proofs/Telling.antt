@@ -1,4 +1,4 @@
--- Serves `history_text`: what its loop over the items of a history keeps.
+-- Serves `print_items`: what its loop over the items of a history keeps.
 use Rattle.std.proofs.Common.{ℕ, ◌≡◌, ◌+◌, ◌<◌, ◌≤◌, ◌∙◌, refl, sym, ap, subst, cond, true, false, nat_eq, List, [], ◌∷◌, ◌++◌, append_assoc, length, map, take, drop, get_or, slice_get, set, Option, Some, None, arith, inl, inr}
 use Rattle.std.specs.Prelude.{Vec, IsSomeAnd, replicate}
 use Rattle.std.specs.Option.{option_map, option_map_or}

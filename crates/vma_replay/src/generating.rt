@@ -31,7 +31,7 @@ pub(crate) fn give_summary<R: Wait, K: Sink>(
 ) -> Replayed
     requires count { count ≤ MOST_OPERATIONS }
     requires sink { K.faults sink.old < 2 ^ 64 - 1 }
-    ensures { IsGivingSummary count seed (K.written sink.old) (K.written sink.new) (K.faults sink.old) (K.faults sink.new) result.status result.runs }
+    ensures { IsGivingSummary count seed (K.written sink.old) (K.written sink.new) (K.faults sink.old) (K.faults sink.new) (K.just_failed sink.new) result.status result.runs }
 {
     let Ok(room) = Vec::with_capacity(alloc, 1) else {
         return Replayed::without_run(alloc, Status::NoMemory);

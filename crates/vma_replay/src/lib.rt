@@ -9,6 +9,8 @@ mod giving;
 #[cfg(test)]
 mod load_tests;
 mod output;
+#[cfg(test)]
+mod piece_tests;
 mod places;
 mod printing;
 mod reading;
@@ -29,7 +31,6 @@ mod words;
 
 pub use driving::{drive, in_order};
 pub use history::label;
-pub use printing::history_text;
 pub use replayed::{Replayed, Runs};
 pub use run::replay;
 pub use status::{Status, status_line, status_number};

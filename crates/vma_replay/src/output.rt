@@ -1,10 +1,10 @@
-//! The text of what a line results in, and of the final list.
+//! The text of what a line results in, and of what stands before a list.
 ghost use Rattle.std.specs.Prelude.{◌≡◌, ◌++◌, OnOk, codes, decimal};
 ghost use Rattle.mm_types.specs.MapsText.{range_text};
-ghost use Rattle.vma_replay.specs.Output.{errno_name, reply_text, verdict_text, start_text, maps_text};
+ghost use Rattle.vma_replay.specs.Output.{errno_name, reply_text, verdict_text, start_text};
 
-use maps_print::{push_list, push_range};
-use mm_types::{Errno, Files, NoMemory, Record, Reply, Verdict};
+use maps_print::push_range;
+use mm_types::{Errno, NoMemory, Record, Reply, Verdict};
 use std::io::Write;
 use trace_reader::TraceLine;
 
@@ -79,12 +79,9 @@ fn errno_name(errno: Errno) -> &'static str
     }
 }
 
-/// Appends how many areas there are, and their lines.
-#[tactic(auto, unfolding(crate::specs::Output::maps_text))]
-pub(crate) fn push_maps(text: &mut Vec<u8>, files: &Files, areas: &[Record]) -> Result<(), NoMemory>
-    ensures { OnOk result (text.new.items ≡ text.old.items ++ maps_text files.now areas.now) }
+/// Appends how many areas a list has, which is the line before theirs.
+pub(crate) fn push_count(text: &mut Vec<u8>, count: usize) -> Result<(), NoMemory>
+    ensures { OnOk result (text.new.items ≡ text.old.items ++ (codes "maps " ++ (decimal count ++ codes "\n"))) }
 {
-    let count = areas.len();
-    write!(text, "maps {count}\n").map_err(|_| NoMemory)?;
-    push_list(text, areas, files)
+    write!(text, "maps {count}\n").map_err(|_| NoMemory)
 }

@@ -21,7 +21,7 @@ const MOST_READ: usize = TRACE_LIMIT + 1;
 pub(crate) fn read_source<S: Source>(alloc: Global, source: &mut S) -> Result<Trace, Status>
     requires { S.faults source.old < 2 ^ 64 - 1 }
     ensures value { IfOk result IsTraceValue }
-    ensures reading { IsReading trace_of (S.left source.old) (S.left source.new) (S.faults source.old) (S.faults source.new) result }
+    ensures reading { IsReading trace_of (S.left source.old) (S.left source.new) (S.faults source.old) (S.faults source.new) (S.just_failed source.new) result }
 {
     let bytes = take_bytes(alloc, source)?;
     match read(alloc, &bytes) {
@@ -33,7 +33,7 @@ pub(crate) fn read_source<S: Source>(alloc: Global, source: &mut S) -> Result<Tr
 /// Reads all of a source as a script, and runs it. A status says why it is none.
 pub(crate) fn run_source<S: Source>(alloc: Global, source: &mut S) -> Result<Vec<u8>, Status>
     requires { S.faults source.old < 2 ^ 64 - 1 }
-    ensures { IsReading script_output (S.left source.old) (S.left source.new) (S.faults source.old) (S.faults source.new) (taken_bytes result) }
+    ensures { IsReading script_output (S.left source.old) (S.left source.new) (S.faults source.old) (S.faults source.new) (S.just_failed source.new) (taken_bytes result) }
 {
     let bytes = take_bytes(alloc, source)?;
     match run_script(alloc, &bytes) {
@@ -59,7 +59,7 @@ fn refused_as(error: ReadError) -> Status
 #[tactic(auto, unfolding(trace_reader::specs::Lines::trace_limit))]
 fn take_bytes<S: Source>(alloc: Global, source: &mut S) -> Result<Vec<u8>, Status>
     requires { S.faults source.old < 2 ^ 64 - 1 }
-    ensures { IsTaking (S.left source.old) (S.left source.new) (S.faults source.old) (S.faults source.new) (taken_bytes result) }
+    ensures { IsTaking (S.left source.old) (S.left source.new) (S.faults source.old) (S.faults source.new) (S.just_failed source.new) (taken_bytes result) }
 {
     let mut bytes = Vec::new(alloc);
     let mut piece = [0u8; PIECE];

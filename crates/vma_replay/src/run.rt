@@ -1,6 +1,7 @@
-ghost use Rattle.std.specs.Prelude.{◌≡◌, ◌<◌, ◌^◌, ◌-◌, ◌⊎◌, ◌∷◌, [], ℕ, true, false, IfSome, IsSomeAnd, Some};
+ghost use Rattle.std.specs.Prelude.{◌≡◌, ◌<◌, ◌^◌, ◌+◌, ◌-◌, ◌⊎◌, ◌∷◌, [], ℕ, true, false, IfSome, IsSomeAnd, Some};
 ghost use Rattle.std.specs.Io.KnownBytes.{Keeps, IsAtEnd};
 ghost use Rattle.trace_reader.specs.declared.fault.Cause.{Cause};
+ghost use Rattle.io_edge.specs.Edge.{FailedLast};
 ghost use Rattle.mm_space.specs.Closing.{ClosedView};
 ghost use Rattle.vma_replay.specs.declared.words.Mode.TheVariants.{Serial};
 ghost use Rattle.vma_replay.specs.Jobs.{are_accepted, job_of_words, mode_of_words, opens_a_space, reads_the_source};
@@ -65,8 +66,10 @@ pub fn replay<R: Threads + Wait + Sync, S: Source, K: Sink, G: Gate>(
         × (S.faults source.new ≡ S.faults source.old)
         × IsSomeAnd (job_of_words words.now) (λ job. IfSome (S.left source.old) (λ input.
         fault_of job input ≡ Some (record { line = line; cause = cause }))) }
-    ensures read_fault { result.status ≡ Status.ReadFault → (reads_the_source words.now ≡ true) × (S.faults source.old < S.faults source.new) }
-    ensures write_fault { result.status ≡ Status.WriteFault → (S.faults source.new ≡ S.faults source.old) × (K.faults sink.old < K.faults sink.new) }
+    ensures read_fault { result.status ≡ Status.ReadFault → (reads_the_source words.now ≡ true) × (S.faults source.new ≡ S.faults source.old + 1) }
+    ensures write_fault { result.status ≡ Status.WriteFault → (S.faults source.new ≡ S.faults source.old) × (K.faults sink.new ≡ K.faults sink.old + 1) }
+    ensures source_not_called_again { result.status ≡ Status.ReadFault → FailedLast (S.just_failed source.new) }
+    ensures sink_not_called_again { result.status ≡ Status.WriteFault → FailedLast (K.just_failed sink.new) }
     ensures no_memory { result.status ≡ Status.NoMemory → (S.faults source.new ≡ S.faults source.old) × (K.faults sink.new ≡ K.faults sink.old) }
     ensures complete { reads_the_source words.now ≡ true → S.faults source.new ≡ S.faults source.old → K.faults sink.new ≡ K.faults sink.old →
         IsSomeAnd (job_of_words words.now) (λ job. IfSome (S.left source.old) (λ input.

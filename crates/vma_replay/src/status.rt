@@ -1,8 +1,9 @@
 ghost use Rattle.std.specs.Prelude.{◌≡◌, ◌++◌, IfOk, codes, decimal, string_bytes};
 ghost use Rattle.vma_replay.specs.Statuses.{number_of_status, line_of_status};
+ghost use Rattle.vma_replay.specs.declared.status.Status.TheVariants.{NoMemory as no_memory};
 
 use mm_types::{NoMemory, Text};
-use std::alloc::Global;
+use std::alloc::{AllocError, Global};
 use trace_reader::Cause;
 
 /// What a run results in.
@@ -20,6 +21,22 @@ pub enum Status {
     WriteFault,
     /// Memory ran out.
     NoMemory,
+}
+
+impl From<NoMemory> for Status {
+    ghost from_gives = { λ _ status. status ≡ no_memory };
+
+    fn from(_error: NoMemory) -> Status {
+        Status::NoMemory
+    }
+}
+
+impl From<AllocError> for Status {
+    ghost from_gives = { λ _ status. status ≡ no_memory };
+
+    fn from(_error: AllocError) -> Status {
+        Status::NoMemory
+    }
 }
 
 /// The exit status of the program: 0 where it is done, and 2 to 6 else.

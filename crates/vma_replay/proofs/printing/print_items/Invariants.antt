@@ -1,0 +1,11 @@
+-- The proof of `print_items`: the items so far were printed.
+use Rattle.std.proofs.Common.{ℕ, List, length}
+use Rattle.vma_replay.specs.Giving.{Prints}
+use Rattle.vma_replay.proofs.Telling.{Told}
+use Rattle.vma_replay.proofs.printing.print_items.Given as goal
+
+abbrev pub invariant-loop-item : goal.invariant-loop-item
+invariant-loop-item g l = (text : List ℕ)
+    × Prints (g.K.Sink.written l.fn.sink) (g.K.Sink.written l.sink) (g.K.Sink.faults l.fn.sink) (g.K.Sink.faults l.sink)
+    l.fn.piece.items l.piece.items text
+    × Told l.fn.trace.config.files l.fn.trace.lines l.fn.items (length l.fn.places) l.item-index l.answered.items text

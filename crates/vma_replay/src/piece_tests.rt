@@ -1,0 +1,180 @@
+//! Inputs that are cut short or that break one rule, and inputs and outputs that move in pieces.
+ghost use Rattle.std.specs.Prelude.{None};
+
+use crate::{Cause, Status, replay};
+use io_edge::{Failed, GiveFault, PlainGate, Sink, Source, SureSource};
+use std::alloc::Global;
+use std::process::Abort;
+use std::sync::Wait;
+use std::test::Fail;
+use std::thread::Threads;
+
+/// A trace of two lines, of which each shorter beginning but the first line is no trace.
+const SMALL: &[u8] = b"vmatrace 1\n0 munmap 0x10000 4096\n";
+
+/// A source that keeps the length of the longest piece that it was asked to fill.
+#[derive(Drop)]
+struct NotingSource {
+    inner: SureSource,
+    longest: usize,
+}
+
+impl Source for NotingSource {
+    ghost left = { λ _. None };
+
+    ghost faults = { λ _. 0 };
+
+    ghost just_failed = { λ _. None };
+
+    fn take(&mut self, into: &mut [u8]) -> Result<usize, Failed> {
+        self.longest = self.longest.max(into.len());
+        self.inner.take(into)
+    }
+}
+
+/// A sink that takes at most so many bytes at a call, and keeps what it took and how long each piece was.
+#[derive(Drop)]
+struct ShortSink {
+    most: usize,
+    bytes: Vec<u8>,
+    pieces: Vec<usize>,
+}
+
+impl ShortSink {
+    fn new(alloc: Global, most: usize) -> ShortSink {
+        ShortSink {
+            most,
+            bytes: Vec::new(alloc),
+            pieces: Vec::new(alloc),
+        }
+    }
+}
+
+impl Sink for ShortSink {
+    ghost written = { λ _. None };
+
+    ghost faults = { λ _. 0 };
+
+    ghost just_failed = { λ _. None };
+
+    fn give(&mut self, piece: &[u8]) -> Result<usize, GiveFault> {
+        let count = piece.len().min(self.most.max(1));
+        self.pieces.extend_from_slice(&[piece.len()])?;
+        self.bytes.extend_from_slice(&piece[..count])?;
+        Ok(count)
+    }
+}
+
+/// What `serial` answers for a trace, with a sink that takes at most so many bytes at a call. No piece of the trace is longer than 65,536
+/// bytes.
+fn run<R: Threads + Wait + Sync + Abort>(
+    rt: &R,
+    alloc: Global,
+    trace: &[u8],
+    most: usize,
+) -> Result<(Status, ShortSink), Fail> {
+    let mut words = Vec::new(alloc);
+    words.push(String::from_str(alloc, "serial")?)?;
+    let mut source = NotingSource {
+        inner: SureSource::new(Vec::from_slice(alloc, trace)?),
+        longest: 0,
+    };
+    let mut sink = ShortSink::new(alloc, most);
+    let status = replay(rt, alloc, &words, &mut source, &mut sink, &PlainGate).status;
+    assert_eq!(rt; source.longest, 65_536);
+    Ok((status, sink))
+}
+
+#[test]
+fn tells_each_beginning_of_a_trace(rt: HostRuntime) -> Result<(), Fail> {
+    for count in 0..SMALL.len() {
+        let (status, sink) = run(&rt, rt.alloc(), &SMALL[..count], usize::MAX)?;
+        let (line, cause) = match count {
+            0 => (1, Cause::Header),
+            1..11 => (1, Cause::NoEnd),
+            _ => (2, Cause::NoEnd),
+        };
+        // The first line alone is a trace.
+        let (answer, output): (Status, &[u8]) = if count == 11 {
+            (Status::Done, b"maps 0\n")
+        } else {
+            (Status::Trace { line, cause }, b"")
+        };
+        assert_eq!(rt; status, answer, "{count} bytes");
+        assert_eq!(rt; sink.bytes.as_slice(), output, "{count} bytes");
+    }
+    Ok(())
+}
+
+/// A trace of its first line and another text, so many times.
+fn repeated(alloc: Global, text: &[u8], times: usize) -> Result<Vec<u8>, Fail> {
+    let mut trace = Vec::from_slice(alloc, b"vmatrace 1\n")?;
+    for _ in 0..times {
+        trace.extend_from_slice(text)?;
+    }
+    Ok(trace)
+}
+
+#[test]
+fn tells_the_line_that_breaks_a_rule(rt: HostRuntime) -> Result<(), Fail> {
+    let alloc = rt.alloc();
+    let mut long = repeated(alloc, b"#", 4097)?;
+    long.push(b'\n')?;
+    let traces = [
+        (long, 2, Cause::TooLong),
+        (repeated(alloc, b"0 maps\n# \xff\n", 1)?, 3, Cause::Utf8),
+        (
+            repeated(alloc, b"0 maps\nlimit areas 9\n", 1)?,
+            3,
+            Cause::Word,
+        ),
+        (repeated(alloc, b"0 maps\n", 65)?, 66, Cause::TooMany),
+    ];
+    for (trace, line, cause) in traces {
+        let (status, sink) = run(&rt, alloc, trace.as_slice(), usize::MAX)?;
+        assert_eq!(rt; status, Status::Trace { line, cause });
+        assert!(rt; sink.pieces.is_empty());
+    }
+    let (status, _sink) = run(
+        &rt,
+        alloc,
+        repeated(alloc, b"0 maps\n", 64)?.as_slice(),
+        usize::MAX,
+    )?;
+    assert_eq!(rt; status, Status::Done);
+    Ok(())
+}
+
+#[test]
+fn gives_the_rest_of_a_piece(rt: HostRuntime) -> Result<(), Fail> {
+    let output = b"L2 t0 v1 = 0\nmaps 0\n";
+    let (status, sink) = run(&rt, rt.alloc(), SMALL, 1)?;
+    assert_eq!(rt; status, Status::Done);
+    assert_eq!(rt; sink.bytes.as_slice(), output.as_slice());
+    // Each call is offered what is left.
+    for (number, length) in sink.pieces.iter().enumerate() {
+        assert_eq!(rt; number.checked_add(*length), Some(output.len()));
+    }
+    assert_eq!(rt; sink.pieces.len(), output.len());
+    Ok(())
+}
+
+#[test]
+fn gives_whole_pieces(rt: HostRuntime) -> Result<(), Fail> {
+    // 5,000 faults at no area, each with a line of 33 to 36 bytes.
+    let trace = repeated(rt.alloc(), b"0 fault 0x10000 r\n", 5000)?;
+    let (status, sink) = run(&rt, rt.alloc(), trace.as_slice(), usize::MAX)?;
+    assert_eq!(rt; status, Status::Done);
+    let mut output = Vec::new(rt.alloc());
+    for line in 2..=5001u32 {
+        let text = format!(in rt.alloc(); "L{line} t0 v0 = SIGSEGV SEGV_MAPERR\n")?;
+        output.extend_from_slice(text.as_str().as_bytes())?;
+    }
+    output.extend_from_slice(b"maps 0\n")?;
+    assert_eq!(rt; sink.bytes.as_slice(), output.as_slice());
+    assert_eq!(rt;
+        sink.pieces.as_slice(),
+        [65_536, 65_536, output.len().saturating_sub(131_072)].as_slice()
+    );
+    Ok(())
+}
