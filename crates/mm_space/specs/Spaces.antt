@@ -11,7 +11,11 @@ use Rattle.area_model.specs.Journals.{version_of, IsReadRight}
 use Rattle.lock_core.specs.Core.{StartsWith}
 use Rattle.atomic_table.specs.Seated.{TableId}
 use Rattle.fault_path.specs.declared.fast.Miss.{Miss}
-use Rattle.fault_path.specs.Passes.{PassView, caller, config, seen_by, made_by, looks_of, walker}
+use Rattle.lock_core.specs.declared.stage.Stage.TheVariants.{Out}
+use Rattle.vma_lock.specs.declared.seats.ReaderSeat.{ReaderSeat}
+use Rattle.vma_lock.specs.Seats.{view, seen}
+use Rattle.vma_lock.specs.Views.{look_at}
+use Rattle.fault_path.specs.Passes.{PassView, IsLater, caller, config, seen_by, made_by, looks_of, walker}
 use Rattle.fault_path.specs.Faults.{IsAnswer, Misses}
 use Rattle.mm_space.specs.declared.space.Path.{Path}
 use Rattle.mm_space.specs.declared.space.Path.TheVariants.{Fast, Slow}
@@ -54,12 +58,16 @@ pub record DoesNothing (old new : PassView) : Type 0 where
   pub own : made_by new ≡ made_by old
   pub left : new.left ≡ old.left
 
--- A fault missed without the lock, for this cause, and then looked once more, under the lock.
+-- a seat looked once, and took no other step
+abbrev pub LooksOnce : ReaderSeat → ReaderSeat → Type 0
+LooksOnce old new = (found : ℕ) × (view new ≡ look_at (view old) found (seen new) Out)
+
+-- A fault missed without the lock, for this cause, and then its seat looked once more, under the lock, and took no other step.
 pub record MissesFirst (page : ℕ) (miss : Miss) (old new : PassView) : Type 0 where
   pub between : PassView
   pub missed : Misses page old between miss
-  pub later : StartsWith (seen_by new) (seen_by between)
-  pub looks : looks_of new ≡ looks_of between + 1
+  pub later : IsLater between new
+  pub look : LooksOnce between.reader new.reader
   pub walker : walker new ≡ walker between
 
 -- the way of a fault: it was answered without the lock, or it missed first

@@ -8,6 +8,7 @@ ghost use Rattle.lock_core.specs.Core.{StartsWith};
 ghost use Rattle.lock_core.specs.Facts.{list_after};
 ghost use Rattle.vma_lock.specs.Seats.{view, seen, stage, HasTurn};
 ghost use Rattle.mm_space.specs.Names.{Within, IsNamed};
+ghost use Rattle.mm_space.specs.Spaces.{LooksOnce};
 
 use crate::name::SpaceName;
 use mm_state::MmState;
@@ -83,6 +84,7 @@ impl<N: SpaceName> Named<N> {
         ensures turn { HasTurn seat.new }
         ensures free { stage seat.new ≡ Out }
         ensures looks { (view seat.new).trace.looks ≡ (view seat.old).trace.looks + 1 }
+        ensures look { LooksOnce seat.old seat.new }
         ensures later { StartsWith self.old.journal (seen seat.old) }
         ensures own { calls_by (view seat.old).caller self.old.journal ≡ calls_by (view seat.old).caller (seen seat.old) }
     {

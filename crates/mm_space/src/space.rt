@@ -7,7 +7,7 @@ ghost use Rattle.lock_core.specs.Facts.{list_after};
 ghost use Rattle.fault_path.specs.Passes.{seen_by, made_by, looks_of, walker, IsPassOf, IsLater, ArePasses, AreFresh};
 ghost use Rattle.fault_path.specs.Faults.{WalksOnce};
 ghost use Rattle.mm_space.specs.declared.space.Path.TheVariants.{Slow};
-ghost use Rattle.mm_space.specs.Spaces.{Calls, Reads, DoesNothing, IsWay};
+ghost use Rattle.mm_space.specs.Spaces.{Calls, Reads, DoesNothing, LooksOnce, IsWay};
 ghost use Rattle.mm_space.specs.Closing.{Closes};
 
 use crate::closed::Closed;
@@ -158,7 +158,7 @@ impl<N: SpaceName> Space<N> {
         ensures later { IsLater pass.old pass.new }
         ensures same { pass.new ≡ record pass.old { reader = pass.new.reader } }
         ensures own { made_by pass.new ≡ made_by pass.old }
-        ensures looks { looks_of pass.new ≡ looks_of pass.old + 1 }
+        ensures look { LooksOnce pass.old.reader pass.new.reader }
         ensures version { result.version ≡ length (seen_by pass.new) }
         ensures verdict { result.verdict ≡ verdict N.config.files (list_after N.config (seen_by pass.new)) page.0 access }
         ensures path { result.path ≡ Slow miss }
