@@ -117,7 +117,7 @@ impl Bench {
         let words = self
             .nodes
             .written(&self.writer, row, &mut Steps::<Looks>::new());
-        Some(words)
+        Some(*words)
     }
 }
 
