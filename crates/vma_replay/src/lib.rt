@@ -8,6 +8,8 @@ mod generating;
 mod giving;
 #[cfg(test)]
 mod load_tests;
+#[cfg(test)]
+mod order_tests;
 mod output;
 #[cfg(test)]
 mod piece_tests;
