@@ -13,13 +13,23 @@ use Rattle.maple_read.specs.Walks.{slot_at}
 use Rattle.fault_path.specs.declared.fast.Miss.{Miss}
 use Rattle.fault_path.specs.declared.fast.Miss.TheVariants.{NoArea, Marked, Elsewhere}
 use Rattle.fault_path.specs.Faults.{IsPaired, IsUnpaired, IsFound, IsMiss}
-use Rattle.fault_path.specs.Locking.{GoesOn, IsLocked, LocksSlot, MissesSlot}
+use Rattle.fault_path.specs.Locking.{GoesOn, IsLocked, IsPairedNow, LocksSlot, MissesSlot}
 
 -- the tree that was loaded is the last one that the closed walker loaded
 pub last_is : (shown : Shown) (opened loaded walked closed : NodeView) (reads : ℕ) → loaded ≡ root_at opened shown
     → walked ≡ record loaded { words = loaded.words + reads } → closed ≡ close_at walked → closed.last ≡ Some shown
 last_is shown opened loaded walked closed reads load walk close =
     ap (λ (v : NodeView). v.last) close ∙ ap (λ (v : NodeView). v.last) walk ∙ ap (λ (v : NodeView). v.last) load
+
+-- the walker still has the tree of its snapshot after the walk, which pairs the slot that the walk found with the page
+pub paired_now : (page : ℕ) (slot : Slot) (found : Option Slot) (shown : Shown) (loaded walked : NodeView) (reads : ℕ) → loaded.snapshot ≡ Some shown
+    → walked ≡ record loaded { words = loaded.words + reads } → option_map (λ (s : Slot). s.0) found ≡ slot_at page shown → found ≡ Some slot
+    → IsPairedNow page slot.0 walked
+paired_now page slot found shown loaded walked reads snapshot walk told is = record {
+  shown = shown;
+  snapshot = ap (λ (v : NodeView). v.snapshot) walk ∙ snapshot;
+  pair = sym told ∙ ap (option_map (λ (s : Slot). s.0)) is;
+}
 
 -- the tree pairs the slot that the walk found with the page
 pub paired : (page : ℕ) (slot : Slot) (found : Option Slot) (shown : Shown) (closed : NodeView) → closed.last ≡ Some shown

@@ -7,8 +7,11 @@ use Rattle.area_model.specs.Journals.{calls_by}
 use Rattle.area_model.specs.Steps.{IsLegalJournal}
 use Rattle.lock_core.specs.Core.{StartsWith}
 use Rattle.lock_core.specs.Facts.{list_after}
+use Rattle.maple_read.specs.Walks.{slot_at}
 use Rattle.vma_lock.specs.declared.view.View.{View}
 use Rattle.vma_lock.specs.Seats.{is_validated, row_of}
+use Rattle.node_slots.specs.declared.view.Shown.{Shown}
+use Rattle.node_slots.specs.declared.view.NodeView.{NodeView}
 use Rattle.fault_path.specs.declared.fast.Miss.{Miss}
 use Rattle.fault_path.specs.declared.fast.Miss.TheVariants.{NoArea, Marked, Elsewhere}
 use Rattle.fault_path.specs.Faults.{TriesOnce, ReadsSlot, Lacks, HoldsPage}
@@ -30,6 +33,12 @@ pub record IsLocked (area : Record) (view : View) : Type 0 where
   pub holds : unpacked (row_of view.stage) ≡ Some area
   pub sound : IsSound view.config (list_after view.config view.seen)
   pub member : Contains (list_after view.config view.seen) area
+
+-- The tree of the walker's snapshot, which it has until its pin is closed, pairs this slot with the page.
+pub record IsPairedNow (page slot : ℕ) (walker : NodeView) : Type 0 where
+  pub shown : Shown
+  pub snapshot : walker.snapshot ≡ Some shown
+  pub pair : slot_at page shown ≡ Some slot
 
 -- a slot was validated, and its row holds this area, which has the page
 pub record LocksSlot (slot page : ℕ) (area : Record) (old new : View) : Type 0 where

@@ -6,7 +6,7 @@ ghost use Rattle.lock_core.specs.declared.stage.Stage.TheVariants.{Out};
 ghost use Rattle.vma_lock.specs.Seats.{slots_of, IsOf, view, stage};
 ghost use Rattle.node_slots.specs.Seats as node_seats;
 ghost use Rattle.fault_path.specs.Faults.{WalksOnce, IsMiss, IsFound};
-ghost use Rattle.fault_path.specs.Locking.{GoesOn, IsLocked, LocksSlot, MissesSlot};
+ghost use Rattle.fault_path.specs.Locking.{GoesOn, IsLocked, IsPairedNow, LocksSlot, MissesSlot};
 
 use crate::fast::Miss;
 use maple_read::walk;
@@ -38,18 +38,22 @@ pub(crate) fn lock_page(
 {
     nodes.open(walker);
     let root = nodes.root(walker);
-    let locked = match walk(nodes, walker, root, page) {
-        Some(slot) => lock_slot(table, reader, slot, page),
+    let found = walk(nodes, walker, root, page);
+    let locked = match found {
+        Some(slot) => lock_slot(table, reader, walker, slot, page),
         None => Err(Miss::NoArea { tree: root.tree }),
     };
     nodes.close(walker);
     locked
 }
 
-/// Locks the area in a slot, if it is not marked and has the page.
+/// Locks the area in a slot, if it is not marked and has the page. The walker that found the slot is still open: a slot that a
+/// tree in use pairs is not given to another area while the pin is open, so that the mark is not made on the slot of an area
+/// that the walk never saw.
 fn lock_slot(
     table: &VmaTable,
     reader: &mut ReaderSeat,
+    walker: &NodeSeat,
     slot: Slot,
     page: Page,
 ) -> Result<Record, Miss>
@@ -57,6 +61,8 @@ fn lock_slot(
     requires config { IsValidConfig (view reader.old).config }
     requires free { stage reader.old ≡ Out }
     requires slot { slot.0 < slots_of table.now }
+    requires open { node_seats.IsOpen walker.now }
+    requires found { IsPairedNow page.0 slot.0 (node_seats.view walker.now) }
     ensures table { IsOf reader.new table.now }
     ensures goes_on { GoesOn (view reader.old) (view reader.new) }
     ensures locked { MatchResult result
