@@ -13,7 +13,6 @@ use Rattle.mm_types.specs.declared.area.Record.{Record}
 use Rattle.mm_types.specs.Packed.{packed}
 use Rattle.lock_core.specs.declared.stage.SlotState.{SlotState}
 use Rattle.lock_core.specs.Core.{slot_at, free_slot, detached_row}
-use Rattle.lock_core.specs.Rows.{is_detached}
 use Rattle.split_merge.specs.declared.plan.Change.{Change}
 use Rattle.split_merge.specs.declared.plan.Change.TheVariants.{Detach, Alter, Add}
 use Rattle.split_merge.specs.Plans.{olds_of, news_of, starts_alike, without}
@@ -29,7 +28,7 @@ use Rattle.area_tree.specs.AreaTrees.{AreaTreeView, shown_of, areas_of, areas_sh
 use Rattle.mm_state.specs.declared.board.Board.{Board}
 use Rattle.mm_state.specs.Shelves.{ShowsIt, Hangs}
 use Rattle.mm_state.specs.Boards.{adds, weigh, IsBeside, after_leaving, Moves, Carries, IsSane, IsShown, IsStill, IsChanging, IsSameTree}
-use Rattle.mm_state.proofs.Rows.{packed_attached, packed_apart}
+use Rattle.mm_state.proofs.Rows.{packed_apart, not_packed}
 use Rattle.mm_state.proofs.Hanging.{hangs_permuted, alone, IsAlone, self, left_more, detached, altered, added, free_is_none}
 use Rattle.mm_state.proofs.Writing.{hangs_out}
 use Rattle.mm_state.proofs.InOrder.{weigh_map}
@@ -67,10 +66,6 @@ unused_more : (old states : List SlotState) (slot : ℕ) (state : SlotState) (fr
 unused_more old states slot state free left none fewer unused other some =
     get_or-set_other states slot other state free_slot (λ same. absurd (omega (arith, ap (λ n. times n left) same, none, some)))
     ∙ unused other (omega (arith, fewer other, some))
-
-not_packed : (row : List ℕ) (area : Record) → is_detached row ≡ true → row ≢ packed area
-not_packed row area is same =
-    let two : true ≡ false = sym is ∙ ap is_detached same ∙ packed_attached area in cc
 
 -- a tree that changed but for its pairs, and changes so again
 pub tree_step : (first second third : AreaTreeView) → IsSameTree first second → IsSameTree second third → IsSameTree first third

@@ -83,12 +83,12 @@ entered board config entries objects entry old new p = record {
   result = p.planned.makes.result ∙ ap (λ (s : AddressSpace). s.areas) next
       ∙ ap (λ (c : Config). list_after c (entries ++ entry ∷ [])) (sym p.settings)
       ∙ ap (λ (j : List Entry). list_after (config_of board.table) (j ++ entry ∷ [])) (sym p.journal_is);
-  sane = sane new.changes (areas_of board.areas) (step config (space_of (areas_of board.areas) objects) entry.call).space.areas
-      (subst (λ (s : AddressSpace). All IsPackable s.areas) (sym p.space)
-      (packable config (after config entries) (after_ready config entries p.valid (omega (arith, p.room)))))
+  real = p.planned.makes.real;
+  sane = sane new.changes (areas_of board.areas) (step config (space_of (areas_of board.areas) objects) entry.call).space.areas before
       (subst (λ (s : AddressSpace). All IsPackable s.areas) (sym next)
       (packable config (after config (entries ++ entry ∷ [])) (after_ready config (entries ++ entry ∷ []) p.valid (omega (arith, length-append entries (entry ∷ []), p.room)))))
       p.planned.makes;
+  packable = before;
   few_after = omega (arith, p.planned.kept.few, p.most_is, ap (λ (c : Config). c.areas) p.settings);
   rise_after = subst (λ limit. AreasRise limit 0 (applied new.changes (areas_of board.areas))) (p.limit_is ∙ ap (λ (c : Config). page_of c.limit) (sym p.settings))
       (canonical_rise board.areas.bounds.limit (applied new.changes (areas_of board.areas)) p.planned.kept.canonical);
@@ -96,6 +96,10 @@ entered board config entries objects entry old new p = record {
   where
     next : (step config (space_of (areas_of board.areas) objects) entry.call).space ≡ after config (entries ++ entry ∷ [])
     next = space_after config entries (areas_of board.areas) objects entry p.space
+
+    before : All IsPackable (areas_of board.areas)
+    before = subst (λ (s : AddressSpace). All IsPackable s.areas) (sym p.space)
+        (packable config (after config entries) (after_ready config entries p.valid (omega (arith, p.room))))
 
 -- a journal with no entry is legal
 pub legal_nil : (config : Config) → IsLegalJournal config []

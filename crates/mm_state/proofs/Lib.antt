@@ -6,6 +6,7 @@ pub mod Weights
 pub mod Changing
 pub mod Carrying
 pub mod Readying
+pub mod Staying
 pub mod Telling
 pub mod Sane
 pub mod Opening

@@ -1,5 +1,5 @@
 -- For all calls of `Board`: no row of an area is detached, and two areas have two rows.
-use Rattle.std.proofs.Common.{◌≡◌, ◌≢◌, ◌+◌, ◌*◌, ◌^◌, ℕ, Bool, true, false, nat_eq, ◌&&◌, sym, ap, ◌∙◌, arith}
+use Rattle.std.proofs.Common.{◌≡◌, ◌≢◌, ◌+◌, ◌*◌, ◌^◌, ℕ, Bool, true, false, nat_eq, ◌&&◌, List, sym, ap, ◌∙◌, arith}
 use Rattle.std.proofs.lemmas.Bool.{ne_eqb}
 use Rattle.std.proofs.lemmas.Option.{same_Some}
 use Rattle.mm_types.specs.declared.area.Record.{Record}
@@ -17,6 +17,16 @@ unfolding packed
 packed_attached area = some_word (2 ^ 16 * area.span.lo + 2 ^ 15 + attr_bits area.attr)
     (nat_eq area.span.hi 0 && (nat_eq area.object 0 && (nat_eq area.offset 0 && true))) (λ (none : 2 ^ 16 * area.span.lo + 2 ^ 15 + attr_bits area.attr ≡ 0). omega arith)
 
+-- areas with one row are one area
+pub packed_same : (a b : Record) → IsPackable a → IsPackable b → packed a ≡ packed b → a ≡ b
+packed_same a b first second same =
+    same_Some a b (sym (unpacked-packed a first.valid first.object) ∙ ap unpacked same ∙ unpacked-packed b second.valid second.object)
+
 -- two areas have two rows
 pub packed_apart : (a b : Record) → IsPackable a → IsPackable b → a ≢ b → packed a ≢ packed b
-packed_apart a b first second apart same = apart (same_Some a b (sym (unpacked-packed a first.valid first.object) ∙ ap unpacked same ∙ unpacked-packed b second.valid second.object))
+packed_apart a b first second apart same = apart (packed_same a b first second same)
+
+-- a detached row is that of no area
+pub not_packed : (row : List ℕ) (area : Record) → is_detached row ≡ true → row ≢ packed area
+not_packed row area is same =
+    let two : true ≡ false = sym is ∙ ap is_detached same ∙ packed_attached area in cc

@@ -13,7 +13,7 @@ use Rattle.lock_core.specs.Facts.{list_after}
 use Rattle.lock_core.specs.Core.{slot_at, detached_row}
 use Rattle.split_merge.specs.declared.plan.Change.{Change}
 use Rattle.split_merge.specs.declared.plan.Change.TheVariants.{Detach, Alter, Add}
-use Rattle.split_merge.specs.Plans.{olds_of, news_of, without, applied, IsPlanOf}
+use Rattle.split_merge.specs.Plans.{olds_of, news_of, without, applied, IsPlanOf, IsReal}
 use Rattle.sys_map.specs.BinarySearch.{BeginsAscend}
 use Rattle.area_slots.specs.Slots.{SlotSet, gone_by, gone_after, times, times_left}
 use Rattle.vma_lock.specs.declared.view.View.{View}
@@ -191,11 +191,13 @@ pub record IsAtRest (board : Board) : Type 0 where
   pub tree : KeepsTree board
 
 -- The entry has the reply of its step after the journal, and the plan makes the list after the entry of that after the
--- journal, by changes that can be written. The list is then in order and within the limit.
+-- journal, by real changes that can be written. The list is then in order and within the limit, and its areas before can be packed.
 pub record IsEntered (board : Board) (changes : List Change) (entry : Entry) : Type 0 where
   pub reply : entry.reply ≡ (step (config_of board.table) (after (config_of board.table) (journal board.writer)) entry.call).reply
   pub plan : IsPlanOf (areas_of board.areas) changes
   pub result : applied changes (areas_of board.areas) ≡ list_after (config_of board.table) (journal board.writer ++ entry ∷ [])
+  pub real : IsReal changes
   pub sane : All IsSane changes
+  pub packable : All IsPackable (areas_of board.areas)
   pub few_after : length (applied changes (areas_of board.areas)) ≤ (config_of board.table).areas
   pub rise_after : AreasRise (page_of (config_of board.table).limit) 0 (applied changes (areas_of board.areas))

@@ -1,5 +1,5 @@
 -- What contracts see of the state behind the mmap lock.
-use Rattle.std.specs.Prelude.{ℕ, ◌≡◌, List, map}
+use Rattle.std.specs.Prelude.{ℕ, ◌≡◌, List, map, Contains}
 use Rattle.mm_types.specs.declared.area.Record.{Record}
 use Rattle.mm_types.specs.declared.call.Entry.{Entry}
 use Rattle.mm_types.specs.declared.config.Config.{Config}
@@ -35,3 +35,8 @@ row_of slots pair = (slot_at slots pair.slot).row
 pub record ArePairsOf (slots : List SlotState) (areas : List Record) (pairs : List Pair) : Type 0 where
   pub spans : map span_of pairs ≡ map (λ area. area.span) areas
   pub rows : map (row_of slots) pairs ≡ map packed areas
+
+-- a slot whose row shows an area of both lists is as it was: no mark of it rose, and its row is the same
+abbrev pub KeepsSlots : (before after : List Record) → (old new : List SlotState) → Type 0
+KeepsSlots before after old new = (slot : ℕ) (area : Record) → Contains before area → Contains after area → (slot_at old slot).row ≡ packed area
+    → slot_at new slot ≡ slot_at old slot

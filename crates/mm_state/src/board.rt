@@ -13,6 +13,7 @@ ghost use Rattle.vma_lock.specs.Seats.{config_of, slots_of, IsOf, Writes, view, 
 ghost use Rattle.vma_lock.specs.Views.{opened_view, look_at};
 ghost use Rattle.area_tree.specs.AreaTrees.{areas_of};
 ghost use Rattle.mm_state.specs.Boards.{IsWritten, CanChange, Carries, IsSane, IsChanging, IsAtRest, IsReadied, IsEntered, adds, adds_of};
+ghost use Rattle.mm_state.specs.States.{KeepsSlots};
 ghost use Rattle.span_tree.specs.SpanTrees.{IsFreshWriter};
 
 use crate::spans::{count_adds, store_moved, wait_for_slots};
@@ -138,6 +139,7 @@ impl Board {
         ensures own { calls_by (view seat.old).caller (journal self.old.writer) ≡ calls_by (view seat.old).caller (seen seat.old) }
         ensures marks { (slot : ℕ) → (slot_at (slots self.new.writer) slot).lock_seq ≢ (slot_at (slots self.old.writer) slot).lock_seq
             → (slot_at (slots self.new.writer) slot).row ≢ (slot_at (slots self.old.writer) slot).row }
+        ensures stays { KeepsSlots (areas_of self.old.areas) (applied changes.now (areas_of self.old.areas)) (slots self.old.writer) (slots self.new.writer) }
         ensures nodes { self.new.areas.tree.table ≡ self.old.areas.tree.table }
     {
         self.make_ready(rt, changes);

@@ -48,7 +48,7 @@ impl Model for MmState {
 }
 
 impl MmState {
-    ghost use Rattle.mm_state.specs.States.{list_of, ArePairsOf};
+    ghost use Rattle.mm_state.specs.States.{list_of, ArePairsOf, KeepsSlots};
 
     /// The state of a new table, of which the writer is given, with room for so many entries. Its trees stand in a new table of
     /// nodes, of which the writer is given: it has `config.areas + 128` rows, and `2 config.areas + 2` slots.
@@ -107,9 +107,11 @@ impl MmState {
         // what it had seen lies before this entry, and no entry between is of its caller
         ensures later { StartsWith self.old.journal (seen seat.old) }
         ensures own { calls_by (view seat.old).caller self.old.journal ≡ calls_by (view seat.old).caller (seen seat.old) }
-        // a slot whose mark rose shows another row than before: its area left, changed or came
+        // a slot whose mark rose shows another row than before
         ensures marks { (slot : ℕ) → (slot_at self.new.slots slot).lock_seq ≢ (slot_at self.old.slots slot).lock_seq
             → (slot_at self.new.slots slot).row ≢ (slot_at self.old.slots slot).row }
+        // an area that is in the list before and after keeps its slot, which is not marked
+        ensures stays { KeepsSlots (list_of self.old) (list_of self.new) self.old.slots self.new.slots }
     {
         let called = plan_call(
             &self.config,

@@ -18,9 +18,12 @@ use Rattle.vma_lock.specs.Seats.{config_of, slots_of, view, sight, journal, slot
 use Rattle.area_tree.specs.AreaTrees.{AreaTreeView, shown_of, areas_of, AreasRise}
 use Rattle.mm_state.specs.declared.board.Board.{Board}
 use Rattle.mm_state.specs.Shelves.{Hangs}
+use Rattle.mm_state.specs.States.{KeepsSlots}
+use Rattle.mm_state.specs.Boards.{IsPackable}
 use Rattle.mm_state.proofs.Changing.{tree_step}
 use Rattle.mm_state.proofs.Hanging.{hangs_permuted}
 use Rattle.mm_state.proofs.Readying.{prepared, can_store, rows_then, areas_then, news_few}
+use Rattle.mm_state.proofs.Staying.{stays}
 use Rattle.mm_state.proofs.board.Board.enter.Goals as goal
 
 pub change_all-requires-clause-can : goal.change_all-requires-clause-can
@@ -140,6 +143,27 @@ returns-clause-bounds g c = (
   ap (λ (t : AreaTreeView). t.tree.areas) c.publish_areas.ensures.areas ∙ ap (λ (t : AreaTreeView). t.tree.areas) c.store_moved.ensures.same
       ∙ ap (λ (t : AreaTreeView). t.tree.areas) c.change_all.ensures.same ∙ ap (λ (t : AreaTreeView). t.tree.areas) c.make_ready.ensures.ready.areas,
 )
+
+pub returns-clause-stays : goal.returns-clause-stays
+returns-clause-stays g c =
+    let ready = c.make_ready.ensures.ready in
+    let board = c.change_all.new.self in
+    let before = c.args.self.now in
+    let opened = c.begin.new.writer in
+    let met = c.meet.new.writer in
+    let tree = c.make_ready.new.self.areas in
+    let begun = c.begin.ensures.view ∙ ap begin_at c.lend.ensures.writer in
+    let were : slots opened ≡ slots before.writer = ap (λ (v : View). v.desk.slots) begun ∙ ap slots ready.writer in
+    let are : slots met ≡ slots board.writer = ap (λ (v : View). v.desk.slots) c.meet.ensures.writer ∙ ap (λ (v : View). v.desk.slots) c.end.ensures.view
+    ∙ ap (λ (b : Board). slots b.writer) c.publish_areas.ensures.same in
+    let hangs = subst (λ (t : AreaTreeView). Hangs (slots opened) (shown_of t) before.slots) (sym ready.areas)
+    (subst (λ (states : List SlotState). Hangs states (shown_of before.areas) before.slots) (sym were) c.requires.rest.hangs) in
+    let packable = subst (λ (t : AreaTreeView). All IsPackable (areas_of t)) (sym ready.areas) c.requires.plan.packable in
+    let plan = subst (λ (t : AreaTreeView). IsPlanOf (areas_of t) c.args.changes.now) (sym ready.areas) c.requires.plan.plan in
+    subst (λ (t : AreaTreeView). KeepsSlots (areas_of t) (applied c.args.changes.now (areas_of t)) (slots before.writer) (slots met)) ready.areas
+    (subst (λ (states : List SlotState). KeepsSlots (areas_of tree) (applied c.args.changes.now (areas_of tree)) states (slots met)) were
+    (subst (λ (states : List SlotState). KeepsSlots (areas_of tree) (applied c.args.changes.now (areas_of tree)) (slots opened) states) (sym are)
+    (stays _ board c.args.changes.now _ before.slots c.change_all.ensures hangs packable plan c.requires.plan.real)))
 
 pub returns-clause-nodes : goal.returns-clause-nodes
 returns-clause-nodes g c =

@@ -1,5 +1,5 @@
 -- For `MmState::apply`: the plan makes the list after the entry, and the state is kept.
-use Rattle.std.proofs.Common.{ℕ, ◌<◌, ◌++◌, ◌∷◌, [], List, length, subst, sym, ap, ◌∙◌, arith, length-append}
+use Rattle.std.proofs.Common.{ℕ, ◌≡◌, ◌<◌, ◌++◌, ◌∷◌, [], List, length, subst, sym, ap, ◌∙◌, arith, length-append}
 use Rattle.mm_types.specs.declared.area.Record.{Record}
 use Rattle.mm_types.specs.declared.call.Entry.{Entry}
 use Rattle.area_model.specs.declared.placement.Bounds.{Bounds}
@@ -10,10 +10,11 @@ use Rattle.area_model.proofs.Journals.{legal-push}
 use Rattle.split_merge.specs.declared.plan.Change.{Change}
 use Rattle.split_merge.specs.Plans.{Planned, IsKept, applied}
 use Rattle.sys_calls.proofs.Keeping.{made_space}
-use Rattle.vma_lock.specs.Seats.{config_of}
+use Rattle.lock_core.specs.Facts.{list_after}
+use Rattle.vma_lock.specs.Seats.{config_of, slots}
 use Rattle.area_tree.specs.AreaTrees.{areas_of}
 use Rattle.mm_state.specs.Boards.{IsEntered}
-use Rattle.mm_state.specs.States.{StateView}
+use Rattle.mm_state.specs.States.{StateView, list_of, KeepsSlots}
 use Rattle.mm_state.proofs.Entering.{ready_now, space_after, entered}
 use Rattle.mm_state.proofs.state.MmState.apply.Goals as goal
 
@@ -45,6 +46,21 @@ enter-requires-clause-plan g c =
       limit_is = ap (λ (b : Bounds). b.limit) i.bounds;
       planned = c.plan_call-called.ensures.planned;
     })
+
+pub returns-clause-stays : goal.returns-clause-stays
+returns-clause-stays g c =
+    let s = c.self.inside in
+    let i = c.self.invariant in
+    let entry : Entry = record { caller = c.caller.result; call = c.args.call.now; reply = c.plan_call-called.result.reply } in
+    let list = areas_of s.board.areas in
+    let then = list_after s.config c.push_reserved.new.self.items in
+    let now = slots c.enter.new.self.writer in
+    let made : applied c.changes.result.now list ≡ then = ap (λ (changes : List Change). applied changes list) c.changes.ensures
+    ∙ c.plan_call-called.ensures.planned.makes.result
+    ∙ ap (λ (space : AddressSpace). space.areas) (space_after s.config s.journal.items list s.objects entry i.space ∙ ap (after s.config) (sym c.push_reserved.ensures.items)) in
+    subst (λ (v : StateView). KeepsSlots (list_of v) then v.slots now) c.self.view_is
+    (subst (λ (areas : List Record). KeepsSlots areas then (slots s.board.writer) now) (ap (λ (space : AddressSpace). space.areas) i.space)
+    (subst (λ (areas : List Record). KeepsSlots list areas (slots s.board.writer) now) made c.enter.ensures.stays))
 
 pub invariant_of-self : goal.invariant_of-self
 invariant_of-self g c =
