@@ -27,7 +27,7 @@ pub record KeepsPass (pass : PassView) (reserved : ℕ) : Type 0 where
   pub few : length (made_by pass) + length pass.log + pass.left ≤ pass.operations
   pub room : pass.operations ≤ reserved
 
--- What a held area keeps: the pass is of the table in which the area is locked.
+-- What a held area keeps: the pass is of the table in which the area is locked, of a valid configuration, and keeps what a pass keeps.
 pub record IsHeld (table : TableId) (held : HeldView) (reserved : ℕ) : Type 0 where
   pub table_is : held.pass.reader.seat.table_id ≡ table
   pub valid : IsValidConfig (config held.pass)
