@@ -7,6 +7,7 @@ pub mod Writers
 pub mod Waiting
 pub mod Packing
 pub mod Finding
+pub mod Paths
 pub mod Crowns
 pub mod Stores
 pub mod Sizes

@@ -46,16 +46,20 @@ pub record Frame (old : Table) (at : ℕ → List ℕ) (top : Item) (height leve
   pub after : Agree (at_of old.rows) at (rows_in (beyond end (old_level old top height (level + 1))))
 
 pub framed : (old : Table) (at : ℕ → List ℕ) (top : Item) (height level lo hi end : ℕ) (new : List Item) → Partly old top height level lo hi new
-    → level < height → lo ≤ end → ((row : ℕ) → times row old.free ≡ 0 → at row ≡ at_of old.rows row)
+    → level < height → lo ≤ end
+    → ((row : ℕ) → gone old row + times row (rows_in (upto end (beyond lo (old_level old top height (level + 1))))) ≡ 0 → at row ≡ at_of old.rows row)
     → Frame old at top height level lo hi end new
 framed old at top height level lo hi end new partly less order kept =
     let upper = old_level old top height (level + 1) in
-    let free : (row : ℕ) (n : ℕ) → n + gone old row ≤ cond (nat_lt row (length old.rows)) 1 0 → 1 ≤ n → at_of old.rows row ≡ at row =
-    λ row n few some. let least = (counts row (length old.rows) (n + gone old row) few).0 in sym (kept row (omega arith)) in
+    let block : ℕ → ℕ = λ row. times row (rows_in (upto end (beyond lo upper))) in
+    let free : (row : ℕ) (n : ℕ) → n + (gone old row + block row) ≤ cond (nat_lt row (length old.rows)) 1 0 → 1 ≤ n → at_of old.rows row ≡ at row =
+    λ row n few some. let least = (counts row (length old.rows) (n + (gone old row + block row)) few).0 in sym (kept row (omega arith)) in
     record {
       above = λ row some. let c = (counted old top height level lo hi new row partly less).all in
+          let p = times-parts row lo end upper order in
           free row (times row (rows_of (at_of old.rows) (level + 1) (height - (level + 1)) (top ∷ []))) (omega arith) some;
       built = λ row some. let c = (counted old top height level lo hi new row partly less).all in
+          let p = times-parts row lo end upper order in
           free row (times row (rows_of (at_of old.rows) 0 level (new_level old top height level lo hi new))) (omega arith) some;
       before = λ row some. let c = (counted old top height level lo hi new row partly less).all in
           let p = times-parts row lo end upper order in
@@ -66,11 +70,12 @@ framed old at top height level lo hi end new partly less order kept =
     }
 
 -- the old level above, in a table whose free rows were filled
-pub kept_level : (old : Table) (after : Table) (top : Item) (height level lo hi : ℕ) (new : List Item) → Partly old top height level lo hi new
-    → level < height → ((row : ℕ) → times row old.free ≡ 0 → at_of after.rows row ≡ at_of old.rows row)
+pub kept_level : (old : Table) (after : Table) (top : Item) (height level lo hi end : ℕ) (new : List Item) → Partly old top height level lo hi new
+    → level < height → lo ≤ end
+    → ((row : ℕ) → gone old row + times row (rows_in (upto end (beyond lo (old_level old top height (level + 1))))) ≡ 0 → at_of after.rows row ≡ at_of old.rows row)
     → Kept (at_of old.rows) (at_of after.rows) top.end (level + 1) (height - (level + 1)) (top ∷ [])
-kept_level old after top height level lo hi new partly less kept =
-    let frame = framed old (at_of after.rows) top height level lo hi lo new partly less (omega arith) kept in
+kept_level old after top height level lo hi end new partly less order kept =
+    let frame = framed old (at_of after.rows) top height level lo hi end new partly less order kept in
     let step = upper_of old top height level lo hi new partly less in
     kept-tower (at_of old.rows) (at_of after.rows) top.end (level + 1) (height - (level + 1)) (top ∷ []) frame.above step.above
 
@@ -86,7 +91,7 @@ record Level (old after : Table) (top : Item) (height level lo hi : ℕ) (new : 
 level_of_nodes : (old after : Table) (top : Item) (height level lo hi begin end : ℕ) (new items nodes : List Item)
     → Partly old top height level lo hi new → level < height
     → Cut old top height level lo hi new begin end items
-    → ((row : ℕ) → times row old.free ≡ 0 → at_of after.rows row ≡ at_of old.rows row)
+    → ((row : ℕ) → gone old row + times row (rows_in (upto end (beyond lo (old_level old top height (level + 1))))) ≡ 0 → at_of after.rows row ≡ at_of old.rows row)
     → AreNodes (at_of after.rows) (is_leaf level) top.end begin nodes → below (at_of after.rows) (is_leaf level) nodes ≡ items
     → Level old after top height level lo hi new end nodes
 level_of_nodes old after top height level lo hi begin end new items nodes partly less cut kept are under =
@@ -97,7 +102,7 @@ level_of_nodes old after top height level lo hi begin end new items nodes partly
     let step = upper_of old top height level lo hi new partly less in
     let above = cut.above in
     let frame = framed old at' top height level lo hi end new partly less (omega arith) kept in
-    let lev = kept_level old after top height level lo hi new partly less kept in
+    let lev = kept_level old after top height level lo hi end new partly less (omega arith) kept in
     let front = upto lo upper in
     let back = beyond end upper in
     let ascends = nodes-ascend at leaf top.end 0 upper step.nodes in
@@ -135,34 +140,39 @@ pub record Rose (old after : Table) (top : Item) (height level lo hi : ℕ) (new
   pub entries : new_entries after top height (level + 1) lo end nodes ≡ new_entries old top height level lo hi new
   pub under : below (at_of after.rows) (is_leaf level) (new_level after top height (level + 1) lo end nodes) ≡ new_level old top height level lo hi new
 
-pub rose : (old packed after : Table) (top : Item) (height level lo hi begin end : ℕ) (new items nodes : List Item)
+-- what was filled after the old nodes were left
+pub kept_after : (old mid after : Table) (block : ℕ → ℕ) → mid.rows ≡ old.rows → ((row : ℕ) → gone mid row ≡ gone old row + block row)
+    → ((row : ℕ) → times row mid.free ≡ 0 → at_of after.rows row ≡ at_of mid.rows row)
+    → (row : ℕ) → gone old row + block row ≡ 0 → at_of after.rows row ≡ at_of old.rows row
+kept_after old mid after block rows left_now kept row none =
+    let g = left_now row in
+    subst (λ (rs : List (List ℕ)). at_of after.rows row ≡ at_of rs row) rows (kept row (omega arith))
+
+pub rose : (old mid after : Table) (top : Item) (height level lo hi begin end : ℕ) (new items nodes : List Item)
     → Partly old top height level lo hi new → level < height
     → Cut old top height level lo hi new begin end items
-    → AreNodes (at_of packed.rows) (is_leaf level) top.end begin nodes → below (at_of packed.rows) (is_leaf level) nodes ≡ items
+    → AreNodes (at_of after.rows) (is_leaf level) top.end begin nodes → below (at_of after.rows) (is_leaf level) nodes ≡ items
     → 1 ≤ length nodes → length nodes ≤ 3
-    → ((row : ℕ) → times row old.free ≡ 0 → at_of packed.rows row ≡ at_of old.rows row)
-    → length packed.rows ≡ length old.rows
-    → ((row : ℕ) → times row old.free ≡ times row packed.free + times row (rows_in nodes))
-    → length old.free ≡ length packed.free + length nodes
-    → packed.left ≡ old.left
-    → after.rows ≡ packed.rows → length packed.free ≤ length after.free
-    → ((row : ℕ) → gone after row ≡ gone packed row + times row (rows_in (upto end (beyond lo (old_level packed top height (level + 1))))))
+    → mid.rows ≡ old.rows → length old.free ≤ length mid.free
+    → ((row : ℕ) → gone mid row ≡ gone old row + times row (rows_in (upto end (beyond lo (old_level old top height (level + 1))))))
+    → ((row : ℕ) → times row mid.free ≡ 0 → at_of after.rows row ≡ at_of mid.rows row)
+    → length after.rows ≡ length mid.rows
+    → ((row : ℕ) → times row mid.free ≡ times row after.free + times row (rows_in nodes))
+    → length mid.free ≡ length after.free + length nodes
+    → after.left ≡ mid.left
     → Rose old after top height level lo hi new begin end nodes
-rose old packed after top height level lo hi begin end new items nodes partly less cut are under some few kept long taken room left rows more left_now =
+rose old mid after top height level lo hi begin end new items nodes partly less cut are under some few rows more left_now kept long taken room left =
     let at = at_of old.rows in
     let at' = at_of after.rows in
     let leaf = is_leaf level in
     let upper = old_level old top height (level + 1) in
     let made = spliced lo end nodes upper in
-    let kept' : (row : ℕ) → times row old.free ≡ 0 → at' row ≡ at row = λ row none.
-    subst (λ (rs : List (List ℕ)). at_of rs row ≡ at row) (sym rows) (kept row none) in
-    let are' : AreNodes at' leaf top.end begin nodes = subst (λ (rs : List (List ℕ)). AreNodes (at_of rs) leaf top.end begin nodes) (sym rows) are in
-    let under' : below at' leaf nodes ≡ items = ap (λ (rs : List (List ℕ)). below (at_of rs) leaf nodes) rows ∙ under in
-    let is = level_of_nodes old after top height level lo hi begin end new items nodes partly less cut kept' are' under' in
-    let lev = kept_level old after top height level lo hi new partly less kept' in
-    let lev_packed = kept_level old packed top height level lo hi new partly less kept in
-    let up = raised at' top.end level made (new_level old top height level lo hi new) is.all is.under is.built.tower in
     let above = cut.above in
+    let block : ℕ → ℕ = λ row. times row (rows_in (upto end (beyond lo upper))) in
+    let kept' : (row : ℕ) → gone old row + block row ≡ 0 → at' row ≡ at row = kept_after old mid after block rows left_now kept in
+    let is = level_of_nodes old after top height level lo hi begin end new items nodes partly less cut kept' are under in
+    let lev = kept_level old after top height level lo hi end new partly less (omega arith) kept' in
+    let up = raised at' top.end level made (new_level old top height level lo hi new) is.all is.under is.built.tower in
     record {
       partly = record {
         within = omega arith;
@@ -190,11 +200,9 @@ rose old packed after top height level lo hi begin end new items nodes partly le
               let fifth = times-rows_in row (upto lo upper) (nodes ++ beyond end upper) in
               let sixth = times-rows_in row nodes (beyond end upper) in
               let seventh = left_now row in
-              let eighth : times row (rows_in (upto end (beyond lo (old_level packed top height (level + 1))))) ≡ times row (rows_in (upto end (beyond lo upper))) =
-              ap (λ (xs : List Item). times row (rows_in (upto end (beyond lo xs)))) lev_packed.level in
               let ninth = taken row in
               let tenth = ap (times row) left in
-              let rows_long : length after.rows ≡ length old.rows = ap (λ (rs : List (List ℕ)). length rs) rows ∙ long in
+              let rows_long : length after.rows ≡ length old.rows = long ∙ ap (λ (rs : List (List ℕ)). length rs) rows in
               let bound : cond {A = ℕ} (nat_lt row (length after.rows)) 1 0 ≡ cond (nat_lt row (length old.rows)) 1 0 =
               ap (λ (n : ℕ). cond {A = ℕ} (nat_lt row n) 1 0) rows_long in
               omega arith;
@@ -207,32 +215,20 @@ rose old packed after top height level lo hi begin end new items nodes partly le
     }
 
 -- what leaving the old nodes of the level asks for
-pub record Ready (packed : Table) (top : Item) (height level lo end : ℕ) : Type 0 where
-  pub tower : IsTower (at_of packed.rows) top.end level (height - level) (top ∷ [])
-  pub edge : end_of 0 (upto end (old_level packed top height level)) ≡ end
-  pub apart : (row : ℕ) → gone packed row + times row (rows_in (upto end (beyond lo (old_level packed top height level))))
-      ≤ cond (nat_lt row (length packed.rows)) 1 0
+pub record Ready (old : Table) (top : Item) (height level lo end : ℕ) : Type 0 where
+  pub tower : IsTower (at_of old.rows) top.end level (height - level) (top ∷ [])
+  pub apart : (row : ℕ) → gone old row + times row (rows_in (upto end (beyond lo (old_level old top height level))))
+      ≤ cond (nat_lt row (length old.rows)) 1 0
 
-pub ready : (old packed : Table) (top : Item) (height level lo hi begin end : ℕ) (new items : List Item) → Partly old top height level lo hi new
-    → level < height → Cut old top height level lo hi new begin end items
-    → ((row : ℕ) → times row old.free ≡ 0 → at_of packed.rows row ≡ at_of old.rows row) → length packed.rows ≡ length old.rows
-    → packed.left ≡ old.left → ((row : ℕ) → times row packed.free ≤ times row old.free)
-    → Ready packed top height (level + 1) lo end
-ready old packed top height level lo hi begin end new items partly less cut kept long left fewer =
-    let lev = kept_level old packed top height level lo hi new partly less kept in
+pub ready : (old : Table) (top : Item) (height level lo hi begin end : ℕ) (new items : List Item) → Partly old top height level lo hi new
+    → level < height → Cut old top height level lo hi new begin end items → Ready old top height (level + 1) lo end
+ready old top height level lo hi begin end new items partly less cut =
     let upper = old_level old top height (level + 1) in
     let above = cut.above in
     record {
-      tower = lev.tower;
-      edge = ap (λ (xs : List Item). end_of 0 (upto end xs)) lev.level ∙ cut.edge;
+      tower = (upper_of old top height level lo hi new partly less).above;
       apart = λ row.
           let before = (counted old top height level lo hi new row partly less).all in
           let parts = times-parts row lo end upper (omega arith) in
-          let same : times row (rows_in (upto end (beyond lo (old_level packed top height (level + 1))))) ≡ times row (rows_in (upto end (beyond lo upper))) =
-          ap (λ (xs : List Item). times row (rows_in (upto end (beyond lo xs)))) lev.level in
-          let lists = ap (times row) left in
-          let less_free = fewer row in
-          let bound : cond {A = ℕ} (nat_lt row (length packed.rows)) 1 0 ≡ cond (nat_lt row (length old.rows)) 1 0 =
-          ap (λ (n : ℕ). cond {A = ℕ} (nat_lt row n) 1 0) long in
           omega arith;
     }

@@ -1,8 +1,10 @@
 -- For `node`, `put`, `leave_block` and others: what a writer's table tells, and what stays of a writer.
-use Rattle.std.proofs.Common.{ℕ, ◌≡◌, ◌<◌, ◌≤◌, ◌+◌, ◌^◌, Bool, true, false, nat_lt, cond, List, [], ◌∷◌, ◌++◌, length, set, Option, Some, sym, ap, subst, ◌∙◌, arith, inl, inr, length-append, if◌then◌else◌}
+use Rattle.std.proofs.Common.{ℕ, ◌≡◌, ◌<◌, ◌≤◌, ◌+◌, ◌^◌, Bool, true, false, nat_eq, nat_lt, cond, List, [], ◌∷◌, ◌++◌, length, set, Option, Some, sym, ap, subst, ◌∙◌, arith, inl, inr, length-append, if◌then◌else◌}
 use Rattle.std.specs.Prelude.{IfSome, MatchOption}
 use Rattle.std.proofs.lemmas.Bool.{cases_Bool, cases_lt, cond-true, cond-false, lt-ltb}
 use Rattle.std.proofs.lemmas.Bool.Decides.{nat_tests}
+use Rattle.std.specs.List.Sorted.{IsPermutation}
+use Rattle.std.proofs.lemmas.List.Sorted.{sum_by-IsPermutation, length_permutation}
 use Rattle.mm_types.specs.declared.slot.Row.{Row}
 use Rattle.maple_node.specs.declared.item.Item.{Item}
 use Rattle.maple_node.specs.Nodes.{words_of}
@@ -169,15 +171,14 @@ pub record TakenFrom (rows : List ℕ) (row : ℕ) (rest : List ℕ) : Type 0 wh
   pub fewer : length rows ≡ length rest + 1
   pub times_are : (other : ℕ) → times other rows ≡ times other (row ∷ rest)
 
-pub taken_free : (rows rest rest' : List ℕ) (found : Option Row) (row : Row) (none : Type 0) → found ≡ Some row
-    → MatchOption found none (λ r. rows ≡ rest ++ r.0 ∷ []) → rest' ≡ rest → TakenFrom rows row.0 rest'
-taken_free rows rest rest' found row none is free kept =
-    let here : rows ≡ rest' ++ row.0 ∷ [] =
-    subst (λ (o : Option Row). MatchOption o none (λ r. rows ≡ rest ++ r.0 ∷ [])) is free ∙ ap (λ (l : List ℕ). l ++ row.0 ∷ []) (sym kept) in
+pub taken_moved : (rows rest rest' : List ℕ) (found : Option Row) (row : Row) (none : Type 0) → found ≡ Some row
+    → MatchOption found none (λ r. IsPermutation rows (r.0 ∷ rest)) → rest' ≡ rest → TakenFrom rows row.0 rest'
+taken_moved rows rest rest' found row none is free kept =
+    let here : IsPermutation rows (row.0 ∷ rest') =
+    subst (λ (l : List ℕ). IsPermutation rows (row.0 ∷ l)) (sym kept)
+    (subst (λ (o : Option Row). MatchOption o none (λ r. IsPermutation rows (r.0 ∷ rest))) is free) in
     record {
-      fewer = ap (λ (l : List ℕ). length l) here ∙ length-append rest' (row.0 ∷ []);
-      times_are = λ other.
-          let parts = times-append other rest' (row.0 ∷ []) in
-          let front = times-append other (row.0 ∷ []) rest' in
-          omega (arith, ap (times other) here, parts, front);
+      fewer = omega (arith, length_permutation rows (row.0 ∷ rest') here);
+      times_are = λ other. times_same other rows ∙ sym (sum_by-IsPermutation (λ n. cond (nat_eq n other) 1 0) rows (row.0 ∷ rest') here)
+          ∙ sym (times_same other (row.0 ∷ rest'));
     }

@@ -1,12 +1,14 @@
 -- No public clause cites what stands here: a store in the middle, whose levels below are built anew and stand under the levels above
 -- of the old tree; and what it finds and makes.
-use Rattle.std.specs.Prelude.{ℕ, ◌≡◌, ◌<◌, ◌≤◌, ◌+◌, ◌-◌, ◌*◌, ◌⊎◌, false, nat_eq, List, [], ◌∷◌, ◌++◌, length, All}
+use Rattle.std.specs.Prelude.{ℕ, ◌≡◌, ◌<◌, ◌≤◌, ◌+◌, ◌-◌, ◌*◌, ◌⊎◌, false, nat_eq, List, [], ◌∷◌, ◌++◌, length, All, Some, get_or}
 use Rattle.maple_node.specs.declared.item.Item.{Item}
 use Rattle.maple_node.specs.Nodes.{most, end_of, Ascends, IsPlain}
-use Rattle.maple_node.specs.Levels.{is_leaf, at_of, read, below, level_of, IsTower, rows_of}
+use Rattle.maple_node.specs.Levels.{is_leaf, at_of, read, below, item_at, level_of, IsTower, rows_of}
 use Rattle.maple_node.specs.Trees.{Tree, entries_of, tree_rows, pairs_of, ApartFrom}
 use Rattle.maple_items.specs.Splices.{upto, beyond, spliced}
+use Rattle.maple_items.specs.declared.place.Place.{Place}
 use Rattle.maple_write.specs.declared.rows.Rooted.{Rooted}
+use Rattle.maple_write.specs.declared.path.Path.{Path}
 use Rattle.node_slots.specs.declared.seats.NodeWriter.{NodeWriter}
 use Rattle.node_slots.specs.Seats.{sight, row_count, is_kept}
 use Rattle.node_slots.specs.Built.{words_at}
@@ -93,3 +95,23 @@ pub record IsBare (writer : NodeWriter) (rooted : Rooted) : Type 0 where
 -- what a store finds: a tree whose entries have the pages up to the limit, or tree 0
 abbrev pub Finds : NodeWriter → Rooted → ℕ → Type 0
 Finds writer old limit = (IsWhole (table_at writer) (sight writer).size.slots (tree_under old) × (old.top.end ≡ limit)) ⊎ IsBare writer old
+
+-- an item of a level has a page and begins at another one, in the tree under these rows
+pub record Begins (at : ℕ → List ℕ) (top : Item) (height page level start : ℕ) (item : Item) : Type 0 where
+  pub found : item_at page (level_of at level (height - level) (top ∷ [])) ≡ Some item
+  pub begins : start ≡ end_of 0 (upto page (level_of at level (height - level) (top ∷ [])))
+  pub above : start ≤ page
+
+-- a place of no level
+abbrev pub no_place : Place
+no_place = record { start = 0; item = record { end = 0; word = 0; gap = 0 } }
+
+-- what a path keeps of a level
+abbrev pub place_at : Path → ℕ → Place
+place_at path level = get_or path.places level no_place
+
+-- A path keeps, for each of nine levels from one on, the item that has its page, and where this begins. Only the rows of nodes
+-- above those levels matter.
+pub record IsPath (at : ℕ → List ℕ) (top : Item) (height low : ℕ) (path : Path) : Type 0 where
+  pub each : (level : ℕ) → low ≤ level → level < height → level < 9
+      → Begins at top height path.page level (place_at path level).start (place_at path level).item

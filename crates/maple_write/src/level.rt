@@ -7,10 +7,11 @@ ghost use Rattle.maple_items.specs.Splices.{upto, beyond};
 ghost use Rattle.node_slots.specs.Seats.{Writes, sight, row_count, free_of, is_waiting};
 ghost use Rattle.node_slots.specs.Built.{words_at};
 ghost use Rattle.maple_write.specs.Tables.{table_at, rows_in, gone, FillsRows};
-ghost use Rattle.maple_write.specs.Stores.{old_level, new_level, new_entries, Partly, Cut};
+ghost use Rattle.maple_write.specs.Stores.{old_level, new_level, new_entries, Partly, Cut, IsPath};
 
 use crate::few::FewItems;
-use crate::rows::{Rooted, find, pack, words};
+use crate::path::{Path, find};
+use crate::rows::{Rooted, pack, words};
 use maple_items::{ItemList, Part, Place, least};
 use mm_types::Row;
 use node_slots::{NodeTable, NodeWriter};
@@ -23,11 +24,12 @@ pub(crate) struct Stretch {
     pub(crate) items: FewItems,
 }
 
-/// The page where the items of whole nodes of a level begin, and the page where they end.
+/// The page where the items of whole nodes of a level begin, the page where they end, and the row of the first of these nodes.
 #[derive(Clone, Copy)]
 struct Edges {
     begin: u64,
     end: u64,
+    first: Row,
 }
 
 /// Leaves the nodes of a level of an old tree from page `lo` up to page `hi`, where one ends.
@@ -35,6 +37,7 @@ pub(crate) fn leave_block(
     nodes: &NodeTable,
     writer: &mut NodeWriter,
     old: Rooted,
+    path: &Path,
     level: u32,
     lo: u64,
     hi: u64,
@@ -43,6 +46,7 @@ pub(crate) fn leave_block(
     requires order { level ≤ old.height }
     requires limit { hi ≤ old.top.end }
     requires tower { IsTower (words_at writer.old) old.top.end level (old.height - level) (old.top ∷ []) }
+    requires path { IsPath (words_at writer.old) old.top old.height level path.now }
     requires edge { end_of 0 (upto hi (old_level (table_at writer.old) old.top old.height level)) ≡ hi }
     requires apart { (row : ℕ) → gone (table_at writer.old) row
         + times row (rows_in (upto hi (beyond lo (old_level (table_at writer.old) old.top old.height level))))
@@ -56,7 +60,7 @@ pub(crate) fn leave_block(
 {
     let mut page = lo;
     while page < hi {
-        let place = find(nodes, writer, old, level, page);
+        let place = find(nodes, writer, old, path, level, page);
         nodes.leave(writer, Row(place.item.word as u32));
         page = place.item.end;
     }
@@ -92,6 +96,7 @@ fn last(
     nodes: &NodeTable,
     writer: &NodeWriter,
     old: Rooted,
+    path: &Path,
     level: u32,
     lo: u64,
     new: &Stretch,
@@ -100,13 +105,14 @@ fn last(
     requires table { Writes writer.now nodes.now }
     requires partly { Partly (table_at writer.now) old.top old.height level lo new.now.end new.now.items }
     requires below { level < old.height }
+    requires path { IsPath (words_at writer.now) old.top old.height (level + 1) path.now }
     requires left { item_at lo (old_level (table_at writer.now) old.top old.height (level + 1)) ≡ Some left.item }
     ensures { item_at (new.now.end - 1) (old_level (table_at writer.now) old.top old.height (level + 1)) ≡ Some result.item }
 {
     if new.end <= left.item.end {
         left
     } else {
-        find(nodes, writer, old, level + 1, new.end - 1)
+        find(nodes, writer, old, path, level + 1, new.end - 1)
     }
 }
 
@@ -116,6 +122,7 @@ fn cut(
     nodes: &NodeTable,
     writer: &NodeWriter,
     old: Rooted,
+    path: &Path,
     level: u32,
     lo: u64,
     new: &Stretch,
@@ -124,11 +131,12 @@ fn cut(
     requires table { Writes writer.now nodes.now }
     requires partly { Partly (table_at writer.now) old.top old.height level lo new.now.end new.now.items }
     requires below { level < old.height }
+    requires path { IsPath (words_at writer.now) old.top old.height (level + 1) path.now }
     requires none { items.old ≡ [] }
     ensures { Cut (table_at writer.now) old.top old.height level lo new.now.end new.now.items result.begin result.end items.new }
 {
-    let left = find(nodes, writer, old, level + 1, lo);
-    let right = last(nodes, writer, old, level, lo, new, left);
+    let left = find(nodes, writer, old, path, level + 1, lo);
+    let right = last(nodes, writer, old, path, level, lo, new, left);
     joined(
         nodes,
         writer,
@@ -142,6 +150,7 @@ fn cut(
     Edges {
         begin: left.start,
         end: right.item.end,
+        first: Row(left.item.word as u32),
     }
 }
 
@@ -150,6 +159,7 @@ fn stretched(
     nodes: &NodeTable,
     writer: &NodeWriter,
     old: Rooted,
+    path: &Path,
     level: u32,
     lo: u64,
     new: &Stretch,
@@ -158,13 +168,14 @@ fn stretched(
     requires table { Writes writer.now nodes.now }
     requires partly { Partly (table_at writer.now) old.top old.height level lo new.now.end new.now.items }
     requires below { level < old.height }
+    requires path { IsPath (words_at writer.now) old.top old.height (level + 1) path.now }
     requires none { items.old ≡ [] }
     ensures cut { Cut (table_at writer.now) old.top old.height level lo new.now.end new.now.items result.begin result.end items.new }
     ensures least { result.end < old.top.end → least (is_leaf level) ≤ length items.new }
 {
-    let mut edges = cut(nodes, writer, old, level, lo, new, items);
+    let mut edges = cut(nodes, writer, old, path, level, lo, new, items);
     if items.len() < least(level == 0) && edges.end < old.top.end {
-        let next = find(nodes, writer, old, level + 1, edges.end);
+        let next = find(nodes, writer, old, path, level + 1, edges.end);
         let next_words = words(nodes, writer, next.item.word);
         items.push_part(Part::Whole, level == 0, next_words);
         edges.end = next.item.end;
@@ -172,12 +183,13 @@ fn stretched(
     edges
 }
 
-/// Makes the nodes of a level anew where items of it are replaced, and leaves the old nodes there. Answers the items of the
-/// level above that stand for the new nodes.
+/// Leaves the nodes of a level where items of it are replaced, and makes them anew. A row that was taken since the last publish is
+/// free at once, and is taken again. Answers the items of the level above that stand for the new nodes.
 pub(crate) fn rise(
     nodes: &NodeTable,
     writer: &mut NodeWriter,
     old: Rooted,
+    path: &Path,
     level: u32,
     lo: u64,
     new: &Stretch,
@@ -185,8 +197,10 @@ pub(crate) fn rise(
     requires table { Writes writer.old nodes.now }
     requires partly { Partly (table_at writer.old) old.top old.height level lo new.now.end new.now.items }
     requires below { level < old.height }
+    requires path { IsPath (words_at writer.old) old.top old.height (level + 1) path.now }
     ensures table { Writes writer.new nodes.now }
     ensures same { FillsRows writer.old writer.new }
+    ensures path { IsPath (words_at writer.new) old.top old.height (level + 1) path.now }
     ensures partly { Partly (table_at writer.new) old.top old.height (level + 1) lo result.end result.items }
     ensures begin { result.begin ≡ end_of 0 (upto lo (old_level (table_at writer.new) old.top old.height (level + 1))) }
     ensures entries { new_entries (table_at writer.new) old.top old.height (level + 1) lo result.end result.items
@@ -196,9 +210,16 @@ pub(crate) fn rise(
         ≡ new_level (table_at writer.old) old.top old.height level lo new.now.end new.now.items }
 {
     let mut list = ItemList::new();
-    let edges = stretched(nodes, writer, old, level, lo, new, &mut list);
-    let items = pack(nodes, writer, level == 0, edges.begin, list.items());
-    leave_block(nodes, writer, old, level + 1, lo, edges.end);
+    let edges = stretched(nodes, writer, old, path, level, lo, new, &mut list);
+    leave_block(nodes, writer, old, path, level + 1, lo, edges.end);
+    let items = pack(
+        nodes,
+        writer,
+        edges.first,
+        level == 0,
+        edges.begin,
+        list.items(),
+    );
     Stretch {
         begin: edges.begin,
         end: edges.end,

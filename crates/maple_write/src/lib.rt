@@ -5,6 +5,7 @@
 mod few;
 mod laws;
 mod level;
+mod path;
 mod rows;
 mod storing;
 mod tree;

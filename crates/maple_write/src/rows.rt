@@ -1,16 +1,14 @@
-//! Nodes in the rows of the writer's table: how one is read, made and found.
+//! Nodes in the rows of the writer's table: how one is read and made.
 
-ghost use Rattle.std.specs.Prelude.{◌≡◌, ◌<◌, ◌≤◌, ◌+◌, ◌-◌, ◌*◌, ℕ, Some, [], ◌∷◌, length, slice_set};
-ghost use Rattle.maple_node.specs.Nodes.{items_of, words_of, most, least, end_of, Ascends, IsPlain};
-ghost use Rattle.maple_node.specs.Levels.{read, below, item_at, AllFrom, IsNode, IsTower, times};
-ghost use Rattle.maple_items.specs.Splices.{upto};
+ghost use Rattle.std.specs.Prelude.{◌≡◌, ◌<◌, ◌≤◌, ◌+◌, ◌*◌, ℕ, ◌∷◌, length, slice_set};
+ghost use Rattle.maple_node.specs.Nodes.{words_of, most, least, end_of, Ascends, IsPlain};
+ghost use Rattle.maple_node.specs.Levels.{read, below, AllFrom, IsNode, times};
 ghost use Rattle.node_slots.specs.Seats.{Writes, desk, row_count, free_of, left_of};
 ghost use Rattle.node_slots.specs.Built.{words_at};
-ghost use Rattle.maple_write.specs.Tables.{table_at, rows_in, FillsRows};
-ghost use Rattle.maple_write.specs.Stores.{old_level};
+ghost use Rattle.maple_write.specs.Tables.{rows_in, FillsRows};
 
 use crate::few::FewItems;
-use maple_items::{Place, gap_of, item_in, node_words, share};
+use maple_items::{gap_of, node_words, share};
 use maple_node::{Item, Steps};
 use mm_types::Row;
 use node_slots::{NodeTable, NodeWriter};
@@ -34,39 +32,12 @@ pub(crate) fn words<'a>(nodes: &NodeTable, writer: &'a NodeWriter, row: u64) -> 
     nodes.written(writer, Row(row as u32), &mut Steps::<Reads>::new())
 }
 
-/// The item of a level that has a page, in the tree under a root, and the page where it begins.
-pub(crate) fn find(
-    nodes: &NodeTable,
-    writer: &NodeWriter,
-    tree: Rooted,
-    low: u32,
-    page: u64,
-) -> Place
-    requires table { Writes writer.now nodes.now }
-    requires tower { IsTower (words_at writer.now) tree.top.end low (tree.height - low) (tree.top ∷ []) }
-    requires order { low ≤ tree.height }
-    requires within { page < tree.top.end }
-    ensures item { item_at page (old_level (table_at writer.now) tree.top tree.height low) ≡ Some result.item }
-    ensures start { result.start ≡ end_of 0 (upto page (old_level (table_at writer.now) tree.top tree.height low)) }
-    ensures above { result.start ≤ page }
-{
-    let mut place = Place {
-        start: 0,
-        item: tree.top,
-    };
-    let mut level = tree.height;
-    while level > low {
-        level -= 1;
-        let words = words(nodes, writer, place.item.word);
-        place = item_in(level == 0, words, place.start, page);
-    }
-    place
-}
-
-/// Makes a node of items, of which the first begins at `start`, in a free row.
+/// Makes a node of items, of which the first begins at `start`, in a free row: one that held nearly the same words as the row of the
+/// old node, if there is one.
 pub(crate) fn put(
     nodes: &NodeTable,
     writer: &mut NodeWriter,
+    old: Row,
     leaf: bool,
     start: u64,
     items: &[Item],
@@ -88,7 +59,7 @@ pub(crate) fn put(
     ensures taken { (row : ℕ) → times row (free_of writer.old) ≡ times row (result.word ∷ free_of writer.new) }
     ensures left { left_of writer.new ≡ left_of writer.old }
 {
-    let row = nodes.take_row(writer).unwrap();
+    let row = nodes.take_row_for(writer, old).unwrap();
     nodes.fill(writer, row, &node_words(leaf, items));
     Item {
         end: items[items.len() - 1].end,
@@ -97,10 +68,12 @@ pub(crate) fn put(
     }
 }
 
-/// Packs items, of which the first begins at `start`, into nodes: as many into each as `share` tells.
+/// Packs items, of which the first begins at `start`, into nodes in the place of an old one: as many into each
+/// as `share` tells.
 pub(crate) fn pack(
     nodes: &NodeTable,
     writer: &mut NodeWriter,
+    old: Row,
     leaf: bool,
     start: u64,
     items: &[Item],
@@ -128,7 +101,7 @@ pub(crate) fn pack(
     let mut place = 0;
     while place < items.len() {
         let end = place + share(leaf, items.len() - place);
-        let node = put(nodes, writer, leaf, begin, &items[place..end]);
+        let node = put(nodes, writer, old, leaf, begin, &items[place..end]);
         begin = node.end;
         packed.push(node);
         place = end;

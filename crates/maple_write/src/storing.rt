@@ -10,9 +10,10 @@ ghost use Rattle.node_slots.specs.Views.{publish_at};
 ghost use Rattle.node_slots.specs.Seats.{Writes, sight, desk, row_count, free_of, left_of, is_kept, next_root};
 ghost use Rattle.node_slots.specs.Built.{words_at, built, IsBuilt, IsWriters, pairs_now};
 ghost use Rattle.maple_write.specs.Tables.{table_at, FillsRows};
-ghost use Rattle.maple_write.specs.Stores.{IsShaped, IsWhole, Finds, tree_under, all_gap};
+ghost use Rattle.maple_write.specs.Stores.{IsShaped, IsWhole, Finds, tree_under, all_gap, IsPath};
 
-use crate::rows::{Rooted, find, put, words};
+use crate::path::{Path, find, path_to};
+use crate::rows::{Rooted, put, words};
 use crate::tree::{first, replace};
 use maple_items::{ItemList, Part, Place, gap_of};
 use maple_node::Item;
@@ -107,16 +108,17 @@ fn rooted(nodes: &NodeTable, writer: &NodeWriter, tree: &Tree) -> Rooted
 }
 
 /// Where the gap begins that has the page before a page, or else the page.
-fn gap_begin(nodes: &NodeTable, writer: &NodeWriter, tree: Rooted, page: u64) -> u64
+fn gap_begin(nodes: &NodeTable, writer: &NodeWriter, tree: Rooted, path: &Path, page: u64) -> u64
     requires table { Writes writer.now nodes.now }
     requires shaped { IsShaped (table_at writer.now) (tree_under tree) }
+    requires path { IsPath (words_at writer.now) tree.top tree.height 0 path.now }
     requires within { page ≤ tree.top.end }
     ensures { result ≡ widened_lo page (entries_of (words_at writer.now) (tree_under tree)) }
 {
     if page == 0 {
         return 0;
     }
-    let place = find(nodes, writer, tree, 0, page - 1);
+    let place = find(nodes, writer, tree, path, 0, page - 1);
     if place.item.word == 0 {
         place.start
     } else {
@@ -125,16 +127,17 @@ fn gap_begin(nodes: &NodeTable, writer: &NodeWriter, tree: Rooted, page: u64) ->
 }
 
 /// Where the gap ends that has a page, or else the page.
-fn gap_end(nodes: &NodeTable, writer: &NodeWriter, tree: Rooted, page: u64) -> u64
+fn gap_end(nodes: &NodeTable, writer: &NodeWriter, tree: Rooted, path: &Path, page: u64) -> u64
     requires table { Writes writer.now nodes.now }
     requires shaped { IsShaped (table_at writer.now) (tree_under tree) }
+    requires path { IsPath (words_at writer.now) tree.top tree.height 0 path.now }
     requires within { page ≤ tree.top.end }
     ensures { result ≡ widened_hi page (entries_of (words_at writer.now) (tree_under tree)) }
 {
     if page == tree.top.end {
         return page;
     }
-    let place = find(nodes, writer, tree, 0, page);
+    let place = find(nodes, writer, tree, path, 0, page);
     if place.item.word == 0 {
         place.item.end
     } else {
@@ -166,12 +169,13 @@ fn overwrite(
     ensures height { result.height ≤ old.height + 1 }
     ensures free { length (free_of writer.old) ≤ length (free_of writer.new) + 3 * old.height + 1 }
 {
+    let path = path_to(nodes, writer, old, span.lo);
     if word != 0 {
-        return replace(nodes, writer, old, span.lo, span.hi, word);
+        return replace(nodes, writer, old, &path, span.lo, span.hi, word);
     }
-    let lo = gap_begin(nodes, writer, old, span.lo);
-    let hi = gap_end(nodes, writer, old, span.hi);
-    replace(nodes, writer, old, lo, hi, 0)
+    let lo = gap_begin(nodes, writer, old, &path, span.lo);
+    let hi = gap_end(nodes, writer, old, &path, span.hi);
+    replace(nodes, writer, old, &path, lo, hi, 0)
 }
 
 /// The entries of a tree whose pages were one gap up to `limit`, with one entry from page `lo` up to page `hi`.
@@ -215,7 +219,7 @@ fn planted(nodes: &NodeTable, writer: &mut NodeWriter, limit: u64, span: Span, w
     ensures free { length (free_of writer.old) ≤ length (free_of writer.new) + 1 }
 {
     let entries = first_entries(limit, span.lo, span.hi, word);
-    let top = put(nodes, writer, true, 0, entries.items());
+    let top = put(nodes, writer, Row(0), true, 0, entries.items());
     nodes.leave(writer, Row(0));
     Rooted { top, height: 1 }
 }

@@ -8,13 +8,15 @@ ghost use Rattle.maple_items.specs.Splices.{piece_of, overwrite};
 ghost use Rattle.node_slots.specs.Seats.{Writes, sight, row_count, free_of, is_waiting};
 ghost use Rattle.node_slots.specs.Built.{words_at};
 ghost use Rattle.maple_write.specs.Tables.{table_at, gone, FillsRows, Stand};
-ghost use Rattle.maple_write.specs.Stores.{IsShaped, tree_under};
+ghost use Rattle.maple_write.specs.Stores.{IsShaped, tree_under, IsPath};
 
 use crate::few::FewItems;
 use crate::level::{Stretch, leave_block, rise};
-use crate::rows::{Rooted, find, put};
+use crate::path::{Path, find};
+use crate::rows::{Rooted, put};
 use maple_items::Place;
 use maple_node::Item;
+use mm_types::Row;
 use node_slots::{NodeTable, NodeWriter};
 
 /// The new entries of a store from the beginning of the entry at its first page: the part of that entry before the page, if
@@ -53,11 +55,18 @@ fn is_whole(stretch: &Stretch, limit: u64) -> bool
 }
 
 /// Leaves the nodes of an old tree above a level.
-pub(crate) fn leave_upper(nodes: &NodeTable, writer: &mut NodeWriter, old: Rooted, level: u32)
+pub(crate) fn leave_upper(
+    nodes: &NodeTable,
+    writer: &mut NodeWriter,
+    old: Rooted,
+    path: &Path,
+    level: u32,
+)
     requires table { Writes writer.old nodes.now }
     requires order { level ≤ old.height }
     requires limit { 0 < old.top.end }
     requires tower { IsTower (words_at writer.old) old.top.end level (old.height - level) (old.top ∷ []) }
+    requires path { IsPath (words_at writer.old) old.top old.height (level + 1) path.now }
     requires apart { (row : ℕ) → gone (table_at writer.old) row
         + times row (rows_of (words_at writer.old) level (old.height - level) (old.top ∷ []))
         ≤ (if nat_lt row (row_count writer.old) then 1 else 0) }
@@ -71,7 +80,7 @@ pub(crate) fn leave_upper(nodes: &NodeTable, writer: &mut NodeWriter, old: Roote
     let mut next = level;
     while next < old.height {
         next += 1;
-        leave_block(nodes, writer, old, next, 0, old.top.end);
+        leave_block(nodes, writer, old, path, next, 0, old.top.end);
     }
 }
 
@@ -107,7 +116,7 @@ pub(crate) fn crown(
         };
     }
     Rooted {
-        top: put(nodes, writer, false, 0, items.items()),
+        top: put(nodes, writer, Row(0), false, 0, items.items()),
         height: level + 1,
     }
 }
@@ -117,12 +126,14 @@ pub(crate) fn replace(
     nodes: &NodeTable,
     writer: &mut NodeWriter,
     old: Rooted,
+    path: &Path,
     lo: u64,
     hi: u64,
     word: u64,
 ) -> Rooted
     requires table { Writes writer.old nodes.now }
     requires shaped { IsShaped (table_at writer.old) (tree_under old) }
+    requires path { IsPath (words_at writer.old) old.top old.height 0 path.now }
     requires free { 4 * old.height + 4 ≤ length (free_of writer.old) }
     requires some { lo < hi }
     requires limit { hi ≤ old.top.end }
@@ -135,14 +146,14 @@ pub(crate) fn replace(
     ensures height { result.height ≤ old.height + 1 }
     ensures free { length (free_of writer.old) ≤ length (free_of writer.new) + 3 * old.height + 1 }
 {
-    let mut new = first(find(nodes, writer, old, 0, lo), lo, hi, word);
+    let mut new = first(find(nodes, writer, old, path, 0, lo), lo, hi, word);
     let mut level = 0;
     let mut done = false;
     while level < old.height && !done {
-        new = rise(nodes, writer, old, level, lo, &new);
+        new = rise(nodes, writer, old, path, level, lo, &new);
         level += 1;
         done = is_whole(&new, old.top.end);
     }
-    leave_upper(nodes, writer, old, level);
+    leave_upper(nodes, writer, old, path, level);
     crown(nodes, writer, level, &new.items)
 }

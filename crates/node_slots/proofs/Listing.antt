@@ -4,6 +4,8 @@ use Rattle.std.proofs.lemmas.Bool.{cases_Bool, cases_lt, cond-true, cond-false, 
 use Rattle.std.proofs.lemmas.Bool.Decides.{eqb_tells}
 use Rattle.std.proofs.lemmas.List.{length-set, length-map, length-append, map-append, get_or-set_same, get_or-set_other, get_or_append_left, get_or_push}
 use Rattle.std.proofs.lemmas.List.Sums.{sum_by-append}
+use Rattle.std.proofs.lemmas.List.Sorted.{sum_by-IsPermutation, IsPermutation-map, IsPermutation-trans, IsPermutation-to_front, IsPermutation-sym, length_permutation}
+use Rattle.std.specs.List.Sorted.{IsPermutation}
 use Rattle.mm_types.specs.declared.slot.Row.{Row}
 use Rattle.grace_core.specs.Core.{Desk, times, has_row, since_at, is_free}
 use Rattle.grace_core.specs.Steps.{next_tree, published, scanned}
@@ -62,6 +64,39 @@ take_lists rows row free left firsts desk kept =
       queue = kept.queue;
       order = kept.order;
     }
+
+-- the free list in another order
+pub moved_lists : (rows : ℕ) (free moved : List Row) (left : List Left) (firsts : List ℕ) (desk : Desk) → IsPermutation free moved
+    → RowsKept rows free left firsts desk → RowsKept rows moved left firsts desk
+moved_lists rows free moved left firsts desk permuted kept =
+    let same : (row : ℕ) → times row (free_numbers moved) ≡ times row (free_numbers free) = λ row.
+    sum_by-IsPermutation (λ n. cond (nat_eq n row) 1 0) (free_numbers free) (free_numbers moved) (IsPermutation-map (λ (r : Row). r.0) free moved permuted) in
+    record {
+      sized = kept.sized;
+      first = kept.first;
+      once = λ row. omega (arith, same row, kept.once row);
+      inside = λ row some. kept.inside row (omega (arith, same row, some));
+      free_is = λ row some. kept.free_is row (omega (arith, same row, some));
+      present = λ row within gone early. kept.present row within (omega (arith, same row, gone)) early;
+      taken = λ row within gone late. kept.taken row within (omega (arith, same row, gone)) late;
+      queue = kept.queue;
+      order = kept.order;
+    }
+
+pub first_moved : (xs ys rest : List Row) (one : Row) → xs ≡ one ∷ rest → ys ≡ rest ++ one ∷ [] → IsPermutation xs ys
+first_moved xs ys rest one first last =
+    subst (λ (l : List Row). IsPermutation l ys) (sym first)
+    (subst (λ (l : List Row). IsPermutation (one ∷ rest) l) (sym last)
+    (IsPermutation-sym (rest ++ one ∷ []) (one ∷ rest) (IsPermutation-to_front rest one)))
+
+-- and the last of it, before the others
+pub empty_moved : (xs ys : List ℕ) → IsPermutation xs ys → ys ≡ [] → xs ≡ []
+empty_moved [] ys permuted none = refl
+empty_moved (x ∷ xs) ys permuted none = absurd (omega (arith, length_permutation (x ∷ xs) ys permuted, ap (λ (l : List ℕ). length l) none))
+
+pub last_moved : (xs ys rest : List ℕ) (row : ℕ) → IsPermutation xs ys → ys ≡ rest ++ row ∷ [] → IsPermutation xs (row ∷ rest)
+last_moved xs ys rest row permuted last =
+    IsPermutation-trans xs ys (row ∷ rest) permuted (subst (λ (l : List ℕ). IsPermutation l (row ∷ rest)) (sym last) (IsPermutation-to_front rest row))
 
 -- a row that was taken is free again
 pub free_lists : (rows : ℕ) (row : Row) (free : List Row) (left : List Left) (firsts : List ℕ) (desk : Desk) → RowsKept rows free left firsts desk

@@ -10,6 +10,7 @@ mod rows;
 mod rule;
 mod seats;
 mod tree;
+mod twins;
 mod view;
 mod writing;
 

@@ -13,7 +13,7 @@ ghost use Rattle.node_slots.specs.Opening.{IsFreeFrom};
 ghost use Rattle.node_slots.specs.Seats.{size_of, IsOf, Writes, view, sight, free_of, left_of};
 
 use crate::rule::NewReader;
-use crate::seats::{NodeSeat, NodeTable, NodeWriter, WriterSeat};
+use crate::seats::{Hint, NodeSeat, NodeTable, NodeWriter, WriterSeat};
 use crate::view::Size;
 use atomic_table::Table;
 use grace_core::Clearing;
@@ -42,6 +42,12 @@ const NEW_CLEARING: Clearing = Clearing {
     pin: 0,
     tree: 0,
     joined: false,
+};
+
+/// What is remembered of a row that was never taken.
+const NO_HINT: Hint = Hint {
+    twin: Row(0),
+    spot: 0,
 };
 
 impl NodeTable {
@@ -112,6 +118,8 @@ fn open(alloc: Global, size: Size) -> Result<(NodeTable, NodeWriter), NoMemory>
         free: first_free(alloc, size.rows)?,
         left: VecDeque::with_capacity(alloc, size.rows as usize)?,
         firsts: vec![in alloc; 0; size.rows as usize]?,
+        hints: vec![in alloc; NO_HINT; size.rows as usize]?,
+        turned: 0,
     };
     Ok((table, writer))
 }

@@ -1,4 +1,5 @@
 ghost use Rattle.std.specs.Prelude.{◌≡◌, ◌≤◌, ◌<◌, ◌+◌, ◌-◌, ◌^◌, ℕ, true, false, if◌then◌else◌, List, [], ◌∷◌, ◌++◌, length, MatchOption, IfSome, IfOk};
+ghost use Rattle.std.specs.List.Sorted.{IsPermutation};
 ghost use Rattle.grace_core.specs.Core.{row_at, since_at, times};
 ghost use Rattle.grace_core.specs.Steps.{least};
 ghost use Rattle.maple_node.specs.Levels.{at_of};
@@ -10,6 +11,7 @@ ghost use Rattle.node_slots.specs.Seats.{size_of, Writes, sight, desk, row_count
 
 use crate::left::Left;
 use crate::seats::{NodeTable, NodeWriter};
+use crate::twins::{note_spot, note_twin};
 use crate::writing::least;
 use maple_node::{Root, Steps};
 use mm_types::{NoMemory, Row};
@@ -30,6 +32,28 @@ impl NodeTable {
         let row = writer.free.pop_back()?;
         writer.firsts[row.0 as usize] = writer.desk.root.tree + 1;
         Some(row)
+    }
+
+    /// Takes a row for the next version of the node in a row: that row itself, if it was left and is free, or the row that held the
+    /// version before it, if that is free, whose words are nearly the same, and else the one that is free for the longest. None
+    /// exactly where no row is free.
+    pub fn take_row_for(&self, writer: &mut NodeWriter, old: Row) -> Option<Row>
+        requires table { Writes writer.old self.now }
+        ensures table { Writes writer.new self.now }
+        ensures free { MatchOption result ((free_of writer.old ≡ []) × (free_of writer.new ≡ []))
+            (λ row. IsPermutation (free_of writer.old) (row.0 ∷ free_of writer.new)) }
+        ensures taken { IfSome result (λ row. is_taken writer.new row.0 ≡ true) }
+        ensures left { left_of writer.new ≡ left_of writer.old }
+        ensures view { sight writer.new ≡ sight writer.old }
+    {
+        writer.choose_for(old);
+        match self.take_row(writer) {
+            None => None,
+            Some(row) => {
+                note_twin(&mut writer.hints, row, old);
+                Some(row)
+            }
+        }
     }
 
     /// Stores the words of a row that was taken and is not published.
@@ -57,6 +81,8 @@ impl NodeTable {
         if writer.firsts[row.0 as usize] < next {
             writer.left.push_back_reserved(Left { row, since: next });
         } else {
+            let spot = writer.free.len().wrapping_add(writer.turned);
+            note_spot(&mut writer.hints, row, spot);
             writer.free.push_back_reserved(row);
         }
     }
@@ -179,6 +205,8 @@ impl NodeWriter {
             return false;
         }
         let first = self.left.pop_front().unwrap();
+        let spot = self.free.len().wrapping_add(self.turned);
+        note_spot(&mut self.hints, first.row, spot);
         self.free.push_back_reserved(first.row);
         true
     }

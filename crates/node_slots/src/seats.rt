@@ -47,6 +47,16 @@ pub struct WriterSeat {
     pub ghost table_is: { seat.table_id ≡ (arc_value table.table).shared.table_id },
 }
 
+/// What the writer remembers of a row, so that a node's next version goes to a row that holds nearly the same words. No clause
+/// rests on it.
+#[derive(Clone, Copy, Debug, PartialEq, Eq)]
+pub(crate) struct Hint {
+    /// The row that it was taken for.
+    pub(crate) twin: Row,
+    /// Where it came to stand in the free list last: its place, and how many rows had gone from the front to the end.
+    pub(crate) spot: usize,
+}
+
 /// The one writer of a table. It knows which rows are free, which were left, and which are of the present tree.
 #[derive(Drop)]
 pub struct NodeWriter {
@@ -56,6 +66,10 @@ pub struct NodeWriter {
     pub(crate) left: VecDeque<Left>,
     /// For each row the first tree that may have it.
     pub(crate) firsts: Vec<u64>,
+    /// For each row what is remembered of it.
+    pub(crate) hints: Vec<Hint>,
+    /// How often the first row of the free list went to its end.
+    pub(crate) turned: usize,
     pub ghost rows: { RowsKept desk.table.size.rows free.items left.items firsts.items desk.seat.me.0.known.desk },
     pub ghost free_room: { desk.table.size.rows ≤ deque_capacity free },
     pub ghost left_room: { desk.table.size.rows ≤ deque_capacity left },

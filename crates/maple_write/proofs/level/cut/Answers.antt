@@ -3,7 +3,7 @@ use Rattle.std.proofs.Common.{◌-◌, List, sym, subst, arith}
 use Rattle.maple_node.specs.declared.item.Item.{Item}
 use Rattle.maple_write.specs.Tables.{table_at}
 use Rattle.maple_write.specs.Stores.{Cut}
-use Rattle.maple_write.proofs.Writers.{rows_counted}
+use Rattle.maple_write.proofs.Writers.{rows_counted, few_rows}
 use Rattle.maple_write.proofs.Steps.{upper_of, there_at, cut_of}
 use Rattle.maple_write.proofs.level.cut.Goals as goal
 
@@ -39,3 +39,12 @@ returns c =
     c.find-left.ensures.start in
     subst (λ (xs : List Item). Cut table old.top old.height c.args.level c.args.lo new.end new.items c.find-left.result.start c.last-right.result.item.end xs)
     (sym c.joined.ensures) is
+
+pub overflow_cast-result : goal.overflow_cast-result
+overflow_cast-result c =
+    let there = there_at (table_at c.args.writer.now) c.args.old.top c.args.old.height c.args.level c.args.lo c.args.new.now.end c.args.lo
+    c.args.new.now.items c.find-left.result.item c.requires.partly c.requires.below c.find-left.ensures.item in
+    let row = there.row in
+    let long = rows_counted c.args.writer.now in
+    let few = few_rows c.args.writer.now in
+    omega arith

@@ -3,7 +3,7 @@ use Rattle.std.proofs.Common.{◌∙◌, ◌∷◌, ◌<◌, ◌-◌, length, ge
 use Rattle.maple_node.specs.declared.item.Item.{Item}
 use Rattle.maple_node.specs.Levels.{at_of, read, IsNode, times}
 use Rattle.node_slots.specs.Seats.{desk, free_of}
-use Rattle.maple_write.proofs.Writers.{filled_words, taken_row, taken_free}
+use Rattle.maple_write.proofs.Writers.{filled_words, taken_row, taken_moved}
 use Rattle.maple_write.proofs.Waiting.{fills_one}
 use Rattle.maple_write.proofs.Packing.{last_end, made-items, made-node}
 use Rattle.maple_write.proofs.rows.put.Goals as goal
@@ -13,9 +13,9 @@ returns-clause-node c limit full =
     let old = c.args.writer.now in
     let leaf = c.args.leaf in
     let items = c.args.items.now in
-    let words = filled_words old c.take_row.new.writer c.fill.new.writer c.unwrap-row.result.0 c.from.result c.node_words.result leaf items
-    c.take_row.ensures.view c.fill.ensures.view c.node_words.ensures c.from.ensures in
-    let there = taken_row old c.take_row.new.writer c.take_row.result c.unwrap-row.result c.unwrap-row.ensures c.take_row.ensures.taken c.take_row.ensures.view in
+    let words = filled_words old c.take_row_for.new.writer c.fill.new.writer c.unwrap-row.result.0 c.from.result c.node_words.result leaf items
+    c.take_row_for.ensures.view c.fill.ensures.view c.node_words.ensures c.from.ensures in
+    let there = taken_row old c.take_row_for.new.writer c.take_row_for.result c.unwrap-row.result c.unwrap-row.ensures c.take_row_for.ensures.taken c.take_row_for.ensures.view in
     let within = subst (λ (r : ℕ). r < length (desk old).words) (sym c.from.ensures) there in
     let none : Item = record { end = 0; word = 0; gap = 0 } in
     let until : ℕ = (get_or items (length items - 1) none).end in
@@ -29,9 +29,9 @@ returns-clause-items c =
     let old = c.args.writer.now in
     let leaf = c.args.leaf in
     let items = c.args.items.now in
-    let words = filled_words old c.take_row.new.writer c.fill.new.writer c.unwrap-row.result.0 c.from.result c.node_words.result leaf items
-    c.take_row.ensures.view c.fill.ensures.view c.node_words.ensures c.from.ensures in
-    let there = taken_row old c.take_row.new.writer c.take_row.result c.unwrap-row.result c.unwrap-row.ensures c.take_row.ensures.taken c.take_row.ensures.view in
+    let words = filled_words old c.take_row_for.new.writer c.fill.new.writer c.unwrap-row.result.0 c.from.result c.node_words.result leaf items
+    c.take_row_for.ensures.view c.fill.ensures.view c.node_words.ensures c.from.ensures in
+    let there = taken_row old c.take_row_for.new.writer c.take_row_for.result c.unwrap-row.result c.unwrap-row.ensures c.take_row_for.ensures.taken c.take_row_for.ensures.view in
     let within = subst (λ (r : ℕ). r < length (desk old).words) (sym c.from.ensures) there in
     ap (λ (rs : List (List ℕ)). read (at_of rs) leaf c.from.result) words
     ∙ made-items (desk old).words c.from.result leaf c.args.start items within c.requires.ascends c.requires.plain
@@ -41,16 +41,16 @@ returns-clause-until c = last_end c.args.start c.args.items.now (record { end = 
 
 pub returns-clause-same : goal.returns-clause-same
 returns-clause-same c =
-    fills_one c.args.writer.now c.take_row.new.writer c.fill.new.writer c.unwrap-row.result.0 c.node_words.result
-    c.take_row.ensures.view c.fill.ensures.view c.take_row.ensures.left c.fill.ensures.lists.1
+    fills_one c.args.writer.now c.take_row_for.new.writer c.fill.new.writer c.unwrap-row.result.0 c.node_words.result
+    c.take_row_for.ensures.view c.fill.ensures.view c.take_row_for.ensures.left c.fill.ensures.lists.1
 
 pub returns-clause-free : goal.returns-clause-free
 returns-clause-free c =
-    (taken_free (free_of c.args.writer.now) (free_of c.take_row.new.writer) (free_of c.fill.new.writer) c.take_row.result c.unwrap-row.result _
-    c.unwrap-row.ensures c.take_row.ensures.free c.fill.ensures.lists.0).fewer
+    (taken_moved (free_of c.args.writer.now) (free_of c.take_row_for.new.writer) (free_of c.fill.new.writer) c.take_row_for.result c.unwrap-row.result _
+    c.unwrap-row.ensures c.take_row_for.ensures.free c.fill.ensures.lists.0).fewer
 
 pub returns-clause-taken : goal.returns-clause-taken
 returns-clause-taken c row =
-    (taken_free (free_of c.args.writer.now) (free_of c.take_row.new.writer) (free_of c.fill.new.writer) c.take_row.result c.unwrap-row.result _
-    c.unwrap-row.ensures c.take_row.ensures.free c.fill.ensures.lists.0).times_are row
+    (taken_moved (free_of c.args.writer.now) (free_of c.take_row_for.new.writer) (free_of c.fill.new.writer) c.take_row_for.result c.unwrap-row.result _
+    c.unwrap-row.ensures c.take_row_for.ensures.free c.fill.ensures.lists.0).times_are row
     ∙ ap (λ (r : ℕ). times row (r ∷ free_of c.fill.new.writer)) (sym c.from.ensures)

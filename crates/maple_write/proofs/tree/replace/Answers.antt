@@ -11,6 +11,7 @@ use Rattle.maple_write.specs.Tables.{table_at}
 use Rattle.maple_write.specs.Stores.{old_level, new_level, tree_under}
 use Rattle.maple_write.proofs.Writers.{fills_none, fills_both, rows_counted}
 use Rattle.maple_write.proofs.Crowns.{begins_as, starts_with, two_items, at_top, left_few, crown_ready, stands_then}
+use Rattle.maple_write.proofs.Paths.{path_high}
 use Rattle.maple_write.proofs.tree.replace.Goals as goal
 use Rattle.maple_write.proofs.tree.replace.Goals.{then-loop-level-test+else-not-done, else-loop-level-test}
 
@@ -25,6 +26,7 @@ loop-level-init c =
       partly = begins_as (table_at writer) (tree_under old) c.find.result.start c.args.lo c.args.hi c.args.word first.end c.find.result.item first.items
           c.requires.shaped c.requires.some c.requires.limit c.requires.free c.find.ensures.item c.find.ensures.start c.first-new.ensures.end
           c.first-new.ensures.items;
+      path = c.requires.path;
       entries = starts_with (table_at writer) (tree_under old) c.find.result.start c.args.lo c.args.hi c.args.word first.end c.find.result.item first.items
           c.find.ensures.item c.find.ensures.start c.first-new.ensures.end c.first-new.ensures.items;
       free = omega arith;
@@ -46,6 +48,7 @@ loop-level-preserved c =
       table = c.rise-new.ensures.table;
       same = fills_both c.args.writer.now loop.writer after is.same c.rise-new.ensures.same;
       partly = c.rise-new.ensures.partly;
+      path = c.rise-new.ensures.path;
       entries = c.rise-new.ensures.entries ∙ is.entries;
       free = let before = is.free in let taken = c.rise-new.ensures.free in omega arith;
       whole = λ yes. let all = c.is_whole-done.ensures.yes yes in (omega arith, (sym c.rise-new.ensures.begin ∙ all.0, all.1));
@@ -170,3 +173,13 @@ returns-clause-free c =
     let back = c.leave_upper.ensures.free in
     let root = c.crown.ensures.free in
     omega arith
+
+pub rise-new-requires-clause-path : goal.rise-new-requires-clause-path
+rise-new-requires-clause-path c =
+    let loop = c.loop-level in
+    path_high (words_at loop.writer) c.args.old.top c.args.old.height loop.level (loop.level + 1) c.args.path.now (omega arith) loop.invariant.path
+
+pub leave_upper-requires-clause-path : goal.leave_upper-requires-clause-path
+leave_upper-requires-clause-path c =
+    let loop = c.loop-level in
+    path_high (words_at loop.writer) c.args.old.top c.args.old.height loop.level (loop.level + 1) c.args.path.now (omega arith) loop.invariant.path

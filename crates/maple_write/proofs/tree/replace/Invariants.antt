@@ -7,7 +7,7 @@ use Rattle.maple_items.specs.Splices.{upto, overwrite}
 use Rattle.node_slots.specs.Seats.{Writes, free_of}
 use Rattle.node_slots.specs.Built.{words_at}
 use Rattle.maple_write.specs.Tables.{table_at, FillsRows}
-use Rattle.maple_write.specs.Stores.{old_level, new_level, new_entries, Partly, tree_under}
+use Rattle.maple_write.specs.Stores.{old_level, new_level, new_entries, Partly, tree_under, IsPath}
 use Rattle.maple_write.proofs.tree.replace.Given as goal
 
 abbrev pub invariant-loop-level : goal.invariant-loop-level
@@ -15,6 +15,7 @@ invariant-loop-level l = record {
   table : Writes l.writer l.nodes;
   same : FillsRows l.fn.writer l.writer;
   partly : Partly (table_at l.writer) l.old.top l.old.height l.level l.lo l.new.end l.new.items;
+  path : IsPath (words_at l.writer) l.old.top l.old.height l.level l.path;
   entries : new_entries (table_at l.writer) l.old.top l.old.height l.level l.lo l.new.end l.new.items
       ≡ overwrite l.lo l.hi l.word (entries_of (words_at l.fn.writer) (tree_under l.old));
   free : length (free_of l.fn.writer) ≤ length (free_of l.writer) + 3 * l.level;

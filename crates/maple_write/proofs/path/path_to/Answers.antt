@@ -1,0 +1,14 @@
+-- For `path_to`: at first no level is kept.
+use Rattle.std.proofs.Common.{refl, arith}
+use Rattle.node_slots.specs.Built.{words_at}
+use Rattle.maple_write.proofs.path.path_to.Goals as goal
+
+pub loop-begin-init : goal.loop-begin-init
+loop-begin-init c =
+    let level = c.above-begin.ensures.level in
+    record {
+      high = omega arith;
+      page = refl;
+      begins = c.above-begin.ensures.begins (words_at c.args.writer.now) c.args.page c.requires.within;
+      path = record { each = λ other order within few. absurd (omega arith) };
+    }
