@@ -3,6 +3,8 @@ pub mod Places
 pub mod Listed
 pub mod Parts
 pub mod Words
+pub mod Padded
+pub mod Spliced
 pub mod Pairs
 pub mod Pages
 pub mod Entries

@@ -5,8 +5,10 @@
 mod laws;
 mod list;
 mod node;
+mod packed;
 mod part;
 mod place;
+mod splice;
 
 pub use laws::{
     gaps_stay_apart, overwriting_replaces_pairs, overwritten_pages, written_items_are_read,
@@ -15,3 +17,4 @@ pub use list::ItemList;
 pub use node::{gap_of, least, most, node_items, node_words, share};
 pub use part::Part;
 pub use place::{Place, item_at, item_in};
+pub use splice::{gap_in, spliced_words};

@@ -88,7 +88,7 @@ pub fn gap_of(leaf: bool, start: u64, items: &[Item]) -> u64
 }
 
 /// The largest gap in one item: the whole of an entry that is a gap, and what the item of a child says.
-fn item_gap(leaf: bool, start: u64, item: Item) -> u64
+pub(crate) fn item_gap(leaf: bool, start: u64, item: Item) -> u64
     requires { start ≤ item.end }
     ensures { result ≡ item_gap leaf start item }
 {

@@ -35,14 +35,14 @@ impl Part {
 }
 
 /// How many words an item of a node has.
-fn width_of(leaf: bool) -> usize
+pub(crate) fn width_of(leaf: bool) -> usize
     ensures { result ≡ width_of leaf }
 {
     if leaf { 2 } else { 3 }
 }
 
 /// The item that the words of a node list at a place.
-fn listed_at(leaf: bool, words: &[u64; 32], place: usize) -> Item
+pub(crate) fn listed_at(leaf: bool, words: &[u64; 32], place: usize) -> Item
     requires { place + width_of leaf ≤ 32 }
     ensures { result ≡ listed_at leaf words.now place }
 {

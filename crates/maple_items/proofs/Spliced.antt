@@ -1,0 +1,210 @@
+-- For `spliced_words` and `gap_in`: the words of some of the items of a node.
+use Rattle.std.proofs.Common.{ℕ, suc, ◌≡◌, ◌≢◌, ◌<◌, ◌≤◌, ◌+◌, ◌-◌, ◌*◌, Bool, true, false, List, [], ◌∷◌, ◌++◌, length, take, drop, get_or, replicate, max, refl, sym, ap, subst, ◌∙◌, arith, inl, inr, length-append, append_assoc}
+use Rattle.std.proofs.lemmas.Bool.{cases_lt}
+use Rattle.std.proofs.lemmas.List.{take_at, drop_at, length-take-le, length-drop}
+use Rattle.std.proofs.lemmas.Grind.{flat_map-append}
+use Rattle.std.specs.List.{flat_map}
+use Rattle.maple_node.specs.declared.item.Item.{Item}
+use Rattle.maple_node.specs.Nodes.{item_words, words_of, items_of, most, end_of, Ascends, item_gap, gap_of}
+use Rattle.maple_items.specs.Splices.{upto, beyond, spliced}
+use Rattle.maple_items.specs.Parts.{width_of, listed_at}
+use Rattle.maple_items.specs.Padding.{padded}
+use Rattle.maple_items.proofs.Lists.{upto-first, upto_first, upto_all, upto-beyond, length-upto}
+use Rattle.maple_items.proofs.Parts.{listed_there, listed_none, listed_past}
+use Rattle.maple_items.proofs.Padded.{length-words}
+
+-- where an item ends is its first word
+pub ends_at : (leaf : Bool) (words : List ℕ) (place : ℕ) → (listed_at leaf words place).end ≡ get_or words place 0
+ends_at true words place = refl
+ends_at false words place = refl
+
+-- items that ascend from a page do from each one below
+pub ascends_from : (start low : ℕ) (items : List Item) → low ≤ start → Ascends start items → Ascends low items
+ascends_from start low [] below ascends = tt
+ascends_from start low (item ∷ items) below ascends = let first = ascends.0 in (omega arith, ascends.1)
+
+-- the words before a place are those of items that end up to a page
+pub record Upto (leaf : Bool) (page place : ℕ) (words : List ℕ) : Type 0 where
+  pub count : width_of leaf * length (upto page (items_of leaf words)) ≡ place + width_of leaf * length (upto page (items_of leaf (drop place words)))
+  pub ascends : Ascends 0 (items_of leaf (drop place words))
+
+-- the item at the place ends up to the page
+pub upto_more : (leaf : Bool) (page place : ℕ) (words : List ℕ) → Upto leaf page place words → place + width_of leaf ≤ length words
+    → get_or words place 0 ≢ 0 → get_or words place 0 ≤ page → Upto leaf page (place + width_of leaf) words
+upto_more leaf page place words is room some ends =
+    let item = listed_at leaf words place in
+    let rest = items_of leaf (drop (place + width_of leaf) words) in
+    let there = listed_there leaf words place room some in
+    let end = ends_at leaf words place in
+    let more = ap (λ (xs : List Item). length (upto page xs)) there ∙ ap (λ (xs : List Item). length xs) (upto-first page item rest (omega arith)) in
+    let ascends = subst (Ascends 0) there is.ascends in
+    record {
+      count = counted leaf (length (upto page (items_of leaf words))) (length (upto page (items_of leaf (drop place words)))) (length (upto page rest))
+          place is.count more;
+      ascends = ascends_from item.end 0 rest (omega arith) ascends.1;
+    } where
+      counted : (b : Bool) (all here later at : ℕ) → width_of b * all ≡ at + width_of b * here → here ≡ suc later
+          → width_of b * all ≡ at + width_of b + width_of b * later
+      counted true all here later at is more = omega arith
+      counted false all here later at is more = omega arith
+
+-- no item from the place on does
+pub upto_done : (leaf : Bool) (page place : ℕ) (words : List ℕ) → Upto leaf page place words → upto page (items_of leaf (drop place words)) ≡ []
+    → place ≡ width_of leaf * length (upto page (items_of leaf words))
+upto_done leaf page place words is none =
+    let long = ap (λ (xs : List Item). width_of leaf * length xs) none in
+    let zero : width_of leaf * 0 ≡ 0 = omega arith in
+    let count = is.count in
+    omega arith
+
+pub upto_past : (leaf : Bool) (page place : ℕ) (words : List ℕ) → Upto leaf page place words → place + width_of leaf ≤ length words
+    → get_or words place 0 ≢ 0 → page < get_or words place 0 → upto page (items_of leaf (drop place words)) ≡ []
+upto_past leaf page place words is room some above =
+    let item = listed_at leaf words place in
+    let rest = items_of leaf (drop (place + width_of leaf) words) in
+    let there = listed_there leaf words place room some in
+    let end = ends_at leaf words place in
+    ap (upto page) there ∙ upto_first 0 page item rest (subst (Ascends 0) there is.ascends) (omega arith)
+
+-- the largest gap is that of the items before a place or of those from it on, which begin at `begin`
+pub record Gapped (leaf : Bool) (start place begin largest : ℕ) (words : List ℕ) : Type 0 where
+  pub gap : gap_of leaf start (items_of leaf words) ≡ max largest (gap_of leaf begin (items_of leaf (drop place words)))
+  pub ascends : Ascends begin (items_of leaf (drop place words))
+
+pub gapped_above : (leaf : Bool) (start place begin largest : ℕ) (words : List ℕ) → Gapped leaf start place begin largest words
+    → place + width_of leaf ≤ length words → get_or words place 0 ≢ 0 → begin < (listed_at leaf words place).end
+gapped_above leaf start place begin largest words is room some = (subst (Ascends begin) (listed_there leaf words place room some) is.ascends).0
+
+pub gapped_more : (leaf : Bool) (start place begin largest gap : ℕ) (words : List ℕ) → Gapped leaf start place begin largest words
+    → place + width_of leaf ≤ length words → get_or words place 0 ≢ 0
+    → gap ≡ max (item_gap leaf begin (listed_at leaf words place)) largest
+    → Gapped leaf start (place + width_of leaf) (listed_at leaf words place).end gap words
+gapped_more leaf start place begin largest gap words is room some told =
+    let item = listed_at leaf words place in
+    let rest = items_of leaf (drop (place + width_of leaf) words) in
+    let there = listed_there leaf words place room some in
+    let one = item_gap leaf begin item in
+    let others = gap_of leaf item.end rest in
+    let all : gap_of leaf start (items_of leaf words) ≡ max largest (max one others) = is.gap ∙ ap (λ (xs : List Item). max largest (gap_of leaf begin xs)) there in
+    record { gap = omega arith; ascends = (subst (Ascends begin) there is.ascends).1 }
+
+pub gapped_all : (leaf : Bool) (start place begin largest : ℕ) (words : List ℕ) → Gapped leaf start place begin largest words
+    → items_of leaf (drop place words) ≡ [] → largest ≡ gap_of leaf start (items_of leaf words)
+gapped_all leaf start place begin largest words is none =
+    let all : gap_of leaf start (items_of leaf words) ≡ max largest 0 = is.gap ∙ ap (λ (xs : List Item). max largest (gap_of leaf begin xs)) none in
+    omega arith
+
+-- the words of the items up to a page, and of those above another one
+pub record Parted (leaf : Bool) (lo hi before past used : ℕ) (words : List ℕ) : Type 0 where
+  pub before_used : before ≤ used
+  pub past_used : past ≤ used
+  pub within : used ≤ length words
+  pub front : take before words ≡ flat_map (item_words leaf) (upto lo (items_of leaf words))
+  pub back : take (used - past) (drop past words) ≡ flat_map (item_words leaf) (beyond hi (items_of leaf words))
+
+-- fewer items have fewer words
+ordered : (leaf : Bool) (a b m n : ℕ) → a ≡ width_of leaf * m → b ≡ width_of leaf * n → m ≤ n → a ≤ b
+ordered true a b m n at_a at_b less = omega arith
+ordered false a b m n at_a at_b less = omega arith
+
+backs : (leaf : Bool) (past used back up_hi all : ℕ) → past ≡ width_of leaf * up_hi → used ≡ width_of leaf * all → all ≡ up_hi + back
+    → width_of leaf * back ≡ used - past
+backs true past used back up_hi all a b c = omega arith
+backs false past used back up_hi all a b c = omega arith
+
+pub parted : (leaf : Bool) (lo hi end before past used : ℕ) (words : List ℕ) → Ascends 0 (items_of leaf words)
+    → words ≡ words_of leaf (items_of leaf words) → end_of 0 (items_of leaf words) ≤ end
+    → before ≡ width_of leaf * length (upto lo (items_of leaf words)) → past ≡ width_of leaf * length (upto hi (items_of leaf words))
+    → used ≡ width_of leaf * length (upto end (items_of leaf words)) → Parted leaf lo hi before past used words
+unfolding words_of
+parted leaf lo hi end before past used words ascends whole ends at_lo at_hi at_end =
+    let items = items_of leaf words in
+    let F : List Item → List ℕ = flat_map (item_words leaf) in
+    let zeros : List ℕ = replicate (32 - length (F items)) 0 in
+    let all : upto end items ≡ items = upto_all 0 end items ascends ends in
+    let parts : (page : ℕ) → words ≡ F (upto page items) ++ (F (beyond page items) ++ zeros) = λ page.
+    whole ∙ ap (λ (xs : List Item). F xs ++ zeros) (sym (upto-beyond 0 page items ascends))
+    ∙ ap (λ (ws : List ℕ). ws ++ zeros) (flat_map-append (item_words leaf) (upto page items) (beyond page items))
+    ∙ append_assoc (F (upto page items)) (F (beyond page items)) zeros in
+    let at_used : used ≡ width_of leaf * length items = at_end ∙ ap (λ (xs : List Item). width_of leaf * length xs) all in
+    let split : length items ≡ length (upto hi items) + length (beyond hi items) =
+    ap (λ (xs : List Item). length xs) (sym (upto-beyond 0 hi items ascends)) ∙ length-append (upto hi items) (beyond hi items) in
+    let sized = ap (λ (ws : List ℕ). length ws) whole ∙ length-append (F items) zeros in
+    let long = length-words leaf items in
+    let back_long : length (F (beyond hi items)) ≡ used - past =
+    length-words leaf (beyond hi items) ∙ backs leaf past used (length (beyond hi items)) (length (upto hi items)) (length items) at_hi at_used split in
+    record {
+      before_used = ordered leaf before used (length (upto lo items)) (length items) at_lo at_used (length-upto lo items);
+      past_used = ordered leaf past used (length (upto hi items)) (length items) at_hi at_used (length-upto hi items);
+      within = omega arith;
+      front = ap (take before) (parts lo) ∙ take_at (F (upto lo items)) (F (beyond lo items) ++ zeros) before (length-words leaf (upto lo items) ∙ sym at_lo);
+      back = ap (λ (ws : List ℕ). take (used - past) (drop past ws)) (parts hi)
+          ∙ ap (take (used - past)) (drop_at (F (upto hi items)) (F (beyond hi items) ++ zeros) past (length-words leaf (upto hi items) ∙ sym at_hi))
+          ∙ take_at (F (beyond hi items)) zeros (used - past) back_long;
+    }
+
+-- how many words they have with new ones between
+joined_words : (leaf : Bool) (before back a b new some whole : ℕ) → before ≡ width_of leaf * a → back ≡ width_of leaf * b → some ≡ new + b → whole ≡ a + some
+    → before + width_of leaf * new + back ≡ width_of leaf * whole
+joined_words true before back a b new some whole p q r s = omega arith
+joined_words false before back a b new some whole p q r s = omega arith
+
+pub count_is : (leaf : Bool) (lo hi before past used : ℕ) (words : List ℕ) (new : List Item) → before ≤ length words → used ≤ length words
+    → past ≤ used → take before words ≡ flat_map (item_words leaf) (upto lo (items_of leaf words))
+    → take (used - past) (drop past words) ≡ flat_map (item_words leaf) (beyond hi (items_of leaf words))
+    → before + width_of leaf * length new + (used - past) ≡ width_of leaf * length (spliced lo hi new (items_of leaf words))
+count_is leaf lo hi before past used words new low within order front back =
+    let items = items_of leaf words in
+    let first : before ≡ width_of leaf * length (upto lo items) =
+    sym (length-take-le before words low) ∙ ap (λ (ws : List ℕ). length ws) front ∙ length-words leaf (upto lo items) in
+    let rest = length-drop past words in
+    let last : used - past ≡ width_of leaf * length (beyond hi items) =
+    sym (length-take-le (used - past) (drop past words) (omega arith)) ∙ ap (λ (ws : List ℕ). length ws) back ∙ length-words leaf (beyond hi items) in
+    joined_words leaf before (used - past) (length (upto lo items)) (length (beyond hi items)) (length new) (length (new ++ beyond hi items))
+    (length (spliced lo hi new items)) first last (length-append new (beyond hi items)) (length-append (upto lo items) (new ++ beyond hi items))
+
+-- they are the words of a node
+pub spliced_is : (leaf : Bool) (lo hi : ℕ) (new items : List Item)
+    → padded ((flat_map (item_words leaf) (upto lo items) ++ flat_map (item_words leaf) new) ++ flat_map (item_words leaf) (beyond hi items))
+    ≡ words_of leaf (spliced lo hi new items)
+unfolding words_of
+spliced_is leaf lo hi new items =
+    let F : List Item → List ℕ = flat_map (item_words leaf) in
+    ap padded (append_assoc (F (upto lo items)) (F new) (F (beyond hi items))
+    ∙ ap (λ (ws : List ℕ). F (upto lo items) ++ ws) (sym (flat_map-append (item_words leaf) new (beyond hi items)))
+    ∙ sym (flat_map-append (item_words leaf) (upto lo items) (new ++ beyond hi items)))
+
+-- what a count of words tells of one of items
+pub record Fits (leaf : Bool) (fewest count : ℕ) : Type 0 where
+  pub most : count ≤ most leaf
+  pub least : fewest ≤ count
+
+pub fits_of : (leaf : Bool) (fewest count words wide most_items : ℕ) → words ≡ width_of leaf * count → wide ≡ width_of leaf → most_items ≡ most leaf
+    → wide * fewest ≤ words → words ≤ wide * most_items → Fits leaf fewest count
+fits_of true fewest count words wide most_items is w m low high =
+    let a : 2 * fewest ≤ words = subst (λ (n : ℕ). n * fewest ≤ words) w low in
+    let b : words ≤ 2 * 16 = subst (λ (n : ℕ). words ≤ n * 16) w (subst (λ (n : ℕ). words ≤ wide * n) m high) in
+    record { most = omega arith; least = omega arith }
+fits_of false fewest count words wide most_items is w m low high =
+    let a : 3 * fewest ≤ words = subst (λ (n : ℕ). n * fewest ≤ words) w low in
+    let b : words ≤ 3 * 10 = subst (λ (n : ℕ). words ≤ n * 10) w (subst (λ (n : ℕ). words ≤ wide * n) m high) in
+    record { most = omega arith; least = omega arith }
+
+-- new items have few words
+pub few_words : (leaf : Bool) (count : ℕ) → count ≤ 40 → width_of leaf * count ≤ 120
+few_words true count few = omega arith
+few_words false count few = omega arith
+
+-- a node has 32 words at most
+pub most_words : (leaf : Bool) → width_of leaf * most leaf ≤ 32
+most_words true = omega arith
+most_words false = omega arith
+
+-- an item has some words, and three at most
+pub some_words : (leaf : Bool) → 1 ≤ width_of leaf
+some_words true = omega arith
+some_words false = omega arith
+
+pub three_words : (leaf : Bool) → width_of leaf ≤ 3
+three_words true = omega arith
+three_words false = omega arith

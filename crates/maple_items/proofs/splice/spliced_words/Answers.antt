@@ -1,0 +1,77 @@
+-- For `spliced_words`: the words that are added are those of the items in order.
+use Rattle.std.proofs.Common.{ℕ, List, length, take, drop, ◌++◌, ◌-◌, ◌+◌, ◌*◌, ◌≡◌, ◌≤◌, ap, ◌∙◌, subst, arith, length-append}
+use Rattle.std.proofs.lemmas.List.{length-take-le, length-drop}
+use Rattle.std.specs.List.{flat_map}
+use Rattle.maple_node.specs.Nodes.{item_words, items_of, most}
+use Rattle.maple_items.specs.Splices.{upto, beyond, spliced}
+use Rattle.maple_items.specs.Parts.{width_of}
+use Rattle.maple_items.specs.Padding.{padded}
+use Rattle.maple_items.proofs.Padded.{length-words}
+use Rattle.maple_items.proofs.Spliced.{count_is, spliced_is, fits_of, most_words}
+use Rattle.maple_items.proofs.splice.spliced_words.Goals as goal
+
+pub push_words-requires-2 : goal.push_words-requires-2
+push_words-requires-2 c =
+    let leaf = c.args.leaf in
+    let words = c.args.words.now in
+    let new = c.args.new.now in
+    let parts = c.parts_of-before.result in
+    let told = c.parts_of-before.ensures in
+    let wide = ap (λ (n : ℕ). n * length new) c.width_of-width.ensures in
+    let bound = ap (λ (n : ℕ). n * c.most.result) c.width_of-width.ensures ∙ ap (λ (n : ℕ). width_of leaf * n) c.most.ensures in
+    let room = most_words leaf in
+    let under = c.if-width-most.false in
+    let first = ap (λ (ws : List ℕ). length ws) c.push_words.ensures ∙ length-append c.new-made.result (take parts.before words) in
+    let none = ap (λ (ws : List ℕ). length ws) c.new-made.ensures in
+    let front = length-take-le parts.before words (omega (arith, told.before, told.within, c.told-words)) in
+    let second = ap (λ (ws : List ℕ). length ws) c.push_items.ensures ∙ length-append c.push_words.new.self (flat_map (item_words leaf) new) in
+    let items = length-words leaf new in
+    let rest = length-drop parts.past words in
+    let back = length-take-le (parts.used - parts.past) (drop parts.past words) (omega (arith, told.past, told.within, c.told-words, rest)) in
+    omega (arith, wide, bound, room, under, first, none, front, second, items, back)
+
+pub returns-clause-words : goal.returns-clause-words
+returns-clause-words c =
+    let leaf = c.args.leaf in
+    let words = c.args.words.now in
+    let new = c.args.new.now in
+    let items = items_of leaf words in
+    let F = flat_map (item_words leaf) in
+    let parts = c.parts_of-before.result in
+    let told = c.parts_of-before.ensures in
+    let mid = take (parts.used - parts.past) (drop parts.past words) in
+    c.into_array.ensures
+    ∙ ap padded (c.push_words-2.ensures
+    ∙ ap (λ (ws : List ℕ). ws ++ mid) (c.push_items.ensures
+    ∙ ap (λ (ws : List ℕ). ws ++ F new) (c.push_words.ensures
+    ∙ ap (λ (ws : List ℕ). ws ++ take parts.before words) c.new-made.ensures ∙ told.front))
+    ∙ ap (λ (ws : List ℕ). (F (upto c.args.lo items) ++ F new) ++ ws) told.back)
+    ∙ spliced_is leaf c.args.lo c.args.hi new items
+
+pub returns-clause-most : goal.returns-clause-most
+returns-clause-most c =
+    let leaf = c.args.leaf in
+    let words = c.args.words.now in
+    let new = c.args.new.now in
+    let parts = c.parts_of-before.result in
+    let told = c.parts_of-before.ensures in
+    let wide = ap (λ (n : ℕ). n * length new) c.width_of-width.ensures in
+    let count = count_is leaf c.args.lo c.args.hi parts.before parts.past parts.used words new (omega (arith, told.before, told.within, c.told-words))
+    (omega (arith, told.within, c.told-words)) told.past told.front told.back in
+    (fits_of leaf c.args.fewest (length (spliced c.args.lo c.args.hi new (items_of leaf words)))
+    (parts.before + c.width_of-width.result * length new + (parts.used - parts.past)) c.width_of-width.result c.most.result
+    (omega (arith, wide, count)) c.width_of-width.ensures c.most.ensures c.if-count-width.false c.if-width-most.false).most
+
+pub returns-clause-least : goal.returns-clause-least
+returns-clause-least c =
+    let leaf = c.args.leaf in
+    let words = c.args.words.now in
+    let new = c.args.new.now in
+    let parts = c.parts_of-before.result in
+    let told = c.parts_of-before.ensures in
+    let wide = ap (λ (n : ℕ). n * length new) c.width_of-width.ensures in
+    let count = count_is leaf c.args.lo c.args.hi parts.before parts.past parts.used words new (omega (arith, told.before, told.within, c.told-words))
+    (omega (arith, told.within, c.told-words)) told.past told.front told.back in
+    (fits_of leaf c.args.fewest (length (spliced c.args.lo c.args.hi new (items_of leaf words)))
+    (parts.before + c.width_of-width.result * length new + (parts.used - parts.past)) c.width_of-width.result c.most.result
+    (omega (arith, wide, count)) c.width_of-width.ensures c.most.ensures c.if-count-width.false c.if-width-most.false).least

@@ -1,0 +1,17 @@
+-- The loop of `words_upto`.
+use Rattle.std.proofs.Common.{◌-◌, ◌≡◌, ◌≤◌}
+use Rattle.maple_items.specs.Parts.{width_of}
+use Rattle.maple_items.proofs.Spliced.{Upto}
+use Rattle.maple_items.proofs.splice.words_upto.Given as goal
+
+-- the items before the place end up to the page
+abbrev pub invariant-loop-place : goal.invariant-loop-place
+invariant-loop-place l = record {
+  within : l.place ≤ 32;
+  width : l.width ≡ width_of l.leaf;
+  counts : Upto l.leaf l.page l.place l.words;
+}
+
+-- the words that are left
+abbrev pub decreases-loop-place : goal.decreases-loop-place
+decreases-loop-place l = 32 - l.place

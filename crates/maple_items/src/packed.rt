@@ -1,0 +1,92 @@
+//! The words of a node, added one after another.
+
+ghost use Rattle.std.specs.Prelude.{◌≡◌, ◌<◌, ◌≤◌, ◌+◌, ◌*◌, [], ◌∷◌, ◌++◌, length};
+ghost use Rattle.std.specs.List.{flat_map};
+ghost use Rattle.maple_node.specs.Nodes.{item_words};
+ghost use Rattle.maple_items.specs.Parts.{width_of};
+ghost use Rattle.maple_items.specs.Padding.{padded};
+
+use maple_node::Item;
+use std::marker::Model;
+
+/// The words of a node.
+const WORDS: usize = 32;
+
+/// The words of a node as far as they were added, with zeros after them.
+#[derive(Drop)]
+pub(crate) struct NodeWords {
+    words: [u64; WORDS],
+    used: usize,
+}
+
+impl Model for NodeWords {
+    ghost use Rattle.std.specs.Prelude.{ℕ, List, take};
+    ghost use Rattle.maple_items.specs.Padding.{IsPadded};
+
+    ghost Value = { List ℕ };
+
+    ghost view = { λ list. take list.used list.words };
+
+    ghost invariant = { λ list. IsPadded list.used list.words };
+}
+
+impl NodeWords {
+    /// No words.
+    pub(crate) fn new() -> Self
+        ensures { result ≡ [] }
+    {
+        NodeWords {
+            words: [0; WORDS],
+            used: 0,
+        }
+    }
+
+    /// All 32 words.
+    pub(crate) fn into_array(self) -> [u64; 32]
+        ensures { result ≡ padded self }
+    {
+        let NodeWords { words, used: _ } = self;
+        words
+    }
+
+    /// Adds a word.
+    fn push(&mut self, word: u64)
+        requires { length self.old < 32 }
+        ensures { self.new ≡ self.old ++ word ∷ [] }
+    {
+        self.words[self.used] = word;
+        self.used += 1;
+    }
+
+    /// Adds the words of an item: of an entry its end and its word, of a child also its largest gap.
+    fn push_item(&mut self, leaf: bool, item: Item)
+        requires { length self.old + width_of leaf ≤ 32 }
+        ensures { self.new ≡ self.old ++ item_words leaf item }
+    {
+        self.push(item.end);
+        self.push(item.word);
+        if !leaf {
+            self.push(item.gap);
+        }
+    }
+
+    /// Adds the words of items.
+    pub(crate) fn push_items(&mut self, leaf: bool, items: &[Item])
+        requires { length self.old + width_of leaf * length items.now ≤ 32 }
+        ensures { self.new ≡ self.old ++ flat_map (item_words leaf) items.now }
+    {
+        for item in items {
+            self.push_item(leaf, *item);
+        }
+    }
+
+    /// Adds words of another node.
+    pub(crate) fn push_words(&mut self, words: &[u64])
+        requires { length self.old + length words.now ≤ 32 }
+        ensures { self.new ≡ self.old ++ words.now }
+    {
+        let end = self.used + words.len();
+        self.words[self.used..end].copy_from_slice(words);
+        self.used = end;
+    }
+}

@@ -1,0 +1,105 @@
+//! Nodes with some of their items replaced, from words to words.
+
+ghost use Rattle.std.specs.Prelude.{◌≡◌, ◌≤◌, ◌*◌, length, take, slice_range, IfSome};
+ghost use Rattle.std.specs.List.{flat_map};
+ghost use Rattle.maple_node.specs.Nodes.{items_of, words_of, item_words, most, end_of, Ascends, gap_of};
+ghost use Rattle.maple_items.specs.Splices.{upto, beyond, spliced};
+ghost use Rattle.maple_items.specs.Parts.{width_of};
+
+use crate::node::{item_gap, most};
+use crate::part::{listed_at, width_of};
+use crate::packed::NodeWords;
+use maple_node::Item;
+
+/// The words of a node.
+const WORDS: usize = 32;
+
+/// How many words the items of a node have that end up to a page.
+fn words_upto(leaf: bool, words: &[u64; 32], page: u64) -> usize
+    requires { Ascends 0 (items_of leaf words.now) }
+    ensures { result ≡ width_of leaf * length (upto page (items_of leaf words.now)) }
+{
+    let width = width_of(leaf);
+    let mut place = 0;
+    while place + width <= WORDS && words[place] != 0 && words[place] <= page {
+        place += width;
+    }
+    place
+}
+
+/// Where the words of some items of a node stand: those of the first ones end at `before`, and those of the last ones begin at `past`
+/// and end at `used`.
+#[derive(Clone, Copy)]
+struct Parts {
+    before: usize,
+    past: usize,
+    used: usize,
+}
+
+/// Where the words stand of the items of a node, which ends at a page, that end up to `lo`, and of those that end above `hi`.
+fn parts_of(leaf: bool, words: &[u64; 32], end: u64, lo: u64, hi: u64) -> Parts
+    requires ascends { Ascends 0 (items_of leaf words.now) }
+    requires whole { words.now ≡ words_of leaf (items_of leaf words.now) }
+    requires end { end_of 0 (items_of leaf words.now) ≤ end }
+    ensures before { result.before ≤ result.used }
+    ensures past { result.past ≤ result.used }
+    ensures within { result.used ≤ 32 }
+    ensures front { take result.before words.now ≡ flat_map (item_words leaf) (upto lo (items_of leaf words.now)) }
+    ensures back { slice_range words.now result.past result.used ≡ flat_map (item_words leaf) (beyond hi (items_of leaf words.now)) }
+{
+    Parts {
+        before: words_upto(leaf, words, lo),
+        past: words_upto(leaf, words, hi),
+        used: words_upto(leaf, words, end),
+    }
+}
+
+/// The words of a node, which ends at a page, with new items in the place of those between two pages. None where it has no room for
+/// them, or would have fewer than so many items.
+pub fn spliced_words(
+    leaf: bool,
+    words: &[u64; 32],
+    end: u64,
+    fewest: usize,
+    lo: u64,
+    hi: u64,
+    new: &[Item],
+) -> Option<[u64; 32]>
+    requires ascends { Ascends 0 (items_of leaf words.now) }
+    requires whole { words.now ≡ words_of leaf (items_of leaf words.now) }
+    requires end { end_of 0 (items_of leaf words.now) ≤ end }
+    requires few { (fewest ≤ 16) × (length new.now ≤ 40) }
+    ensures words { IfSome result (λ made. made ≡ words_of leaf (spliced lo hi new.now (items_of leaf words.now))) }
+    ensures most { IfSome result (λ _. length (spliced lo hi new.now (items_of leaf words.now)) ≤ most leaf) }
+    ensures least { IfSome result (λ _. fewest ≤ length (spliced lo hi new.now (items_of leaf words.now))) }
+{
+    let width = width_of(leaf);
+    let Parts { before, past, used } = parts_of(leaf, words, end, lo, hi);
+    let count = before + width * new.len() + (used - past);
+    if count < width * fewest || width * most(leaf) < count {
+        return None;
+    }
+    let mut made = NodeWords::new();
+    made.push_words(&words[..before]);
+    made.push_items(leaf, new);
+    made.push_words(&words[past..used]);
+    Some(made.into_array())
+}
+
+/// The largest gap in pages of a node, which begins at the page `start`, as its words tell.
+pub fn gap_in(leaf: bool, start: u64, words: &[u64; 32]) -> u64
+    requires { Ascends start (items_of leaf words.now) }
+    ensures { result ≡ gap_of leaf start (items_of leaf words.now) }
+{
+    let width = width_of(leaf);
+    let mut start = start;
+    let mut largest = 0;
+    let mut place = 0;
+    while place + width <= WORDS && words[place] != 0 {
+        let item = listed_at(leaf, words, place);
+        largest = item_gap(leaf, start, item).max(largest);
+        start = item.end;
+        place += width;
+    }
+    largest
+}
