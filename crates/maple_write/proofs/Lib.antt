@@ -3,6 +3,7 @@ pub mod Times
 pub mod Blocks
 pub mod Steps
 pub mod Rising
+pub mod Renewing
 pub mod Writers
 pub mod Waiting
 pub mod Packing

@@ -2,7 +2,7 @@
 -- of the old tree; and what it finds and makes.
 use Rattle.std.specs.Prelude.{ℕ, ◌≡◌, ◌<◌, ◌≤◌, ◌+◌, ◌-◌, ◌*◌, ◌⊎◌, false, nat_eq, List, [], ◌∷◌, ◌++◌, length, All, Some, get_or}
 use Rattle.maple_node.specs.declared.item.Item.{Item}
-use Rattle.maple_node.specs.Nodes.{most, end_of, Ascends, IsPlain}
+use Rattle.maple_node.specs.Nodes.{words_of, items_of, most, least, end_of, Ascends, IsPlain}
 use Rattle.maple_node.specs.Levels.{is_leaf, at_of, read, below, item_at, level_of, IsTower, rows_of}
 use Rattle.maple_node.specs.Trees.{Tree, entries_of, tree_rows, pairs_of, ApartFrom}
 use Rattle.maple_items.specs.Splices.{upto, beyond, spliced}
@@ -62,6 +62,13 @@ pub record Cut (table : Table) (top : Item) (height level lo hi : ℕ) (new : Li
   pub edge : end_of 0 (upto end (old_level table top height (level + 1))) ≡ end
   pub above : lo < end
   pub limit : end ≤ top.end
+
+-- the words of a node that is made anew in the place of this one, which begins and ends where it does
+pub record IsRenewed (table : Table) (top : Item) (height level lo hi : ℕ) (new : List Item) (left : Place) (words : List ℕ) : Type 0 where
+  pub cut : Cut table top height level lo hi new left.start left.item.end (items_of (is_leaf level) words)
+  pub whole : words ≡ words_of (is_leaf level) (items_of (is_leaf level) words)
+  pub most : length (items_of (is_leaf level) words) ≤ most (is_leaf level)
+  pub least : left.item.end < top.end → least (is_leaf level) ≤ length (items_of (is_leaf level) words)
 
 -- the rows show a tree whose nodes meet the layout, and each row is free, left, or a node's that is reached once
 pub record IsShaped (table : Table) (tree : Tree) : Type 0 where

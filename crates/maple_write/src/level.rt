@@ -1,18 +1,18 @@
 //! One level of a store: the items that are to stand anew, and the nodes that are made of them.
 
-ghost use Rattle.std.specs.Prelude.{◌≡◌, ◌<◌, ◌≤◌, ◌+◌, ◌-◌, ℕ, Some, [], ◌∷◌, ◌++◌, length, if◌then◌else◌, nat_lt};
+ghost use Rattle.std.specs.Prelude.{◌≡◌, ◌<◌, ◌≤◌, ◌+◌, ◌-◌, ℕ, Some, [], ◌∷◌, ◌++◌, length, IfSome, if◌then◌else◌, nat_lt};
 ghost use Rattle.maple_node.specs.Nodes.{least, end_of};
 ghost use Rattle.maple_node.specs.Levels.{is_leaf, read, below, item_at, IsTower, times};
 ghost use Rattle.maple_items.specs.Splices.{upto, beyond};
 ghost use Rattle.node_slots.specs.Seats.{Writes, sight, row_count, free_of, is_waiting};
 ghost use Rattle.node_slots.specs.Built.{words_at};
 ghost use Rattle.maple_write.specs.Tables.{table_at, rows_in, gone, FillsRows};
-ghost use Rattle.maple_write.specs.Stores.{old_level, new_level, new_entries, Partly, Cut, IsPath};
+ghost use Rattle.maple_write.specs.Stores.{old_level, new_level, new_entries, Partly, Cut, IsRenewed, IsPath};
 
 use crate::few::FewItems;
 use crate::path::{Path, find};
-use crate::rows::{Rooted, pack, words};
-use maple_items::{ItemList, Part, Place, least};
+use crate::rows::{Rooted, pack, pack_words, words};
+use maple_items::{ItemList, Part, Place, least, spliced_words};
 use mm_types::Row;
 use node_slots::{NodeTable, NodeWriter};
 
@@ -183,9 +183,8 @@ fn stretched(
     edges
 }
 
-/// Leaves the nodes of a level where items of it are replaced, and makes them anew. A row that was taken since the last publish is
-/// free at once, and is taken again. Answers the items of the level above that stand for the new nodes.
-pub(crate) fn rise(
+/// Leaves the nodes of a level where items of it are replaced, and packs their items anew.
+fn rise_by_list(
     nodes: &NodeTable,
     writer: &mut NodeWriter,
     old: Rooted,
@@ -224,5 +223,116 @@ pub(crate) fn rise(
         begin: edges.begin,
         end: edges.end,
         items,
+    }
+}
+
+/// The words of a node anew, with the new items of the level below in the place of those that it lists there. None where they end in
+/// another node, or where it must be split or joined with another one.
+fn renewed(
+    nodes: &NodeTable,
+    writer: &NodeWriter,
+    old: Rooted,
+    level: u32,
+    lo: u64,
+    new: &Stretch,
+    left: Place,
+) -> Option<[u64; 32]>
+    requires table { Writes writer.now nodes.now }
+    requires partly { Partly (table_at writer.now) old.top old.height level lo new.now.end new.now.items }
+    requires below { level < old.height }
+    requires left { item_at lo (old_level (table_at writer.now) old.top old.height (level + 1)) ≡ Some left.item }
+    requires start { left.start ≡ end_of 0 (upto lo (old_level (table_at writer.now) old.top old.height (level + 1))) }
+    ensures { IfSome result (IsRenewed (table_at writer.now) old.top old.height level lo new.now.end new.now.items left) }
+{
+    if left.item.end < new.end {
+        return None;
+    }
+    let leaf = level == 0;
+    let fewest = if left.item.end < old.top.end {
+        least(leaf)
+    } else {
+        1
+    };
+    spliced_words(
+        leaf,
+        words(nodes, writer, left.item.word),
+        left.item.end,
+        fewest,
+        lo,
+        new.end,
+        new.items.items(),
+    )
+}
+
+/// Leaves the one node of a level where items of it are replaced, and makes it anew of its new words.
+fn rise_by_words(
+    nodes: &NodeTable,
+    writer: &mut NodeWriter,
+    old: Rooted,
+    path: &Path,
+    level: u32,
+    lo: u64,
+    new: &Stretch,
+    left: Place,
+    words: &[u64; 32],
+) -> Stretch
+    requires table { Writes writer.old nodes.now }
+    requires partly { Partly (table_at writer.old) old.top old.height level lo new.now.end new.now.items }
+    requires below { level < old.height }
+    requires path { IsPath (words_at writer.old) old.top old.height (level + 1) path.now }
+    requires renewed { IsRenewed (table_at writer.old) old.top old.height level lo new.now.end new.now.items left words.now }
+    requires there { left.item.word < row_count writer.old }
+    ensures table { Writes writer.new nodes.now }
+    ensures same { FillsRows writer.old writer.new }
+    ensures path { IsPath (words_at writer.new) old.top old.height (level + 1) path.now }
+    ensures partly { Partly (table_at writer.new) old.top old.height (level + 1) lo result.end result.items }
+    ensures begin { result.begin ≡ end_of 0 (upto lo (old_level (table_at writer.new) old.top old.height (level + 1))) }
+    ensures entries { new_entries (table_at writer.new) old.top old.height (level + 1) lo result.end result.items
+        ≡ new_entries (table_at writer.old) old.top old.height level lo new.now.end new.now.items }
+    ensures free { length (free_of writer.old) ≤ length (free_of writer.new) + 3 }
+    ensures under { below (words_at writer.new) (is_leaf level) (new_level (table_at writer.new) old.top old.height (level + 1) lo result.end result.items)
+        ≡ new_level (table_at writer.old) old.top old.height level lo new.now.end new.now.items }
+{
+    let end = left.item.end;
+    leave_block(nodes, writer, old, path, level + 1, lo, end);
+    let row = Row(left.item.word as u32);
+    let items = pack_words(nodes, writer, row, level == 0, left.start, end, words);
+    Stretch {
+        begin: left.start,
+        end,
+        items,
+    }
+}
+
+/// Leaves the nodes of a level where items of it are replaced, and makes them anew. A row that was taken since the last publish is
+/// free at once, and is taken again. Answers the items of the level above that stand for the new nodes.
+pub(crate) fn rise(
+    nodes: &NodeTable,
+    writer: &mut NodeWriter,
+    old: Rooted,
+    path: &Path,
+    level: u32,
+    lo: u64,
+    new: &Stretch,
+) -> Stretch
+    requires table { Writes writer.old nodes.now }
+    requires partly { Partly (table_at writer.old) old.top old.height level lo new.now.end new.now.items }
+    requires below { level < old.height }
+    requires path { IsPath (words_at writer.old) old.top old.height (level + 1) path.now }
+    ensures table { Writes writer.new nodes.now }
+    ensures same { FillsRows writer.old writer.new }
+    ensures path { IsPath (words_at writer.new) old.top old.height (level + 1) path.now }
+    ensures partly { Partly (table_at writer.new) old.top old.height (level + 1) lo result.end result.items }
+    ensures begin { result.begin ≡ end_of 0 (upto lo (old_level (table_at writer.new) old.top old.height (level + 1))) }
+    ensures entries { new_entries (table_at writer.new) old.top old.height (level + 1) lo result.end result.items
+        ≡ new_entries (table_at writer.old) old.top old.height level lo new.now.end new.now.items }
+    ensures free { length (free_of writer.old) ≤ length (free_of writer.new) + 3 }
+    ensures under { below (words_at writer.new) (is_leaf level) (new_level (table_at writer.new) old.top old.height (level + 1) lo result.end result.items)
+        ≡ new_level (table_at writer.old) old.top old.height level lo new.now.end new.now.items }
+{
+    let left = find(nodes, writer, old, path, level + 1, lo);
+    match renewed(nodes, writer, old, level, lo, new, left) {
+        Some(words) => rise_by_words(nodes, writer, old, path, level, lo, new, left, &words),
+        None => rise_by_list(nodes, writer, old, path, level, lo, new),
     }
 }

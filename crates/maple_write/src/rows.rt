@@ -1,14 +1,14 @@
 //! Nodes in the rows of the writer's table: how one is read and made.
 
 ghost use Rattle.std.specs.Prelude.{◌≡◌, ◌<◌, ◌≤◌, ◌+◌, ◌*◌, ℕ, ◌∷◌, length, slice_set};
-ghost use Rattle.maple_node.specs.Nodes.{words_of, most, least, end_of, Ascends, IsPlain};
+ghost use Rattle.maple_node.specs.Nodes.{words_of, items_of, most, least, end_of, Ascends, IsPlain};
 ghost use Rattle.maple_node.specs.Levels.{read, below, AllFrom, IsNode, times};
 ghost use Rattle.node_slots.specs.Seats.{Writes, desk, row_count, free_of, left_of};
 ghost use Rattle.node_slots.specs.Built.{words_at};
 ghost use Rattle.maple_write.specs.Tables.{rows_in, FillsRows};
 
 use crate::few::FewItems;
-use maple_items::{gap_of, node_words, share};
+use maple_items::{gap_in, node_words, share};
 use maple_node::{Item, Steps};
 use mm_types::Row;
 use node_slots::{NodeTable, NodeWriter};
@@ -32,8 +32,45 @@ pub(crate) fn words<'a>(nodes: &NodeTable, writer: &'a NodeWriter, row: u64) -> 
     nodes.written(writer, Row(row as u32), &mut Steps::<Reads>::new())
 }
 
-/// Makes a node of items, of which the first begins at `start`, in a free row: one that held nearly the same words as the row of the
-/// old node, if there is one.
+/// Makes a node, which begins and ends at these pages, of its words in a free row: one that held nearly the same words as the row of
+/// the old node, if there is one.
+fn put_words(
+    nodes: &NodeTable,
+    writer: &mut NodeWriter,
+    old: Row,
+    leaf: bool,
+    start: u64,
+    end: u64,
+    words: &[u64; 32],
+) -> Item
+    requires table { Writes writer.old nodes.now }
+    requires free { 0 < length (free_of writer.old) }
+    requires some { 1 ≤ length (items_of leaf words.now) }
+    requires most { length (items_of leaf words.now) ≤ most leaf }
+    requires ascends { Ascends start (items_of leaf words.now) }
+    requires end { end ≡ end_of start (items_of leaf words.now) }
+    requires whole { words.now ≡ words_of leaf (items_of leaf words.now) }
+    ensures table { Writes writer.new nodes.now }
+    ensures same { FillsRows writer.old writer.new }
+    ensures node { (limit : ℕ) → (end_of start (items_of leaf words.now) < limit → least leaf ≤ length (items_of leaf words.now))
+        → IsNode (words_at writer.new) leaf limit start result }
+    ensures items { read (words_at writer.new) leaf result.word ≡ items_of leaf words.now }
+    ensures until { result.end ≡ end }
+    ensures words { (desk writer.new).words ≡ slice_set (desk writer.old).words result.word words.now }
+    ensures free { length (free_of writer.old) ≡ length (free_of writer.new) + 1 }
+    ensures taken { (row : ℕ) → times row (free_of writer.old) ≡ times row (result.word ∷ free_of writer.new) }
+    ensures left { left_of writer.new ≡ left_of writer.old }
+{
+    let row = nodes.take_row_for(writer, old).unwrap();
+    nodes.fill(writer, row, words);
+    Item {
+        end,
+        word: u64::from(row.0),
+        gap: gap_in(leaf, start, words),
+    }
+}
+
+/// Makes a node of items, of which the first begins at `start`, in a free row, in the place of an old one.
 pub(crate) fn put(
     nodes: &NodeTable,
     writer: &mut NodeWriter,
@@ -59,13 +96,43 @@ pub(crate) fn put(
     ensures taken { (row : ℕ) → times row (free_of writer.old) ≡ times row (result.word ∷ free_of writer.new) }
     ensures left { left_of writer.new ≡ left_of writer.old }
 {
-    let row = nodes.take_row_for(writer, old).unwrap();
-    nodes.fill(writer, row, &node_words(leaf, items));
-    Item {
-        end: items[items.len() - 1].end,
-        word: u64::from(row.0),
-        gap: gap_of(leaf, start, items),
-    }
+    let words = node_words(leaf, items);
+    let end = items[items.len() - 1].end;
+    put_words(nodes, writer, old, leaf, start, end, &words)
+}
+
+/// Makes one node of its words in the place of an old one.
+pub(crate) fn pack_words(
+    nodes: &NodeTable,
+    writer: &mut NodeWriter,
+    old: Row,
+    leaf: bool,
+    start: u64,
+    end: u64,
+    words: &[u64; 32],
+) -> FewItems
+    requires table { Writes writer.old nodes.now }
+    requires free { 0 < length (free_of writer.old) }
+    requires some { 1 ≤ length (items_of leaf words.now) }
+    requires most { length (items_of leaf words.now) ≤ most leaf }
+    requires ascends { Ascends start (items_of leaf words.now) }
+    requires end { end ≡ end_of start (items_of leaf words.now) }
+    requires whole { words.now ≡ words_of leaf (items_of leaf words.now) }
+    ensures table { Writes writer.new nodes.now }
+    ensures same { FillsRows writer.old writer.new }
+    ensures nodes { (limit : ℕ) → (end_of start (items_of leaf words.now) < limit → least leaf ≤ length (items_of leaf words.now))
+        → AllFrom (IsNode (words_at writer.new) leaf limit) start result }
+    ensures below { below (words_at writer.new) leaf result ≡ items_of leaf words.now }
+    ensures one { length result ≡ 1 }
+    ensures kept { (row : ℕ) → times row (free_of writer.old) ≡ 0 → words_at writer.new row ≡ words_at writer.old row }
+    ensures taken { (row : ℕ) → times row (free_of writer.old) ≡ times row (free_of writer.new) + times row (rows_in result) }
+    ensures free { length (free_of writer.old) ≡ length (free_of writer.new) + length result }
+    ensures left { left_of writer.new ≡ left_of writer.old }
+{
+    let mut packed = FewItems::new();
+    let node = put_words(nodes, writer, old, leaf, start, end, words);
+    packed.push(node);
+    packed
 }
 
 /// Packs items, of which the first begins at `start`, into nodes in the place of an old one: as many into each

@@ -1,56 +1,47 @@
--- For `put`: the row that was taken is a node of the items.
-use Rattle.std.proofs.Common.{◌∙◌, ◌∷◌, ◌<◌, ◌-◌, length, get_or, sym, ap, subst, List, ℕ}
+-- For `put`: the words list the items.
+use Rattle.std.proofs.Common.{◌∙◌, ◌≡◌, ◌≤◌, ◌<◌, List, length, sym, ap, subst}
 use Rattle.maple_node.specs.declared.item.Item.{Item}
-use Rattle.maple_node.specs.Levels.{at_of, read, IsNode, times}
-use Rattle.node_slots.specs.Seats.{desk, free_of}
-use Rattle.maple_write.proofs.Writers.{filled_words, taken_row, taken_moved}
-use Rattle.maple_write.proofs.Waiting.{fills_one}
-use Rattle.maple_write.proofs.Packing.{last_end, made-items, made-node}
+use Rattle.maple_node.specs.Nodes.{words_of, items_of, most, least, end_of, Ascends}
+use Rattle.maple_node.proofs.Places.{items_of_words}
+use Rattle.maple_write.proofs.Packing.{last_end}
 use Rattle.maple_write.proofs.rows.put.Goals as goal
+
+pub put_words-requires-clause-some : goal.put_words-requires-clause-some
+put_words-requires-clause-some c =
+    let back = ap (items_of c.args.leaf) c.node_words-words.ensures ∙ items_of_words c.args.leaf c.args.start c.args.items.now c.requires.ascends c.requires.plain in
+    subst (λ (xs : List Item). 1 ≤ length xs) (sym back) c.requires.some
+
+pub put_words-requires-clause-most : goal.put_words-requires-clause-most
+put_words-requires-clause-most c =
+    let back = ap (items_of c.args.leaf) c.node_words-words.ensures ∙ items_of_words c.args.leaf c.args.start c.args.items.now c.requires.ascends c.requires.plain in
+    subst (λ (xs : List Item). length xs ≤ most c.args.leaf) (sym back) c.requires.most
+
+pub put_words-requires-clause-ascends : goal.put_words-requires-clause-ascends
+put_words-requires-clause-ascends c =
+    let back = ap (items_of c.args.leaf) c.node_words-words.ensures ∙ items_of_words c.args.leaf c.args.start c.args.items.now c.requires.ascends c.requires.plain in
+    subst (λ (xs : List Item). Ascends c.args.start xs) (sym back) c.requires.ascends
+
+pub put_words-requires-clause-end : goal.put_words-requires-clause-end
+put_words-requires-clause-end c =
+    let back = ap (items_of c.args.leaf) c.node_words-words.ensures ∙ items_of_words c.args.leaf c.args.start c.args.items.now c.requires.ascends c.requires.plain in
+    last_end c.args.start c.args.items.now (record { end = 0; word = 0; gap = 0 }) c.requires.some ∙ ap (end_of c.args.start) (sym back)
+
+pub put_words-requires-clause-whole : goal.put_words-requires-clause-whole
+put_words-requires-clause-whole c =
+    let back = ap (items_of c.args.leaf) c.node_words-words.ensures ∙ items_of_words c.args.leaf c.args.start c.args.items.now c.requires.ascends c.requires.plain in
+    c.node_words-words.ensures ∙ ap (words_of c.args.leaf) (sym back)
 
 pub returns-clause-node : goal.returns-clause-node
 returns-clause-node c limit full =
-    let old = c.args.writer.now in
-    let leaf = c.args.leaf in
-    let items = c.args.items.now in
-    let words = filled_words old c.take_row_for.new.writer c.fill.new.writer c.unwrap-row.result.0 c.from.result c.node_words.result leaf items
-    c.take_row_for.ensures.view c.fill.ensures.view c.node_words.ensures c.from.ensures in
-    let there = taken_row old c.take_row_for.new.writer c.take_row_for.result c.unwrap-row.result c.unwrap-row.ensures c.take_row_for.ensures.taken c.take_row_for.ensures.view in
-    let within = subst (λ (r : ℕ). r < length (desk old).words) (sym c.from.ensures) there in
-    let none : Item = record { end = 0; word = 0; gap = 0 } in
-    let until : ℕ = (get_or items (length items - 1) none).end in
-    let node = made-node (desk old).words c.from.result leaf limit c.args.start until c.gap_of.result items within c.requires.ascends c.requires.plain
-    c.requires.some c.requires.most full (last_end c.args.start items none c.requires.some) c.gap_of.ensures in
-    let item : Item = record { end = until; word = c.from.result; gap = c.gap_of.result } in
-    subst (λ (rs : List (List ℕ)). IsNode (at_of rs) leaf limit c.args.start item) (sym words) node
+    let back = ap (items_of c.args.leaf) c.node_words-words.ensures ∙ items_of_words c.args.leaf c.args.start c.args.items.now c.requires.ascends c.requires.plain in
+    c.put_words.ensures.node limit
+    (subst (λ (xs : List Item). end_of c.args.start xs < limit → least c.args.leaf ≤ length xs) (sym back) full)
 
 pub returns-clause-items : goal.returns-clause-items
 returns-clause-items c =
-    let old = c.args.writer.now in
-    let leaf = c.args.leaf in
-    let items = c.args.items.now in
-    let words = filled_words old c.take_row_for.new.writer c.fill.new.writer c.unwrap-row.result.0 c.from.result c.node_words.result leaf items
-    c.take_row_for.ensures.view c.fill.ensures.view c.node_words.ensures c.from.ensures in
-    let there = taken_row old c.take_row_for.new.writer c.take_row_for.result c.unwrap-row.result c.unwrap-row.ensures c.take_row_for.ensures.taken c.take_row_for.ensures.view in
-    let within = subst (λ (r : ℕ). r < length (desk old).words) (sym c.from.ensures) there in
-    ap (λ (rs : List (List ℕ)). read (at_of rs) leaf c.from.result) words
-    ∙ made-items (desk old).words c.from.result leaf c.args.start items within c.requires.ascends c.requires.plain
+    let back = ap (items_of c.args.leaf) c.node_words-words.ensures ∙ items_of_words c.args.leaf c.args.start c.args.items.now c.requires.ascends c.requires.plain in
+    c.put_words.ensures.items ∙ back
 
 pub returns-clause-until : goal.returns-clause-until
-returns-clause-until c = last_end c.args.start c.args.items.now (record { end = 0; word = 0; gap = 0 }) c.requires.some
-
-pub returns-clause-same : goal.returns-clause-same
-returns-clause-same c =
-    fills_one c.args.writer.now c.take_row_for.new.writer c.fill.new.writer c.unwrap-row.result.0 c.node_words.result
-    c.take_row_for.ensures.view c.fill.ensures.view c.take_row_for.ensures.left c.fill.ensures.lists.1
-
-pub returns-clause-free : goal.returns-clause-free
-returns-clause-free c =
-    (taken_moved (free_of c.args.writer.now) (free_of c.take_row_for.new.writer) (free_of c.fill.new.writer) c.take_row_for.result c.unwrap-row.result _
-    c.unwrap-row.ensures c.take_row_for.ensures.free c.fill.ensures.lists.0).fewer
-
-pub returns-clause-taken : goal.returns-clause-taken
-returns-clause-taken c row =
-    (taken_moved (free_of c.args.writer.now) (free_of c.take_row_for.new.writer) (free_of c.fill.new.writer) c.take_row_for.result c.unwrap-row.result _
-    c.unwrap-row.ensures c.take_row_for.ensures.free c.fill.ensures.lists.0).times_are row
-    ∙ ap (λ (r : ℕ). times row (r ∷ free_of c.fill.new.writer)) (sym c.from.ensures)
+returns-clause-until c =
+    c.put_words.ensures.until ∙ last_end c.args.start c.args.items.now (record { end = 0; word = 0; gap = 0 }) c.requires.some

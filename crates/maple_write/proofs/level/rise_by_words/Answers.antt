@@ -1,0 +1,82 @@
+-- For `rise_by_words`: the old node of the level is left, and the new one is built.
+use Rattle.std.proofs.Common.{ℕ, ◌+◌, List, nat_lt, cond, ap, arith}
+use Rattle.maple_node.specs.Nodes.{items_of}
+use Rattle.maple_node.specs.Levels.{is_leaf, times}
+use Rattle.maple_items.specs.Splices.{upto, beyond}
+use Rattle.node_slots.specs.declared.view.NodeView.{NodeView}
+use Rattle.node_slots.specs.Built.{words_at}
+use Rattle.maple_write.specs.Tables.{table_at, rows_in}
+use Rattle.maple_write.specs.Stores.{old_level}
+use Rattle.maple_write.proofs.Writers.{fills_none, fills_both, rows_counted}
+use Rattle.maple_write.proofs.Rising.{kept_after, ready}
+use Rattle.maple_write.proofs.Renewing.{rose_anew}
+use Rattle.maple_write.proofs.Paths.{path_rises}
+use Rattle.maple_write.proofs.level.rise_by_words.Goals as goal
+
+pub leave_block-requires-clause-tower : goal.leave_block-requires-clause-tower
+leave_block-requires-clause-tower c =
+    let left = c.args.left in
+    (ready (table_at c.args.writer.now) c.args.old.top c.args.old.height c.args.level c.args.lo c.args.new.now.end left.start left.item.end
+    c.args.new.now.items (items_of (is_leaf c.args.level) c.args.words.now) c.requires.partly c.requires.below c.requires.renewed.cut).tower
+
+pub leave_block-requires-clause-apart : goal.leave_block-requires-clause-apart
+leave_block-requires-clause-apart c row =
+    let left = c.args.left in
+    let few = (ready (table_at c.args.writer.now) c.args.old.top c.args.old.height c.args.level c.args.lo c.args.new.now.end left.start left.item.end
+    c.args.new.now.items (items_of (is_leaf c.args.level) c.args.words.now) c.requires.partly c.requires.below c.requires.renewed.cut).apart row in
+    let bound = ap (λ (n : ℕ). cond {A = ℕ} (nat_lt row n) 1 0) (rows_counted c.args.writer.now) in
+    omega arith
+
+pub returns-clause-partly : goal.returns-clause-partly
+returns-clause-partly c =
+    (rose_anew (table_at c.args.writer.now) (table_at c.leave_block.new.writer) (table_at c.pack_words-items.new.writer) c.args.old.top c.args.old.height
+    c.args.level c.args.lo c.args.new.now.end c.args.new.now.items c.pack_words-items.result c.args.left c.args.words.now c.requires.partly
+    c.requires.below c.requires.renewed (ap (λ (v : NodeView). v.known.desk.words) c.leave_block.ensures.view) c.leave_block.ensures.free
+    c.leave_block.ensures.gone c.pack_words-items.ensures.nodes c.pack_words-items.ensures.below c.pack_words-items.ensures.one
+    c.pack_words-items.ensures.kept c.pack_words-items.ensures.same.long c.pack_words-items.ensures.taken c.pack_words-items.ensures.free
+    c.pack_words-items.ensures.left).partly
+
+pub returns-clause-begin : goal.returns-clause-begin
+returns-clause-begin c =
+    (rose_anew (table_at c.args.writer.now) (table_at c.leave_block.new.writer) (table_at c.pack_words-items.new.writer) c.args.old.top c.args.old.height
+    c.args.level c.args.lo c.args.new.now.end c.args.new.now.items c.pack_words-items.result c.args.left c.args.words.now c.requires.partly
+    c.requires.below c.requires.renewed (ap (λ (v : NodeView). v.known.desk.words) c.leave_block.ensures.view) c.leave_block.ensures.free
+    c.leave_block.ensures.gone c.pack_words-items.ensures.nodes c.pack_words-items.ensures.below c.pack_words-items.ensures.one
+    c.pack_words-items.ensures.kept c.pack_words-items.ensures.same.long c.pack_words-items.ensures.taken c.pack_words-items.ensures.free
+    c.pack_words-items.ensures.left).starts
+
+pub returns-clause-entries : goal.returns-clause-entries
+returns-clause-entries c =
+    (rose_anew (table_at c.args.writer.now) (table_at c.leave_block.new.writer) (table_at c.pack_words-items.new.writer) c.args.old.top c.args.old.height
+    c.args.level c.args.lo c.args.new.now.end c.args.new.now.items c.pack_words-items.result c.args.left c.args.words.now c.requires.partly
+    c.requires.below c.requires.renewed (ap (λ (v : NodeView). v.known.desk.words) c.leave_block.ensures.view) c.leave_block.ensures.free
+    c.leave_block.ensures.gone c.pack_words-items.ensures.nodes c.pack_words-items.ensures.below c.pack_words-items.ensures.one
+    c.pack_words-items.ensures.kept c.pack_words-items.ensures.same.long c.pack_words-items.ensures.taken c.pack_words-items.ensures.free
+    c.pack_words-items.ensures.left).entries
+
+pub returns-clause-under : goal.returns-clause-under
+returns-clause-under c =
+    (rose_anew (table_at c.args.writer.now) (table_at c.leave_block.new.writer) (table_at c.pack_words-items.new.writer) c.args.old.top c.args.old.height
+    c.args.level c.args.lo c.args.new.now.end c.args.new.now.items c.pack_words-items.result c.args.left c.args.words.now c.requires.partly
+    c.requires.below c.requires.renewed (ap (λ (v : NodeView). v.known.desk.words) c.leave_block.ensures.view) c.leave_block.ensures.free
+    c.leave_block.ensures.gone c.pack_words-items.ensures.nodes c.pack_words-items.ensures.below c.pack_words-items.ensures.one
+    c.pack_words-items.ensures.kept c.pack_words-items.ensures.same.long c.pack_words-items.ensures.taken c.pack_words-items.ensures.free
+    c.pack_words-items.ensures.left).under
+
+pub returns-clause-same : goal.returns-clause-same
+returns-clause-same c =
+    fills_both c.args.writer.now c.leave_block.new.writer c.pack_words-items.new.writer
+    (fills_none c.args.writer.now c.leave_block.new.writer c.leave_block.ensures.view c.leave_block.ensures.waits) c.pack_words-items.ensures.same
+
+pub returns-clause-path : goal.returns-clause-path
+returns-clause-path c =
+    let old = table_at c.args.writer.now in
+    let tree = c.args.old in
+    let end = c.args.left.item.end in
+    let above = c.requires.renewed.cut.above in
+    path_rises old (words_at c.pack_words-items.new.writer) tree.top tree.height c.args.level c.args.lo c.args.new.now.end end c.args.new.now.items
+    c.args.path.now c.requires.partly c.requires.below (omega arith)
+    (kept_after old (table_at c.leave_block.new.writer) (table_at c.pack_words-items.new.writer)
+    (λ row. times row (rows_in (upto end (beyond c.args.lo (old_level old tree.top tree.height (c.args.level + 1))))))
+    (ap (λ (v : NodeView). v.known.desk.words) c.leave_block.ensures.view) c.leave_block.ensures.gone c.pack_words-items.ensures.kept)
+    c.requires.path
