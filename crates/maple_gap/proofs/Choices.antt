@@ -1,14 +1,14 @@
 -- For `descend`: of the items of a node that may have room, two are searched.
-use Rattle.std.proofs.Common.{ℕ, ◌≡◌, ◌<◌, ◌≤◌, ◌+◌, Bool, true, false, List, [], ◌∷◌, length, get_or, drop, Option, Some, None, refl, sym, ap, ◌∙◌, arith, inl, inr}
+use Rattle.std.proofs.Common.{ℕ, ◌≡◌, ◌≢◌, ◌<◌, ◌≤◌, ◌+◌, Bool, true, false, List, [], ◌∷◌, length, get_or, drop, Option, Some, None, refl, sym, ap, ◌∙◌, arith, inl, inr}
 use Rattle.std.specs.Prelude.{if◌then◌else◌}
 use Rattle.std.specs.Option.{option_or}
 use Rattle.std.proofs.lemmas.Bool.{cases_Bool}
-use Rattle.std.proofs.lemmas.List.{drop_more}
-use Rattle.std.proofs.Math.ListN.{drop_of_length-le}
 use Rattle.maple_node.specs.declared.item.Item.{Item}
-use Rattle.maple_node.specs.Nodes.{end_of}
+use Rattle.maple_node.specs.Nodes.{items_of, end_of}
 use Rattle.maple_node.specs.Levels.{AllFrom}
 use Rattle.maple_items.specs.declared.place.Place.{Place}
+use Rattle.maple_items.specs.Parts.{width_of, listed_at}
+use Rattle.maple_items.proofs.Parts.{listed_there}
 use Rattle.maple_gap.specs.declared.window.Side.{Side}
 use Rattle.maple_gap.specs.declared.window.Side.TheVariants.{Low, High}
 use Rattle.maple_gap.specs.declared.window.Window.{Window}
@@ -189,21 +189,24 @@ chosen_all side window leaf P found begin page choice (x ∷ xs) some all are ab
       nothing None is out known = refl
       nothing (Some s) is out known = let may = known.room s (sym is) in absurd (cc)
 
--- For `choose`: one item of those that are left, and none
-pub chosen_next : (side : Side) (window : Window) (leaf : Bool) (choice more : Choice) (page start index : ℕ) (items : List Item) (d : Item)
-    → index < length items
-    → more ≡ (if may_have window leaf page (get_or items index d) then chosen side choice (record { start = page; item = get_or items index d }) else choice)
-    → chosen_from side window leaf choice page (drop index items) ≡ chosen_from side window leaf nothing_chosen start items
-    → chosen_from side window leaf more (get_or items index d).end (drop (index + 1) items) ≡ chosen_from side window leaf nothing_chosen start items
+-- For `choose`: the item at the place, and none
+pub chosen_next : (side : Side) (window : Window) (leaf : Bool) (choice more : Choice) (page start place : ℕ) (words : List ℕ)
+    → place + width_of leaf ≤ length words → get_or words place 0 ≢ 0
+    → more ≡ (if may_have window leaf page (listed_at leaf words place)
+    then chosen side choice (record { start = page; item = listed_at leaf words place }) else choice)
+    → chosen_from side window leaf choice page (items_of leaf (drop place words)) ≡ chosen_from side window leaf nothing_chosen start (items_of leaf words)
+    → chosen_from side window leaf more (listed_at leaf words place).end (items_of leaf (drop (place + width_of leaf) words))
+    ≡ chosen_from side window leaf nothing_chosen start (items_of leaf words)
 unfolding chosen_from
-chosen_next side window leaf choice more page start index items d within is before =
-    ap (λ (c : Choice). chosen_from side window leaf c (get_or items index d).end (drop (index + 1) items)) is
-    ∙ ap (chosen_from side window leaf choice page) (sym (drop_more items index d within))
+chosen_next side window leaf choice more page start place words room some is before =
+    ap (λ (c : Choice). chosen_from side window leaf c (listed_at leaf words place).end (items_of leaf (drop (place + width_of leaf) words))) is
+    ∙ ap (chosen_from side window leaf choice page) (sym (listed_there leaf words place room some))
     ∙ before
 
-pub chosen_end : (side : Side) (window : Window) (leaf : Bool) (choice : Choice) (page start index : ℕ) (items : List Item) → length items ≤ index
-    → chosen_from side window leaf choice page (drop index items) ≡ chosen_from side window leaf nothing_chosen start items
-    → choice ≡ chosen_from side window leaf nothing_chosen start items
+pub chosen_end : (side : Side) (window : Window) (leaf : Bool) (choice : Choice) (page start place : ℕ) (words : List ℕ)
+    → items_of leaf (drop place words) ≡ []
+    → chosen_from side window leaf choice page (items_of leaf (drop place words)) ≡ chosen_from side window leaf nothing_chosen start (items_of leaf words)
+    → choice ≡ chosen_from side window leaf nothing_chosen start (items_of leaf words)
 unfolding chosen_from
-chosen_end side window leaf choice page start index items past before =
-    sym (ap (chosen_from side window leaf choice page) (drop_of_length-le items past)) ∙ before
+chosen_end side window leaf choice page start place words none before =
+    sym (ap (chosen_from side window leaf choice page) none) ∙ before

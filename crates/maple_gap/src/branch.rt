@@ -2,15 +2,15 @@
 
 ghost use Rattle.std.specs.Prelude.{◌≡◌, ◌<◌, ◌≤◌, ◌+◌, true, ℕ, length, IfSome};
 ghost use Rattle.std.specs.Option.{option_or};
-ghost use Rattle.maple_node.specs.Nodes.{most, end_of};
-ghost use Rattle.maple_node.specs.Levels.{is_leaf, read, item_at};
+ghost use Rattle.maple_node.specs.Nodes.{end_of};
+ghost use Rattle.maple_node.specs.Levels.{is_leaf, item_at};
 ghost use Rattle.maple_items.specs.Splices.{upto};
 ghost use Rattle.node_slots.specs.Seats.{Writes, row_count};
 ghost use Rattle.node_slots.specs.Built.{words_at, IsWriters};
 ghost use Rattle.maple_gap.specs.Searches.{may_have, entries_under, best_under, best_of, spare_from, IsBranch, IsSpare, IsFar, IsRootOf};
 
 use crate::window::{Side, Window, choose};
-use maple_items::{ItemList, Place, gap_of, item_in, node_items};
+use maple_items::{Place, gap_in, item_in, lists_nothing};
 use maple_node::{Item, Steps};
 use mm_types::Row;
 use node_slots::{NodeTable, NodeWriter, Tree};
@@ -44,23 +44,6 @@ fn words<'a, L>(
     nodes.written(writer, Row(row as u32), steps)
 }
 
-/// The items of the node in a row. Counts one step.
-fn node<L>(
-    nodes: &NodeTable,
-    writer: &NodeWriter,
-    leaf: bool,
-    row: u64,
-    steps: &mut Steps<L>,
-) -> ItemList
-    requires table { Writes writer.now nodes.now }
-    requires row { row < row_count writer.now }
-    ensures items { result ≡ read (words_at writer.now) leaf row }
-    ensures most { length result ≤ most leaf }
-    ensures steps { steps.new ≡ steps.old + 1 }
-{
-    node_items(leaf, words(nodes, writer, row, steps))
-}
-
 /// The whole tree as a branch. Tree 0, whose root lists nothing, is one gap.
 pub(crate) fn root_of<L>(
     nodes: &NodeTable,
@@ -75,9 +58,9 @@ pub(crate) fn root_of<L>(
 {
     let leaf = tree.height == 1;
     let row = u64::from(tree.root.0);
-    let items = node(nodes, writer, leaf, row, steps);
+    let words = words(nodes, writer, row, steps);
     let end = tree.limit.0;
-    if items.items().is_empty() {
+    if lists_nothing(words) {
         return Branch {
             place: Place {
                 start: 0,
@@ -90,7 +73,7 @@ pub(crate) fn root_of<L>(
             level: 0,
         };
     }
-    let gap = gap_of(leaf, 0, items.items());
+    let gap = gap_in(leaf, 0, words);
     Branch {
         place: Place {
             start: 0,
@@ -140,8 +123,8 @@ pub(crate) fn descend<L>(
     while branch.level > 0 {
         let level = branch.level - 1;
         let Place { start, item } = branch.place;
-        let items = node(nodes, writer, level == 0, item.word, steps);
-        let choice = choose(window, side, level == 0, start, items.items());
+        let words = words(nodes, writer, item.word, steps);
+        let choice = choose(window, side, level == 0, start, words);
         let Some(place) = choice.first else {
             return Descent { found: None, spare };
         };

@@ -1,11 +1,13 @@
 //! The items of a node that may have room for so many pages.
 
 ghost use Rattle.std.specs.Prelude.{◌≡◌, if◌then◌else◌};
-ghost use Rattle.maple_node.specs.Nodes.{item_gap};
+ghost use Rattle.maple_node.specs.Nodes.{items_of, item_gap};
 ghost use Rattle.maple_gap.specs.Searches.{may_have, edge, chosen, nothing_chosen, chosen_from};
 
-use maple_items::Place;
-use maple_node::Item;
+use maple_items::{Place, listed_at, width_of};
+
+/// The words of a node.
+const WORDS: usize = 32;
 
 /// Which start is sought: the least or the greatest.
 #[derive(Clone, Copy)]
@@ -89,23 +91,30 @@ impl Choice {
     }
 }
 
-/// Which items of a node that begins at the page `start` are searched: of those that may have room the two that lie lowest, or
-/// the two that lie highest.
-pub(crate) fn choose(window: Window, side: Side, leaf: bool, start: u64, items: &[Item]) -> Choice
-    ensures { result ≡ chosen_from side window leaf nothing_chosen start items.now }
+/// Which items of a node that begins at the page `start` are searched, as its words tell: of those that may have room the two that
+/// lie lowest, or the two that lie highest.
+pub(crate) fn choose(
+    window: Window,
+    side: Side,
+    leaf: bool,
+    start: u64,
+    words: &[u64; 32],
+) -> Choice
+    ensures { result ≡ chosen_from side window leaf nothing_chosen start (items_of leaf words.now) }
 {
+    let width = width_of(leaf);
     let mut choice = Choice {
         first: None,
         second: None,
     };
     let mut page = start;
-    for item in items {
-        let place = Place {
-            start: page,
-            item: *item,
-        };
-        choice = choice.with(window, side, leaf, place);
+    let mut place = 0;
+    while place + width <= WORDS && words[place] != 0 {
+        let item = listed_at(leaf, words, place);
+        let here = Place { start: page, item };
+        choice = choice.with(window, side, leaf, here);
         page = item.end;
+        place += width;
     }
     choice
 }

@@ -1,6 +1,6 @@
 //! Nodes: their words as items, how many items they have, and their largest gap.
 
-ghost use Rattle.std.specs.Prelude.{◌≡◌, ◌<◌, ◌≤◌, ◌-◌, ◌*◌, true, false, length};
+ghost use Rattle.std.specs.Prelude.{◌≡◌, ◌<◌, ◌≤◌, ◌-◌, ◌*◌, Bool, true, false, [], length};
 ghost use Rattle.maple_node.specs.Nodes.{items_of, words_of, most, least, gap_of, item_gap, Ascends};
 
 use crate::list::ItemList;
@@ -22,6 +22,14 @@ pub fn least(leaf: bool) -> usize
     ensures { result ≡ least leaf }
 {
     if leaf { 6 } else { 4 }
+}
+
+/// Whether the words of a node, of either kind, list no item.
+pub fn lists_nothing(words: &[u64; 32]) -> bool
+    ensures none { (leaf : Bool) → result ≡ true → items_of leaf words.now ≡ [] }
+    ensures some { (leaf : Bool) → result ≡ false → 1 ≤ length (items_of leaf words.now) }
+{
+    words[0] == 0
 }
 
 /// The items that the words of a node list, in order, up to the first place that is not used.

@@ -35,14 +35,14 @@ impl Part {
 }
 
 /// How many words an item of a node has.
-pub(crate) fn width_of(leaf: bool) -> usize
+pub fn width_of(leaf: bool) -> usize
     ensures { result ≡ width_of leaf }
 {
     if leaf { 2 } else { 3 }
 }
 
 /// The item that the words of a node list at a place.
-pub(crate) fn listed_at(leaf: bool, words: &[u64; 32], place: usize) -> Item
+pub fn listed_at(leaf: bool, words: &[u64; 32], place: usize) -> Item
     requires { place + width_of leaf ≤ 32 }
     ensures { result ≡ listed_at leaf words.now place }
 {

@@ -6,7 +6,7 @@ use Rattle.std.proofs.lemmas.List.{length-set, length-map}
 use Rattle.grace_core.specs.Core as grace
 use Rattle.grace_core.specs.Core.{row_at}
 use Rattle.maple_node.specs.declared.item.Item.{Item}
-use Rattle.maple_node.specs.Nodes.{leaf_items, least, end_of, Ascends, IsPlain, gap_of}
+use Rattle.maple_node.specs.Nodes.{leaf_items, least, end_of, Ascends, IsPlain, gap_of, items_of}
 use Rattle.maple_node.specs.Levels.{is_leaf, at_of, read, item_at, IsNode, level_of, IsTower, rows_of, times}
 use Rattle.maple_node.specs.Trees.{Tree, Pair, top_of, entries_of, tree_rows, pairs_from, pairs_of, ApartFrom, IsLayout}
 use Rattle.maple_node.proofs.Trees.{root-named, limit_above}
@@ -269,6 +269,8 @@ pub record Root (writer : NodeWriter) (tree : View) : Type 0 where
   pub leaf : nat_eq tree.height 1 ≡ is_leaf (tree.height - 1)
   pub there : tree.root.0 < row_count writer
   pub ascends : Ascends 0 (read (words_at writer) (is_leaf (tree.height - 1)) tree.root.0)
+  pub ends : 1 ≤ length (read (words_at writer) (is_leaf (tree.height - 1)) tree.root.0)
+      → tree.limit.0 ≡ end_of 0 (read (words_at writer) (is_leaf (tree.height - 1)) tree.root.0)
 
 one_less : (height : ℕ) → 1 ≤ height → nat_eq height 1 ≡ is_leaf (height - 1)
 one_less height tall = elim (cases_lt height 2) as (λ _. nat_eq height 1 ≡ nat_eq (height - 1) 0) [
@@ -287,7 +289,7 @@ root_of_view writer tree is = elim is as (λ _. Root writer tree) [
       let node = root_is (words_at writer) (built writer tree).top.end tree.height (built writer tree).top layout.tall layout.tower in
       let row = row_there (desk writer).words (is_leaf (tree.height - 1)) (built writer tree).top.end 0 (built writer tree).top node in
       let long = rows_counted writer in
-      record { leaf = one_less tree.height layout.tall; there = omega arith; ascends = node.ascends }
+      record { leaf = one_less tree.height layout.tall; there = omega arith; ascends = node.ascends; ends = λ some. sym made.limit }
   | inr blank ↦
       let none = blank_tree (words_at writer) tree.height tree.root.0 blank.height blank.root blank.words in
       let one = blank.height in
@@ -297,8 +299,25 @@ root_of_view writer tree is = elim is as (λ _. Root writer tree) [
         leaf = one_less tree.height (omega arith);
         there = omega arith;
         ascends = subst (λ (xs : List Item). Ascends 0 xs) (sym none) tt;
+        ends = λ some. let long = ap (λ (xs : List Item). length xs) none in absurd (omega arith);
       }
 ]
+
+-- the tree that the words of its root tell
+pub root_told : (writer : NodeWriter) (tree : View) (end word gap : ℕ) (leaf : Bool) (words : List ℕ) → words ≡ words_at writer word
+    → word ≡ tree.root.0 → leaf ≡ is_leaf (tree.height - 1) → end ≡ end_of 0 (items_of leaf words) → gap ≡ gap_of leaf 0 (items_of leaf words)
+    → record { top = record { end = end; word = word; gap = gap }; height = tree.height } ≡ built writer tree
+root_told writer tree end word gap leaf words told here below ends gaps =
+    let kind = is_leaf (tree.height - 1) in
+    let top = (built writer tree).top in
+    let are : items_of leaf words ≡ read (words_at writer) kind tree.root.0 =
+    ap (λ (b : Bool). items_of b words) below ∙ ap (items_of kind) told ∙ ap (λ (row : ℕ). read (words_at writer) kind row) here in
+    let end_is : end ≡ top.end = ends ∙ ap (end_of 0) are in
+    let gap_is : gap ≡ top.gap = gaps ∙ ap (λ (b : Bool). gap_of b 0 (items_of leaf words)) below ∙ ap (gap_of kind 0) are in
+    let Ends : ℕ → Tree = λ e. record { top = record { end = e; word = word; gap = gap }; height = tree.height } in
+    let Is : ℕ → Tree = λ w. record { top = record { end = top.end; word = w; gap = gap }; height = tree.height } in
+    let Has : ℕ → Tree = λ g. record { top = record { end = top.end; word = tree.root.0; gap = g }; height = tree.height } in
+    ap Ends end_is ∙ ap Is here ∙ ap Has gap_is
 
 -- a tree is no higher than there are free rows
 pub free_few : (writer : NodeWriter) → length (free_of writer) ≤ 2 ^ 20

@@ -1,7 +1,6 @@
 //! Stores into the writer's tree, and its publish.
 
 ghost use Rattle.std.specs.Prelude.{◌≡◌, ◌<◌, ◌≤◌, ◌+◌, ◌-◌, ◌*◌, ◌^◌, ◌⊎◌, ℕ, [], ◌∷◌, length, nat_eq};
-ghost use Rattle.maple_node.specs.Nodes.{end_of};
 ghost use Rattle.maple_node.specs.Trees.{entries_of, pairs_of};
 ghost use Rattle.maple_node.specs.Words.{slot_word};
 ghost use Rattle.maple_items.specs.Splices.{overwrite, widened_lo, widened_hi};
@@ -15,7 +14,7 @@ ghost use Rattle.maple_write.specs.Stores.{IsShaped, IsWhole, Finds, tree_under,
 use crate::path::{Path, find, path_to};
 use crate::rows::{Rooted, put, words};
 use crate::tree::{first, replace};
-use maple_items::{ItemList, Part, Place, gap_of};
+use maple_items::{ItemList, Place, gap_in, lists_nothing};
 use maple_node::Item;
 use mm_types::{Row, Slot, Span};
 use node_slots::{NodeTable, NodeWriter, Tree};
@@ -76,17 +75,6 @@ fn word_of(slot: Option<Slot>) -> u64
     slot.map_or(0, |slot| u64::from(slot.0) + 1)
 }
 
-/// Where items end that begin at page 0.
-fn end_of(items: &[Item]) -> u64
-    ensures { result ≡ end_of 0 items.now }
-{
-    if items.is_empty() {
-        0
-    } else {
-        items[items.len() - 1].end
-    }
-}
-
 /// The tree of the writer's view, with what the row of its root tells of it.
 fn rooted(nodes: &NodeTable, writer: &NodeWriter, tree: &Tree) -> Rooted
     requires table { Writes writer.now nodes.now }
@@ -95,13 +83,17 @@ fn rooted(nodes: &NodeTable, writer: &NodeWriter, tree: &Tree) -> Rooted
 {
     let leaf = tree.height == 1;
     let root = u64::from(tree.root.0);
-    let mut items = ItemList::new();
-    items.push_part(Part::Whole, leaf, words(nodes, writer, root));
+    let words = words(nodes, writer, root);
+    let end = if lists_nothing(words) {
+        0
+    } else {
+        tree.limit.0
+    };
     Rooted {
         top: Item {
-            end: end_of(items.items()),
+            end,
             word: root,
-            gap: gap_of(leaf, 0, items.items()),
+            gap: gap_in(leaf, 0, words),
         },
         height: tree.height,
     }
