@@ -1,5 +1,4 @@
 pub mod Lists
-pub mod Places
 pub mod Listed
 pub mod Parts
 pub mod Words

@@ -1,6 +1,5 @@
 -- For `spliced_words` and `gap_in`: the words of some of the items of a node.
-use Rattle.std.proofs.Common.{ℕ, suc, ◌≡◌, ◌≢◌, ◌<◌, ◌≤◌, ◌+◌, ◌-◌, ◌*◌, Bool, true, false, List, [], ◌∷◌, ◌++◌, length, take, drop, get_or, replicate, max, refl, sym, ap, subst, ◌∙◌, arith, inl, inr, length-append, append_assoc}
-use Rattle.std.proofs.lemmas.Bool.{cases_lt}
+use Rattle.std.proofs.Common.{ℕ, suc, ◌≡◌, ◌≢◌, ◌<◌, ◌≤◌, ◌+◌, ◌-◌, ◌*◌, Bool, true, false, List, [], ◌∷◌, ◌++◌, length, take, drop, get_or, replicate, max, refl, sym, ap, subst, ◌∙◌, arith, length-append, append_assoc}
 use Rattle.std.proofs.lemmas.List.{take_at, drop_at, length-take-le, length-drop}
 use Rattle.std.proofs.lemmas.Grind.{flat_map-append}
 use Rattle.std.specs.List.{flat_map}
@@ -10,7 +9,7 @@ use Rattle.maple_items.specs.Splices.{upto, beyond, spliced}
 use Rattle.maple_items.specs.Parts.{width_of, listed_at}
 use Rattle.maple_items.specs.Padding.{padded}
 use Rattle.maple_items.proofs.Lists.{upto-first, upto_first, upto_all, upto-beyond, length-upto}
-use Rattle.maple_items.proofs.Parts.{listed_there, listed_none, listed_past}
+use Rattle.maple_items.proofs.Parts.{listed_there}
 use Rattle.maple_items.proofs.Padded.{length-words}
 
 -- where an item ends is its first word

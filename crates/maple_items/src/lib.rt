@@ -14,7 +14,7 @@ pub use laws::{
     gaps_stay_apart, overwriting_replaces_pairs, overwritten_pages, written_items_are_read,
 };
 pub use list::ItemList;
-pub use node::{gap_of, least, lists_nothing, most, node_items, node_words, share};
+pub use node::{least, lists_nothing, most, node_words, share};
 pub use part::{Part, listed_at, width_of};
-pub use place::{Place, item_at, item_in};
+pub use place::{Place, item_in};
 pub use splice::{gap_in, spliced_words};

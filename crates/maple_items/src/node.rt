@@ -1,10 +1,8 @@
 //! Nodes: their words as items, how many items they have, and their largest gap.
 
 ghost use Rattle.std.specs.Prelude.{◌≡◌, ◌<◌, ◌≤◌, ◌-◌, ◌*◌, Bool, true, false, [], length};
-ghost use Rattle.maple_node.specs.Nodes.{items_of, words_of, most, least, gap_of, item_gap, Ascends};
+ghost use Rattle.maple_node.specs.Nodes.{items_of, words_of, most, least, item_gap};
 
-use crate::list::ItemList;
-use crate::part::Part;
 use maple_node::Item;
 
 /// The words of a node.
@@ -30,16 +28,6 @@ pub fn lists_nothing(words: &[u64; 32]) -> bool
     ensures some { (leaf : Bool) → result ≡ false → 1 ≤ length (items_of leaf words.now) }
 {
     words[0] == 0
-}
-
-/// The items that the words of a node list, in order, up to the first place that is not used.
-pub fn node_items(leaf: bool, words: &[u64; 32]) -> ItemList
-    ensures items { result ≡ items_of leaf words.now }
-    ensures most { length result ≤ most leaf }
-{
-    let mut items = ItemList::new();
-    items.push_part(Part::Whole, leaf, words);
-    items
 }
 
 /// The words of a node with these items: of an entry its end and its word, of a child also its largest gap; then zeros.
@@ -81,20 +69,6 @@ fn inner_words(items: &[Item]) -> [u64; 32]
     words
 }
 
-/// The largest gap in pages of a node with these items, which begins at the page `start`.
-pub fn gap_of(leaf: bool, start: u64, items: &[Item]) -> u64
-    requires { Ascends start items.now }
-    ensures { result ≡ gap_of leaf start items.now }
-{
-    let mut start = start;
-    let mut largest = 0;
-    for item in items {
-        largest = item_gap(leaf, start, *item).max(largest);
-        start = item.end;
-    }
-    largest
-}
-
 /// The largest gap in one item: the whole of an entry that is a gap, and what the item of a child says.
 pub(crate) fn item_gap(leaf: bool, start: u64, item: Item) -> u64
     requires { start ≤ item.end }
@@ -131,7 +105,7 @@ pub fn share(leaf: bool, rest: usize) -> usize
 
 #[cfg(test)]
 mod tests {
-    use super::{gap_of, node_items, node_words, share};
+    use super::{node_words, share};
     use maple_node::Item;
 
     /// Two pages of a gap, one with slot 0, and five of a gap.
@@ -173,8 +147,6 @@ mod tests {
         let (used, unused) = words.split_at(6);
         assert_eq!(rt; used, [2, 0, 3, 1, 8, 0].as_slice());
         assert_eq!(rt; unused, [0; 26].as_slice());
-        assert_eq!(rt; node_items(true, &words).items(), ENTRIES.as_slice());
-        assert_eq!(rt; gap_of(true, 0, &ENTRIES), 5);
     }
 
     #[test]
@@ -183,8 +155,6 @@ mod tests {
         let (used, unused) = words.split_at(6);
         assert_eq!(rt; used, [0x20, 7, 0, 0x30, 9, 4].as_slice());
         assert_eq!(rt; unused, [0; 26].as_slice());
-        assert_eq!(rt; node_items(false, &words).items(), CHILDREN.as_slice());
-        assert_eq!(rt; gap_of(false, 0x10, &CHILDREN), 4);
     }
 
     #[test]

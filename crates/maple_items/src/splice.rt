@@ -7,8 +7,8 @@ ghost use Rattle.maple_items.specs.Splices.{upto, beyond, spliced};
 ghost use Rattle.maple_items.specs.Parts.{width_of};
 
 use crate::node::{item_gap, most};
-use crate::part::{listed_at, width_of};
 use crate::packed::NodeWords;
+use crate::part::{listed_at, width_of};
 use maple_node::Item;
 
 /// The words of a node.

@@ -1,9 +1,7 @@
 -- For `lists_nothing`: the first place is used, or none is.
-use Rattle.std.proofs.Common.{ℕ, ◌≡◌, ◌≢◌, ◌≤◌, Bool, true, false, nat_eq, List, length, get_or, ap, sym, ◌∙◌, arith}
+use Rattle.std.proofs.Common.{◌≡◌, ◌≢◌, List, length, get_or, ap, arith}
 use Rattle.std.proofs.lemmas.Bool.Decides.{nat_tests}
 use Rattle.maple_node.specs.declared.item.Item.{Item}
-use Rattle.maple_node.specs.Nodes.{items_of}
-use Rattle.maple_items.specs.Parts.{width_of}
 use Rattle.maple_items.proofs.Parts.{listed_there, listed_none}
 use Rattle.maple_items.proofs.Spliced.{three_words}
 use Rattle.maple_items.proofs.node.lists_nothing.Goals as goal

@@ -1,9 +1,9 @@
 -- For `spliced_words`: the words that are added are those of the items in order.
-use Rattle.std.proofs.Common.{ℕ, List, length, take, drop, ◌++◌, ◌-◌, ◌+◌, ◌*◌, ◌≡◌, ◌≤◌, ap, ◌∙◌, subst, arith, length-append}
+use Rattle.std.proofs.Common.{ℕ, List, length, take, drop, ◌++◌, ◌-◌, ◌+◌, ◌*◌, ap, ◌∙◌, arith, length-append}
 use Rattle.std.proofs.lemmas.List.{length-take-le, length-drop}
 use Rattle.std.specs.List.{flat_map}
-use Rattle.maple_node.specs.Nodes.{item_words, items_of, most}
-use Rattle.maple_items.specs.Splices.{upto, beyond, spliced}
+use Rattle.maple_node.specs.Nodes.{item_words, items_of}
+use Rattle.maple_items.specs.Splices.{upto, spliced}
 use Rattle.maple_items.specs.Parts.{width_of}
 use Rattle.maple_items.specs.Padding.{padded}
 use Rattle.maple_items.proofs.Padded.{length-words}

@@ -1,8 +1,6 @@
 -- For `words_upto`: the item at the place ends up to the page, or no item from there on does.
-use Rattle.std.proofs.Common.{ℕ, ◌≤◌, ◌+◌, Bool, true, false, List, sym, ap, subst, arith}
-use Rattle.maple_node.specs.declared.item.Item.{Item}
+use Rattle.std.proofs.Common.{ℕ, ◌+◌, sym, ap, subst, arith}
 use Rattle.maple_items.specs.Splices.{upto}
-use Rattle.maple_items.specs.Parts.{width_of}
 use Rattle.maple_items.proofs.Parts.{listed_none, listed_past}
 use Rattle.maple_items.proofs.Spliced.{Upto, upto_more, upto_done, upto_past, some_words}
 use Rattle.maple_items.proofs.splice.words_upto.Goals as goal

@@ -1,5 +1,5 @@
 -- For `push_items`: there is room for one item more.
-use Rattle.std.proofs.Common.{ℕ, List, length, take, ◌+◌, ◌*◌, ap, ◌∙◌, arith, length-append}
+use Rattle.std.proofs.Common.{ℕ, List, length, take, ◌*◌, ap, ◌∙◌, arith, length-append}
 use Rattle.std.proofs.lemmas.List.{length-take-le}
 use Rattle.std.specs.List.{flat_map}
 use Rattle.maple_node.specs.Nodes.{item_words}
