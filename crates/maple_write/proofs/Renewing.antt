@@ -1,5 +1,5 @@
 -- For `renewed` and `rise_by_words`: a node that is made of the words of an old one.
-use Rattle.std.proofs.Common.{ℕ, ◌≡◌, ◌<◌, ◌≤◌, ◌+◌, ◌-◌, List, [], ◌∷◌, ◌++◌, length, Option, Some, None, refl, sym, ap, subst, ◌∙◌, arith}
+use Rattle.std.proofs.Common.{ℕ, ◌≡◌, ◌<◌, ◌≤◌, ◌+◌, ◌-◌, List, [], ◌∷◌, length, Option, Some, None, refl, sym, ap, subst, ◌∙◌, arith}
 use Rattle.std.specs.Prelude.{IfSome}
 use Rattle.maple_node.specs.declared.item.Item.{Item}
 use Rattle.maple_node.specs.Nodes.{words_of, items_of, most, least, end_of, Ascends}
@@ -11,7 +11,7 @@ use Rattle.maple_items.proofs.Spliced.{ascends_from}
 use Rattle.maple_write.specs.Tables.{Table, rows_in, gone}
 use Rattle.maple_write.specs.Stores.{old_level, Partly, Cut, IsRenewed}
 use Rattle.maple_write.proofs.Levels.{AreNodes}
-use Rattle.maple_write.proofs.Steps.{There, there_at, item_at-same, cut_of}
+use Rattle.maple_write.proofs.Steps.{there_at, item_at-same, cut_of}
 use Rattle.maple_write.proofs.Rising.{Rose, rose}
 
 -- some items end at the same page wherever they begin

@@ -9,3 +9,6 @@ mod waiting;
 
 pub use laws::{pairs_are_apart, rows_suffice};
 pub use tree::SpanTree;
+
+#[cfg(test)]
+mod tests;

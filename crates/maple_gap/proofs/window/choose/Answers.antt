@@ -1,8 +1,8 @@
 -- For `choose`: one item more, and the end.
-use Rattle.std.proofs.Common.{ℕ, ◌≡◌, ◌+◌, drop, if◌then◌else◌, sym, ap, ◌∙◌, subst, arith}
+use Rattle.std.proofs.Common.{ℕ, ◌≡◌, ◌+◌, drop, if◌then◌else◌, sym, ap, subst, arith}
 use Rattle.maple_node.specs.declared.item.Item.{Item}
 use Rattle.maple_node.specs.Nodes.{items_of}
-use Rattle.maple_items.specs.Parts.{width_of, listed_at}
+use Rattle.maple_items.specs.Parts.{width_of}
 use Rattle.maple_items.proofs.Parts.{listed_none, listed_past}
 use Rattle.maple_items.proofs.Spliced.{some_words}
 use Rattle.maple_gap.specs.Searches.{may_have, chosen, chosen_from, nothing_chosen}

@@ -1,5 +1,5 @@
 -- For `rise_by_words`: the old node of the level is left, and the new one is built.
-use Rattle.std.proofs.Common.{ℕ, ◌+◌, List, nat_lt, cond, ap, arith}
+use Rattle.std.proofs.Common.{ℕ, ◌+◌, nat_lt, cond, ap, arith}
 use Rattle.maple_node.specs.Nodes.{items_of}
 use Rattle.maple_node.specs.Levels.{is_leaf, times}
 use Rattle.maple_items.specs.Splices.{upto, beyond}

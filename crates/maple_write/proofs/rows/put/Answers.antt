@@ -1,5 +1,5 @@
 -- For `put`: the words list the items.
-use Rattle.std.proofs.Common.{◌∙◌, ◌≡◌, ◌≤◌, ◌<◌, List, length, sym, ap, subst}
+use Rattle.std.proofs.Common.{◌∙◌, ◌≤◌, ◌<◌, List, length, sym, ap, subst}
 use Rattle.maple_node.specs.declared.item.Item.{Item}
 use Rattle.maple_node.specs.Nodes.{words_of, items_of, most, least, end_of, Ascends}
 use Rattle.maple_node.proofs.Places.{items_of_words}

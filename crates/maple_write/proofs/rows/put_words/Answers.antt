@@ -1,5 +1,5 @@
 -- For `put_words`: the row that was taken is a node of the items.
-use Rattle.std.proofs.Common.{◌∙◌, ◌∷◌, ◌<◌, ◌-◌, length, set, sym, ap, subst, List, ℕ}
+use Rattle.std.proofs.Common.{◌∙◌, ◌∷◌, ◌<◌, length, set, sym, ap, subst, List, ℕ}
 use Rattle.maple_node.specs.declared.item.Item.{Item}
 use Rattle.maple_node.specs.Nodes.{items_of}
 use Rattle.maple_node.specs.Levels.{at_of, read, IsNode, times}

@@ -1,7 +1,6 @@
 -- For `store_word`: the step keeps the rule.
-use Rattle.std.proofs.Common.{◌+◌, ◌*◌, ◌∙◌, sym, ap, arith}
+use Rattle.std.proofs.Common.{ap, arith}
 use Rattle.node_slots.proofs.Storing.{store_owes}
-use Rattle.node_slots.proofs.Seating.{store_kept}
 use Rattle.node_slots.proofs.seats.NodeTable.store_word.Goals as goal
 
 pub store-requires : goal.store-requires
