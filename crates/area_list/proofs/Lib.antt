@@ -9,6 +9,6 @@ pub mod Cutting
 pub mod Merging
 pub mod Putting
 pub mod Uniqueness
-pub mod NewProtection
-pub mod Protecting
+pub mod NewAttributes
+pub mod Changed
 pub mod SmallNumbers

@@ -1,4 +1,4 @@
--- For the conditions of `cut`, `put` and `protected_list`: changes of a list keep its numbers small.
+-- For the conditions of `cut`, `put` and `changed_list`: changes of a list keep its numbers small.
 use Rattle.std.proofs.Common.{◌≡◌, ◌≢◌, ℕ, ◌+◌, ◌-◌, ◌^◌, ◌<◌, ◌≤◌, min, max, Bool, true, false, cond, nat_eq, nat_lt, List, [], ◌∷◌, Some, All, inl, inr, refl, arith}
 use Rattle.std.specs.List.{find}
 use Rattle.std.proofs.lemmas.Bool.{cases_eq}

@@ -17,6 +17,10 @@ page_of address = address / PAGE_SIZE
 abbrev pub has_page : Span → ℕ → Bool
 has_page span page = nat_le span.lo page && nat_lt page span.hi
 
+-- whether two spans share a page
+abbrev pub overlap : Span → Span → Bool
+overlap a b = nat_lt a.lo b.hi && nat_lt b.lo a.hi
+
 -- the page of its object that an area maps at this page; 0 for private anonymous memory
 unfoldable pub index_of : Record → ℕ → ℕ
 index_of area page = if nat_eq area.object 0 then 0 else area.offset + (page - area.span.lo)
@@ -67,10 +71,6 @@ pub record MappedPage : Type 0 where
   pub attr : Attr
   pub object : ℕ
   pub index : ℕ
-
--- the page with another protection
-abbrev pub protected_page : Prot → MappedPage → MappedPage
-protected_page prot page = record page { attr = record page.attr { prot = prot } }
 
 -- what an area maps at one of its pages
 unfoldable pub mapped_page : ℕ → Record → MappedPage

@@ -1,9 +1,12 @@
--- Changes of a list of areas: cut, put, merge, and a new protection.
+-- Changes of a list of areas: cut, put, merge, and new attributes.
 use Rattle.std.specs.Prelude.{ℕ, ◌≤◌, ◌^◌, min, max, if◌then◌else◌, nat_lt, List, [], ◌∷◌, ◌++◌, flat_map, map}
 use Rattle.mm_types.specs.declared.area.Span.{Span}
 use Rattle.mm_types.specs.declared.area.Prot.{Prot}
 use Rattle.mm_types.specs.declared.area.Record.{Record}
+use Rattle.area_list.specs.declared.attributes.AttrChange.{AttrChange}
+use Rattle.area_list.specs.declared.attributes.AttrChange.TheVariants.{Protection, Seal}
 use Rattle.area_list.specs.Areas.{index_of, joins}
+use Rattle.area_list.specs.Attributes.{with_attr}
 
 -- an area whose end and offset are at most 2^60, so that no index of its pages passes 2^64
 pub record IsSmall (area : Record) : Type 0 where
@@ -45,16 +48,20 @@ insert_area area (first ∷ areas) = if nat_lt first.span.lo area.span.lo then f
 abbrev pub put : Record → List Record → List Record
 put area areas = merge (insert_area area (cut area.span areas))
 
--- the area with another protection
-abbrev pub with_prot : Prot → Record → Record
-with_prot prot area = record area { attr = record area.attr { prot = prot } }
-
--- an area with this protection on its pages in the span: the parts below, within and above
-unfoldable pub parts_protected : Prot → Span → Record → List Record
-parts_protected prot span area = piece area area.span.lo (min area.span.hi span.lo)
-    ++ (map (with_prot prot) (piece area (max area.span.lo span.lo) (min area.span.hi span.hi))
+-- an area with its attributes changed on its pages in the span: the parts below, within and above
+unfoldable pub parts_changed : AttrChange → Span → Record → List Record
+parts_changed change span area = piece area area.span.lo (min area.span.hi span.lo)
+    ++ (map (with_attr change) (piece area (max area.span.lo span.lo) (min area.span.hi span.hi))
     ++ piece area (max area.span.lo span.hi) area.span.hi)
+
+-- the list with the attributes changed on each mapped page of the span
+abbrev pub changed_list : AttrChange → Span → List Record → List Record
+changed_list change span areas = merge (flat_map (parts_changed change span) areas)
 
 -- the list with this protection on each mapped page of the span
 abbrev pub protected_list : Prot → Span → List Record → List Record
-protected_list prot span areas = merge (flat_map (parts_protected prot span) areas)
+protected_list prot span areas = changed_list (Protection prot) span areas
+
+-- the list with each mapped page of the span sealed
+abbrev pub sealed_list : Span → List Record → List Record
+sealed_list span areas = changed_list Seal span areas

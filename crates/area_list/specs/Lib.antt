@@ -1,3 +1,4 @@
 pub mod Areas
+pub mod Attributes
 pub mod Changes
 pub mod Laws

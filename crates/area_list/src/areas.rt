@@ -1,8 +1,8 @@
 //! Areas: where they map, and which neighbours join.
 ghost use Rattle.std.specs.Prelude.{option_copied, ◌≡◌, ◌≢◌, ◌<◌, ◌+◌, ◌-◌, ◌^◌, nat_eq};
-ghost use Rattle.area_list.specs.Areas.{page_of, area_at, index_of, joins};
+ghost use Rattle.area_list.specs.Areas.{page_of, area_at, overlap, index_of, joins};
 
-use mm_types::{PAGE_SIZE, Record};
+use mm_types::{PAGE_SIZE, Record, Span};
 
 /// The page that an address lies in.
 pub fn page_of(address: u64) -> u64
@@ -18,6 +18,13 @@ pub fn area_at(areas: &[Record], page: u64) -> Option<&Record>
     areas
         .iter()
         .find(|area| area.span.lo <= page && page < area.span.hi)
+}
+
+/// Whether two spans share a page.
+pub fn overlap(a: Span, b: Span) -> bool
+    ensures { result ≡ overlap a b }
+{
+    a.lo < b.hi && b.lo < a.hi
 }
 
 /// The page of its object that an area maps at this page; 0 for private anonymous memory.

@@ -1,10 +1,12 @@
 //! Changes of a list of areas.
 ghost use Rattle.std.specs.Prelude.{◌≡◌, ◌≢◌, ◌<◌, ◌+◌, ◌-◌, ◌^◌, ◌++◌, All, IfOk, OnOk, map};
 ghost use Rattle.area_list.specs.Changes.{IsSmall, piece, parts_outside, cut, merge, insert_area, put};
-ghost use Rattle.area_list.specs.Changes.{with_prot, parts_protected, protected_list};
+ghost use Rattle.area_list.specs.Attributes.{with_attr};
+ghost use Rattle.area_list.specs.Changes.{parts_changed, changed_list};
 
 use crate::areas::{index_of, joins};
-use mm_types::{Attr, NoMemory, Prot, Record, Span};
+use crate::attributes::{AttrChange, with_attr};
+use mm_types::{NoMemory, Record, Span};
 use std::alloc::Global;
 
 /// Adds the part of an area from `lo` up to `hi`, if it has a page.
@@ -88,46 +90,36 @@ pub fn put(alloc: Global, area: Record, areas: &[Record]) -> Result<Vec<Record>,
     merge(alloc, areas.as_slice())
 }
 
-/// The area with another protection.
-fn with_prot(prot: Prot, area: &Record) -> Record
-    ensures { result ≡ with_prot prot area.now }
-{
-    Record {
-        attr: Attr { prot, ..area.attr },
-        ..*area
-    }
-}
-
-/// Adds the part of an area from `lo` up to `hi` with another protection, if it has a page.
-#[tactic(auto, using(crate::proofs::NewProtection::piece_with_prot))]
-fn push_protected_piece(
+/// Adds the part of an area from `lo` up to `hi` with its attributes changed, if it has a page.
+#[tactic(auto, using(crate::proofs::NewAttributes::piece_with_attr))]
+fn push_changed_piece(
     parts: &mut Vec<Record>,
-    prot: Prot,
+    change: AttrChange,
     area: &Record,
     lo: u64,
     hi: u64,
 ) -> Result<(), NoMemory>
     requires { area.now.object ≢ 0 → area.now.offset + (hi - area.now.span.lo) < 2 ^ 64 }
-    ensures { OnOk result (parts.new.items ≡ parts.old.items ++ map (with_prot prot) (piece area.now lo hi)) }
+    ensures { OnOk result (parts.new.items ≡ parts.old.items ++ map (with_attr change) (piece area.now lo hi)) }
 {
-    push_piece(parts, &with_prot(prot, area), lo, hi)
+    push_piece(parts, &with_attr(change, area), lo, hi)
 }
 
-/// Adds an area with this protection on its pages in the span: the parts below, within and above.
-#[tactic(auto, unfolding(crate::specs::Changes::parts_protected))]
-fn push_parts_protected(
+/// Adds an area with its attributes changed on its pages in the span: the parts below, within and above.
+#[tactic(auto, unfolding(crate::specs::Changes::parts_changed))]
+fn push_parts_changed(
     parts: &mut Vec<Record>,
-    prot: Prot,
+    change: AttrChange,
     span: Span,
     area: &Record,
 ) -> Result<(), NoMemory>
     requires { IsSmall area.now }
-    ensures { OnOk result (parts.new.items ≡ parts.old.items ++ parts_protected prot span area.now) }
+    ensures { OnOk result (parts.new.items ≡ parts.old.items ++ parts_changed change span area.now) }
 {
     push_piece(parts, area, area.span.lo, area.span.hi.min(span.lo))?;
-    push_protected_piece(
+    push_changed_piece(
         parts,
-        prot,
+        change,
         area,
         area.span.lo.max(span.lo),
         area.span.hi.min(span.hi),
@@ -135,19 +127,19 @@ fn push_parts_protected(
     push_piece(parts, area, area.span.lo.max(span.hi), area.span.hi)
 }
 
-/// The list with this protection on each mapped page of the span.
-pub fn protected_list(
+/// The list with the attributes changed on each mapped page of the span.
+pub fn changed_list(
     alloc: Global,
-    prot: Prot,
+    change: AttrChange,
     span: Span,
     areas: &[Record],
 ) -> Result<Vec<Record>, NoMemory>
     requires { All IsSmall areas.now }
-    ensures { IfOk result (λ v. v.items ≡ protected_list prot span areas.now) }
+    ensures { IfOk result (λ v. v.items ≡ changed_list change span areas.now) }
 {
     let mut parts = Vec::new(alloc);
     for area in areas {
-        push_parts_protected(&mut parts, prot, span, area)?;
+        push_parts_changed(&mut parts, change, span, area)?;
     }
     merge(alloc, parts.as_slice())
 }

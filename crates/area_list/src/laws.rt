@@ -2,12 +2,13 @@
 
 ghost use Rattle.std.specs.Prelude.{◌≡◌, ◌<◌, ◌≤◌, ℕ, List, All, if◌then◌else◌, None, Some, option_map};
 ghost use Rattle.mm_types.specs.declared.area.Span.{Span};
-ghost use Rattle.mm_types.specs.declared.area.Prot.{Prot};
 ghost use Rattle.mm_types.specs.declared.area.Record.{Record};
 ghost use Rattle.mm_types.specs.Records.{IsValid};
-ghost use Rattle.area_list.specs.Areas.{Neighbours, IsCanonical, has_page, mapped_page, protected_page, page_map};
-ghost use Rattle.area_list.specs.Changes.{cut, merge, put, protected_list};
-ghost use Rattle.area_list.specs.Laws.{AllMayHave};
+ghost use Rattle.area_list.specs.declared.attributes.AttrChange.{AttrChange};
+ghost use Rattle.area_list.specs.Attributes.{changed_page};
+ghost use Rattle.area_list.specs.Areas.{Neighbours, IsCanonical, has_page, mapped_page, page_map};
+ghost use Rattle.area_list.specs.Changes.{cut, merge, put, changed_list};
+ghost use Rattle.area_list.specs.Laws.{AllMayBecome};
 
 /// A cut keeps a list canonical, and unmaps exactly the pages of the span.
 pub fn cut_unmaps_the_span()
@@ -40,13 +41,13 @@ pub fn page_map_determines_list()
         → ((page : ℕ) → page_map areas page ≡ page_map others page) → areas ≡ others }
 {}
 
-/// A new protection keeps a list canonical where the mapped pages of the span may have it, and changes the protection of
-/// exactly these pages.
-pub fn protect_changes_the_span()
-    ensures canonical { (end : ℕ) (prot : Prot) (span : Span) (areas : List Record) → span.lo ≤ span.hi
-        → IsCanonical end areas → AllMayHave prot span areas → IsCanonical end (protected_list prot span areas) }
-    ensures pages { (end : ℕ) (prot : Prot) (span : Span) (areas : List Record) (page : ℕ) → span.lo ≤ span.hi
-        → IsCanonical end areas → AllMayHave prot span areas
-        → page_map (protected_list prot span areas) page
-        ≡ (if has_page span page then option_map (protected_page prot) (page_map areas page) else page_map areas page) }
+/// New attributes keep a list canonical where those of the mapped pages of the span may change so, and change exactly these
+/// pages.
+pub fn new_attributes_change_the_span()
+    ensures canonical { (end : ℕ) (change : AttrChange) (span : Span) (areas : List Record) → span.lo ≤ span.hi
+        → IsCanonical end areas → AllMayBecome change span areas → IsCanonical end (changed_list change span areas) }
+    ensures pages { (end : ℕ) (change : AttrChange) (span : Span) (areas : List Record) (page : ℕ) → span.lo ≤ span.hi
+        → IsCanonical end areas → AllMayBecome change span areas
+        → page_map (changed_list change span areas) page
+        ≡ (if has_page span page then option_map (changed_page change) (page_map areas page) else page_map areas page) }
 {}

@@ -1,14 +1,2 @@
-pub mod Rows
-pub mod Searching
-pub mod Placing
-pub mod Fitting
+pub mod Holes
 pub mod MmapTable
-pub mod Stopping
-pub mod ProtectLaws
-pub mod NewArea
-pub mod Carrying
-pub mod RemapLaws
-pub mod Moving
-pub mod Stepping
-pub mod Sharing
-pub mod Journals

@@ -8,9 +8,9 @@ use Rattle.mm_types.specs.declared.call.Reply.TheVariants.{Refused, Addr}
 use Rattle.mm_types.specs.declared.config.Config.{Config}
 use Rattle.area_model.specs.declared.step.Stepped.{Stepped}
 use Rattle.area_model.specs.Stepped.{outcome_of}
-use Rattle.area_model.specs.Tables.{AddressSpace, Outcome, has_too_many_areas}
+use Rattle.area_rules.specs.Tables.{AddressSpace, Outcome, has_too_many_areas}
 use Rattle.mm_types.specs.Rows.{first_row}
-use Rattle.area_model.specs.Mmap.{mmap, mmap_rows, mmap_placed, mmap_done, start_of, mapped_list, objects_after}
+use Rattle.area_rules.specs.Mmap.{mmap, mmap_rows, mmap_placed, mmap_done, start_of, mapped_list, objects_after}
 
 -- a refusal
 abbrev pub refusal : AddressSpace → Errno → Outcome
@@ -47,6 +47,6 @@ module _ (config : Config) (space : AddressSpace) (args : MmapArgs) (start : ℕ
 
   pub mmap_outcome : (list items : List Record) (objects : ℕ) → list ≡ items → items ≡ mapped_list config space args start → objects ≡ objects_after space.objects args
       → has_too_many_areas config (mapped_list config space args start) ≡ false
-      → outcome_of (record { list = list; objects = objects; reply = Addr (4096 * start) }) ≡ mmap config space args
+      → outcome_of (record { list = list; counters = record { objects = objects; brk = space.brk }; reply = Addr (4096 * start) }) ≡ mmap config space args
   unfolding mmap_done
   mmap_outcome list items objects of is counted fits = rw (mmap_maps fits, of, is, counted)

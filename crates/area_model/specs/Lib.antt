@@ -1,12 +1,1 @@
-pub mod Tables
-pub mod Placement
-pub mod Blockers
-pub mod Mmap
-pub mod Munmap
-pub mod Mprotect
-pub mod Mremap
-pub mod Verdicts
-pub mod Steps
-pub mod Journals
 pub mod Stepped
-pub mod Laws

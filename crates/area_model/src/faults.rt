@@ -1,70 +1,36 @@
 //! The verdict on a page fault.
-ghost use Rattle.std.specs.Prelude.{◌≡◌, All, option_copied, true};
+ghost use Rattle.std.specs.Prelude.{◌≡◌, All, false, option_copied};
 ghost use Rattle.mm_types.specs.Records.{IsValid};
-ghost use Rattle.area_list.specs.Areas.{area_at, has_page};
-ghost use Rattle.area_model.specs.Verdicts.{permits, is_past_end, area_verdict, verdict};
+ghost use Rattle.area_rules.specs.Growing.{grower, grows};
+ghost use Rattle.area_rules.specs.Verdicts.{unmapped_verdict, verdict};
 
-use crate::tables::pages_of;
-use area_list::{area_at, index_of};
-use mm_types::{Access, AreaList, FileRow, Files, Page, Prot, Record, Verdict};
+use crate::growing::grower;
+use area_list::area_at;
+use area_rules::area_verdict;
+use mm_types::{Access, AreaList, Config, Page, Record, Verdict};
 
-/// Whether a protection allows an access. To read takes any of the three.
-#[tactic(auto, unfolding(crate::specs::Verdicts::permits))]
-fn permits(prot: Prot, access: Access) -> bool
-    ensures { result ≡ permits prot access }
+/// The verdict on a fault at a page that no area has: the area that would grow into it does not allow the access, or there
+/// is none.
+fn unmapped_verdict(grower: Option<Record>) -> Verdict
+    ensures { result ≡ unmapped_verdict grower }
 {
-    match access {
-        Access::Read => prot.read || prot.write || prot.exec,
-        Access::Write => prot.write,
-        Access::Exec => prot.exec,
-    }
-}
-
-/// Whether a page of an area lies at or past the end of its file, in pages rounded up.
-#[tactic(auto, unfolding(crate::specs::Verdicts::is_past_end))]
-fn is_past_end(files: &[FileRow], area: &Record, page: u64) -> bool
-    requires valid { IsValid area.now }
-    requires has { has_page area.now.span page ≡ true }
-    ensures { result ≡ is_past_end files.now area.now page }
-{
-    if area.object == 0 {
-        return false;
-    }
-    match files.get(area.object as usize - 1) {
-        Some(file) => pages_of(file.size) <= index_of(area, page),
-        None => false,
-    }
-}
-
-/// The verdict on a fault at a page of this area: its protection does not allow the access, the page lies past the end of
-/// its file, or the area serves it.
-#[tactic(auto, unfolding(crate::specs::Verdicts::area_verdict))]
-pub fn area_verdict(files: &[FileRow], page: u64, access: Access, area: &Record) -> Verdict
-    requires valid { IsValid area.now }
-    requires has { has_page area.now.span page ≡ true }
-    ensures { result ≡ area_verdict files.now page access area.now }
-{
-    if !permits(area.attr.prot, access) {
-        return Verdict::AccErr;
-    }
-    if is_past_end(files, area, page) {
-        return Verdict::BusErr;
-    }
-    Verdict::Served {
-        area: *area,
-        index: index_of(area, page),
-    }
-}
-
-/// The verdict on a fault over a list of areas: no area has the page; its protection does not allow the access; the
-/// page lies past the end of the file; or it is served.
-#[tactic(auto, unfolding(crate::specs::Verdicts::verdict))]
-pub fn model_verdict(files: &Files, list: &AreaList, page: Page, access: Access) -> Verdict
-    requires { All IsValid list.now }
-    ensures { result ≡ verdict files.now list.now page.0 access }
-{
-    match area_at(list.items(), page.0) {
-        Some(area) => area_verdict(files.items(), page.0, access, area),
+    match grower {
+        Some(_) => Verdict::AccErr,
         None => Verdict::MapErr,
+    }
+}
+
+/// The verdict on a fault over a list of areas, where it grows none: no area has the page; its protection does not allow
+/// the access; the page lies past the end of the file; or it is served.
+#[tactic(auto, unfolding(area_rules::specs::Verdicts::verdict))]
+pub fn model_verdict(config: &Config, list: &AreaList, page: Page, access: Access) -> Verdict
+    requires valid { All IsValid list.now }
+    requires no_growth { grows config.now list.now page.0 access ≡ false }
+    ensures { result ≡ verdict config.now list.now page.0 access }
+{
+    let areas = list.items();
+    match area_at(areas, page.0) {
+        Some(area) => area_verdict(config.files.items(), page.0, access, area),
+        None => unmapped_verdict(grower(config, areas, page.0)),
     }
 }

@@ -4,29 +4,23 @@ ghost use Rattle.std.specs.Prelude.{option_and_then};
 ghost use Rattle.mm_types.specs.Config.{IsValidConfig};
 ghost use Rattle.mm_types.specs.Records.{IsValid};
 ghost use Rattle.area_list.specs.Areas.{area_at, page_of};
-ghost use Rattle.area_model.specs.Stepped.{space_of, outcome_of};
-ghost use Rattle.area_model.specs.Steps.{IsReady};
+ghost use Rattle.area_rules.specs.Tables.{space_of};
+ghost use Rattle.area_model.specs.Stepped.{outcome_of};
+ghost use Rattle.area_rules.specs.Steps.{IsReady};
 ghost use Rattle.mm_types.specs.Rows.{first_row};
-ghost use Rattle.area_model.specs.Mremap.{range_rows, mremap_rows, moved, shrunk_list, has_room};
-ghost use Rattle.area_model.specs.Mremap.{grown_list, new_place, mremap_change, mremap};
+ghost use Rattle.area_rules.specs.Mremap.{range_rows, mremap_rows, moved, shrunk_list, has_room};
+ghost use Rattle.area_rules.specs.Mremap.{lengthened_list, new_place, mremap_change, mremap};
 
-use crate::mremap_request::{
-    MremapArgs, added_range, area_refusal, carried_area, grows, may_move, moves_to, mremap_refusal,
-    old_range,
-};
-use crate::placement::{bounds_of, fits, is_free, place};
+use crate::placement::{is_free, place};
 use crate::step::Stepped;
-use crate::tables::{has_too_many_areas, pages_of, refused};
+use crate::tables::{has_too_many_areas, refused};
 use area_list::{area_at, cut, page_of, put};
-use mm_types::{AreaList, Config, Errno, NoMemory, PAGE_SIZE, Record, Reply, Span};
+use area_rules::{
+    Moved, MremapArgs, added_range, area_refusal, bounds_of, carried_area, fits, lengthens,
+    may_move, moves_to, mremap_refusal, old_range, pages_of,
+};
+use mm_types::{AreaList, Config, Counters, Errno, NoMemory, PAGE_SIZE, Record, Reply, Span};
 use std::alloc::Global;
-
-/// Where an area ends up: a list, and the page that it begins at.
-#[derive(Debug, Drop)]
-pub struct Moved {
-    pub areas: AreaList,
-    pub page: u64,
-}
 
 /// The first test of the old range that refuses the call.
 #[tactic(auto, using(area_list::proofs::SmallNumbers::small_found))]
@@ -52,7 +46,7 @@ fn request_error(config: &Config, areas: &[Record], args: &MremapArgs) -> Option
 }
 
 /// The area put at its new place, and the old range cut out after.
-#[tactic(auto, unfolding(crate::specs::Mremap::moved_list))]
+#[tactic(auto, unfolding(area_rules::specs::Mremap::moved_list))]
 fn moved_to(
     alloc: Global,
     areas: &[Record],
@@ -78,7 +72,7 @@ fn moved_to(
 }
 
 /// The area shrunk in place: what lies past the new length is cut out.
-#[tactic(auto, using(area_list::proofs::SmallNumbers::all_small), unfolding(crate::specs::Mremap::shrunk_list))]
+#[tactic(auto, using(area_list::proofs::SmallNumbers::all_small), unfolding(area_rules::specs::Mremap::shrunk_list))]
 fn shrunk_list(alloc: Global, areas: &[Record], args: &MremapArgs) -> Result<Vec<Record>, NoMemory>
     requires { All IsValid areas.now }
     ensures { IfOk result (λ v. v.items ≡ shrunk_list areas.now args.now) }
@@ -95,7 +89,7 @@ fn shrunk_list(alloc: Global, areas: &[Record], args: &MremapArgs) -> Result<Vec
 }
 
 /// Whether the added range is free and ends at or below the limit.
-#[tactic(auto, unfolding(crate::specs::Mremap::has_room))]
+#[tactic(auto, unfolding(area_rules::specs::Mremap::has_room))]
 fn has_room(config: &Config, areas: &[Record], args: &MremapArgs) -> bool
     ensures { result ≡ has_room config.now areas.now args.now }
 {
@@ -110,8 +104,8 @@ fn has_room(config: &Config, areas: &[Record], args: &MremapArgs) -> bool
 }
 
 /// The area grown in place: an area that runs on is put after the old range.
-#[tactic(auto, using(area_list::proofs::SmallNumbers::all_small, area_list::proofs::SmallNumbers::small_valid), unfolding(crate::specs::Mremap::grown_list))]
-fn grown_list(
+#[tactic(auto, using(area_list::proofs::SmallNumbers::all_small, area_list::proofs::SmallNumbers::small_valid), unfolding(area_rules::specs::Mremap::lengthened_list))]
+fn lengthened_list(
     alloc: Global,
     areas: &[Record],
     area: &Record,
@@ -119,14 +113,14 @@ fn grown_list(
 ) -> Result<Vec<Record>, NoMemory>
     requires valid { All IsValid areas.now }
     requires of_list { IsValid area.now }
-    ensures { IfOk result (λ v. v.items ≡ grown_list areas.now area.now args.now) }
+    ensures { IfOk result (λ v. v.items ≡ lengthened_list areas.now area.now args.now) }
 {
     let span = added_range(args);
     put(alloc, carried_area(area, span.lo, span), areas)
 }
 
 /// Where a range that grows may move to.
-#[tactic(auto, unfolding(crate::specs::Mremap::new_place))]
+#[tactic(auto, unfolding(area_rules::specs::Mremap::new_place))]
 fn new_place(config: &Config, areas: &[Record], args: &MremapArgs) -> Option<u64>
     requires { IsValidConfig config.now }
     ensures value { result ≡ new_place config.now areas.now args.now }
@@ -140,7 +134,7 @@ fn new_place(config: &Config, areas: &[Record], args: &MremapArgs) -> Option<u64
 }
 
 /// The first case that holds: to a fixed place, shrunk in place, grown in place, moved to a place that is found.
-#[tactic(auto, unfolding(crate::specs::Mremap::mremap_change))]
+#[tactic(auto, unfolding(area_rules::specs::Mremap::mremap_change))]
 fn mremap_change(
     alloc: Global,
     config: &Config,
@@ -159,12 +153,12 @@ fn mremap_change(
         let moved = moved_to(alloc, areas, area, args, page_of(args.new))?;
         return Ok(Some(moved));
     }
-    if !grows(args) {
+    if !lengthens(args) {
         let areas = AreaList::of(shrunk_list(alloc, areas, args)?);
         return Ok(Some(Moved { areas, page }));
     }
     if has_room(config, areas, args) {
-        let areas = AreaList::of(grown_list(alloc, areas, area, args)?);
+        let areas = AreaList::of(lengthened_list(alloc, areas, area, args)?);
         return Ok(Some(Moved { areas, page }));
     }
     match new_place(config, areas, args) {
@@ -197,31 +191,31 @@ fn change(
 }
 
 /// One call of mremap(2) on a list of areas.
-#[tactic(auto, unfolding(crate::specs::Mremap::mremap, crate::specs::Mremap::mremap_changed, crate::specs::Mremap::mremap_done))]
+#[tactic(auto, unfolding(area_rules::specs::Mremap::mremap, area_rules::specs::Mremap::mremap_changed, area_rules::specs::Mremap::mremap_done))]
 pub(crate) fn mremap(
     alloc: Global,
     config: &Config,
-    objects: u32,
+    counters: Counters,
     areas: &[Record],
     args: &MremapArgs,
 ) -> Result<Stepped, NoMemory>
-    requires { IsReady config.now (space_of areas.now objects) }
+    requires { IsReady config.now (space_of areas.now counters) }
     ensures { IfOk result
-        (λ stepped. outcome_of stepped ≡ mremap config.now (space_of areas.now objects) args.now) }
+        (λ stepped. outcome_of stepped ≡ mremap config.now (space_of areas.now counters) args.now) }
 {
     if let Some(errno) = request_error(config, areas, args) {
-        return refused(alloc, objects, areas, errno);
+        return refused(alloc, counters, areas, errno);
     }
     let Some(moved) = change(alloc, config, areas, args)? else {
-        return refused(alloc, objects, areas, Errno::Enomem);
+        return refused(alloc, counters, areas, Errno::Enomem);
     };
     let Moved { areas: list, page } = moved;
     if has_too_many_areas(config, list.items()) {
-        return refused(alloc, objects, areas, Errno::Enomem);
+        return refused(alloc, counters, areas, Errno::Enomem);
     }
     Ok(Stepped {
         list,
-        objects,
+        counters,
         reply: Reply::Addr(PAGE_SIZE * page),
     })
 }

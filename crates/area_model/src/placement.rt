@@ -1,45 +1,14 @@
 //! Where a new area goes that names no fixed place. Everything is counted in pages, but the hint is an address.
-ghost use Rattle.std.specs.Prelude.{◌≡◌, ◌<◌, ◌≤◌, ◌+◌, ◌^◌, IfSome, max, nat_le};
-ghost use Rattle.area_model.specs.Placement.{bounds_of, is_free, hinted_place, high_place, low_place, place};
-ghost use Rattle.area_model.specs.Blockers.{blocker};
+ghost use Rattle.std.specs.Prelude.{◌≡◌, ◌<◌, ◌≤◌, ◌+◌, ◌^◌, IfSome, max};
+ghost use Rattle.area_rules.specs.Placement.{is_free, hinted_place, highest_below, low_place, place_low, place};
+ghost use Rattle.area_rules.specs.Blockers.{blocker};
+ghost use Rattle.area_rules.specs.declared.placement.TheConstants.{WINDOW_END};
 
-use area_list::page_of;
-use mm_types::{Config, Record};
-
-/// The lowest page of the second search: a third of user memory, rounded up to a page.
-pub const FLOOR: u64 = 0x2_aaaa_aaab;
-
-/// The pages between which areas are placed.
-#[derive(Clone, Copy, Debug, PartialEq, Eq)]
-pub struct Bounds {
-    /// The lowest page.
-    pub low: u64,
-    /// The first search looks for room below this page.
-    pub top: u64,
-    /// The page at which user memory ends.
-    pub limit: u64,
-}
-
-/// The bounds of a configuration.
-pub fn bounds_of(config: &Config) -> Bounds
-    ensures { result ≡ bounds_of config.now }
-{
-    Bounds {
-        low: page_of(config.min),
-        top: page_of(config.top),
-        limit: page_of(config.limit),
-    }
-}
-
-/// Whether so many pages from this start on end at or below the end.
-pub fn fits(start: u64, pages: u64, end: u64) -> bool
-    ensures { result ≡ nat_le (start + pages) end }
-{
-    pages <= end && start <= end - pages
-}
+use area_rules::{Bounds, FLOOR, WINDOW_END, fits, hint_page, is_high, window_end};
+use mm_types::Record;
 
 /// Whether no area has one of so many pages from this start on.
-#[tactic(auto, unfolding(crate::specs::Placement::is_free))]
+#[tactic(auto, unfolding(area_rules::specs::Placement::is_free))]
 pub(crate) fn is_free(areas: &[Record], pages: u64, start: u64) -> bool
     requires { start + pages < 2 ^ 64 }
     ensures { result ≡ is_free areas.now pages start }
@@ -48,7 +17,7 @@ pub(crate) fn is_free(areas: &[Record], pages: u64, start: u64) -> bool
 }
 
 /// The first area that has one of so many pages from this start on.
-#[tactic(auto, unfolding(crate::specs::Blockers::blocker))]
+#[tactic(auto, unfolding(area_rules::specs::Blockers::blocker))]
 fn blocker(areas: &[Record], pages: u64, start: u64) -> Option<Record>
     requires { start + pages < 2 ^ 64 }
     ensures { result ≡ blocker areas.now pages start }
@@ -59,48 +28,45 @@ fn blocker(areas: &[Record], pages: u64, start: u64) -> Option<Record>
         .copied()
 }
 
-/// The hint's page, where so many pages from it on are free and end at or below the limit. A hint below one page is
-/// none, and another is raised to the lowest page.
-#[tactic(auto, unfolding(crate::specs::Placement::hinted_place))]
+/// The hint's page, where so many pages from it on are free and end at or below the end of the window, or the limit for a
+/// high call.
+#[tactic(auto, unfolding(area_rules::specs::Placement::hinted_place))]
 fn hinted_place(bounds: Bounds, areas: &[Record], pages: u64, hint: u64) -> Option<u64>
     ensures value { result ≡ hinted_place bounds areas.now pages hint }
-    ensures within { IfSome result (λ start. start ≤ bounds.limit) }
+    ensures within { IfSome result (λ start. start ≤ max bounds.limit WINDOW_END) }
 {
-    if page_of(hint) == 0 {
-        return None;
-    }
-    let start = page_of(hint).max(bounds.low);
-    if fits(start, pages, bounds.limit) && is_free(areas, pages, start) {
+    let start = hint_page(bounds, hint)?;
+    if fits(start, pages, window_end(bounds, hint)) && is_free(areas, pages, start) {
         Some(start)
     } else {
         None
     }
 }
 
-/// The greatest free start from the lowest page on whose pages end at or below the top. Below an area that is in
-/// the way, the next start to be tried is the one whose pages end where that area begins.
-fn high_place(bounds: Bounds, areas: &[Record], pages: u64) -> Option<u64>
-    ensures value { result ≡ high_place bounds areas.now pages }
-    ensures within { IfSome result (λ start. start ≤ bounds.top) }
+/// The greatest free start from the lowest page on whose pages end at or below this page. Below an area that is in the
+/// way, the next start to be tried is the one whose pages end where that area begins.
+fn highest_below(bounds: Bounds, end: u64, areas: &[Record], pages: u64) -> Option<u64>
+    ensures value { result ≡ highest_below bounds end areas.now pages }
+    ensures within { IfSome result (λ start. start ≤ end) }
 {
-    let mut end = bounds.top;
-    while fits(bounds.low, pages, end) {
-        match blocker(areas, pages, end - pages) {
-            None => return Some(end - pages),
-            Some(area) => end = area.span.lo,
+    let mut last = end;
+    while fits(bounds.low, pages, last) {
+        match blocker(areas, pages, last - pages) {
+            None => return Some(last - pages),
+            Some(area) => last = area.span.lo,
         }
     }
     None
 }
 
-/// The least free start from the floor on whose pages end at or below the limit. Above an area that is in the way,
-/// the next start to be tried is where that area ends.
+/// The least free start from the floor on whose pages end at or below the end of the window. Above an area that is in the
+/// way, the next start to be tried is where that area ends.
 fn low_place(bounds: Bounds, areas: &[Record], pages: u64) -> Option<u64>
     ensures value { result ≡ low_place bounds areas.now pages }
-    ensures within { IfSome result (λ start. start ≤ bounds.limit) }
+    ensures within { IfSome result (λ start. start ≤ WINDOW_END) }
 {
     let mut start = bounds.low.max(FLOOR);
-    while fits(start, pages, bounds.limit) {
+    while fits(start, pages, WINDOW_END) {
         match blocker(areas, pages, start) {
             None => return Some(start),
             Some(area) => start = area.span.hi,
@@ -109,18 +75,31 @@ fn low_place(bounds: Bounds, areas: &[Record], pages: u64) -> Option<u64>
     None
 }
 
-/// Where so many pages go: at the hint, else as high as there is room below the top, else as low as there is room
-/// from the floor on.
-#[tactic(auto, unfolding(crate::specs::Placement::place))]
+/// Where so many pages go without a hint: as high as there is room below the top, else as low as there is room from the
+/// floor on.
+#[tactic(auto, unfolding(area_rules::specs::Placement::place_low, area_rules::specs::Placement::high_place))]
+fn place_low(bounds: Bounds, areas: &[Record], pages: u64) -> Option<u64>
+    ensures value { result ≡ place_low bounds areas.now pages }
+    ensures within { IfSome result (λ start. start ≤ max bounds.top WINDOW_END) }
+{
+    if let Some(start) = highest_below(bounds, bounds.top, areas, pages) {
+        return Some(start);
+    }
+    low_place(bounds, areas, pages)
+}
+
+/// Where so many pages go: at the hint; else, for a high call, as high as there is room below the limit; else where they
+/// go without a hint.
+#[tactic(auto, unfolding(area_rules::specs::Placement::place, area_rules::specs::Placement::place_high))]
 pub(crate) fn place(bounds: Bounds, areas: &[Record], pages: u64, hint: u64) -> Option<u64>
     ensures value { result ≡ place bounds areas.now pages hint }
-    ensures within { IfSome result (λ start. start ≤ max bounds.top bounds.limit) }
+    ensures within { IfSome result (λ start. start ≤ max bounds.top (max bounds.limit WINDOW_END)) }
 {
     if let Some(start) = hinted_place(bounds, areas, pages, hint) {
         return Some(start);
     }
-    if let Some(start) = high_place(bounds, areas, pages) {
-        return Some(start);
+    if is_high(bounds, hint) {
+        return highest_below(bounds, bounds.limit, areas, pages);
     }
-    low_place(bounds, areas, pages)
+    place_low(bounds, areas, pages)
 }

@@ -1,15 +1,21 @@
 //! Calls and faults whose outcome is worked by hand, one for each row of a table.
 
+mod brk_rows;
 mod fault_rows;
+mod growth_rows;
 mod mmap_rows;
 mod mprotect_rows;
 mod mremap_rows;
+mod mseal_rows;
 mod munmap_rows;
+mod seal_rows;
+mod wide_rows;
 
-use crate::{Stepped, is_ready, model_step};
+use crate::{Stepped, grows, is_ready, model_step, model_verdict, sound};
 use mm_types::{
-    ADDRESS_LIMIT, AreaList, Attr, Call, Config, Errno, FileRow, Files, MAP_ANONYMOUS, MAP_FIXED,
-    MAP_PRIVATE, MOST_AREAS, MmapArgs, NoMemory, Prot, Record, Reply, Span, Text,
+    ADDRESS_LIMIT, Access, AreaList, Attr, Call, Config, Counters, Errno, FileRow, Files,
+    MAP_ANONYMOUS, MAP_FIXED, MAP_PRIVATE, MOST_AREAS, MmapArgs, NoMemory, Page, Prot, Record,
+    Reply, Span, Text, Verdict,
 };
 use std::alloc::{AllocError, Global};
 use std::process::Abort;
@@ -68,6 +74,7 @@ fn config(top: u64, areas: u32, files: Vec<FileRow>) -> Config {
         limit: ADDRESS_LIMIT,
         areas,
         files: Files::of(files),
+        heap: 0,
     }
 }
 
@@ -133,11 +140,35 @@ fn file_area(lo: u64, hi: u64, offset: u64) -> Record {
     }
 }
 
-/// An address space with no area, in which so many objects are numbered.
-fn opening(alloc: Global, objects: u32) -> Stepped {
+/// The same to read only.
+fn read_only(lo: u64, hi: u64) -> Record {
+    let area = anonymous_area(lo, hi);
+    Record {
+        attr: Attr {
+            prot: READ,
+            ..area.attr
+        },
+        ..area
+    }
+}
+
+/// The area with each of its pages sealed.
+fn sealed(area: Record) -> Record {
+    Record {
+        attr: Attr {
+            sealed: true,
+            ..area.attr
+        },
+        ..area
+    }
+}
+
+/// An address space without a call.
+fn opening(rt: &(impl Abort + AllocGlobal), config: &Config) -> Stepped {
+    assert!(rt; config.valid());
     Stepped {
-        list: AreaList::of(Vec::new(alloc)),
-        objects,
+        list: AreaList::of(Vec::new(rt.alloc())),
+        counters: Counters::opening(config),
         reply: Reply::Zero,
     }
 }
@@ -147,6 +178,25 @@ fn maps(args: MmapArgs, addr: u64) -> (Call, Reply) {
     (Call::Mmap(args), Reply::Addr(addr))
 }
 
+/// A call of munmap(2).
+fn unmap(addr: u64, len: u64) -> Call {
+    Call::Munmap { addr, len }
+}
+
+/// A call of mprotect(2).
+fn protect(addr: u64, len: u64, prot: Prot) -> Call {
+    Call::Mprotect { addr, len, prot }
+}
+
+/// A call of mseal(2).
+fn seal(addr: u64, len: u64) -> Call {
+    Call::Mseal {
+        addr,
+        len,
+        flags: 0,
+    }
+}
+
 /// One more call.
 fn stepped(
     rt: &(impl Abort + AllocGlobal),
@@ -154,18 +204,17 @@ fn stepped(
     before: &Stepped,
     call: Call,
 ) -> Result<Stepped, NoMemory> {
-    assert!(rt; is_ready(config, before.objects, &before.list));
-    model_step(rt.alloc(), config, before.objects, &before.list, &call)
+    assert!(rt; is_ready(config, before.counters, &before.list));
+    model_step(rt.alloc(), config, before.counters, &before.list, &call)
 }
 
 /// The calls one after another, from an address space with no area on, each with its reply.
 fn run(
     rt: &(impl Abort + AllocGlobal),
     config: &Config,
-    objects: u32,
     calls: &[(Call, Reply)],
 ) -> Result<Stepped, NoMemory> {
-    let mut space = opening(rt.alloc(), objects);
+    let mut space = opening(rt, config);
     for (call, reply) in calls {
         space = stepped(rt, config, &space, *call)?;
         assert_eq!(rt; space.reply, *reply, "{call:?}");
@@ -184,7 +233,7 @@ fn refuses(
         let after = stepped(rt, config, before, *call)?;
         assert_eq!(rt; after.reply, Reply::Refused(*errno), "{call:?}");
         assert_eq!(rt; after.list.items(), before.list.items());
-        assert_eq!(rt; after.objects, before.objects);
+        assert_eq!(rt; after.counters, before.counters);
     }
     Ok(())
 }
@@ -192,4 +241,13 @@ fn refuses(
 /// The areas are these.
 fn lists(rt: &impl Abort, space: &Stepped, areas: &[Record]) {
     assert_eq!(rt; space.list.items(), areas);
+}
+
+/// Faults on a sound list that grow no area, each with its verdict.
+fn faults(rt: &impl Abort, config: &Config, list: &AreaList, cases: &[(u64, Access, Verdict)]) {
+    assert!(rt; sound(config, list));
+    for (page, access, verdict) in cases {
+        assert!(rt; !grows(config, list, Page(*page), *access));
+        assert_eq!(rt; model_verdict(config, list, Page(*page), *access), *verdict);
+    }
 }

@@ -3,7 +3,7 @@ use Rattle.std.proofs.Common.{ℕ, ◌≡◌, ◌<◌, ◌≤◌, ◌+◌, ◌-�
 use Rattle.std.specs.Prelude.{Contains, IsPermutation}
 use Rattle.mm_types.specs.declared.area.Record.{Record}
 use Rattle.mm_types.specs.declared.slot.Slot.{Slot}
-use Rattle.area_model.specs.Placement.{is_free}
+use Rattle.area_rules.specs.Placement.{is_free}
 use Rattle.maple_items.specs.Pairs.{overwritten}
 use Rattle.maple_gap.specs.Gaps.{first_from, slot_in}
 use Rattle.span_tree.specs.SpanTrees.{SpanView, ArePairs}

@@ -8,10 +8,10 @@ use Rattle.std.proofs.lemmas.List.Elements.{All-head, All-tail}
 use Rattle.mm_types.specs.declared.area.Span.{Span}
 use Rattle.mm_types.specs.declared.area.Page.{Page}
 use Rattle.mm_types.specs.declared.area.Record.{Record}
-use Rattle.area_model.specs.declared.placement.Bounds.{Bounds}
-use Rattle.area_model.specs.declared.placement.TheConstants.{FLOOR}
-use Rattle.area_model.specs.Placement.{is_free, greatest_below, least_below, hinted_place, high_place, low_place, place}
-use Rattle.area_model.proofs.Searching.{greatest_is, greatest_none, least_is, least_none}
+use Rattle.area_rules.specs.declared.placement.Bounds.{Bounds}
+use Rattle.area_rules.specs.declared.placement.TheConstants.{FLOOR, WINDOW_END}
+use Rattle.area_rules.specs.Placement.{is_free, greatest_below, least_below, high_place, low_place, place_high, place_low}
+use Rattle.area_rules.proofs.Searching.{greatest_is, greatest_none, least_is, least_none}
 use Rattle.maple_node.specs.Trees.{Pair}
 use Rattle.maple_gap.specs.Gaps.{fits, IsGreatest, IsLeast, NonePasses}
 use Rattle.maple_gap.specs.Gaps as gaps
@@ -79,24 +79,34 @@ high_found records bounds pages pairs result spans found =
 
 pub low_found : (records : List Record) (bounds : Bounds) (pages low : ℕ) (pairs : List Pair) (result : Option Page) → AreRecords records pairs
     → low ≡ max FLOOR bounds.low
-    → MatchOption result (NonePasses (fits pairs pages low bounds.limit)) (λ (page : Page). IsLeast (fits pairs pages low bounds.limit) page.0)
+    → MatchOption result (NonePasses (fits pairs pages low WINDOW_END)) (λ (page : Page). IsLeast (fits pairs pages low WINDOW_END) page.0)
     → page_number result ≡ low_place bounds (areas_shown (map (shown_at records) pairs)) pages
 unfolding low_place passes_at
 low_found records bounds pages low pairs result spans is found =
-    least_found (fits pairs pages low bounds.limit) (passes_at (areas_shown (map (shown_at records) pairs)) pages low bounds.limit) (bounds.limit + 1) result
-    (fits_same records pages low bounds.limit pairs spans)
-    (within (areas_shown (map (shown_at records) pairs)) pages low bounds.limit) found
-    ∙ ap (λ (n : ℕ). least_below (passes_at (areas_shown (map (shown_at records) pairs)) pages n bounds.limit) (bounds.limit + 1)) is
+    least_found (fits pairs pages low WINDOW_END) (passes_at (areas_shown (map (shown_at records) pairs)) pages low WINDOW_END) (WINDOW_END + 1) result
+    (fits_same records pages low WINDOW_END pairs spans)
+    (within (areas_shown (map (shown_at records) pairs)) pages low WINDOW_END) found
+    ∙ ap (λ (n : ℕ). least_below (passes_at (areas_shown (map (shown_at records) pairs)) pages n WINDOW_END) (WINDOW_END + 1)) is
+
+-- the search of a high call
+pub wide_found : (records : List Record) (bounds : Bounds) (pages : ℕ) (pairs : List Pair) (result : Option Page) → AreRecords records pairs
+    → MatchOption result (NonePasses (fits pairs pages bounds.low bounds.limit)) (λ (page : Page). IsGreatest (fits pairs pages bounds.low bounds.limit) page.0)
+    → page_number result ≡ place_high bounds (areas_shown (map (shown_at records) pairs)) pages
+unfolding place_high passes_at
+wide_found records bounds pages pairs result spans found =
+    greatest_found (fits pairs pages bounds.low bounds.limit) (passes_at (areas_shown (map (shown_at records) pairs)) pages bounds.low bounds.limit) (bounds.limit + 1) result
+    (fits_same records pages bounds.low bounds.limit pairs spans)
+    (within (areas_shown (map (shown_at records) pairs)) pages bounds.low bounds.limit) found
 
 -- without a hint the second search follows the first
-pub placed : (bounds : Bounds) (areas : List Record) (pages : ℕ) → place bounds areas pages 0 ≡ option_or (high_place bounds areas pages) (low_place bounds areas pages)
-unfolding place hinted_place
+placed : (bounds : Bounds) (areas : List Record) (pages : ℕ) → place_low bounds areas pages ≡ option_or (high_place bounds areas pages) (low_place bounds areas pages)
+unfolding place_low
 placed bounds areas pages = refl
 
 -- where the first search finds a place, and where only the second may
 pub high_placed : (records : List Record) (bounds : Bounds) (pages : ℕ) (pairs : List Pair) (result : Option Page) (start : Page) → AreRecords records pairs
     → MatchOption result (NonePasses (fits pairs pages bounds.low bounds.top)) (λ (page : Page). IsGreatest (fits pairs pages bounds.low bounds.top) page.0)
-    → result ≡ Some start → Some start.0 ≡ place bounds (areas_shown (map (shown_at records) pairs)) pages 0
+    → result ≡ Some start → Some start.0 ≡ place_low bounds (areas_shown (map (shown_at records) pairs)) pages
 high_placed records bounds pages pairs result start spans found is =
     let areas : List Record = areas_shown (map (shown_at records) pairs) in
     let high : Some start.0 ≡ high_place bounds areas pages = sym (ap page_number is) ∙ high_found records bounds pages pairs result spans found in
@@ -105,8 +115,8 @@ high_placed records bounds pages pairs result start spans found is =
 pub low_placed : (records : List Record) (bounds : Bounds) (pages low : ℕ) (pairs : List Pair) (first second : Option Page) → AreRecords records pairs
     → MatchOption first (NonePasses (fits pairs pages bounds.low bounds.top)) (λ (page : Page). IsGreatest (fits pairs pages bounds.low bounds.top) page.0)
     → first ≡ None → low ≡ max FLOOR bounds.low
-    → MatchOption second (NonePasses (fits pairs pages low bounds.limit)) (λ (page : Page). IsLeast (fits pairs pages low bounds.limit) page.0)
-    → page_number second ≡ place bounds (areas_shown (map (shown_at records) pairs)) pages 0
+    → MatchOption second (NonePasses (fits pairs pages low WINDOW_END)) (λ (page : Page). IsLeast (fits pairs pages low WINDOW_END) page.0)
+    → page_number second ≡ place_low bounds (areas_shown (map (shown_at records) pairs)) pages
 low_placed records bounds pages low pairs first second spans found is same more =
     let areas : List Record = areas_shown (map (shown_at records) pairs) in
     let high : None ≡ high_place bounds areas pages = sym (ap page_number is) ∙ high_found records bounds pages pairs first spans found in

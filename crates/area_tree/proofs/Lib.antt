@@ -6,3 +6,4 @@ pub mod Above
 pub mod Fitting
 pub mod Changing
 pub mod Holding
+pub mod Unsealed

@@ -11,7 +11,7 @@ use Rattle.std.proofs.lemmas.List.Sorted.{IsPermutation-refl, IsPermutation-sym,
 use Rattle.std.proofs.lemmas.List.Sums.{sum_by-cons}
 use Rattle.mm_types.specs.declared.area.Span.{Span}
 use Rattle.mm_types.specs.declared.area.Record.{Record}
-use Rattle.area_model.specs.Placement.{is_free}
+use Rattle.area_rules.specs.Placement.{is_free}
 use Rattle.maple_node.specs.Trees.{Pair}
 use Rattle.maple_items.specs.Pairs.{overwritten}
 use Rattle.area_slots.specs.Slots.{one_at}

@@ -3,7 +3,7 @@ use Rattle.std.specs.Prelude.{ℕ, ◌≡◌, ◌≤◌, ◌<◌, false, List, [
 use Rattle.mm_types.specs.declared.area.Span.{Span}
 use Rattle.mm_types.specs.declared.area.Prot.{Prot}
 use Rattle.mm_types.specs.declared.area.Record.{Record}
-use Rattle.area_model.specs.declared.placement.Bounds.{Bounds}
+use Rattle.area_rules.specs.declared.placement.Bounds.{Bounds}
 use Rattle.maple_node.specs.Trees.{Pair}
 use Rattle.area_slots.specs.Slots.{one_at}
 use Rattle.span_tree.specs.SpanTrees.{SpanView}

@@ -43,6 +43,7 @@ impl AreaTree {
             records,
             bounds: _,
             count: _,
+            sealed: _,
             mut list,
         } = self;
         append(&tree, records.as_slice(), &mut list);

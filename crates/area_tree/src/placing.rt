@@ -5,7 +5,7 @@ ghost use Rattle.area_tree.specs.AreaTrees.{area_in};
 
 use crate::shown::area_in;
 use crate::tree::AreaTree;
-use area_model::FLOOR;
+use area_rules::{FLOOR, WINDOW_END};
 use mm_types::{Page, Record, Slot};
 use split_merge::Areas;
 
@@ -41,7 +41,16 @@ impl Areas for AreaTree {
         let bounds = self.bounds;
         match self.tree.highest(len, bounds.low, bounds.top) {
             Some(start) => Some(start),
-            None => self.tree.lowest(len, bounds.low.max(FLOOR), bounds.limit),
+            None => self.tree.lowest(len, bounds.low.max(FLOOR), WINDOW_END),
         }
+    }
+
+    fn place_high(&self, len: u64) -> Option<Page> {
+        let bounds = self.bounds;
+        self.tree.highest(len, bounds.low, bounds.limit)
+    }
+
+    fn may_be_sealed(&self) -> bool {
+        self.sealed
     }
 }

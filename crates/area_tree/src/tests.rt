@@ -32,6 +32,7 @@ fn open(rt: &impl Abort, alloc: Global) -> Result<AreaTree, NoMemory>
         limit: ADDRESS_LIMIT,
         areas: 4,
         files: Files::of(Vec::new(alloc)),
+        heap: 0,
     };
     assert!(rt; config.valid());
     let (_nodes, writer, _seats) = NodeTable::new(alloc, 132, 10, 1)?;

@@ -1,17 +1,17 @@
 //! The tree of areas.
-ghost use Rattle.std.specs.Prelude.{◌≡◌, ◌≤◌, ◌<◌, ◌+◌, ◌*◌, ◌^◌, ◌-◌, ◌∷◌, ℕ, true, false, nat_eq, List, [], length, map, replicate, slice_set, Contains, IsPermutation, IfOk};
+ghost use Rattle.std.specs.Prelude.{◌≡◌, ◌≤◌, ◌<◌, ◌+◌, ◌^◌, ◌-◌, ◌∷◌, ℕ, true, false, nat_eq, List, [], length, map, replicate, slice_set, Contains, IsPermutation, IfOk};
 ghost use Rattle.mm_types.specs.declared.area.Record.{Record};
-ghost use Rattle.mm_types.specs.Config.{IsValidConfig};
+ghost use Rattle.mm_types.specs.Config.{IsValidConfig, slots_for};
 ghost use Rattle.area_list.specs.Areas.{page_of};
-ghost use Rattle.area_model.specs.Placement.{bounds_of, is_free};
+ghost use Rattle.area_rules.specs.Placement.{bounds_of, is_free};
 ghost use Rattle.span_tree.specs.SpanTrees.{IsFreshWriter, ArePairs};
 ghost use Rattle.area_tree.specs.declared.shown.Shown.{Shown};
 ghost use Rattle.area_tree.specs.AreaTrees.{no_area, shown_of, areas_of, times_shown, span_of, AreasRise};
 
 use crate::shown::{NO_AREA, Shown};
 use area_list::page_of;
-use area_model::{Bounds, bounds_of};
-use mm_types::{Config, NoMemory, Page, Record, Slot};
+use area_rules::{Bounds, bounds_of};
+use mm_types::{Config, NoMemory, Page, Record, Slot, slots_for};
 use node_slots::NodeWriter;
 use span_tree::SpanTree;
 use std::alloc::Global;
@@ -28,6 +28,8 @@ pub struct AreaTree {
     pub(crate) bounds: Bounds,
     /// How many areas there are.
     pub(crate) count: u64,
+    /// Whether a slot showed a sealed area.
+    pub(crate) sealed: bool,
     /// Where the areas are handed out in order: empty until then.
     pub(crate) list: Vec<Record>,
 }
@@ -45,8 +47,8 @@ impl Model for AreaTree {
 }
 
 impl AreaTree {
-    /// No area, in a table of nodes that was just made, of which the writer is given: it has `config.areas + 128` rows, and
-    /// `2 config.areas + 2` slots.
+    /// No area, in a table of nodes that was just made, of which the writer is given: it has the rows
+    /// and the slots for so many areas.
     pub fn new(alloc: Global, config: &Config, nodes: NodeWriter) -> Result<AreaTree, NoMemory>
         requires config { IsValidConfig config.now }
         requires fresh { IsFreshWriter config.now.areas nodes }
@@ -62,17 +64,18 @@ impl AreaTree {
             changed = false;
             roomy = false;
           };
-          records = replicate (2 * config.now.areas + 2) no_area;
+          records = replicate (slots_for config.now.areas) no_area;
           bounds = bounds_of config.now;
         }) }
     {
         let tree = SpanTree::new(config.areas, Page(page_of(config.limit)), nodes)?;
-        let slots = 2 * config.areas as usize + 2;
+        let slots = slots_for(config.areas) as usize;
         Ok(AreaTree {
             tree,
             records: vec![in alloc; NO_AREA; slots]?,
             bounds: bounds_of(config),
             count: 0,
+            sealed: false,
             list: Vec::with_capacity(alloc, config.areas as usize)?,
         })
     }
@@ -113,6 +116,7 @@ impl AreaTree {
     {
         self.tree.facts();
         self.records[shown.slot as usize] = shown.area;
+        self.sealed |= shown.area.attr.sealed;
     }
 
     /// A slot that shows no area of the tree shows one at free pages.
@@ -120,7 +124,7 @@ impl AreaTree {
         requires roomy { self.old.tree.roomy ≡ true }
         requires span { (shown.area.span.lo < shown.area.span.hi) × (shown.area.span.hi ≤ self.old.tree.limit) }
         requires pages { is_free (areas_of self.old) (shown.area.span.hi - shown.area.span.lo) shown.area.span.lo ≡ true }
-        requires slot { shown.slot < 2 * self.old.tree.areas + 2 }
+        requires slot { shown.slot < slots_for self.old.tree.areas }
         requires free { times_shown shown.slot (shown_of self.old) ≡ 0 }
         requires few { length (areas_of self.old) < self.old.tree.areas }
         ensures shown { IsPermutation (shown ∷ shown_of self.old) (shown_of self.new) }
@@ -131,6 +135,7 @@ impl AreaTree {
     {
         self.tree.facts();
         self.records[shown.slot as usize] = shown.area;
+        self.sealed |= shown.area.attr.sealed;
         self.tree.store(shown.area.span, Some(Slot(shown.slot)));
         self.count += 1;
     }
@@ -188,7 +193,7 @@ impl AreaTree {
         ensures rise { AreasRise self.now.tree.limit 0 (areas_of self.now) }
         ensures few { length (areas_of self.now) ≤ self.now.tree.areas }
         ensures spans { map span_of self.now.tree.pairs ≡ map (λ area. area.span) (areas_of self.now) }
-        ensures slots { length self.now.records ≡ 2 * self.now.tree.areas + 2 }
+        ensures slots { length self.now.records ≡ slots_for self.now.tree.areas }
         ensures limit { self.now.bounds.limit ≡ self.now.tree.limit }
     {
         self.tree.facts();

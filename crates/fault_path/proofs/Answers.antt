@@ -1,10 +1,11 @@
 -- For `fault_fast`: an answer from the area that is locked.
-use Rattle.std.proofs.Common.{ℕ, ◌≡◌, ◌∙◌, List, length, sym, ap, subst}
+use Rattle.std.proofs.Common.{ℕ, ◌≡◌, ◌∙◌, List, length, Contains, sym, ap, subst}
 use Rattle.mm_types.specs.declared.area.Access.{Access}
 use Rattle.mm_types.specs.declared.area.Record.{Record}
 use Rattle.mm_types.specs.declared.area.Verdict.{Verdict}
 use Rattle.mm_types.specs.declared.files.FileRow.{FileRow}
-use Rattle.area_model.specs.Verdicts.{area_verdict, verdict}
+use Rattle.area_list.specs.Areas.{IsSound}
+use Rattle.area_rules.specs.Verdicts.{area_verdict}
 use Rattle.lock_core.specs.Facts.{list_after}
 use Rattle.vma_lock.specs.declared.view.View.{View}
 use Rattle.vma_lock.specs.Seats.{view}
@@ -55,17 +56,16 @@ pub answered : (page : ℕ) (access : Access) (answer : Verdict) (version : ℕ)
     → answer ≡ area_verdict files page access area → files ≡ (config new).files → version ≡ length (seen_by new)
     → IsAnswer page access answer version old new
 answered page access answer version area files old new held locked found sub gives files_are version_is =
-    let config_is : config new ≡ held.config = ap (λ (v : View). v.config) sub in
-    let seen_is : seen_by new ≡ held.seen = ap (λ (v : View). v.seen) sub in
     let gives' : answer ≡ area_verdict (config new).files page access area = gives ∙ ap (λ fs. area_verdict fs page access area) files_are in
     record {
       area = area;
       found = sub_found page area (view old.reader) held (view new.reader) (walker new) found sub;
       gives = gives';
       version_is = version_is;
-      right = gives' ∙ member_verdict held.config (config new).files (list_after held.config held.seen) area page access locked.sound locked.member found.holds.has
-          ∙ ap (λ areas. verdict (config new).files areas page access)
-          (ap (λ s. list_after s held.seen) (sym config_is) ∙ ap (list_after (config new)) (sym seen_is));
+      right = gives' ∙ member_verdict (config new) (list_after (config new) (seen_by new)) area page access
+          (subst (λ (v : View). IsSound v.config (list_after v.config v.seen)) (sym sub) locked.sound)
+          (subst (λ (v : View). Contains (list_after v.config v.seen) area) (sym sub) locked.member)
+          found.holds.has;
       mapped = λ is. verdict_mapped (config new).files page access area (sym gives' ∙ is);
       serves = λ other index is. verdict_serves (config new).files page access area other index (sym gives' ∙ is);
     }

@@ -9,12 +9,12 @@ use Rattle.lock_core.specs.declared.stage.Stage.{Stage}
 use Rattle.lock_core.specs.declared.stage.Stage.TheVariants.{Out, Holds, Valid, Gone}
 use Rattle.lock_core.specs.Facts.{list_after}
 use Rattle.lock_core.specs.Rows.{IsRowOf}
-use Rattle.area_model.specs.Steps.{IsLegalJournal}
+use Rattle.area_rules.specs.Steps.{IsLegalJournal}
 use Rattle.vma_lock.specs.declared.view.View.{View}
 use Rattle.vma_lock.specs.Plays.{Sees, LooksAt}
 use Rattle.vma_lock.specs.Seats.{is_validated, row_of}
 use Rattle.vma_lock.specs.Views.{look_at}
-use Rattle.area_model.specs.Journals.{calls_by}
+use Rattle.area_rules.specs.Journals.{calls_by}
 use Rattle.vma_lock.specs.Seats.{view, HasTurn}
 use Rattle.fault_path.specs.Passes.{PassView, caller, seen_by, walker}
 use Rattle.fault_path.specs.Faults.{WalksOnce, IsFound}

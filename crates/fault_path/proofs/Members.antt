@@ -21,9 +21,11 @@ use Rattle.area_list.specs.Areas.{area_at, has_page, IsSound, index_of}
 use Rattle.area_list.proofs.Elements.{Pairs}
 use Rattle.area_list.proofs.Parts.{Apart}
 use Rattle.area_list.proofs.Order.{pairs_from_canonical}
-use Rattle.area_model.specs.Steps.{after, IsReady}
-use Rattle.area_model.specs.Verdicts.{permits, is_past_end, area_verdict, verdict}
-use Rattle.area_model.proofs.Journals.{after_ready}
+use Rattle.area_rules.specs.Steps.{after, IsReady}
+use Rattle.area_rules.specs.Accesses.{permits}
+use Rattle.area_rules.specs.Growing.{grower}
+use Rattle.area_rules.specs.Verdicts.{is_past_end, area_verdict, unmapped_verdict, verdict}
+use Rattle.area_rules.proofs.Journals.{after_ready}
 use Rattle.lock_core.specs.Facts.{list_after}
 use Rattle.lock_core.specs.Rows.{IsRowOf}
 use Rattle.lock_core.proofs.Reading.{row_after}
@@ -63,11 +65,12 @@ member_at config areas area page sound member has =
     find_at areas member.0 area page (pairs_from_canonical _ areas sound.canonical) member.1 member.2 has
 
 -- so its verdict is that over the list
-pub member_verdict : (config : Config) (files : List FileRow) (areas : List Record) (area : Record) (page : ℕ) (access : Access) → IsSound config areas
-    → Contains areas area → has_page area.span page ≡ true → area_verdict files page access area ≡ verdict files areas page access
+pub member_verdict : (config : Config) (areas : List Record) (area : Record) (page : ℕ) (access : Access) → IsSound config areas
+    → Contains areas area → has_page area.span page ≡ true → area_verdict config.files page access area ≡ verdict config areas page access
 unfolding verdict
-member_verdict config files areas area page access sound member has =
-    sym (ap (λ (o : Option Record). option_map_or (area_verdict files page access) o MapErr) (member_at config areas area page sound member has))
+member_verdict config areas area page access sound member has =
+    sym (ap (λ (o : Option Record). option_map_or (area_verdict config.files page access) o (unmapped_verdict (grower config areas page)))
+    (member_at config areas area page sound member has))
 
 -- the verdict of an area is never that no area has the page
 pub verdict_mapped : (files : List FileRow) (page : ℕ) (access : Access) (area : Record) → area_verdict files page access area ≢ MapErr

@@ -7,7 +7,7 @@ use Rattle.mm_types.specs.declared.area.Verdict.{Verdict}
 use Rattle.mm_types.specs.declared.area.Verdict.TheVariants.{Served, MapErr}
 use Rattle.mm_types.specs.Packed.{unpacked}
 use Rattle.area_list.specs.Areas.{has_page}
-use Rattle.area_model.specs.Verdicts.{area_verdict, verdict}
+use Rattle.area_rules.specs.Verdicts.{area_verdict, verdict}
 use Rattle.lock_core.specs.Rows.{is_detached}
 use Rattle.lock_core.specs.Facts.{list_after}
 use Rattle.maple_read.specs.Walks.{slot_at}
@@ -113,7 +113,7 @@ pub record IsAnswer (page : ℕ) (access : Access) (answer : Verdict) (version :
   pub found : IsFound page area (view old.reader) (view new.reader) (walker new)
   pub gives : answer ≡ area_verdict (config new).files page access area
   pub version_is : version ≡ length (seen_by new)
-  pub right : answer ≡ verdict (config new).files (list_after (config new) (seen_by new)) page access
+  pub right : answer ≡ verdict (config new) (list_after (config new) (seen_by new)) page access
   pub mapped : answer ≢ MapErr
   pub serves : (other : Record) (index : ℕ) → answer ≡ Served other index → other ≡ area
 

@@ -3,8 +3,8 @@ use Rattle.std.specs.Prelude.{ℕ, ◌≡◌, ◌≤◌, ◌+◌, true, length, 
 use Rattle.mm_types.specs.declared.area.Record.{Record}
 use Rattle.mm_types.specs.Config.{IsValidConfig}
 use Rattle.area_list.specs.Areas.{has_page}
-use Rattle.area_model.specs.Journals.{version_of, IsReadRight}
-use Rattle.area_model.specs.Steps.{IsLegalJournal}
+use Rattle.area_rules.specs.Journals.{version_of, IsReadRight}
+use Rattle.area_rules.specs.Steps.{IsLegalJournal}
 use Rattle.atomic_table.specs.Seated.{TableId}
 use Rattle.vma_lock.specs.Seats.{view, HasTurn}
 use Rattle.node_slots.specs.Seats as node_seats

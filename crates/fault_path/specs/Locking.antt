@@ -3,8 +3,8 @@ use Rattle.std.specs.Prelude.{ℕ, ◌≡◌, true, List, Contains, Some}
 use Rattle.mm_types.specs.declared.area.Record.{Record}
 use Rattle.mm_types.specs.Packed.{unpacked}
 use Rattle.area_list.specs.Areas.{IsSound}
-use Rattle.area_model.specs.Journals.{calls_by}
-use Rattle.area_model.specs.Steps.{IsLegalJournal}
+use Rattle.area_rules.specs.Journals.{calls_by}
+use Rattle.area_rules.specs.Steps.{IsLegalJournal}
 use Rattle.lock_core.specs.Core.{StartsWith}
 use Rattle.lock_core.specs.Facts.{list_after}
 use Rattle.maple_read.specs.Walks.{slot_at}

@@ -4,9 +4,9 @@ use Rattle.mm_types.specs.declared.call.Entry.{Entry}
 use Rattle.mm_types.specs.declared.call.Seen.{Seen}
 use Rattle.mm_types.specs.declared.config.Config.{Config}
 use Rattle.mm_types.specs.declared.files.FileRow.{FileRow}
-use Rattle.mm_types.specs.Config.{IsValidConfig}
-use Rattle.area_model.specs.Journals.{calls_by, version_of, IsReadRight}
-use Rattle.area_model.specs.Steps.{IsLegalJournal}
+use Rattle.mm_types.specs.Config.{IsValidConfig, rows_for, slots_for}
+use Rattle.area_rules.specs.Journals.{calls_by, version_of, IsReadRight}
+use Rattle.area_rules.specs.Steps.{IsLegalJournal}
 use Rattle.lock_core.specs.declared.stage.Stage.TheVariants.{Out}
 use Rattle.lock_core.specs.Core.{StartsWith}
 use Rattle.atomic_table.specs.Seated.{TableId}
@@ -29,7 +29,7 @@ pub record ViewedTable : Type 0 where
 
 -- how large the table of nodes is: it has rows and slots enough for the areas of a call's list before and after it
 abbrev pub node_size : Config → ℕ → Size
-node_size config callers = record { rows = config.areas + 128; slots = 2 * config.areas + 2; readers = callers }
+node_size config callers = record { rows = rows_for config.areas; slots = slots_for config.areas; readers = callers }
 
 -- what a view of tables keeps: its configuration is valid, it has the files of the configuration, and the table of nodes has
 -- the size that goes with it
@@ -41,7 +41,7 @@ pub record IsViewed (settings : Config) (size : Size) (files : List FileRow) : T
 -- the writer of a new table of nodes: tree 0 is present in row 0, and all other rows are free
 pub record IsNewWriter (settings : Config) (callers : ℕ) (writer : NodeWriter) : Type 0 where
   pub view : node_seats.sight writer ≡ opened_view (node_size settings callers) callers
-  pub free : IsFreeFrom 1 (settings.areas + 128) (node_seats.free_of writer)
+  pub free : IsFreeFrom 1 (rows_for settings.areas) (node_seats.free_of writer)
   pub left : node_seats.left_of writer ≡ []
 
 -- a pass as contracts see it: the seats at both tables, the reads so far, how many operations are left, and how many it was

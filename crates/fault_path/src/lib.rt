@@ -2,7 +2,6 @@
 //! caller's seats at the table of areas and at the table of nodes, the log of what it read, and how many operations it has left.
 #![tactic(auto)]
 
-mod copying;
 mod fast;
 mod held;
 mod locking;

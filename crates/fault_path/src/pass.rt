@@ -1,7 +1,7 @@
 //! The pass of a caller.
 ghost use Rattle.std.specs.Prelude.{◌≡◌, ◌≤◌, ◌<◌, ◌+◌, ◌-◌, ◌^◌, ◌++◌, ◌∷◌, [], length, min, All, AllPairs, IfOk};
-ghost use Rattle.area_model.specs.Journals.{version_of, IsReadRight};
-ghost use Rattle.area_model.specs.Steps.{IsLegalJournal};
+ghost use Rattle.area_rules.specs.Journals.{version_of, IsReadRight};
+ghost use Rattle.area_rules.specs.Steps.{IsLegalJournal};
 ghost use Rattle.lock_core.specs.declared.stage.Stage.TheVariants.{Out};
 ghost use Rattle.vma_lock.specs.Seats.{seen, stage, HasTurn};
 ghost use Rattle.node_slots.specs.Seats.{IsClosed};

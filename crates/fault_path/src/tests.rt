@@ -108,7 +108,7 @@ fn a_held_area_stays(rt: HostRuntime) -> Result<(), Fail> {
         mut writer,
         config: _,
         list: _,
-        objects: _,
+        counters: _,
     } = bench;
     let Ok(mut held) = view.read_lock(pass, PAGE) else {
         panic!(rt; "the area is not locked")
@@ -138,6 +138,7 @@ fn config(alloc: Global) -> Config
         limit: ADDRESS_LIMIT,
         areas: 1,
         files: Files::of(Vec::new(alloc)),
+        heap: 0,
     }
 }
 

@@ -12,13 +12,12 @@ ghost use Rattle.fault_path.specs.Passes.{caller, config, seen_by, looks_of, mad
 ghost use Rattle.fault_path.specs.Faults.{WalksOnce, IsFast, Misses};
 ghost use Rattle.fault_path.specs.Holding.{Locks, StaysAlike};
 
-use crate::copying::copy_files;
 use crate::fast::{Fast, Miss};
 use crate::held::Held;
 use crate::locking::lock_page;
 use crate::pass::Pass;
-use area_model::area_verdict;
-use mm_types::{Access, Config, Files, NoMemory, Page, Seen};
+use area_rules::area_verdict;
+use mm_types::{Access, Config, Files, NoMemory, Page, Seen, rows_for, slots_for};
 use node_slots::{NodeSeat, NodeTable, NodeWriter};
 use std::alloc::Global;
 use std::marker::Model;
@@ -77,12 +76,12 @@ impl FaultView {
         let (table, writer, seats) = VmaTable::new(alloc, config, callers)?;
         let (nodes, node_writer, walkers) = NodeTable::new(
             alloc,
-            config.areas + 128,
-            2 * config.areas + 2,
+            rows_for(config.areas),
+            slots_for(config.areas),
             callers,
         )?;
         let passes = passes_of(alloc, &table, &nodes, config, seats, walkers, operations)?;
-        let files = copy_files(alloc, &config.files)?;
+        let files = config.files.copy(alloc)?;
         let view = FaultView {
             table,
             nodes,

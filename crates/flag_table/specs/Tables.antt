@@ -4,7 +4,7 @@ use Rattle.std.specs.List.{join_with_byte, slice_split}
 use Rattle.std.specs.Option.{option_map_or}
 use Rattle.std.specs.Prelude.{ℕ, ◌≡◌, ◌==◌, List, [], ◌∷◌, Option, map, option_map, codes, bytes_eq, find, bit_and, bit_or}
 use Rattle.std.specs.Str.{byte}
-use Rattle.mm_types.specs.declared.flags.TheConstants.{PROT_READ, PROT_WRITE, PROT_EXEC, MAP_SHARED, MAP_PRIVATE, MAP_FIXED, MAP_ANONYMOUS, MAP_DENYWRITE, MAP_EXECUTABLE, MAP_NORESERVE, MAP_POPULATE, MAP_STACK, MAP_FIXED_NOREPLACE, MREMAP_MAYMOVE, MREMAP_FIXED, MREMAP_DONTUNMAP}
+use Rattle.mm_types.specs.declared.flags.TheConstants.{PROT_READ, PROT_WRITE, PROT_EXEC, MAP_SHARED, MAP_PRIVATE, MAP_FIXED, MAP_ANONYMOUS, MAP_GROWSDOWN, MAP_DENYWRITE, MAP_EXECUTABLE, MAP_NORESERVE, MAP_POPULATE, MAP_STACK, MAP_FIXED_NOREPLACE, MREMAP_MAYMOVE, MREMAP_FIXED, MREMAP_DONTUNMAP}
 
 -- a flag: its name and its bit
 pub record Row : Type 0 where
@@ -31,8 +31,8 @@ prot_flags = record {
 unfoldable pub map_flags : Table
 map_flags = record {
   rows = flag "MAP_SHARED" MAP_SHARED ∷ flag "MAP_PRIVATE" MAP_PRIVATE ∷ flag "MAP_FIXED" MAP_FIXED ∷ flag "MAP_ANONYMOUS" MAP_ANONYMOUS
-      ∷ flag "MAP_DENYWRITE" MAP_DENYWRITE ∷ flag "MAP_EXECUTABLE" MAP_EXECUTABLE ∷ flag "MAP_NORESERVE" MAP_NORESERVE
-      ∷ flag "MAP_POPULATE" MAP_POPULATE ∷ flag "MAP_STACK" MAP_STACK ∷ flag "MAP_FIXED_NOREPLACE" MAP_FIXED_NOREPLACE ∷ [];
+      ∷ flag "MAP_GROWSDOWN" MAP_GROWSDOWN ∷ flag "MAP_DENYWRITE" MAP_DENYWRITE ∷ flag "MAP_EXECUTABLE" MAP_EXECUTABLE
+      ∷ flag "MAP_NORESERVE" MAP_NORESERVE ∷ flag "MAP_POPULATE" MAP_POPULATE ∷ flag "MAP_STACK" MAP_STACK ∷ flag "MAP_FIXED_NOREPLACE" MAP_FIXED_NOREPLACE ∷ [];
   zero = codes "0";
 }
 

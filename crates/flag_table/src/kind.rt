@@ -1,9 +1,9 @@
 //! The rows of the three tables.
 
 use mm_types::{
-    MAP_ANONYMOUS, MAP_DENYWRITE, MAP_EXECUTABLE, MAP_FIXED, MAP_FIXED_NOREPLACE, MAP_NORESERVE,
-    MAP_POPULATE, MAP_PRIVATE, MAP_SHARED, MAP_STACK, MREMAP_DONTUNMAP, MREMAP_FIXED,
-    MREMAP_MAYMOVE, PROT_EXEC, PROT_READ, PROT_WRITE,
+    MAP_ANONYMOUS, MAP_DENYWRITE, MAP_EXECUTABLE, MAP_FIXED, MAP_FIXED_NOREPLACE, MAP_GROWSDOWN,
+    MAP_NORESERVE, MAP_POPULATE, MAP_PRIVATE, MAP_SHARED, MAP_STACK, MREMAP_DONTUNMAP,
+    MREMAP_FIXED, MREMAP_MAYMOVE, PROT_EXEC, PROT_READ, PROT_WRITE,
 };
 
 /// Calls a macro on the rows of a table, each a name and its bit, in the order in which they are printed.
@@ -18,6 +18,7 @@ macro_rules! rows {
             "MAP_PRIVATE" = MAP_PRIVATE,
             "MAP_FIXED" = MAP_FIXED,
             "MAP_ANONYMOUS" = MAP_ANONYMOUS,
+            "MAP_GROWSDOWN" = MAP_GROWSDOWN,
             "MAP_DENYWRITE" = MAP_DENYWRITE,
             "MAP_EXECUTABLE" = MAP_EXECUTABLE,
             "MAP_NORESERVE" = MAP_NORESERVE,
@@ -70,7 +71,7 @@ pub enum Kind {
 pub const PROT_BITS: [u32; 3] = rows!(Prot, bits, ());
 
 /// The bits of the flags of mmap(2), in the order of their table.
-pub const MAP_BITS: [u32; 10] = rows!(Map, bits, ());
+pub const MAP_BITS: [u32; 11] = rows!(Map, bits, ());
 
 /// The bits of the flags of mremap(2), in the order of their table.
 pub const MREMAP_BITS: [u32; 3] = rows!(Mremap, bits, ());

@@ -46,7 +46,7 @@ pub fn prot_table() -> FlagTable<3>
 
 /// The flags of mmap(2).
 #[tactic(auto, unfolding(crate::specs::Tables::map_flags))]
-pub fn map_table() -> FlagTable<10>
+pub fn map_table() -> FlagTable<11>
     ensures { result ≡ map_flags }
 {
     FlagTable {
@@ -183,6 +183,10 @@ mod tests {
             0x10_0000
         );
         assert_eq!(rt;
+            map_table().read(rt.alloc(), "MAP_GROWSDOWN|MAP_STACK")?,
+            0x2_0100
+        );
+        assert_eq!(rt;
             mremap_table().read(rt.alloc(), "MREMAP_FIXED|MREMAP_MAYMOVE")?,
             3
         );
@@ -240,6 +244,10 @@ mod tests {
         assert_eq!(rt;
             map.print(rt.alloc(), 0x22)?.as_str(),
             "MAP_PRIVATE|MAP_ANONYMOUS"
+        );
+        assert_eq!(rt;
+            map.print(rt.alloc(), 0x922)?.as_str(),
+            "MAP_PRIVATE|MAP_ANONYMOUS|MAP_GROWSDOWN|MAP_DENYWRITE"
         );
         Ok(())
     }

@@ -1,5 +1,5 @@
 -- For `loads_are_traces`: the words of each operation are read as that operation.
-use Rattle.std.proofs.Common.{◌≡◌, ℕ, ◌*◌, ◌/◌, ◌^◌, ◌<◌, ◌≤◌, Bool, true, false, nat_eq, List, [], ◌∷◌, length, codes, All, negsuc, Ok, refl, ap, arith, if◌then◌else◌, lit<, lit≤, ◌&&◌, nat_lt}
+use Rattle.std.proofs.Common.{◌≡◌, ℕ, ◌*◌, ◌/◌, ◌^◌, ◌<◌, ◌≤◌, Bool, true, false, nat_eq, List, [], ◌∷◌, length, codes, All, negsuc, Result, Ok, refl, ap, arith, if◌then◌else◌, lit<, lit≤, ◌&&◌, nat_lt}
 use Rattle.std.specs.Fmt.{signed_decimal}
 use Rattle.std.proofs.lemmas.Bool.{cond_both, and_parts, ltb-true}
 use Rattle.std.proofs.lemmas.Fmt.{decimal_digit, length-decimal-le}
@@ -13,10 +13,11 @@ use Rattle.mm_types.specs.declared.flags.TheConstants.{MREMAP_MAYMOVE}
 use Rattle.flag_table.specs.Printing.{printed}
 use Rattle.flag_table.specs.Reading.{reading, is_zero, read_words}
 use Rattle.flag_table.specs.Tables.{Table, prot_flags, map_flags, mremap_flags}
+use Rattle.trace_reader.specs.declared.fault.Cause.{Cause}
 use Rattle.trace_reader.specs.declared.trace.Op.{Op}
 use Rattle.trace_reader.specs.declared.trace.Op.TheVariants as ops
 use Rattle.trace_reader.specs.Calls.{mmap, mmap_of, munmap_of, mprotect, mprotect_of, mremap, mremap_of, moved, number_if, call_named, called, fault_of, op_named, op_of}
-use Rattle.trace_reader.specs.Fields.{mapped_descriptor, access, flags, prot, prot_of_bits}
+use Rattle.trace_reader.specs.Fields.{mapped_descriptor, access, flags, mmap_flags, prot, prot_of_bits}
 use Rattle.trace_reader.specs.Lines.{is_maps}
 use Rattle.gen_load.specs.LineTexts.{prot_word, access_word, call_words, op_words}
 use Rattle.gen_load.specs.Loads.{address_of, length_of, prot_bits_of, new_length_of, mapping, exactly, anywhere, operation}
@@ -60,21 +61,21 @@ prot_by_parts false false false = record { reads = refl; word = written _ (lit< 
 prot_is_word : (protection : Prot) → IsProtWord protection
 prot_is_word protection = prot_by_parts protection.read protection.write protection.exec
 
--- so are flags
-record IsFlagWord (table : Table) (bits : ℕ) : Type 0 where
-  reads : flags table (printed table bits) ≡ Ok bits
+-- so are flags of a table, by what reads its names
+record IsFlagWord (read : List ℕ → Result ℕ Cause) (table : Table) (bits : ℕ) : Type 0 where
+  reads : read (printed table bits) ≡ Ok bits
   word : IsWord (printed table bits)
   short : length (printed table bits) ≤ 35
 
-exactly_is_word : IsFlagWord map_flags exactly
-unfolding flags reading is_zero read_words printed map_flags
+exactly_is_word : IsFlagWord mmap_flags map_flags exactly
+unfolding mmap_flags flags reading is_zero read_words printed map_flags
 exactly_is_word = record { reads = refl; word = written _ (lit< tt) refl; short = lit≤ tt }
 
-anywhere_is_word : IsFlagWord map_flags anywhere
-unfolding flags reading is_zero read_words printed map_flags
+anywhere_is_word : IsFlagWord mmap_flags map_flags anywhere
+unfolding mmap_flags flags reading is_zero read_words printed map_flags
 anywhere_is_word = record { reads = refl; word = written _ (lit< tt) refl; short = lit≤ tt }
 
-may_move_is_word : IsFlagWord mremap_flags MREMAP_MAYMOVE
+may_move_is_word : IsFlagWord (flags mremap_flags) mremap_flags MREMAP_MAYMOVE
 unfolding flags reading is_zero read_words printed mremap_flags
 may_move_is_word = record { reads = refl; word = written _ (lit< tt) refl; short = lit≤ tt }
 
@@ -104,7 +105,7 @@ pub record IsReadable (op : Op) : Type 0 where
   pub no_maps : is_maps op ≡ false
   pub room : room_of (op_words op) ≤ 130
 
-mapping-readable : (address bits draw : ℕ) → address < 2 ^ 64 → IsFlagWord map_flags bits → IsReadable (mapping address bits draw)
+mapping-readable : (address bits draw : ℕ) → address < 2 ^ 64 → IsFlagWord mmap_flags map_flags bits → IsReadable (mapping address bits draw)
 unfolding mapping op_words call_words op_of op_named called call_named mmap_of mmap
 mapping-readable address bits draw fits flag =
     let protection = prot_is_word (prot_of_bits (prot_bits_of draw)) in

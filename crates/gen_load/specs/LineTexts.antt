@@ -7,7 +7,7 @@ use Rattle.mm_types.specs.declared.area.Access.{Access}
 use Rattle.mm_types.specs.declared.area.Access.TheVariants.{Read, Write, Exec}
 use Rattle.mm_types.specs.declared.area.Prot.{Prot}
 use Rattle.mm_types.specs.declared.call.Call.{Call}
-use Rattle.mm_types.specs.declared.call.Call.TheVariants.{Mmap, Munmap, Mprotect, Mremap}
+use Rattle.mm_types.specs.declared.call.Call.TheVariants.{Mmap, Munmap, Mprotect, Mremap, Touch, Brk, Mseal}
 use Rattle.mm_types.specs.declared.config.TheConstants.{PAGE_SIZE}
 use Rattle.mm_types.specs.declared.flags.TheConstants.{PROT_READ, PROT_WRITE, PROT_EXEC, MREMAP_FIXED}
 use Rattle.mm_types.specs.Flags.{has_flag}
@@ -36,7 +36,7 @@ access_word Read = codes "r"
 access_word Write = codes "w"
 access_word Exec = codes "x"
 
--- the words of a call
+-- the words of a call; a trace has none for the last three yet
 unfoldable pub call_words : Call → List (List ℕ)
 call_words (Mmap args) = codes "mmap" ∷ address_word args.addr ∷ decimal args.len ∷ prot_word args.prot
     ∷ printed map_flags args.flags ∷ signed_decimal args.fd ∷ decimal args.offset ∷ []
@@ -44,6 +44,9 @@ call_words (Munmap addr len) = codes "munmap" ∷ address_word addr ∷ decimal 
 call_words (Mprotect addr len prot) = codes "mprotect" ∷ address_word addr ∷ decimal len ∷ prot_word prot ∷ []
 call_words (Mremap old old_len new_len flags new) = codes "mremap" ∷ address_word old ∷ decimal old_len ∷ decimal new_len
     ∷ printed mremap_flags flags ∷ (if has_flag flags MREMAP_FIXED then address_word new ∷ [] else [])
+call_words (Touch page access) = []
+call_words (Brk addr) = []
+call_words (Mseal addr len flags) = []
 
 -- the words of an operation: its name, and the words of its form
 unfoldable pub op_words : Op → List (List ℕ)

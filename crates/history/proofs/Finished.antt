@@ -12,7 +12,7 @@ use Rattle.mm_types.specs.declared.config.Config.{Config}
 use Rattle.trace_reader.specs.declared.trace.Op.{Op}
 use Rattle.trace_reader.specs.declared.trace.TraceLine.{TraceLine}
 use Rattle.stable_sort.proofs.Sorting.{Rises}
-use Rattle.area_model.specs.Journals.{calls_by}
+use Rattle.area_rules.specs.Journals.{calls_by}
 use Rattle.history.specs.declared.items.Content.{Content}
 use Rattle.history.specs.declared.items.Content.TheVariants as contents
 use Rattle.history.specs.declared.items.Item.{Item}

@@ -11,10 +11,10 @@ use Rattle.mm_types.specs.declared.call.Reply.{Reply}
 use Rattle.mm_types.specs.declared.config.Config.{Config}
 use Rattle.trace_reader.specs.declared.trace.Op.{Op}
 use Rattle.trace_reader.specs.declared.trace.TraceLine.{TraceLine}
-use Rattle.area_model.specs.Tables.{AddressSpace}
-use Rattle.area_model.specs.Verdicts.{verdict}
-use Rattle.area_model.specs.Steps.{step, opening, after}
-use Rattle.area_model.specs.Journals.{IsReadRight}
+use Rattle.area_rules.specs.Tables.{AddressSpace}
+use Rattle.area_rules.specs.Verdicts.{verdict}
+use Rattle.area_rules.specs.Steps.{step, opening, after}
+use Rattle.area_rules.specs.Journals.{IsReadRight}
 use Rattle.history.specs.declared.items.Content.{Content}
 use Rattle.history.specs.declared.items.Content.TheVariants as contents
 use Rattle.history.specs.declared.items.Item.{Item}
@@ -32,7 +32,7 @@ right_is_answer : (config : Config) (journal : List Entry) (space : AddressSpace
 right_is_answer config journal space (contents.Called call reply) here right =
     ap (λ (r : Reply). contents.Called call r) (right ∙ ap (λ (s : AddressSpace). (step config s call).reply) here)
 right_is_answer config journal space (contents.Fault page access found) here right =
-    ap (λ (v : Verdict). contents.Fault page access v) (right ∙ ap (λ (s : AddressSpace). verdict config.files s.areas page.0 access) here)
+    ap (λ (v : Verdict). contents.Fault page access v) (right ∙ ap (λ (s : AddressSpace). verdict config s.areas page.0 access) here)
 right_is_answer config journal space (contents.List areas) here right =
     ap (λ (l : List Record). contents.List l) (right ∙ ap (λ (s : AddressSpace). s.areas) here)
 

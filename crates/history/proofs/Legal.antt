@@ -8,8 +8,8 @@ use Rattle.mm_types.specs.declared.call.Entry.{Entry}
 use Rattle.mm_types.specs.declared.call.Seen.{Seen}
 use Rattle.mm_types.specs.declared.config.Config.{Config}
 use Rattle.trace_reader.specs.declared.trace.TraceLine.{TraceLine}
-use Rattle.area_model.specs.Steps.{IsLegalJournal}
-use Rattle.area_model.specs.Journals.{calls_by, IsReadRight}
+use Rattle.area_rules.specs.Steps.{IsLegalJournal}
+use Rattle.area_rules.specs.Journals.{calls_by, IsReadRight}
 use Rattle.history.specs.declared.items.Content.{Content}
 use Rattle.history.specs.declared.items.Content.TheVariants as contents
 use Rattle.history.specs.declared.items.Item.{Item}

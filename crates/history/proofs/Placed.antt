@@ -8,8 +8,8 @@ use Rattle.mm_types.specs.declared.call.Entry.{Entry}
 use Rattle.mm_types.specs.declared.call.Seen.{Seen}
 use Rattle.mm_types.specs.declared.call.Seen.TheVariants as reads
 use Rattle.mm_types.specs.declared.config.Config.{Config}
-use Rattle.area_model.specs.Steps.{step, after, IsLegalJournal}
-use Rattle.area_model.specs.Journals.{IsReadRight}
+use Rattle.area_rules.specs.Steps.{step, after, IsLegalJournal}
+use Rattle.area_rules.specs.Journals.{IsReadRight}
 use Rattle.stable_sort.proofs.Sorting.{Rises, Rises-sort_by}
 use Rattle.history.specs.declared.items.Content.{Content}
 use Rattle.history.specs.declared.items.Content.TheVariants as contents

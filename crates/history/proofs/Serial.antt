@@ -12,9 +12,9 @@ use Rattle.history.specs.declared.items.Item.{Item}
 use Rattle.trace_reader.specs.declared.trace.Op.{Op}
 use Rattle.trace_reader.specs.declared.trace.Op.TheVariants as ops
 use Rattle.trace_reader.specs.declared.trace.TraceLine.{TraceLine}
-use Rattle.area_model.specs.Tables.{AddressSpace}
-use Rattle.area_model.specs.Verdicts.{verdict}
-use Rattle.area_model.specs.Steps.{step, opening, after}
+use Rattle.area_rules.specs.Tables.{AddressSpace}
+use Rattle.area_rules.specs.Verdicts.{verdict}
+use Rattle.area_rules.specs.Steps.{step, opening, after}
 use Rattle.history.specs.Histories.{caller_of, lines_of, items_of, op_of, asks_call, is_call, entry_of, journal_of, line_of, CanStand, IsRight, IsLegalHistory, answer_of, space_after, version_after, items_from, space_after_all, answered_by}
 
 -- the item of a line
@@ -107,7 +107,7 @@ stands_more config before space version caller now (ops.Call call) stands =
       counted = ap (λ (j : List Entry). length j) more ∙ length-append (journal_of before) (entry ∷ []) ∙ ap (λ (n : ℕ). n + 1) stands.counted;
     }
 stands_more config before space version caller now (ops.Fault page access) stands =
-    let item : Item = record { caller = caller; version = now; content = contents.Fault page access (verdict config.files space.areas page.0 access) } in
+    let item : Item = record { caller = caller; version = now; content = contents.Fault page access (verdict config space.areas page.0 access) } in
     let same : journal_of (before ++ item ∷ []) ≡ journal_of before = journal_more before item ∙ append-nil (journal_of before) in
     record { reached = ap (λ (j : List Entry). after config j) same ∙ stands.reached; counted = ap (λ (j : List Entry). length j) same ∙ stands.counted }
 stands_more config before space version caller now ops.Maps stands =
@@ -118,7 +118,7 @@ stands_more config before space version caller now ops.Maps stands =
 -- the answer of a line is right where the journal leads to its address space
 right_answer : (config : Config) (journal : List Entry) (space : AddressSpace) (op : Op) → after config journal ≡ space → IsRight config journal (answer_of config space op)
 right_answer config journal space (ops.Call call) here = ap (λ (s : AddressSpace). (step config s call).reply) (sym here)
-right_answer config journal space (ops.Fault page access) here = ap (λ (s : AddressSpace). verdict config.files s.areas page.0 access) (sym here)
+right_answer config journal space (ops.Fault page access) here = ap (λ (s : AddressSpace). verdict config s.areas page.0 access) (sym here)
 right_answer config journal space ops.Maps here = ap (λ (s : AddressSpace). s.areas) (sym here)
 
 -- lines, one after another, each with its answer

@@ -11,8 +11,8 @@ use Rattle.history.specs.declared.items.Item.{Item}
 use Rattle.trace_reader.specs.declared.trace.Op.{Op}
 use Rattle.trace_reader.specs.declared.trace.Op.TheVariants as ops
 use Rattle.trace_reader.specs.declared.trace.TraceLine.{TraceLine}
-use Rattle.area_model.specs.Tables.{AddressSpace}
-use Rattle.area_model.specs.Steps.{opening, after}
+use Rattle.area_rules.specs.Tables.{AddressSpace}
+use Rattle.area_rules.specs.Steps.{opening, after}
 use Rattle.mm_types.specs.Sorts.{insert_in_order, sort_by}
 use Rattle.history.specs.Histories.{occurs, caller_of, lines_of, asks_call, is_call, journal_of, line_of, IsLegalHistory, goes_first, gather, answer_of, space_after, version_after, items_from, serial_history, space_after_all, sort_by_caller, leading_reads, after_reads, answered_by, answered}
 use Rattle.history.proofs.CallerOrder.{callers_alike}

@@ -7,7 +7,7 @@ use Rattle.mm_types.specs.declared.call.Entry.{Entry}
 use Rattle.mm_types.specs.declared.call.Seen.{Seen}
 use Rattle.mm_types.specs.declared.call.Seen.TheVariants as reads
 use Rattle.trace_reader.specs.declared.trace.Op.TheVariants as ops
-use Rattle.area_model.specs.Journals.{calls_by, version_of}
+use Rattle.area_rules.specs.Journals.{calls_by, version_of}
 use Rattle.history.specs.declared.items.Content.TheVariants as contents
 use Rattle.history.specs.declared.items.Item.{Item}
 use Rattle.history.specs.Histories.{items_of, op_of, is_call, gather}

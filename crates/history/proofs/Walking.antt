@@ -9,10 +9,10 @@ use Rattle.mm_types.specs.declared.call.Entry.{Entry}
 use Rattle.mm_types.specs.declared.config.Config.{Config}
 use Rattle.trace_reader.specs.declared.trace.Op.{Op}
 use Rattle.trace_reader.specs.declared.trace.TraceLine.{TraceLine}
-use Rattle.area_model.specs.Tables.{AddressSpace}
-use Rattle.area_model.specs.Steps.{opening, after}
-use Rattle.area_model.specs.Verdicts.{verdict}
-use Rattle.area_model.proofs.Journals.{after-nil, after-push}
+use Rattle.area_rules.specs.Tables.{AddressSpace}
+use Rattle.area_rules.specs.Steps.{opening, after}
+use Rattle.area_rules.specs.Verdicts.{verdict}
+use Rattle.area_rules.proofs.Journals.{after-nil, after-push}
 use Rattle.history.specs.declared.answers.Answer.{Answer}
 use Rattle.history.specs.declared.answers.Answer.TheVariants as answers
 use Rattle.history.specs.declared.answers.BadEntry.{BadEntry}

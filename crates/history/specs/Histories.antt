@@ -10,9 +10,9 @@ use Rattle.history.specs.declared.items.Item.{Item}
 use Rattle.trace_reader.specs.declared.trace.Op.{Op}
 use Rattle.trace_reader.specs.declared.trace.Op.TheVariants as ops
 use Rattle.trace_reader.specs.declared.trace.TraceLine.{TraceLine}
-use Rattle.area_model.specs.Tables.{AddressSpace}
-use Rattle.area_model.specs.Verdicts.{verdict}
-use Rattle.area_model.specs.Steps.{step, opening, after}
+use Rattle.area_rules.specs.Tables.{AddressSpace}
+use Rattle.area_rules.specs.Verdicts.{verdict}
+use Rattle.area_rules.specs.Steps.{step, opening, after}
 
 -- whether a thread has a line of the trace
 abbrev pub occurs : List TraceLine → ℕ → Bool
@@ -76,7 +76,7 @@ pub record CanStand (lines : List TraceLine) (before : List Item) (item : Item) 
 -- a content is right after a journal where its reply is the step's, its verdict that of the list, or its list the list
 abbrev pub IsRight : Config → List Entry → Content → Type 0
 IsRight config journal (contents.Called call reply) = reply ≡ (step config (after config journal) call).reply
-IsRight config journal (contents.Fault page access found) = found ≡ verdict config.files (after config journal).areas page.0 access
+IsRight config journal (contents.Fault page access found) = found ≡ verdict config (after config journal).areas page.0 access
 IsRight config journal (contents.List areas) = areas ≡ (after config journal).areas
 
 -- a history is legal and of the trace where each item can stand and is right at its place, and no line is left unanswered
@@ -98,7 +98,7 @@ gather items = sort_stably goes_first items
 -- the answer of a line
 abbrev pub answer_of : Config → AddressSpace → Op → Content
 answer_of config space (ops.Call call) = contents.Called call (step config space call).reply
-answer_of config space (ops.Fault page access) = contents.Fault page access (verdict config.files space.areas page.0 access)
+answer_of config space (ops.Fault page access) = contents.Fault page access (verdict config space.areas page.0 access)
 answer_of config space ops.Maps = contents.List space.areas
 
 -- the address space after a line

@@ -4,8 +4,8 @@ use Rattle.mm_types.specs.declared.call.Entry.{Entry}
 use Rattle.mm_types.specs.declared.call.Seen.{Seen}
 use Rattle.mm_types.specs.declared.config.Config.{Config}
 use Rattle.trace_reader.specs.declared.trace.TraceLine.{TraceLine}
-use Rattle.area_model.specs.Steps.{IsLegalJournal}
-use Rattle.area_model.specs.Journals.{calls_by, IsReadRight}
+use Rattle.area_rules.specs.Steps.{IsLegalJournal}
+use Rattle.area_rules.specs.Journals.{calls_by, IsReadRight}
 use Rattle.history.specs.declared.items.Item.{Item}
 use Rattle.history.specs.Histories.{caller_of, gather}
 use Rattle.history.specs.Runs.{history_of, own_of, ops_of, asked}

@@ -6,8 +6,8 @@ use Rattle.mm_types.specs.declared.call.Seen.TheVariants as reads
 use Rattle.mm_types.specs.declared.config.Config.{Config}
 use Rattle.trace_reader.specs.declared.trace.Op.{Op}
 use Rattle.trace_reader.specs.declared.trace.TraceLine.{TraceLine}
-use Rattle.area_model.specs.Steps.{IsLegalJournal}
-use Rattle.area_model.specs.Journals.{calls_by, version_of, IsReadRight}
+use Rattle.area_rules.specs.Steps.{IsLegalJournal}
+use Rattle.area_rules.specs.Journals.{calls_by, version_of, IsReadRight}
 use Rattle.history.specs.declared.items.Content.{Content}
 use Rattle.history.specs.declared.items.Content.TheVariants as contents
 use Rattle.history.specs.declared.items.Item.{Item}

@@ -8,8 +8,8 @@ ghost use Rattle.mm_types.specs.declared.config.Config.{Config};
 ghost use Rattle.history.specs.declared.answers.BadEntry.{BadEntry};
 ghost use Rattle.history.specs.declared.items.Item.{Item};
 ghost use Rattle.trace_reader.specs.declared.trace.TraceLine.{TraceLine};
-ghost use Rattle.area_model.specs.Tables.{AddressSpace};
-ghost use Rattle.area_model.specs.Steps.{opening, after};
+ghost use Rattle.area_rules.specs.Tables.{AddressSpace};
+ghost use Rattle.area_rules.specs.Steps.{opening, after};
 ghost use Rattle.history.specs.Histories.{occurs, caller_of, asks_call, journal_of, line_of, IsLegalHistory, serial_history, space_after_all, sort_by_caller, leading_reads, after_reads, answered_by, answered};
 ghost use Rattle.history.specs.Checking.{IsRefused};
 

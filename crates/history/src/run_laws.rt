@@ -6,7 +6,7 @@ ghost use Rattle.mm_types.specs.declared.call.Seen.{Seen};
 ghost use Rattle.mm_types.specs.declared.config.Config.{Config};
 ghost use Rattle.trace_reader.specs.declared.trace.Op.TheVariants as ops;
 ghost use Rattle.trace_reader.specs.declared.trace.TraceLine.{TraceLine};
-ghost use Rattle.area_model.specs.Journals.{calls_by, version_of};
+ghost use Rattle.area_rules.specs.Journals.{calls_by, version_of};
 ghost use Rattle.history.specs.Histories.{caller_of, lines_of, op_of, journal_of, IsLegalHistory, serial_history};
 ghost use Rattle.history.specs.Runs.{content_of, own_of, ops_of, history_of, IsRun};
 ghost use Rattle.history.specs.Labels.{label_of, IsSerialRun};

@@ -43,6 +43,22 @@ pub(crate) fn same_call(a: &Call, b: &Call) -> bool
         ) => {
             old == place && old_len == size && new_len == wanted && flags == bits && new == target
         }
+        (
+            Call::Touch { page, access },
+            Call::Touch {
+                page: place,
+                access: kind,
+            },
+        ) => page == place && access == kind,
+        (Call::Brk { addr }, Call::Brk { addr: end }) => addr == end,
+        (
+            Call::Mseal { addr, len, flags },
+            Call::Mseal {
+                addr: place,
+                len: size,
+                flags: bits,
+            },
+        ) => addr == place && len == size && flags == bits,
         _ => false,
     }
 }
@@ -51,7 +67,19 @@ pub(crate) fn same_call(a: &Call, b: &Call) -> bool
 pub(crate) fn same_reply(a: &Reply, b: &Reply) -> bool
     ensures { IsTrue result ↔ (a.now ≡ b.now) }
 {
-    a == b
+    match (a, b) {
+        (Reply::Addr(addr), Reply::Addr(place)) => addr == place,
+        (Reply::Zero, Reply::Zero) => true,
+        (Reply::Refused(errno), Reply::Refused(cause)) => errno == cause,
+        (
+            Reply::Grown { area, index },
+            Reply::Grown {
+                area: other,
+                index: page,
+            },
+        ) => same_area(area, other) && index == page,
+        _ => false,
+    }
 }
 
 /// Whether two verdicts are the same.

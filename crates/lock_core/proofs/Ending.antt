@@ -8,18 +8,19 @@ use Rattle.std.proofs.lemmas.List.{length_push}
 use Rattle.std.proofs.lemmas.List.Sums.{sum_by-cons}
 use Rattle.mm_types.specs.declared.area.Record.{Record}
 use Rattle.mm_types.specs.declared.call.Call.{Call}
+use Rattle.mm_types.specs.declared.call.Counters.{Counters}
 use Rattle.mm_types.specs.declared.call.Entry.{Entry}
 use Rattle.mm_types.specs.declared.call.Reply.{Reply}
 use Rattle.mm_types.specs.declared.config.Config.{Config}
 use Rattle.mm_types.specs.Config.{IsValidConfig}
 use Rattle.mm_types.specs.Packed.{packed}
 use Rattle.mm_types.specs.Records.{IsValid}
-use Rattle.area_model.specs.Tables.{AddressSpace, Outcome}
-use Rattle.area_model.specs.Steps.{step, IsReady, after}
-use Rattle.area_model.specs.Stepped.{space_of}
+use Rattle.area_rules.specs.Tables.{AddressSpace, Outcome}
+use Rattle.area_rules.specs.Steps.{step, IsReady, after}
+use Rattle.area_rules.specs.Tables.{space_of}
 use Rattle.mm_types.specs.Sorts.{sort_by}
 use Rattle.stable_sort.proofs.Sorting.{insert_by}
-use Rattle.area_model.proofs.Journals.{after_ready, after-push, legal-push}
+use Rattle.area_rules.proofs.Journals.{after_ready, after-push, legal-push}
 use Rattle.lock_core.specs.declared.events.LockEvent.TheVariants.{End}
 use Rattle.lock_core.specs.declared.events.StepRefusal.TheVariants.{NotTheList}
 use Rattle.lock_core.specs.declared.stage.SlotState.{SlotState}
@@ -95,33 +96,33 @@ rows_exact slots areas none weight =
     omega (arith, same, sum_by-sort_by first_page weight attached, sum_by-attached weight slots, sum_by-packed weight areas)
 
 -- where a step may be taken
-pub kept_ready : (state : Inside) → IsKept state → length state.protocol.journal < 2 ^ 31 → IsReady state.config (space_of state.list state.objects)
+pub kept_ready : (state : Inside) → IsKept state → length state.protocol.journal < 2 ^ 31 → IsReady state.config (space_of state.list state.counters)
 kept_ready state kept room =
     subst (λ (space : AddressSpace). IsReady state.config space) (sym kept.space) (after_ready state.config state.protocol.journal kept.valid (omega arith))
 
 -- a call that was made is the one that the journal's new entry makes
-pub ended_space : (state : Inside) (caller : ℕ) (call : Call) (areas : List Record) (objects : ℕ) (reply : Reply) → IsKept state
-    → (let made : Outcome = record { space = space_of areas objects; reply = reply } in made ≡ step state.config (space_of state.list state.objects) call)
+pub ended_space : (state : Inside) (caller : ℕ) (call : Call) (areas : List Record) (counters : Counters) (reply : Reply) → IsKept state
+    → (let made : Outcome = record { space = space_of areas counters; reply = reply } in made ≡ step state.config (space_of state.list state.counters) call)
     → (reply ≡ (entry_of state.config state.protocol.journal caller call).reply)
-    × (space_of areas objects ≡ after state.config (state.protocol.journal ++ entry_of state.config state.protocol.journal caller call ∷ []))
-ended_space state caller call areas objects reply kept made =
+    × (space_of areas counters ≡ after state.config (state.protocol.journal ++ entry_of state.config state.protocol.journal caller call ∷ []))
+ended_space state caller call areas counters reply kept made =
     let there = made ∙ ap (λ (space : AddressSpace). step state.config space call) kept.space in (
       ap (λ (o : Outcome). o.reply) there,
       ap (λ (o : Outcome). o.space) there ∙ sym (after-push state.config state.protocol.journal (entry_of state.config state.protocol.journal caller call)),
     )
 
 -- its areas are valid
-pub ended_valid : (config : Config) (journal : List Entry) (areas : List Record) (objects : ℕ) → IsValidConfig config → length journal ≤ 3000000000
-    → space_of areas objects ≡ after config journal → All IsValid areas
-ended_valid config journal areas objects valid few is =
+pub ended_valid : (config : Config) (journal : List Entry) (areas : List Record) (counters : Counters) → IsValidConfig config → length journal ≤ 3000000000
+    → space_of areas counters ≡ after config journal → All IsValid areas
+ended_valid config journal areas counters valid few is =
     subst (λ (l : List Record). All IsValid l) (sym (ap (λ (space : AddressSpace). space.areas) is)) ((after_ready config journal valid few).sound.canonical.valid)
 
 -- a state keeps its fields at the end of a call whose rows show the list after it
-pub kept_end : (state : Inside) (caller : ℕ) (call : Call) (areas : List Record) (objects : ℕ) → IsKept state → nat_eq (state.protocol.seq % 2) 1 ≡ true
-    → space_of areas objects ≡ after state.config (state.protocol.journal ++ entry_of state.config state.protocol.journal caller call ∷ [])
+pub kept_end : (state : Inside) (caller : ℕ) (call : Call) (areas : List Record) (counters : Counters) → IsKept state → nat_eq (state.protocol.seq % 2) 1 ≡ true
+    → space_of areas counters ≡ after state.config (state.protocol.journal ++ entry_of state.config state.protocol.journal caller call ∷ [])
     → first_difference (sorted_rows state.protocol.slots) (map packed areas) ≡ None
-    → IsKept (record state { protocol = after_end state.protocol (entry_of state.config state.protocol.journal caller call); list = areas; objects = objects })
-kept_end state caller call areas objects kept is_open is none = record {
+    → IsKept (record state { protocol = after_end state.protocol (entry_of state.config state.protocol.journal caller call); list = areas; counters = counters })
+kept_end state caller call areas counters kept is_open is none = record {
   valid = kept.valid;
   facts = end_keeps state.config state.protocol entry kept.facts (eqb-true (state.protocol.seq % 2) 1 is_open)
       ((legal-push state.config state.protocol.journal entry).1 (kept.facts.rows.legal, refl))
@@ -156,11 +157,11 @@ difference_is slots shown rows areas items found sorted same same_items is =
     ∙ ap (λ (l : List Record). first_difference rows (map packed l)) (sym same_items) ∙ sym is
 
 -- the same of the list after a call
-pub list_difference_is : (state : Inside) (caller : ℕ) (call : Call) (areas : List Record) (objects : ℕ) (found : Option ℕ)
-    → space_of areas objects ≡ after state.config (state.protocol.journal ++ entry_of state.config state.protocol.journal caller call ∷ [])
+pub list_difference_is : (state : Inside) (caller : ℕ) (call : Call) (areas : List Record) (counters : Counters) (found : Option ℕ)
+    → space_of areas counters ≡ after state.config (state.protocol.journal ++ entry_of state.config state.protocol.journal caller call ∷ [])
     → first_difference (sorted_rows state.protocol.slots) (map packed areas) ≡ found
     → list_difference state.config state.protocol (End caller call) ≡ found
-list_difference_is state caller call areas objects found is same =
+list_difference_is state caller call areas counters found is same =
     ap (λ (space : AddressSpace). first_difference (sorted_rows state.protocol.slots) (map packed space.areas)) (sym is) ∙ same
 
 -- the journal with one more entry is short enough

@@ -5,10 +5,11 @@ use Rattle.std.proofs.lemmas.List.{length-replicate}
 use Rattle.std.proofs.lemmas.List.Folds.{sum_by-replicate}
 use Rattle.mm_types.specs.declared.area.Record.{Record}
 use Rattle.mm_types.specs.declared.config.Config.{Config}
+use Rattle.mm_types.specs.Config.{counters_at_opening}
 use Rattle.mm_types.specs.Packed.{packed}
-use Rattle.area_model.specs.Steps.{opening, after}
-use Rattle.area_model.specs.Stepped.{space_of}
-use Rattle.area_model.proofs.Journals.{after-nil}
+use Rattle.area_rules.specs.Steps.{opening, after}
+use Rattle.area_rules.specs.Tables.{space_of}
+use Rattle.area_rules.proofs.Journals.{after-nil}
 use Rattle.lock_core.specs.declared.stage.SlotState.{SlotState}
 use Rattle.lock_core.specs.declared.stage.Stage.TheVariants.{Out}
 use Rattle.lock_core.specs.Core.{Reader, free_slot, gone_reader, holds}
@@ -63,7 +64,7 @@ opening_facts config readers slots = record {
   seen = each_copy (λ (r : Reader). StartsWith [] r.seen) readers (record { stage = Out; seen = [] }) gone_reader refl refl;
 }
 
--- at first there is no area, and the files are numbered
-pub opening_space : (config : Config) → space_of [] (length config.files) ≡ after config []
+-- at first there is no area, the files are numbered, and the heap is empty
+pub opening_space : (config : Config) → space_of [] (counters_at_opening config) ≡ after config []
 unfolding opening
 opening_space config = sym (after-nil config)

@@ -5,7 +5,7 @@ use Rattle.std.proofs.lemmas.Bool.{eqb-true, eqb-false, leb-false}
 use Rattle.std.proofs.lemmas.List.{length-set}
 use Rattle.std.proofs.lemmas.List.Sums.{count_by-le-length}
 use Rattle.mm_types.specs.declared.config.Config.{Config}
-use Rattle.area_model.specs.Steps.{after}
+use Rattle.area_rules.specs.Steps.{after}
 use Rattle.lock_core.specs.declared.state.LockState.TheInside.{Inside}
 use Rattle.lock_core.specs.declared.stage.Stage.{Stage}
 use Rattle.lock_core.specs.declared.stage.Stage.TheVariants.{Out, Holds, Valid, Gone}

@@ -11,8 +11,8 @@ use Rattle.mm_types.specs.Config.{IsValidConfig}
 use Rattle.mm_types.specs.Packed.{packed, unpacked}
 use Rattle.mm_types.specs.Records.{IsValid}
 use Rattle.mm_types.proofs.PackedWords.{unpacked-packed, unpacked-detached}
-use Rattle.area_model.specs.Steps.{after, IsReady}
-use Rattle.area_model.proofs.Journals.{after_ready}
+use Rattle.area_rules.specs.Steps.{after, IsReady}
+use Rattle.area_rules.proofs.Journals.{after_ready}
 use Rattle.lock_core.specs.declared.stage.Stage.TheVariants.{Holds, Valid}
 use Rattle.lock_core.specs.Core.{Core, slot_at, reader_at, held}
 use Rattle.lock_core.specs.Rows.{is_detached, IsRowOf}

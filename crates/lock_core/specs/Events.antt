@@ -3,7 +3,7 @@ use Rattle.std.specs.Prelude.{ℕ, ◌+◌, ◌-◌, ◌/◌, if◌then◌else�
 use Rattle.mm_types.specs.declared.call.Call.{Call}
 use Rattle.mm_types.specs.declared.call.Entry.{Entry}
 use Rattle.mm_types.specs.declared.config.Config.{Config}
-use Rattle.area_model.specs.Steps.{step, after}
+use Rattle.area_rules.specs.Steps.{step, after}
 use Rattle.lock_core.specs.declared.events.LockAnswer.{LockAnswer}
 use Rattle.lock_core.specs.declared.events.LockAnswer.TheVariants.{Found, Marked, Version, Word, Made, Done}
 use Rattle.lock_core.specs.declared.events.LockEvent.{LockEvent}

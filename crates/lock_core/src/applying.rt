@@ -183,7 +183,7 @@ impl LockState {
         if !self.protocol.is_open() {
             return Err(StepRefusal::NotOpen);
         }
-        let stepped = model_step(alloc, &self.config, self.objects, &self.list, &call)?;
+        let stepped = model_step(alloc, &self.config, self.counters, &self.list, &call)?;
         let rows = sorted_rows(alloc, self.protocol.slots())?;
         if let Some(place) = first_difference(rows.as_slice(), stepped.list.items()) {
             return Err(StepRefusal::NotTheList(place as u64));
@@ -195,7 +195,7 @@ impl LockState {
             reply,
         })?;
         self.list = stepped.list;
-        self.objects = stepped.objects;
+        self.counters = stepped.counters;
         Ok(LockAnswer::Done)
     }
 

@@ -5,7 +5,7 @@ ghost use Rattle.lock_core.specs.Facts.{Facts};
 ghost use Rattle.lock_core.specs.States.{opening_core};
 
 use crate::protocol::Protocol;
-use mm_types::{AreaList, Config, NoMemory, Slot};
+use mm_types::{AreaList, Config, Counters, NoMemory, Slot};
 use std::alloc::Global;
 use std::marker::Model;
 
@@ -16,8 +16,8 @@ pub struct LockState {
     pub(crate) protocol: Protocol,
     /// The list after the journal.
     pub(crate) list: AreaList,
-    /// How many objects are numbered after it.
-    pub(crate) objects: u32,
+    /// How many objects are numbered after it, and the break.
+    pub(crate) counters: Counters,
 }
 
 impl Model for LockState {
@@ -46,12 +46,12 @@ impl LockState {
     {
         let protocol = Protocol::new(alloc, readers, slots)?;
         let list = AreaList::of(Vec::new(alloc));
-        let objects = config.files.items().len() as u32;
+        let counters = Counters::opening(&config);
         Ok(LockState {
             config,
             protocol,
             list,
-            objects,
+            counters,
         })
     }
 

@@ -7,8 +7,7 @@ ghost use Rattle.node_slots.specs.Built.{IsWriters, pairs_now};
 ghost use Rattle.maple_gap.specs.Gaps.{first_from, last_before, slot_in};
 
 use crate::branch::{entry_at, root_of};
-use maple_node::Steps;
-use mm_types::{Page, Slot};
+use mm_types::{Page, Slot, Steps};
 use node_slots::{NodeTable, NodeWriter, Tree};
 
 /// The nodes that are read, which nobody counts here.

@@ -11,8 +11,8 @@ ghost use Rattle.maple_gap.specs.Searches.{may_have, entries_under, best_under, 
 
 use crate::window::{Side, Window, choose};
 use maple_items::{Place, gap_in, item_in, lists_nothing};
-use maple_node::{Item, Steps};
-use mm_types::Row;
+use maple_node::Item;
+use mm_types::{Row, Steps};
 use node_slots::{NodeTable, NodeWriter, Tree};
 
 /// An item of the tree, and how many levels of nodes lie below it: none below an entry.

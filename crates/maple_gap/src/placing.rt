@@ -8,8 +8,7 @@ ghost use Rattle.maple_gap.specs.Searches.{IsAnswer};
 
 use crate::branch::{descend, root_of};
 use crate::window::{Side, Window};
-use maple_node::Steps;
-use mm_types::Page;
+use mm_types::{Page, Steps};
 use node_slots::{NodeTable, NodeWriter, Tree};
 
 /// The greatest start of `len` free pages of the writer's tree that all lie from page `lo` up to page `hi`. None exactly where

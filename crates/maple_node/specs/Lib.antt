@@ -3,4 +3,3 @@ pub mod Words
 pub mod Levels
 pub mod Roots
 pub mod Trees
-pub mod Ticks

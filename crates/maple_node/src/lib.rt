@@ -5,7 +5,6 @@ mod item;
 mod laws;
 mod layout;
 mod root;
-mod steps;
 
 pub use item::Item;
 pub use laws::{
@@ -14,4 +13,3 @@ pub use laws::{
 };
 pub use layout::{Layout, inner_packing_is_undone, leaf_packing_is_undone};
 pub use root::{Root, pack_root, root_packing_is_undone, unpack_root};
-pub use steps::Steps;

@@ -9,8 +9,8 @@ ghost use Rattle.maple_write.specs.Tables.{rows_in, FillsRows};
 
 use crate::few::FewItems;
 use maple_items::{gap_in, node_words, share};
-use maple_node::{Item, Steps};
-use mm_types::Row;
+use maple_node::Item;
+use mm_types::{Row, Steps};
 use node_slots::{NodeTable, NodeWriter};
 
 /// The rows that are read, which nobody counts here.

@@ -8,28 +8,28 @@ use Rattle.maps_print.proofs.Beginnings.{front_of_all, front_of_first, front_of_
 
 -- what stands before the name has been appended, and the name begins at its end
 pub record BeforeName (files : List FileRow) (area : Record) (old mid : List ℕ) (width : ℕ) (shown : List ℕ) : Type 0 where
-  pub front : mid ≡ old ++ front_text area (backing files area.object)
-  pub column : width ≡ length (front_text area (backing files area.object))
-  pub name : shown ≡ (backing files area.object).name
+  pub front : mid ≡ old ++ front_text area (backing files area)
+  pub column : width ≡ length (front_text area (backing files area))
+  pub name : shown ≡ (backing files area).name
 
 -- the same of what was found that the area maps
 pub before_name : (files : List FileRow) (area : Record) (old mid : List ℕ) (width : ℕ) (shown : List ℕ) (mapped : Backing)
-    → mapped ≡ backing files area.object → mid ≡ old ++ front_text area mapped → width ≡ length mid - length old → shown ≡ mapped.name
+    → mapped ≡ backing files area → mid ≡ old ++ front_text area mapped → width ≡ length mid - length old → shown ≡ mapped.name
     → BeforeName files area old mid width shown
 before_name files area old mid width shown mapped found front wide name =
-    let is_front : mid ≡ old ++ front_text area (backing files area.object) = front ∙ ap (λ m. old ++ front_text area m) found in
+    let is_front : mid ≡ old ++ front_text area (backing files area) = front ∙ ap (λ m. old ++ front_text area m) found in
     record {
       front = is_front;
-      column = let long = ap length is_front in let both = length-append old (front_text area (backing files area.object)) in omega arith;
+      column = let long = ap length is_front in let both = length-append old (front_text area (backing files area)) in omega arith;
       name = name ∙ ap (λ (m : Backing). m.name) found;
     }
 
 -- the name itself is that of the line
 names_line : (files : List FileRow) (area : Record) (old mid : List ℕ) (column : ℕ) (name : List ℕ)
     → BeforeName files area old mid column name
-    → name_text column name ≡ name_text (length (front_text area (backing files area.object))) (backing files area.object).name
+    → name_text column name ≡ name_text (length (front_text area (backing files area))) (backing files area).name
 names_line files area old mid column name before =
-    ap (λ column. name_text column name) before.column ∙ ap (name_text (length (front_text area (backing files area.object)))) before.name
+    ap (λ column. name_text column name) before.column ∙ ap (name_text (length (front_text area (backing files area)))) before.name
 
 -- a beginning of the name
 pub front_in_name : (files : List FileRow) (area : Record) (old mid new : List ℕ) (column : ℕ) (name : List ℕ)

@@ -32,7 +32,7 @@ pub fn push_line(text: &mut Vec<u8>, area: &Record, files: &Files) -> Result<(),
     ensures ok { OnOk result (text.new.items ≡ text.old.items ++ area_text files.now area.now) }
     ensures no_memory { OnErr result (AppendsFront text.old.items text.new.items (area_text files.now area.now)) }
 {
-    let mapped = Mapped::of(files, area.object);
+    let mapped = Mapped::of(files, area);
     let start = text.len();
     push_front(text, area, &mapped)?;
     let column = text.len() - start;

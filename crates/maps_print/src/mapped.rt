@@ -1,8 +1,11 @@
 ghost use Rattle.std.specs.Prelude.{◌≡◌};
 ghost use Rattle.mm_types.specs.MapsText.{backing};
 
-use mm_types::Files;
+use mm_types::{Files, Record};
 use std::marker::Model;
+
+/// What the kernel shows for memory of the heap of brk(2).
+const HEAP_NAME: &str = "[heap]";
 
 /// What the kernel shows for a shared anonymous object, which is a file of its own that was deleted.
 const SHARED_NAME: &str = "/dev/zero (deleted)";
@@ -25,17 +28,18 @@ impl<'a> Model for Mapped<'a> {
 }
 
 impl<'a> Mapped<'a> {
-    /// What the object with this number is: nothing, a file, or shared anonymous memory.
+    /// What an area maps: private anonymous memory, which may be part of the heap, a file, or shared anonymous memory.
     #[tactic(auto, unfolding(mm_types::specs::MapsText::backing))]
-    pub(crate) fn of(files: &'a Files, object: u32) -> Mapped<'a>
-        ensures { result ≡ backing files.now object }
+    pub(crate) fn of(files: &'a Files, area: &Record) -> Mapped<'a>
+        ensures { result ≡ backing files.now area.now }
     {
+        let object = area.object;
         if object == 0 {
             return Mapped {
                 major: 0,
                 minor: 0,
                 inode: 0,
-                name: b"",
+                name: if area.attr.heap { HEAP_NAME } else { "" }.as_bytes(),
             };
         }
         match files.items().get(object as usize - 1) {

@@ -32,6 +32,12 @@ fn shared(area: Record) -> Record {
     area
 }
 
+fn heap(area: Record) -> Record {
+    let mut area = area;
+    area.attr.heap = true;
+    area
+}
+
 fn one_file(alloc: Global, major: u32, inode: u64, path: &str) -> Result<Files, NoMemory> {
     let file = FileRow {
         fd: 3,
@@ -64,6 +70,10 @@ fn prints_lines(rt: HostRuntime) -> Result<(), Fail> {
     let want =
         b"7ffff7ffb000-7ffff7ffd000 rw-s 00000000 00:01 2                          /dev/zero (deleted)\n";
     assert_eq!(rt; object.as_slice(), want.as_slice());
+
+    let grown = print_line(alloc, &heap(area(0x555555559, 0x55555557a, 0, 0)), &files)?;
+    let want = b"555555559000-55555557a000 rw-p 00000000 00:00 0                          [heap]\n";
+    assert_eq!(rt; grown.as_slice(), want.as_slice());
     Ok(())
 }
 

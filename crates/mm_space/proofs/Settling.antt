@@ -6,8 +6,8 @@ use Rattle.mm_types.specs.declared.area.Record.{Record}
 use Rattle.mm_types.specs.declared.call.Entry.{Entry}
 use Rattle.mm_types.specs.declared.call.Seen.{Seen}
 use Rattle.mm_types.specs.declared.config.Config.{Config}
-use Rattle.area_model.specs.Journals.{calls_by}
-use Rattle.area_model.specs.Steps.{IsLegalJournal}
+use Rattle.area_rules.specs.Journals.{calls_by}
+use Rattle.area_rules.specs.Steps.{IsLegalJournal}
 use Rattle.lock_core.specs.Facts.{list_after}
 use Rattle.atomic_table.specs.Seated.{TableId}
 use Rattle.fault_path.specs.Passes.{PassView, ArePasses, config}

@@ -7,7 +7,7 @@ use Rattle.mm_types.specs.declared.call.Entry.{Entry}
 use Rattle.mm_types.specs.declared.call.Reply.{Reply}
 use Rattle.mm_types.specs.declared.call.Seen.{Seen}
 use Rattle.mm_types.specs.declared.config.Config.{Config}
-use Rattle.area_model.specs.Journals.{version_of, IsReadRight}
+use Rattle.area_rules.specs.Journals.{version_of, IsReadRight}
 use Rattle.lock_core.specs.Core.{StartsWith}
 use Rattle.atomic_table.specs.Seated.{TableId}
 use Rattle.fault_path.specs.declared.fast.Miss.{Miss}

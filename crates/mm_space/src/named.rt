@@ -1,8 +1,8 @@
 //! The state behind the lock of a named space.
 ghost use Rattle.std.specs.Prelude.{◌≡◌, ◌<◌, ◌+◌, ◌++◌, ◌∷◌, [], IfOk, length, slice_index_or};
-ghost use Rattle.area_model.specs.Journals.{calls_by};
-ghost use Rattle.area_model.specs.Steps.{IsLegalJournal};
-ghost use Rattle.area_model.specs.Verdicts.{verdict};
+ghost use Rattle.area_rules.specs.Journals.{calls_by};
+ghost use Rattle.area_rules.specs.Steps.{IsLegalJournal};
+ghost use Rattle.area_rules.specs.Verdicts.{verdict};
 ghost use Rattle.lock_core.specs.declared.stage.Stage.TheVariants.{Out};
 ghost use Rattle.lock_core.specs.Core.{StartsWith};
 ghost use Rattle.lock_core.specs.Facts.{list_after};
@@ -94,7 +94,7 @@ impl<N: SpaceName> Named<N> {
 
     /// The verdict on a fault at a page.
     pub(crate) fn verdict(&self, page: Page, access: Access) -> Verdict
-        ensures { result ≡ verdict N.config.files (list_after N.config self.now.journal) page.0 access }
+        ensures { result ≡ verdict N.config (list_after N.config self.now.journal) page.0 access }
     {
         self.state.verdict(page, access)
     }

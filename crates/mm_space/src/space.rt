@@ -2,7 +2,7 @@
 ghost use Rattle.std.specs.Prelude.{◌≡◌, ◌≤◌, ◌<◌, ◌+◌, List, length, vec_len, vec_capacity, IfOk, OnErr};
 ghost use Rattle.mm_types.specs.declared.area.Record.{Record};
 ghost use Rattle.mm_types.specs.declared.call.Seen.TheVariants.{Fault, Maps};
-ghost use Rattle.area_model.specs.Verdicts.{verdict};
+ghost use Rattle.area_rules.specs.Verdicts.{verdict};
 ghost use Rattle.lock_core.specs.Facts.{list_after};
 ghost use Rattle.fault_path.specs.Passes.{seen_by, made_by, looks_of, walker, IsPassOf, IsLater, ArePasses, AreFresh};
 ghost use Rattle.fault_path.specs.Faults.{WalksOnce};
@@ -130,7 +130,7 @@ impl<N: SpaceName> Space<N> {
         ensures same { pass.new ≡ record pass.old { reader = pass.new.reader; nodes = pass.new.nodes } }
         ensures own { made_by pass.new ≡ made_by pass.old }
         ensures version { result.version ≡ length (seen_by pass.new) }
-        ensures verdict { result.verdict ≡ verdict N.config.files (list_after N.config (seen_by pass.new)) page.0 access }
+        ensures verdict { result.verdict ≡ verdict N.config (list_after N.config (seen_by pass.new)) page.0 access }
         ensures walk { WalksOnce (walker pass.old) (walker pass.new) }
         ensures way { IsWay page.0 access pass.old pass.new result.verdict result.version result.path }
     {
@@ -160,7 +160,7 @@ impl<N: SpaceName> Space<N> {
         ensures own { made_by pass.new ≡ made_by pass.old }
         ensures look { LooksOnce pass.old.reader pass.new.reader }
         ensures version { result.version ≡ length (seen_by pass.new) }
-        ensures verdict { result.verdict ≡ verdict N.config.files (list_after N.config (seen_by pass.new)) page.0 access }
+        ensures verdict { result.verdict ≡ verdict N.config (list_after N.config (seen_by pass.new)) page.0 access }
         ensures path { result.path ≡ Slow miss }
     {
         let mut guard = self.state.take(rt);

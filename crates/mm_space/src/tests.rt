@@ -45,5 +45,6 @@ fn config(alloc: Global, top: u64, areas: u32) -> Result<Config, NoMemory> {
         limit: ADDRESS_LIMIT,
         areas,
         files: Files::of(files),
+        heap: 0,
     })
 }

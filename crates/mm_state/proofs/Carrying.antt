@@ -4,6 +4,7 @@ use Rattle.std.specs.List.{Contains}
 use Rattle.std.proofs.lemmas.List.{length-map, get_or-map, take-append-drop}
 use Rattle.std.proofs.lemmas.List.Elements.{All-contains, All-weaker}
 use Rattle.std.proofs.lemmas.List.Sums.{sum_by-cons, sum_by-take-drop}
+use Rattle.mm_types.specs.Config.{slots_for}
 use Rattle.mm_types.specs.declared.area.Record.{Record}
 use Rattle.split_merge.specs.declared.plan.Change.{Change}
 use Rattle.split_merge.specs.Plans.{olds_of, news_of, without, IsPlanOf}
@@ -22,7 +23,7 @@ can_change start board done tree can changing = record {
   table = changing.mine;
   open_call = rw changing.beside.seq can.open_call;
   count = changing.count ∙ can.count ∙ ap slots_of (sym changing.table);
-  records = changing.count ∙ can.records ∙ sym (ap (λ (t : AreaTreeView). 2 * t.tree.areas + 2) changing.same);
+  records = changing.count ∙ can.records ∙ sym (ap (λ (t : AreaTreeView). slots_for t.tree.areas) changing.same);
   hangs = changing.hangs;
   roomy = ap (λ (t : AreaTreeView). t.tree.roomy) changing.same ∙ can.roomy;
 }

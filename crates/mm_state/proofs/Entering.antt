@@ -3,20 +3,21 @@ use Rattle.std.proofs.Common.{◌≡◌, ◌≤◌, ◌<◌, ◌^◌, ℕ, List,
 use Rattle.std.specs.List.{AllByRecursion as Each}
 use Rattle.std.proofs.lemmas.List.Elements.{All-nil, All-head, All-tail}
 use Rattle.mm_types.specs.declared.area.Record.{Record}
+use Rattle.mm_types.specs.declared.call.Counters.{Counters}
 use Rattle.mm_types.specs.declared.config.Config.{Config}
 use Rattle.mm_types.specs.declared.call.Entry.{Entry}
-use Rattle.mm_types.specs.Config.{IsValidConfig}
+use Rattle.mm_types.specs.Config.{IsValidConfig, counters_at_opening}
 use Rattle.mm_types.specs.Records.{IsValid}
 use Rattle.area_list.specs.Areas.{page_of, IsCanonical}
 use Rattle.area_list.proofs.Elements.{Pairs}
 use Rattle.area_list.proofs.Order.{Before}
-use Rattle.area_model.specs.declared.placement.Bounds.{Bounds}
-use Rattle.area_model.specs.Stepped.{space_of}
-use Rattle.area_model.specs.Tables.{AddressSpace}
-use Rattle.area_model.specs.Steps.{step, after, IsReady, IsLegalJournal}
-use Rattle.area_model.proofs.Journals.{after_ready, after-nil, after-push}
+use Rattle.area_rules.specs.declared.placement.Bounds.{Bounds}
+use Rattle.area_rules.specs.Tables.{space_of}
+use Rattle.area_rules.specs.Tables.{AddressSpace}
+use Rattle.area_rules.specs.Steps.{step, after, IsReady, IsLegalJournal}
+use Rattle.area_rules.proofs.Journals.{after_ready, after-nil, after-push}
 use Rattle.lock_core.specs.Facts.{list_after}
-use Rattle.split_merge.specs.Plans.{Planned, applied, IsKept}
+use Rattle.split_merge.specs.Plans.{PlanView, applied, IsKept}
 use Rattle.split_merge.specs.Calls.{IsPlannedCall}
 use Rattle.split_merge.proofs.Walking.{in_order}
 use Rattle.sys_calls.proofs.Keeping.{opened_space}
@@ -52,30 +53,30 @@ kept_nil bounds most = record {
 }
 
 -- the state between two calls, and a call that was planned
-pub record IsPlanned (board : Board) (config : Config) (entries : List Entry) (objects : ℕ) (entry : Entry) (old new : Planned) : Type 0 where
+pub record IsPlanned (board : Board) (config : Config) (entries : List Entry) (counters : Counters) (entry : Entry) (old new : PlanView) : Type 0 where
   pub settings : config_of board.table ≡ config
   pub journal_is : journal board.writer ≡ entries
-  pub space : space_of (areas_of board.areas) objects ≡ after config entries
+  pub space : space_of (areas_of board.areas) counters ≡ after config entries
   pub valid : IsValidConfig config
   pub room : length entries < 2 ^ 31
   pub most_is : board.areas.tree.areas ≡ config.areas
   pub limit_is : board.areas.bounds.limit ≡ page_of config.limit
-  pub planned : IsPlannedCall board.areas.bounds board.areas.tree.areas (areas_of board.areas) (step config (space_of (areas_of board.areas) objects) entry.call)
+  pub planned : IsPlannedCall board.areas.bounds board.areas.tree.areas (areas_of board.areas) (step config (space_of (areas_of board.areas) counters) entry.call)
       entry.reply old new
 
-pub ready_now : (config : Config) (entries : List Entry) (list : List Record) (objects : ℕ) → IsValidConfig config → length entries ≤ 2 ^ 31
-    → space_of list objects ≡ after config entries → IsReady config (space_of list objects)
-ready_now config entries list objects valid room space = subst (IsReady config) (sym space) (after_ready config entries valid (omega (arith, room)))
+pub ready_now : (config : Config) (entries : List Entry) (list : List Record) (counters : Counters) → IsValidConfig config → length entries ≤ 2 ^ 31
+    → space_of list counters ≡ after config entries → IsReady config (space_of list counters)
+ready_now config entries list counters valid room space = subst (IsReady config) (sym space) (after_ready config entries valid (omega (arith, room)))
 
 -- the space after the entry is the outcome's
-pub space_after : (config : Config) (entries : List Entry) (list : List Record) (objects : ℕ) (entry : Entry) → space_of list objects ≡ after config entries
-    → (step config (space_of list objects) entry.call).space ≡ after config (entries ++ entry ∷ [])
-space_after config entries list objects entry space =
+pub space_after : (config : Config) (entries : List Entry) (list : List Record) (counters : Counters) (entry : Entry) → space_of list counters ≡ after config entries
+    → (step config (space_of list counters) entry.call).space ≡ after config (entries ++ entry ∷ [])
+space_after config entries list counters entry space =
     ap (λ (s : AddressSpace). (step config s entry.call).space) space ∙ sym (after-push config entries entry)
 
-pub entered : (board : Board) (config : Config) (entries : List Entry) (objects : ℕ) (entry : Entry) (old new : Planned)
-    → IsPlanned board config entries objects entry old new → IsEntered board new.changes entry
-entered board config entries objects entry old new p = record {
+pub entered : (board : Board) (config : Config) (entries : List Entry) (counters : Counters) (entry : Entry) (old new : PlanView)
+    → IsPlanned board config entries counters entry old new → IsEntered board new.changes entry
+entered board config entries counters entry old new p = record {
   reply = p.planned.reply ∙ ap (λ (s : AddressSpace). (step config s entry.call).reply) p.space
       ∙ ap (λ (c : Config). (step c (after c entries) entry.call).reply) (sym p.settings)
       ∙ ap (λ (j : List Entry). (step (config_of board.table) (after (config_of board.table) j) entry.call).reply) (sym p.journal_is);
@@ -84,7 +85,7 @@ entered board config entries objects entry old new p = record {
       ∙ ap (λ (c : Config). list_after c (entries ++ entry ∷ [])) (sym p.settings)
       ∙ ap (λ (j : List Entry). list_after (config_of board.table) (j ++ entry ∷ [])) (sym p.journal_is);
   real = p.planned.makes.real;
-  sane = sane new.changes (areas_of board.areas) (step config (space_of (areas_of board.areas) objects) entry.call).space.areas before
+  sane = sane new.changes (areas_of board.areas) (step config (space_of (areas_of board.areas) counters) entry.call).space.areas before
       (subst (λ (s : AddressSpace). All IsPackable s.areas) (sym next)
       (packable config (after config (entries ++ entry ∷ [])) (after_ready config (entries ++ entry ∷ []) p.valid (omega (arith, length-append entries (entry ∷ []), p.room)))))
       p.planned.makes;
@@ -94,8 +95,8 @@ entered board config entries objects entry old new p = record {
       (canonical_rise board.areas.bounds.limit (applied new.changes (areas_of board.areas)) p.planned.kept.canonical);
 }
   where
-    next : (step config (space_of (areas_of board.areas) objects) entry.call).space ≡ after config (entries ++ entry ∷ [])
-    next = space_after config entries (areas_of board.areas) objects entry p.space
+    next : (step config (space_of (areas_of board.areas) counters) entry.call).space ≡ after config (entries ++ entry ∷ [])
+    next = space_after config entries (areas_of board.areas) counters entry p.space
 
     before : All IsPackable (areas_of board.areas)
     before = subst (λ (s : AddressSpace). All IsPackable s.areas) (sym p.space)
@@ -105,7 +106,7 @@ entered board config entries objects entry old new p = record {
 pub legal_nil : (config : Config) → IsLegalJournal config []
 legal_nil config = record { replies = λ place entry there. cc }
 
-pub opening_space : (config : Config) (list : List Record) (objects : ℕ) (entries : List Entry) → list ≡ [] → objects ≡ length config.files → entries ≡ []
-    → space_of list objects ≡ after config entries
-opening_space config list objects entries empty files none = opened_space config list objects empty files
+pub opening_space : (config : Config) (list : List Record) (counters : Counters) (entries : List Entry) → list ≡ [] → counters ≡ counters_at_opening config → entries ≡ []
+    → space_of list counters ≡ after config entries
+opening_space config list counters entries empty files none = opened_space config list counters empty files
     ∙ sym (ap (after config) none ∙ after-nil config)

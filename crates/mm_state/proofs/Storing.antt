@@ -9,7 +9,7 @@ use Rattle.std.proofs.lemmas.List.Elements.{All-contains, All-map, Contains-push
 use Rattle.std.proofs.lemmas.List.Sums.{sum_by-append, sum_by_push, get_or-le-sum_by, list_all-from_AllPass}
 use Rattle.std.proofs.lemmas.List.Sorted.{length_permutation, All-permutation, sum_by-IsPermutation, IsPermutation-trans, IsPermutation-to_front, IsPermutation-append_left}
 use Rattle.mm_types.specs.declared.area.Record.{Record}
-use Rattle.area_model.specs.Placement.{is_free}
+use Rattle.area_rules.specs.Placement.{is_free}
 use Rattle.area_slots.specs.Slots.{one_at}
 use Rattle.area_tree.specs.declared.shown.Shown.{Shown}
 use Rattle.area_tree.specs.AreaTrees.{areas_shown, times_shown}

@@ -2,12 +2,13 @@
 use Rattle.std.specs.Prelude.{ℕ, ◌≡◌, ◌≢◌, ◌≤◌, ◌<◌, ◌+◌, ◌*◌, ◌^◌, true, false, if◌then◌else◌, List, [], ◌∷◌, ◌++◌, length, slice_set, sum_by, All, Contains, None, ◌⊎◌}
 use Rattle.std.specs.List.Sorted.{IsPermutation}
 use Rattle.std.specs.Vec.{vec_capacity}
+use Rattle.mm_types.specs.Config.{slots_for}
 use Rattle.mm_types.specs.declared.area.Record.{Record}
 use Rattle.mm_types.specs.declared.call.Entry.{Entry}
 use Rattle.mm_types.specs.Packed.{packed}
 use Rattle.mm_types.specs.Records.{IsValid}
 use Rattle.area_list.specs.Areas.{page_of, has_page}
-use Rattle.area_model.specs.Steps.{step, after}
+use Rattle.area_rules.specs.Steps.{step, after}
 use Rattle.lock_core.specs.declared.stage.SlotState.{SlotState}
 use Rattle.lock_core.specs.Facts.{list_after}
 use Rattle.lock_core.specs.Core.{slot_at, detached_row}
@@ -85,7 +86,7 @@ pub record CanChange (board : Board) : Type 0 where
   pub table : Writes board.writer board.table
   pub open_call : IsOpen board.writer
   pub count : board.slots.count ≡ slots_of board.table
-  pub records : board.slots.count ≡ 2 * board.areas.tree.areas + 2
+  pub records : board.slots.count ≡ slots_for board.areas.tree.areas
   pub hangs : Hangs (slots board.writer) (shown_of board.areas ++ board.moved.items) board.slots
   pub roomy : board.areas.tree.roomy ≡ true
 
@@ -186,7 +187,7 @@ pub record IsAtRest (board : Board) : Type 0 where
   pub closed : IsClosed board.writer
   pub turn : (sight board.writer).turn ≡ None
   pub count : board.slots.count ≡ slots_of board.table
-  pub records : board.slots.count ≡ 2 * board.areas.tree.areas + 2
+  pub records : board.slots.count ≡ slots_for board.areas.tree.areas
   pub hangs : Hangs (slots board.writer) (shown_of board.areas) board.slots
   pub tree : KeepsTree board
 

@@ -2,9 +2,9 @@
 use Rattle.std.specs.Prelude.{◌≡◌, ◌≤◌, ◌^◌, length}
 use Rattle.std.specs.Vec.{vec_capacity}
 use Rattle.mm_types.specs.Config.{IsValidConfig}
-use Rattle.area_model.specs.Placement.{bounds_of}
-use Rattle.area_model.specs.Stepped.{space_of}
-use Rattle.area_model.specs.Steps.{after, IsLegalJournal}
+use Rattle.area_rules.specs.Placement.{bounds_of}
+use Rattle.area_rules.specs.Tables.{space_of}
+use Rattle.area_rules.specs.Steps.{after, IsLegalJournal}
 use Rattle.split_merge.specs.Plans.{IsKept, IsFresh}
 use Rattle.vma_lock.specs.Seats.{config_of, table_of, journal, slots}
 use Rattle.mm_state.specs.declared.state.MmState.TheInside.{Inside}
@@ -26,14 +26,14 @@ state_of state = record {
 }
 
 -- The board is at rest, its table has this configuration, which is valid, and its writer has seen this journal, which is
--- legal and has room. The areas and the count of objects are those after the journal, and the plan is fresh.
+-- legal and has room. The areas and the counters are those after the journal, and the plan is fresh.
 pub record IsState (state : Inside) : Type 0 where
   pub rest : IsAtRest state.board
   pub settings : config_of state.board.table ≡ state.config
   pub valid : IsValidConfig state.config
   pub journal : journal state.board.writer ≡ state.journal.items
   pub legal : IsLegalJournal state.config state.journal.items
-  pub space : space_of (areas_of state.board.areas) state.objects ≡ after state.config state.journal.items
+  pub space : space_of (areas_of state.board.areas) state.counters ≡ after state.config state.journal.items
   pub bounds : state.board.areas.bounds ≡ bounds_of state.config
   pub most : state.board.areas.tree.areas ≡ state.config.areas
   pub kept : IsKept state.board.areas.bounds state.board.areas.tree.areas (areas_of state.board.areas)

@@ -3,8 +3,8 @@ ghost use Rattle.std.specs.Prelude.{◌≡◌, ◌≢◌, ◌<◌, ◌≤◌, �
 ghost use Rattle.mm_types.specs.declared.config.Config.{Config};
 ghost use Rattle.mm_types.specs.Config.{IsValidConfig};
 ghost use Rattle.mm_types.specs.Records.{IsValid};
-ghost use Rattle.area_model.specs.Journals.{calls_by};
-ghost use Rattle.area_model.specs.Placement.{bounds_of};
+ghost use Rattle.area_rules.specs.Journals.{calls_by};
+ghost use Rattle.area_rules.specs.Placement.{bounds_of};
 ghost use Rattle.lock_core.specs.declared.stage.Stage.TheVariants.{Out};
 ghost use Rattle.lock_core.specs.Core.{slot_at, StartsWith};
 ghost use Rattle.split_merge.specs.Plans.{olds_of, news_of, applied, IsPlanOf};
@@ -19,7 +19,7 @@ ghost use Rattle.span_tree.specs.SpanTrees.{IsFreshWriter};
 use crate::spans::{count_adds, store_moved, wait_for_slots};
 use area_slots::AreaSlots;
 use area_tree::{AreaTree, Shown};
-use mm_types::{Config, Entry, NoMemory, Record, Slot, pack};
+use mm_types::{Config, Entry, NoMemory, Record, Slot, pack, slots_for};
 use node_slots::NodeWriter;
 use split_merge::Change;
 use std::alloc::Global;
@@ -93,7 +93,7 @@ impl Board {
             table,
             writer,
             areas: AreaTree::new(alloc, config, nodes)?,
-            slots: AreaSlots::new(alloc, 2 * config.areas + 2)?,
+            slots: AreaSlots::new(alloc, slots_for(config.areas))?,
             moved: Vec::with_capacity(alloc, config.areas as usize)?,
         })
     }

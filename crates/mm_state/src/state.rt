@@ -1,9 +1,9 @@
 //! The state behind the mmap lock.
 ghost use Rattle.std.specs.Prelude.{◌≡◌, ◌≢◌, ◌≤◌, ◌<◌, ◌+◌, ◌/◌, ◌^◌, ◌++◌, ◌∷◌, [], ℕ, IfOk, length, replicate, None};
 ghost use Rattle.mm_types.specs.Config.{IsValidConfig};
-ghost use Rattle.area_model.specs.Journals.{calls_by};
-ghost use Rattle.area_model.specs.Steps.{step, after, IsLegalJournal};
-ghost use Rattle.area_model.specs.Verdicts.{verdict};
+ghost use Rattle.area_rules.specs.Journals.{calls_by};
+ghost use Rattle.area_rules.specs.Steps.{step, after, IsLegalJournal};
+ghost use Rattle.area_rules.specs.Verdicts.{verdict};
 ghost use Rattle.lock_core.specs.declared.stage.Stage.TheVariants.{Out};
 ghost use Rattle.lock_core.specs.Core.{free_slot, slot_at, StartsWith};
 ghost use Rattle.vma_lock.specs.Views.{slot_count, opened_view, look_at};
@@ -11,14 +11,14 @@ ghost use Rattle.span_tree.specs.SpanTrees.{IsFreshWriter};
 ghost use Rattle.vma_lock.specs.Seats.{view, seen, stage, sight, HasTurn};
 
 use crate::board::Board;
-use area_model::area_verdict;
-use mm_types::{Access, AreaList, Call, Config, Entry, NoMemory, Page, Reply, Verdict};
+use mm_types::{Access, AreaList, Call, Config, Counters, Entry, NoMemory, Page, Reply, Verdict};
 use node_slots::NodeWriter;
-use split_merge::{Plan, area_at};
+use split_merge::Plan;
 use std::alloc::Global;
 use std::marker::Model;
 use std::sync::Wait;
 use sys_calls::plan_call;
+use sys_map::verdict;
 use vma_lock::{ReaderSeat, WriterSeat};
 
 /// The state behind the mmap lock. All memory of its calls is taken when it is made.
@@ -26,8 +26,7 @@ use vma_lock::{ReaderSeat, WriterSeat};
 pub struct MmState {
     config: Config,
     board: Board,
-    /// How many objects are numbered.
-    objects: u32,
+    counters: Counters,
     /// Empty between two calls.
     plan: Plan,
     journal: Vec<Entry>,
@@ -51,7 +50,7 @@ impl MmState {
     ghost use Rattle.mm_state.specs.States.{list_of, ArePairsOf, KeepsSlots};
 
     /// The state of a new table, of which the writer is given, with room for so many entries. Its trees stand in a new table of
-    /// nodes, of which the writer is given: it has `config.areas + 128` rows, and `2 config.areas + 2` slots.
+    /// nodes, of which the writer is given: it has the rows and the slots for so many areas.
     pub fn new(
         alloc: Global,
         config: Config,
@@ -77,11 +76,11 @@ impl MmState {
         let board = Board::new(alloc, &config, writer, nodes)?;
         let plan = Plan::with_room(alloc, config.areas)?;
         let journal = Vec::with_capacity(alloc, entries as usize)?;
-        let objects = config.files.items().len() as u32;
+        let counters = Counters::opening(&config);
         Ok(MmState {
             config,
             board,
-            objects,
+            counters,
             plan,
             journal,
             room: entries,
@@ -115,7 +114,7 @@ impl MmState {
     {
         let called = plan_call(
             &self.config,
-            self.objects,
+            self.counters,
             &self.board.areas,
             call,
             &mut self.plan,
@@ -127,7 +126,7 @@ impl MmState {
         };
         self.board.enter(rt, seat, self.plan.changes(), entry);
         self.plan.clear();
-        self.objects = called.objects;
+        self.counters = called.counters;
         self.journal.push_reserved(entry);
         called.reply
     }
@@ -145,15 +144,11 @@ impl MmState {
         self.board.meet(seat);
     }
 
-    /// The verdict on a fault at a page.
-    #[tactic(auto, unfolding(area_model::specs::Verdicts::verdict))]
+    /// The verdict on a fault that grows no area.
     pub fn verdict(&self, page: Page, access: Access) -> Verdict
-        ensures { result ≡ verdict self.now.config.files (list_of self.now) page.0 access }
+        ensures { result ≡ verdict self.now.config (list_of self.now) page.0 access }
     {
-        match area_at(&self.board.areas, page.0) {
-            Some(area) => area_verdict(self.config.files.items(), page.0, access, &area),
-            None => Verdict::MapErr,
-        }
+        verdict(&self.config, &self.board.areas, page, access)
     }
 
     /// How many entries the journal has.

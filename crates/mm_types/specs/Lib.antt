@@ -5,3 +5,4 @@ pub mod Rows
 pub mod Sorts
 pub mod Flags
 pub mod MapsText
+pub mod Ticks

@@ -39,11 +39,11 @@ pub record Backing : Type 0 where
   pub inode : ℕ
   pub name : List ℕ
 
--- Private anonymous memory has device 00:00, inode 0 and no name; a file has its own; a shared anonymous object
--- has device 00:01, its number as inode, and a name of the kernel's.
-unfoldable pub backing : List FileRow → ℕ → Backing
-backing files object = if nat_eq object 0 then record { major = 0; minor = 0; inode = 0; name = [] }
-    else file_backing (slice_get files (object - 1)) object
+-- Private anonymous memory has device 00:00 and inode 0, the name [heap] where it is part of the heap, and else no name; a file
+-- has its own; a shared anonymous object has device 00:01, its number as inode, and a name of the kernel's.
+unfoldable pub backing : List FileRow → Record → Backing
+backing files area = if nat_eq area.object 0 then record { major = 0; minor = 0; inode = 0; name = if area.attr.heap then codes "[heap]" else [] }
+    else file_backing (slice_get files (area.object - 1)) area.object
   where
     file_backing : Option FileRow → ℕ → Backing
     file_backing (Some file) object = record { major = file.major; minor = file.minor; inode = file.inode; name = file.path }
@@ -73,8 +73,8 @@ name_text column (c ∷ name) = replicate (spaces_before column) (byte " ") ++ f
 
 -- the line of one area, which ends with a newline
 unfoldable pub area_text : List FileRow → Record → List ℕ
-area_text files area = let object = backing files area.object in let front = front_text area object in
-    front ++ name_text (length front) object.name ++ codes "\n"
+area_text files area = let mapped = backing files area in let front = front_text area mapped in
+    front ++ name_text (length front) mapped.name ++ codes "\n"
 
 -- a line for each area, in the order of the list
 abbrev pub list_text : List FileRow → List Record → List ℕ

@@ -30,11 +30,11 @@ pub struct Attr {
     pub most: Prot,
     /// Whether it was mapped with `MAP_SHARED`.
     pub shared: bool,
-    /// Whether it grows downwards. False until such areas are accepted.
+    /// Whether it grows downwards: `MAP_GROWSDOWN` of mmap(2).
     pub grows: bool,
-    /// Whether mseal(2) sealed it. False until that call is accepted.
+    /// Whether mseal(2) sealed it.
     pub sealed: bool,
-    /// Whether it is part of the heap of brk(2). False until that call is accepted.
+    /// Whether it is part of the heap of brk(2).
     pub heap: bool,
 }
 

@@ -1,7 +1,9 @@
-ghost use Rattle.std.specs.Prelude.{◌≡◌, ◌≢◌, ◌%◌, ◌↔◌, IsTrue, AllPairs, Any};
-ghost use Rattle.mm_types.specs.Config.{IsValidConfig, default_config};
+ghost use Rattle.std.specs.Prelude.{◌≡◌, ◌≢◌, ◌↔◌, ◌≤◌, IsTrue, IfOk, AllPairs, Any};
+ghost use Rattle.mm_types.specs.Config.{IsBound, IsValidConfig, default_config, rows_for, slots_for};
 
 use crate::files::{FileRow, Files};
+use crate::memory::NoMemory;
+use std::alloc::Global;
 
 /// The bytes of a page.
 pub const PAGE_SIZE: u64 = 4096;
@@ -12,8 +14,12 @@ pub const ADDRESSES_END: u128 = 1 << 64;
 /// The most pages that an object may have, 2^51 - 1.
 pub const MOST_OBJECT_PAGES: u64 = (1 << 51) - 1;
 
-/// The address at which user memory ends, in bytes: one page below 2^47.
+/// The address at which user memory ends, in bytes, where addresses are not wide: one page below 2^47.
 pub const ADDRESS_LIMIT: u64 = 0x7fff_ffff_f000;
+
+/// The address at which user memory ends where addresses of five levels of page tables are allowed, in bytes: one page below
+/// 2^56.
+pub const WIDE_LIMIT: u64 = 0xff_ffff_ffff_f000;
 
 /// The page at or below which each area ends, 2^45.
 pub const MOST_AREA_END: u64 = 1 << 45;
@@ -30,19 +36,21 @@ pub const MOST_AREAS: u32 = 65530;
 /// The most files of a trace.
 pub const MOST_FILES: usize = 1024;
 
-/// What an address space is opened with. `min`, `top` and `limit` are addresses in bytes.
+/// What an address space is opened with. `min`, `top`, `limit` and `heap` are addresses in bytes.
 #[derive(Debug, Drop)]
 pub struct Config {
     /// The lowest address that a call may map: `mmap_min_addr`.
     pub min: u64,
     /// Below this address the kernel looks for room first: `mmap_base`.
     pub top: u64,
-    /// The end of user memory.
+    /// The end of user memory: `ADDRESS_LIMIT` or `WIDE_LIMIT`.
     pub limit: u64,
     /// The most areas: `max_map_count`.
     pub areas: u32,
     /// The files that may be mapped.
     pub files: Files,
+    /// The address at which the heap of brk(2) begins, or 0 where there is none.
+    pub heap: u64,
 }
 
 impl Config {
@@ -57,7 +65,18 @@ impl Config {
             limit: ADDRESS_LIMIT,
             areas: MOST_AREAS,
             files,
+            heap: 0,
         }
+    }
+
+    /// A copy, with its files.
+    pub fn copy(&self, alloc: Global) -> Result<Config, NoMemory>
+        ensures { IfOk result (λ copy. copy ≡ self.now) }
+    {
+        Ok(Config {
+            files: self.files.copy(alloc)?,
+            ..*self
+        })
     }
 
     /// Whether an address space may be opened with it.
@@ -65,13 +84,10 @@ impl Config {
         ensures { IsTrue result ↔ IsValidConfig self.now }
     {
         let files = self.files.items();
-        is_aligned(self.min)
-            && is_aligned(self.top)
-            && PAGE_SIZE <= self.min
-            && PAGE_SIZE <= self.top
-            && self.min <= self.limit
-            && self.top <= self.limit
-            && self.limit == ADDRESS_LIMIT
+        is_bound(self.min)
+            && is_bound(self.top)
+            && (self.heap == 0 || is_bound(self.heap))
+            && (self.limit == ADDRESS_LIMIT || self.limit == WIDE_LIMIT)
             && 0 < self.areas
             && self.areas <= MOST_AREAS
             && files.len() <= MOST_FILES
@@ -79,10 +95,28 @@ impl Config {
     }
 }
 
-fn is_aligned(address: u64) -> bool
-    ensures { IsTrue result ↔ (address % PAGE_SIZE ≡ 0) }
+/// Whether an address may bound the memory of a configuration: a whole number of pages, from the second page up to
+/// `ADDRESS_LIMIT`.
+fn is_bound(address: u64) -> bool
+    ensures { IsTrue result ↔ IsBound address }
 {
-    address % PAGE_SIZE == 0
+    address % PAGE_SIZE == 0 && PAGE_SIZE <= address && address <= ADDRESS_LIMIT
+}
+
+/// How many rows the nodes of the trees of at most so many areas take.
+pub fn rows_for(areas: u32) -> u32
+    requires { areas ≤ MOST_AREAS }
+    ensures { result ≡ rows_for areas }
+{
+    areas + 128
+}
+
+/// How many slots show at most so many areas while a call changes them.
+pub fn slots_for(areas: u32) -> u32
+    requires { areas ≤ MOST_AREAS }
+    ensures { result ≡ slots_for areas }
+{
+    2 * areas + 2
 }
 
 fn has_distinct_fds(files: &[FileRow]) -> bool

@@ -1,6 +1,8 @@
-ghost use Rattle.std.specs.Prelude.{◌≡◌};
+ghost use Rattle.std.specs.Prelude.{◌≡◌, IfOk};
 
+use crate::memory::NoMemory;
 use crate::text::Text;
+use std::alloc::Global;
 use std::marker::Model;
 
 /// An open file of a trace.
@@ -47,5 +49,28 @@ impl Files {
         ensures { result.now ≡ self.now }
     {
         self.items.as_slice()
+    }
+
+    /// A copy of the rows.
+    pub fn copy(&self, alloc: Global) -> Result<Files, NoMemory>
+        ensures { IfOk result (λ copy. copy ≡ self.now) }
+    {
+        let mut rows = Vec::new(alloc);
+        for row in self.items() {
+            rows.push(row.copy(alloc)?)?;
+        }
+        Ok(Files::of(rows))
+    }
+}
+
+impl FileRow {
+    /// A copy, with its path.
+    pub fn copy(&self, alloc: Global) -> Result<FileRow, NoMemory>
+        ensures { IfOk result (λ copy. copy ≡ self.now) }
+    {
+        Ok(FileRow {
+            path: Text::of(String::from_str(alloc, self.path.as_str())?),
+            ..*self
+        })
     }
 }

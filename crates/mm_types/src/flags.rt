@@ -23,6 +23,9 @@ pub const MAP_FIXED: u32 = 0x10;
 /// Map no file.
 pub const MAP_ANONYMOUS: u32 = 0x20;
 
+/// The area grows downwards where a page right below it is touched.
+pub const MAP_GROWSDOWN: u32 = 0x100;
+
 /// Ignored by Linux, and here.
 pub const MAP_DENYWRITE: u32 = 0x800;
 

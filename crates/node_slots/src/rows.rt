@@ -13,8 +13,8 @@ use crate::left::Left;
 use crate::seats::{NodeTable, NodeWriter};
 use crate::twins::{note_spot, note_twin};
 use crate::writing::least;
-use maple_node::{Root, Steps};
-use mm_types::{NoMemory, Row};
+use maple_node::Root;
+use mm_types::{NoMemory, Row, Steps};
 use std::sync::Arc;
 
 impl NodeTable {

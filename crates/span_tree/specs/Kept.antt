@@ -1,5 +1,6 @@
 -- What the fields of a tree of spans and slots keep.
-use Rattle.std.specs.Prelude.{ℕ, ◌≡◌, ◌<◌, ◌≤◌, ◌+◌, ◌*◌, true, false, [], length}
+use Rattle.std.specs.Prelude.{ℕ, ◌≡◌, ◌<◌, ◌≤◌, true, false, [], length}
+use Rattle.mm_types.specs.Config.{rows_for, slots_for}
 use Rattle.node_slots.specs.Seats.{table_of, Writes, sight, desk, row_count, is_present, is_kept}
 use Rattle.node_slots.specs.Built.{IsBuilt, IsWriters, pairs_now}
 use Rattle.span_tree.specs.declared.tree.SpanTree.TheInside.{Inside}
@@ -29,8 +30,8 @@ pub record IsSpanTree (fields : Inside) : Type 0 where
   pub some_areas : 1 ≤ fields.areas
   pub few_areas : fields.areas ≤ 65530
   pub some_pages : 0 < fields.tree.limit.0
-  pub rows : row_count fields.writer ≡ fields.areas + 128
-  pub slots : (sight fields.writer).size.slots ≡ 2 * fields.areas + 2
+  pub rows : row_count fields.writer ≡ rows_for fields.areas
+  pub slots : (sight fields.writer).size.slots ≡ slots_for fields.areas
   pub number : (desk fields.writer).tree.number ≡ fields.number
   pub few_pairs : length (pairs_now fields.writer fields.tree) ≤ fields.areas
   pub first : fields.number ≡ 0 → shown_pairs fields.writer ≡ []

@@ -1,5 +1,6 @@
 -- What contracts see of a tree of spans and slots.
-use Rattle.std.specs.Prelude.{ℕ, ◌≡◌, ◌<◌, ◌≤◌, ◌+◌, ◌*◌, ◌/◌, Bool, List, [], ◌∷◌}
+use Rattle.std.specs.Prelude.{ℕ, ◌≡◌, ◌<◌, ◌≤◌, ◌+◌, ◌/◌, Bool, List, [], ◌∷◌}
+use Rattle.mm_types.specs.Config.{rows_for, slots_for}
 use Rattle.maple_node.specs.Trees.{Pair}
 use Rattle.atomic_table.specs.Seated.{TableId}
 use Rattle.node_slots.specs.declared.view.Size.{Size}
@@ -31,7 +32,7 @@ ArePairs slots limit start (pair ∷ pairs) = (start ≤ pair.lo) × (pair.lo < 
 
 -- the size of the table for a tree of at most so many pairs
 abbrev pub size_for : ℕ → ℕ → Size
-size_for areas readers = record { rows = areas + 128; slots = 2 * areas + 2; readers = readers }
+size_for areas readers = record { rows = rows_for areas; slots = slots_for areas; readers = readers }
 
 -- how many rows are free before a tree of at most so many pairs is changed
 abbrev pub enough : ℕ → ℕ
@@ -41,5 +42,5 @@ enough areas = areas / 2 + 60
 pub record IsFreshWriter (areas : ℕ) (writer : NodeWriter) : Type 0 where
   pub readers : ℕ
   pub view : sight writer ≡ opened_view (size_for areas readers) readers
-  pub free : IsFreeFrom 1 (areas + 128) (free_of writer)
+  pub free : IsFreeFrom 1 (rows_for areas) (free_of writer)
   pub left : left_of writer ≡ []

@@ -3,9 +3,8 @@ ghost use Rattle.std.specs.Prelude.{◌≡◌, ◌<◌, ◌≤◌, ◌+◌, ◌*
 ghost use Rattle.maple_node.specs.Words.{slot_word};
 ghost use Rattle.node_slots.specs.Seats.{Writes, free_of};
 
-use maple_node::Steps;
 use maple_write::{publish_tree, store};
-use mm_types::{NoMemory, Page, Row, Slot, Span};
+use mm_types::{NoMemory, Page, Row, Slot, Span, Steps};
 use node_slots::{NodeTable, NodeWriter, Tree};
 use std::alloc::Global;
 use std::marker::Model;

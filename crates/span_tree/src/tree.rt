@@ -1,5 +1,6 @@
 //! The tree of spans and slots.
-ghost use Rattle.std.specs.Prelude.{◌≡◌, ◌≤◌, ◌<◌, ◌+◌, ◌*◌, ◌-◌, ◌^◌, ℕ, true, false, nat_eq, [], length, IfOk};
+ghost use Rattle.std.specs.Prelude.{◌≡◌, ◌≤◌, ◌<◌, ◌+◌, ◌-◌, ◌^◌, ℕ, true, false, nat_eq, [], length, IfOk};
+ghost use Rattle.mm_types.specs.Config.{slots_for};
 ghost use Rattle.maple_node.specs.Words.{slot_word};
 ghost use Rattle.maple_items.specs.Pairs.{overwritten};
 ghost use Rattle.span_tree.specs.SpanTrees.{IsFreshWriter, ArePairs};
@@ -44,7 +45,7 @@ impl Model for SpanTree {
 
 impl SpanTree {
     /// The tree of a table that was just made, of which the writer is given: it has no pairs yet, may have at most so many, from 1
-    /// to 65,530, and its pages end at the limit. The table has `areas + 128` rows, and `2 areas + 2` slots.
+    /// to 65,530, and its pages end at the limit. The table has the rows and slots that are for so many areas.
     pub fn new(areas: u32, limit: Page, writer: NodeWriter) -> Result<SpanTree, NoMemory>
         requires areas { (1 ≤ areas) × (areas ≤ 65530) }
         requires limit { 0 < limit.0 }
@@ -97,7 +98,7 @@ impl SpanTree {
     pub fn store(&mut self, span: Span, slot: Option<Slot>)
         requires roomy { self.old.roomy ≡ true }
         requires span { (span.lo < span.hi) × (span.hi ≤ self.old.limit) }
-        requires slot { slot_word slot ≤ 2 * self.old.areas + 2 }
+        requires slot { slot_word slot ≤ slots_for self.old.areas }
         requires few { length (overwritten span.lo span.hi (slot_word slot) self.old.pairs) ≤ self.old.areas }
         ensures { self.new ≡ record self.old { pairs = overwritten span.lo span.hi (slot_word slot) self.old.pairs; changed = true } }
     {
@@ -118,7 +119,7 @@ impl SpanTree {
         } }
         ensures settled { self.old.settled ≤ self.new.settled }
         ensures few { length self.new.shown ≤ self.new.areas }
-        ensures pairs { ArePairs (2 * self.new.areas + 2) self.new.limit 0 self.new.shown }
+        ensures pairs { ArePairs (slots_for self.new.areas) self.new.limit 0 self.new.shown }
     {
         publish_tree(&self.nodes, &mut self.writer, &self.tree);
         self.number += 1;
@@ -136,7 +137,7 @@ impl SpanTree {
 
     /// What the type keeps: the pairs stand in order, with no page in common, up to the limit, and are no more than may be.
     pub fn facts(&self)
-        ensures pairs { ArePairs (2 * self.now.areas + 2) self.now.limit 0 self.now.pairs }
+        ensures pairs { ArePairs (slots_for self.now.areas) self.now.limit 0 self.now.pairs }
         ensures few { length self.now.pairs ≤ self.now.areas }
     {
         let _areas = self.areas;

@@ -2,8 +2,8 @@
 use mathlib.Core.Bool.{beq as same_bool}
 use Rattle.std.proofs.Common.{◌≡◌, ◌≤◌, ◌<◌, ◌+◌, ◌*◌, ◌⊎◌, inl, inr, ℕ, Bool, true, false, ◌&&◌, nat_eq, nat_lt, if◌then◌else◌, List, [], ◌∷◌, ◌++◌, length, map, Option, Some, None, IfSome, refl, ap, ◌∙◌, sym, subst, arith}
 use Rattle.std.specs.List.{Contains, AllByRecursion as Each}
-use Rattle.std.specs.Option.{option_len}
-use Rattle.std.proofs.lemmas.Bool.{both_ways, eqb-true, cond_both}
+use Rattle.std.specs.Option.{option_len, option_or}
+use Rattle.std.proofs.lemmas.Bool.{both_ways, cond_both, cond-true, lt-ltb}
 use Rattle.std.proofs.lemmas.Bool.Decides.{nat_tests}
 use Rattle.std.proofs.lemmas.List.{length-append}
 use Rattle.std.proofs.lemmas.List.Elements.{All-contains, All-from_recursion}
@@ -12,16 +12,16 @@ use Rattle.mm_types.specs.declared.area.Attr.{Attr}
 use Rattle.mm_types.specs.declared.area.Record.{Record}
 use Rattle.area_list.specs.Areas.{joins, same_prot, same_attr}
 use Rattle.area_list.specs.Changes.{joined_area}
-use Rattle.area_list.proofs.Elements.{Pairs, Each-append, Each-weaker}
+use Rattle.area_list.proofs.Elements.{Pairs, Each-append, Each-weaker, Each-also}
 use Rattle.split_merge.specs.declared.plan.Change.{Change}
 use Rattle.split_merge.specs.declared.plan.Change.TheVariants.{Alter}
 use Rattle.split_merge.specs.declared.planner.Run.{Run}
 use Rattle.split_merge.specs.Plans.{olds_of}
-use Rattle.split_merge.specs.Planner.{Event, page_at, same_area, detaching, replacing, closing, taken, left, run_with, planned_with, along, come, come_in, weight}
+use Rattle.split_merge.specs.Planner.{Event, page_at, same_area, detaching, replacing, closing, taken, left, spare, covered, left_over, settled, unsettled, run_with, planned_with, along, come, come_in, weight}
 use Rattle.split_merge.proofs.Replacing.{olds_of-append}
 use Rattle.split_merge.proofs.Counting.{contains_cases}
 use Rattle.split_merge.proofs.Turning.{Unlike, IsRealChange}
-use Rattle.split_merge.proofs.Steps.{length-detaching, length-closing, laid_short}
+use Rattle.split_merge.proofs.Steps.{length-detaching, length-closing, laid_short, settled_short}
 use Rattle.split_merge.proofs.Events.{key, Precedes, olds_in}
 
 prot_alike : (a : Prot) → same_prot a a ≡ true
@@ -44,22 +44,35 @@ area_alike a = all a.span.lo a.span.hi a.object a.offset (same_attr a.attr a.att
         → ((nat_eq lo lo && nat_eq hi hi) && (alike && (nat_eq object object && nat_eq offset offset))) ≡ true
     all lo hi object offset alike is = grind (arith, nat_tests)
 
--- the old area begins where the new one does, and where there is none, none begins there
+-- an old area that begins where the new one does is the one whose place that takes
 abbrev IsRealRun : List Record → Option Record → Record → Type 0
-IsRealRun areas None new = Each (Unlike new) areas
-IsRealRun areas (Some old) new = old.span.lo ≡ new.span.lo
+IsRealRun areas old new = Each (λ area. new.span.lo ≡ area.span.lo → old ≡ Some area) areas
+
+some_same : (a b : Record) → Some a ≡ Some b → a ≡ b
+some_same a b is = cc
+
+none_some : (a : Record) → None ≡ Some a → ⊥
+none_some a is = cc
 
 real_detaching : (areas : List Record) (old : Option Record) → Each (IsRealChange areas) (detaching old)
 real_detaching areas None = tt
 real_detaching areas (Some old) = (tt, tt)
 
 real_replacing : (areas : List Record) (old : Option Record) (new : Record) → IsRealRun areas old new → Each (IsRealChange areas) (replacing old new)
-real_replacing areas None new real = (real, tt)
+real_replacing areas None new real =
+    (Each-weaker (λ area. new.span.lo ≡ area.span.lo → None ≡ Some area) (Unlike new) (λ area begins same. none_some area (begins same)) areas real, tt)
 real_replacing areas (Some old) new real = by (same_area old new) refl
   where
     by : (same : Bool) → same_area old new ≡ same → Each (IsRealChange areas) (if same then [] else Alter old new ∷ [])
     by true is = tt
-    by false is = ((real, (λ equal. both_ways (same_area old new) is (ap (same_area old) (sym equal) ∙ area_alike old))), tt)
+    by false is = (
+      (
+        Each-weaker (λ area. new.span.lo ≡ area.span.lo → Some old ≡ Some area) (λ area. new.span.lo ≡ area.span.lo → old ≡ area)
+            (λ area begins same. some_same old area (begins same)) areas real,
+        (λ equal. both_ways (same_area old new) is (ap (same_area old) (sym equal) ∙ area_alike old)),
+      ),
+      tt,
+    )
 
 abbrev pub RunIsReal : List Record → Option Run → Type 0
 RunIsReal areas run = IfSome run (λ r. IsRealRun areas r.old r.new)
@@ -68,50 +81,53 @@ real_closing : (areas : List Record) (run : Option Run) → RunIsReal areas run 
 real_closing areas None real = tt
 real_closing areas (Some run) real = real_replacing areas run.old run.new real
 
--- where a part begins, the area that begins there is the pending one, if there is one
+-- where a part begins, the area that begins there is the pending one, which is taken
 abbrev Fits : List Record → Option Record → List Event → Type 0
 Fits areas pending [] = Unit {0}
 Fits areas pending (Event.Begins area ∷ events) = Fits areas (Some area) events
-Fits areas pending (Event.Comes part ∷ events) = (taken pending part ≡ None → Each (Unlike part) areas) × Fits areas (left pending part) events
+Fits areas pending (Event.Comes part ∷ events) = IsRealRun areas (taken pending part) part × Fits areas (left pending part) events
 Fits areas pending (Event.Passed area ∷ events) = Fits areas None events
 
-taken_real : (areas : List Record) (pending : Option Record) (part : Record) → (taken pending part ≡ None → Each (Unlike part) areas) → IsRealRun areas (taken pending part) part
-taken_real areas None part fits = fits refl
-taken_real areas (Some old) part fits = by (nat_eq old.span.lo part.span.lo) refl fits
-  where
-    by : (test : Bool) → nat_eq old.span.lo part.span.lo ≡ test → ((if test then Some old else None) ≡ None → Each (Unlike part) areas)
-        → IsRealRun areas (if test then Some old else None) part
-    by true is fits = eqb-true old.span.lo part.span.lo is
-    by false is fits = fits refl
+-- a run that is real stays so where it takes an area that it has not yet
+real_sharing : (areas : List Record) (partner old : Option Record) (new : Record) → IsRealRun areas partner new → IsRealRun areas (option_or partner old) new
+real_sharing areas None old new real = Each-weaker (λ area. new.span.lo ≡ area.span.lo → None ≡ Some area) (λ area. new.span.lo ≡ area.span.lo → old ≡ Some area)
+    (λ area begins same. absurd (none_some area (begins same))) areas real
+real_sharing areas (Some partner) old new real = real
 
 real_part : (areas : List Record) (pending : Option Record) (run : Option Run) (part : Record) → RunIsReal areas run
-    → (taken pending part ≡ None → Each (Unlike part) areas)
+    → IsRealRun areas (taken pending part) part
     → Each (IsRealChange areas) (planned_with pending run part) × RunIsReal areas (Some (run_with pending run part))
-real_part areas pending None part real fits = (tt, taken_real areas pending part fits)
+real_part areas pending None part real fits = (tt, fits)
 real_part areas pending (Some run) part real fits = by (joins run.new part)
   where
     by : (join : Bool)
-        → Each (IsRealChange areas) (if join then detaching (taken pending part) else replacing run.old run.new)
-        × RunIsReal areas (Some (if join then record { old = run.old; new = joined_area run.new part } else record { old = taken pending part; new = part }))
-    by true = (real_detaching areas (taken pending part), still run.old real)
-      where
-        still : (old : Option Record) → IsRealRun areas old run.new → IsRealRun areas old (joined_area run.new part)
-        still None real = real
-        still (Some old) real = real
-    by false = (real_replacing areas run.old run.new real, taken_real areas pending part fits)
+        → Each (IsRealChange areas) (if join then detaching (spare run.old (taken pending part)) else replacing run.old run.new)
+        × RunIsReal areas (Some (if join then record { old = option_or run.old (taken pending part); new = joined_area run.new part }
+        else record { old = taken pending part; new = part }))
+    by true = (real_detaching areas (spare run.old (taken pending part)), real_sharing areas run.old (taken pending part) run.new real)
+    by false = (real_replacing areas run.old run.new real, fits)
+
+real_settled : (areas : List Record) (pending : Option Record) (run : Option Run) → RunIsReal areas run → RunIsReal areas (settled pending run)
+real_settled areas pending None real = tt
+real_settled areas pending (Some run) real = real_sharing areas run.old (covered pending run.new) run.new real
+
+real_end : (areas : List Record) (pending : Option Record) (run : Option Run) → RunIsReal areas run
+    → Each (IsRealChange areas) (detaching (unsettled pending run) ++ closing (settled pending run))
+real_end areas pending run real = Each-append (IsRealChange areas) (detaching (unsettled pending run)) (closing (settled pending run))
+    (real_detaching areas (unsettled pending run)) (real_closing areas (settled pending run) (real_settled areas pending run real))
 
 real_along : (areas : List Record) (pending : Option Record) (run : Option Run) (events : List Event) → RunIsReal areas run → Fits areas pending events
     → Each (IsRealChange areas) (along pending run events)
-real_along areas pending run [] real fits = Each-append (IsRealChange areas) (detaching pending) (closing run) (real_detaching areas pending) (real_closing areas run real)
+real_along areas pending run [] real fits = real_end areas pending run real
 real_along areas pending run (Event.Begins area ∷ events) real fits =
-    Each-append (IsRealChange areas) (detaching pending) (along (Some area) run events) (real_detaching areas pending) (real_along areas (Some area) run events real fits)
+    Each-append (IsRealChange areas) (detaching (unsettled pending run)) (along (Some area) (settled pending run) events) (real_detaching areas (unsettled pending run))
+    (real_along areas (Some area) (settled pending run) events (real_settled areas pending run real) fits)
 real_along areas pending run (Event.Comes part ∷ events) real fits =
     let here = real_part areas pending run part real fits.0 in
     Each-append (IsRealChange areas) (planned_with pending run part) (along (left pending part) (Some (run_with pending run part)) events) here.0
     (real_along areas (left pending part) (Some (run_with pending run part)) events here.1 fits.1)
 real_along areas pending run (Event.Passed area ∷ events) real fits =
-    Each-append (IsRealChange areas) (detaching pending ++ closing run) (along None None events)
-    (Each-append (IsRealChange areas) (detaching pending) (closing run) (real_detaching areas pending) (real_closing areas run real))
+    Each-append (IsRealChange areas) (detaching (unsettled pending run) ++ closing (settled pending run)) (along None None events) (real_end areas pending run real)
     (real_along areas None None events tt fits)
 
 -- an old area is below all that comes, is the pending one, or comes
@@ -128,22 +144,21 @@ olds_above page (Event.Passed area ∷ events) above = (omega (arith, above.0), 
 abbrev Above : Option Record → List Event → Type 0
 Above pending events = IfSome pending (λ old. Each (λ event. 2 * old.span.lo < key event) events)
 
-none_unlike : (pending : Option Record) (part : Record) (area : Record) → pending ≡ Some area → taken pending part ≡ None → Unlike part area
-none_unlike pending part area is none = by (nat_eq area.span.lo part.span.lo) refl (ap (λ found. taken found part) (sym is) ∙ none)
-  where
-    by : (test : Bool) → nat_eq area.span.lo part.span.lo ≡ test → (if test then Some area else None) ≡ None → Unlike part area
-    by true same none = cc
-    by false same none = λ equal. differ area.span.lo part.span.lo same (sym equal)
-      where
-        differ : (a b : ℕ) → nat_eq a b ≡ false → a ≡ b → ⊥
-        differ a b test equal = grind (arith, nat_tests)
+-- a pending area is taken by a part that begins where it begins
+taken_begins : (pending : Option Record) (part area : Record) → pending ≡ Some area → area.span.lo < area.span.hi → part.span.lo ≡ area.span.lo
+    → taken pending part ≡ Some area
+taken_begins pending part area is some begins = ap (λ found. taken found part) is
+    ∙ cond-true (nat_lt part.span.lo area.span.hi) (Some area) None (lt-ltb part.span.lo area.span.hi (omega (arith, some, begins)))
+
+abbrev pub SomePages : Record → Type 0
+SomePages area = area.span.lo < area.span.hi
 
 -- each old area has its place at each event
-fits_along : (areas : List Record) (pending : Option Record) (events : List Event) → Each (Place pending events) areas → Above pending events → Pairs Precedes events
-    → Fits areas pending events
-fits_along areas pending [] places above order = tt
-fits_along areas pending (Event.Begins next ∷ events) places above order =
-    fits_along areas (Some next) events (Each-weaker (Place pending (Event.Begins next ∷ events)) (Place (Some next) events) step areas places) order.0 order.1
+fits_along : (areas : List Record) (pending : Option Record) (events : List Event) → Each SomePages areas → Each (Place pending events) areas → Above pending events
+    → Pairs Precedes events → Fits areas pending events
+fits_along areas pending [] some places above order = tt
+fits_along areas pending (Event.Begins next ∷ events) some places above order =
+    fits_along areas (Some next) events some (Each-weaker (Place pending (Event.Begins next ∷ events)) (Place (Some next) events) step areas places) order.0 order.1
   where
     step : (area : Record) → Place pending (Event.Begins next ∷ events) area → Place (Some next) events area
     step area (inl below) = inl below.1
@@ -156,36 +171,37 @@ fits_along areas pending (Event.Begins next ∷ events) places above order =
         by : (next ≡ area) ⊎ Contains (olds_in events) area → Place (Some next) events area
         by (inl same) = inr (inl (ap (λ (a : Record). Some a) same))
         by (inr later) = inr (inr later)
-fits_along areas pending (Event.Comes part ∷ events) places above order = (
-  (λ none. Each-weaker (Place pending (Event.Comes part ∷ events)) (Unlike part) (λ area place. unlike area place none) areas places),
-  fits_along areas (left pending part) events (Each-weaker (Place pending (Event.Comes part ∷ events)) (Place (left pending part) events) step areas places)
+fits_along areas pending (Event.Comes part ∷ events) some places above order = (
+  Each-also SomePages (Place pending (Event.Comes part ∷ events)) (λ area. part.span.lo ≡ area.span.lo → taken pending part ≡ Some area) at areas some places,
+  fits_along areas (left pending part) events some (Each-weaker (Place pending (Event.Comes part ∷ events)) (Place (left pending part) events) step areas places)
       (stays pending above) order.1,
 )
   where
-    unlike : (area : Record) → Place pending (Event.Comes part ∷ events) area → taken pending part ≡ None → Unlike part area
-    unlike area (inl below) none = λ same. omega (arith, below.0)
-    unlike area (inr (inl is)) none = none_unlike pending part area is none
-    unlike area (inr (inr comes)) none = λ same. omega (
+    at : (area : Record) → SomePages area → Place pending (Event.Comes part ∷ events) area → part.span.lo ≡ area.span.lo → taken pending part ≡ Some area
+    at area pages (inl below) same = absurd (omega (arith, below.0, same))
+    at area pages (inr (inl is)) same = taken_begins pending part area is pages same
+    at area pages (inr (inr comes)) same = absurd (omega (
       arith,
+      same,
       All-contains (λ (old : Record). part.span.lo < old.span.lo) (olds_in events) area
           (All-from_recursion (λ (old : Record). part.span.lo < old.span.lo) (olds_in events) (olds_above part.span.lo events order.0)) comes,
-    )
+    ))
 
     step : (area : Record) → Place pending (Event.Comes part ∷ events) area → Place (left pending part) events area
     step area (inl below) = inl below.1
-    step area (inr (inl is)) = by (nat_eq area.span.lo part.span.lo) refl (ap (λ found. left found part) is)
+    step area (inr (inl is)) = by (nat_lt part.span.lo area.span.hi) (ap (λ found. left found part) is)
+        (subst (λ found. Above found (Event.Comes part ∷ events)) is above).0
       where
-        by : (test : Bool) → nat_eq area.span.lo part.span.lo ≡ test → left pending part ≡ (if test then None else Some area) → Place (left pending part) events area
-        by true same is = inl (Each-weaker (Precedes (Event.Comes part)) (λ event. 2 * area.span.lo + 1 < key event)
-            (λ event less. omega (arith, eqb-true area.span.lo part.span.lo same)) events order.0)
-        by false same is = inr (inl is)
+        by : (test : Bool) → left pending part ≡ (if test then None else Some area) → 2 * area.span.lo < key (Event.Comes part) → Place (left pending part) events area
+        by true is begins = inl (Each-weaker (Precedes (Event.Comes part)) (λ event. 2 * area.span.lo + 1 < key event) (λ event less. omega (arith, begins)) events order.0)
+        by false is begins = inr (inl is)
     step area (inr (inr comes)) = inr (inr comes)
 
     stays : (found : Option Record) → Above found (Event.Comes part ∷ events) → Above (left found part) events
     stays None above = tt
-    stays (Some old) above = cond_both (nat_eq old.span.lo part.span.lo) None (Some old) (λ kept. Above kept events) (λ same. tt) (λ other. above.1)
-fits_along areas pending (Event.Passed next ∷ events) places above order =
-    fits_along areas None events (Each-weaker (Place pending (Event.Passed next ∷ events)) (Place None events) step areas places) tt order.1
+    stays (Some old) above = cond_both (nat_lt part.span.lo old.span.hi) None (Some old) (λ kept. Above kept events) (λ within. tt) (λ past. above.1)
+fits_along areas pending (Event.Passed next ∷ events) some places above order =
+    fits_along areas None events some (Each-weaker (Place pending (Event.Passed next ∷ events)) (Place None events) step areas places) tt order.1
   where
     step : (area : Record) → Place pending (Event.Passed next ∷ events) area → Place None events area
     step area (inl below) = inl below.1
@@ -201,9 +217,10 @@ fits_along areas pending (Event.Passed next ∷ events) places above order =
         by (inr later) = inr (inr later)
 
 -- each change of a plan along a list is real
-pub changes_real : (areas : List Record) (events : List Event) → Each (Contains (olds_in events)) areas → Pairs Precedes events → Each (IsRealChange areas) (along None None events)
-changes_real areas events members order = real_along areas None None events tt
-    (fits_along areas None events (Each-weaker (Contains (olds_in events)) (Place None events) (λ area member. inr (inr member)) areas members) tt order)
+pub changes_real : (areas : List Record) (events : List Event) → Each SomePages areas → Each (Contains (olds_in events)) areas → Pairs Precedes events
+    → Each (IsRealChange areas) (along None None events)
+changes_real areas events some members order = real_along areas None None events tt
+    (fits_along areas None events some (Each-weaker (Contains (olds_in events)) (Place None events) (λ area member. inr (inr member)) areas members) tt order)
 
 -- the old areas that the events do not pass over
 abbrev pub begun_in : List Event → List Record
@@ -236,35 +253,75 @@ each_olds P xs ys first second = subst (Each P) (sym (olds_of-append xs ys)) (Ea
 
 taken_has : (P : Record → Type 0) (pending : Option Record) (part : Record) → IfSome pending P → IfSome (taken pending part) P × IfSome (left pending part) P
 taken_has P None part has = (tt, tt)
-taken_has P (Some old) part has = by (nat_eq old.span.lo part.span.lo)
+taken_has P (Some old) part has = by (nat_lt part.span.lo old.span.hi)
   where
     by : (test : Bool) → IfSome (if test then Some old else None) P × IfSome (if test then None else Some old) P
     by true = (has, tt)
     by false = (tt, has)
+
+spare_has : (P : Record → Type 0) (partner old : Option Record) → IfSome old P → IfSome (spare partner old) P
+spare_has P None old has = tt
+spare_has P (Some partner) old has = has
+
+shared_has : (P : Record → Type 0) (partner old : Option Record) → IfSome partner P → IfSome old P → IfSome (option_or partner old) P
+shared_has P None old first second = second
+shared_has P (Some partner) old first second = first
 
 part_has : (P : Record → Type 0) (pending : Option Record) (run : Option Run) (part : Record) → IfSome pending P → RunHas P run
     → Each P (olds_of (planned_with pending run part)) × RunHas P (Some (run_with pending run part))
 part_has P pending None part has of_run = (tt, (taken_has P pending part has).0)
 part_has P pending (Some run) part has of_run = by (joins run.new part)
   where
-    by : (join : Bool) → Each P (olds_of (if join then detaching (taken pending part) else replacing run.old run.new))
-        × RunHas P (Some (if join then record { old = run.old; new = joined_area run.new part } else record { old = taken pending part; new = part }))
-    by true = (olds_of-detaching P (taken pending part) (taken_has P pending part has).0, of_run)
+    by : (join : Bool) → Each P (olds_of (if join then detaching (spare run.old (taken pending part)) else replacing run.old run.new))
+        × RunHas P (Some (if join then record { old = option_or run.old (taken pending part); new = joined_area run.new part }
+        else record { old = taken pending part; new = part }))
+    by true = (
+      olds_of-detaching P (spare run.old (taken pending part)) (spare_has P run.old (taken pending part) (taken_has P pending part has).0),
+      shared_has P run.old (taken pending part) of_run (taken_has P pending part has).0,
+    )
     by false = (olds_of-replacing P run.old run.new of_run, (taken_has P pending part has).0)
+
+covered_has : (P : Record → Type 0) (partner pending : Option Record) (new : Record) → IfSome pending P
+    → IfSome (left_over partner pending new) P × IfSome (covered pending new) P
+covered_has P (Some partner) None new has = (tt, tt)
+covered_has P None None new has = (tt, tt)
+covered_has P (Some partner) (Some old) new has = by (nat_lt old.span.lo new.span.hi)
+  where
+    by : (test : Bool) → P old × IfSome (if test then Some old else None) P
+    by true = (has, has)
+    by false = (has, tt)
+covered_has P None (Some old) new has = by (nat_lt old.span.lo new.span.hi)
+  where
+    by : (test : Bool) → IfSome (if test then None else Some old) P × IfSome (if test then Some old else None) P
+    by true = (tt, has)
+    by false = (has, tt)
+
+settled_has : (P : Record → Type 0) (pending : Option Record) (run : Option Run) → IfSome pending P → RunHas P run
+    → IfSome (unsettled pending run) P × RunHas P (settled pending run)
+settled_has P pending None has of_run = (has, tt)
+settled_has P pending (Some run) has of_run = let parts = covered_has P run.old pending run.new has in
+    (parts.0, shared_has P run.old (covered pending run.new) of_run parts.1)
+
+end_olds : (P : Record → Type 0) (pending : Option Record) (run : Option Run) → IfSome pending P → RunHas P run
+    → Each P (olds_of (detaching (unsettled pending run) ++ closing (settled pending run)))
+end_olds P pending run has of_run = let here = settled_has P pending run has of_run in
+    each_olds P (detaching (unsettled pending run)) (closing (settled pending run)) (olds_of-detaching P (unsettled pending run) here.0)
+    (olds_of-closing P (settled pending run) here.1)
 
 -- only they go
 along_olds : (P : Record → Type 0) (pending : Option Record) (run : Option Run) (events : List Event) → IfSome pending P → RunHas P run → Each P (begun_in events)
     → Each P (olds_of (along pending run events))
-along_olds P pending run [] has of_run each = each_olds P (detaching pending) (closing run) (olds_of-detaching P pending has) (olds_of-closing P run of_run)
+along_olds P pending run [] has of_run each = end_olds P pending run has of_run
 along_olds P pending run (Event.Begins area ∷ events) has of_run each =
-    each_olds P (detaching pending) (along (Some area) run events) (olds_of-detaching P pending has) (along_olds P (Some area) run events each.0 of_run each.1)
+    let here = settled_has P pending run has of_run in
+    each_olds P (detaching (unsettled pending run)) (along (Some area) (settled pending run) events) (olds_of-detaching P (unsettled pending run) here.0)
+    (along_olds P (Some area) (settled pending run) events each.0 here.1 each.1)
 along_olds P pending run (Event.Comes part ∷ events) has of_run each =
     let here = part_has P pending run part has of_run in
     each_olds P (planned_with pending run part) (along (left pending part) (Some (run_with pending run part)) events) here.0
     (along_olds P (left pending part) (Some (run_with pending run part)) events (taken_has P pending part has).1 here.1 each)
 along_olds P pending run (Event.Passed area ∷ events) has of_run each =
-    each_olds P (detaching pending ++ closing run) (along None None events)
-    (each_olds P (detaching pending) (closing run) (olds_of-detaching P pending has) (olds_of-closing P run of_run))
+    each_olds P (detaching (unsettled pending run) ++ closing (settled pending run)) (along None None events) (end_olds P pending run has of_run)
     (along_olds P None None events tt tt each)
 
 pub changes_olds : (P : Record → Type 0) (events : List Event) → Each P (begun_in events) → Each P (olds_of (along None None events))
@@ -292,12 +349,28 @@ pub begun_comes : (P : Record → Type 0) (parts : List Record) → Each P (begu
 begun_comes P [] = tt
 begun_comes P (part ∷ parts) = begun_comes P parts
 
+end_short : (pending : Option Record) (run : Option Run)
+    → length (detaching (unsettled pending run) ++ closing (settled pending run)) ≤ option_len pending + option_len run
+end_short pending run = omega (
+  arith,
+  length-append (detaching (unsettled pending run)) (closing (settled pending run)),
+  length-detaching (unsettled pending run),
+  length-closing (settled pending run),
+  settled_short pending run,
+)
+
 -- at most so many changes are planned
 along_short : (pending : Option Record) (run : Option Run) (events : List Event)
     → length (along pending run events) ≤ option_len pending + (option_len run + weight events)
-along_short pending run [] = omega (arith, length-append (detaching pending) (closing run), length-detaching pending, length-closing run)
+along_short pending run [] = omega (arith, end_short pending run)
 along_short pending run (Event.Begins area ∷ events) =
-    omega (arith, length-append (detaching pending) (along (Some area) run events), length-detaching pending, along_short (Some area) run events)
+    omega (
+      arith,
+      length-append (detaching (unsettled pending run)) (along (Some area) (settled pending run) events),
+      length-detaching (unsettled pending run),
+      settled_short pending run,
+      along_short (Some area) (settled pending run) events,
+    )
 along_short pending run (Event.Comes part ∷ events) = omega (
   arith,
   length-append (planned_with pending run part) (along (left pending part) (Some (run_with pending run part)) events),
@@ -306,10 +379,8 @@ along_short pending run (Event.Comes part ∷ events) = omega (
 )
 along_short pending run (Event.Passed area ∷ events) = omega (
   arith,
-  length-append (detaching pending ++ closing run) (along None None events),
-  length-append (detaching pending) (closing run),
-  length-detaching pending,
-  length-closing run,
+  length-append (detaching (unsettled pending run) ++ closing (settled pending run)) (along None None events),
+  end_short pending run,
   along_short None None events,
 )
 

@@ -15,7 +15,7 @@ pub contains_cases : {A : Type 0} (first : A) (xs : List A) (x : A) → Contains
 contains_cases first xs x (zero, within, is) = inl is
 contains_cases first xs x (suc k, within, is) = inr (k, omega arith, is)
 
-contains_later : {A : Type 0} (first : A) (xs : List A) (x : A) → Contains xs x → Contains (first ∷ xs) x
+pub contains_later : {A : Type 0} (first : A) (xs : List A) (x : A) → Contains xs x → Contains (first ∷ xs) x
 contains_later first xs x member = (suc member.0, omega (arith, member.1), member.2)
 
 -- an element that passes stays

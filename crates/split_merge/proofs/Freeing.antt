@@ -5,7 +5,7 @@ use Rattle.std.proofs.lemmas.Bool.{cond_both, ltb-true, ltb-false}
 use Rattle.std.proofs.lemmas.Bool.Decides.{nat_tests}
 use Rattle.std.proofs.lemmas.Option.{same_Some}
 use Rattle.mm_types.specs.declared.area.Record.{Record}
-use Rattle.area_model.specs.Placement.{is_free}
+use Rattle.area_rules.specs.Placement.{is_free}
 use Rattle.area_list.proofs.Elements.{Each-weaker}
 use Rattle.area_list.proofs.Order.{Before}
 use Rattle.split_merge.specs.Finding.{first_from}
@@ -25,7 +25,7 @@ above_start : (start end lo hi : ℕ) (rest : Bool) → start < hi → (end ≤ 
 above_start start end lo hi rest above later = grind (arith, nat_tests)
 
 -- a range below each area is free
-free_below : (areas : List Record) (pages start : ℕ) → Each (λ area. start + pages ≤ area.span.lo) areas → is_free areas pages start ≡ true
+pub free_below : (areas : List Record) (pages start : ℕ) → Each (λ area. start + pages ≤ area.span.lo) areas → is_free areas pages start ≡ true
 unfolding is_free
 free_below [] pages start below = refl
 free_below (area ∷ areas) pages start below =

@@ -22,3 +22,6 @@ pub mod Results
 pub mod Spans
 pub mod Protecting
 pub mod Moving
+pub mod OneChange
+pub mod Growers
+pub mod Scanning

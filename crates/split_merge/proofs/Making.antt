@@ -1,7 +1,7 @@
 -- For `plan_cut`, `plan_move`, `plan_protect` and others: what a plan along the events of a list makes of it.
-use Rattle.std.proofs.Common.{◌≡◌, ◌<◌, Bool, true, false, nat_eq, if◌then◌else◌, List, [], ◌∷◌, ◌++◌, Option, Some, None, refl, ap, ◌∙◌, sym, subst, arith}
+use Rattle.std.proofs.Common.{◌≡◌, ◌<◌, Bool, true, false, nat_lt, if◌then◌else◌, List, [], ◌∷◌, ◌++◌, Option, Some, None, refl, ap, ◌∙◌, sym, subst, arith}
 use Rattle.std.specs.List.{AllByRecursion as Each}
-use Rattle.std.specs.Option.{option_to_list}
+use Rattle.std.specs.Option.{option_to_list, option_or}
 use Rattle.std.proofs.lemmas.Bool.{cond-false}
 use Rattle.std.proofs.lemmas.List.{append-nil, append_assoc}
 use Rattle.mm_types.specs.declared.area.Record.{Record}
@@ -12,7 +12,7 @@ use Rattle.area_list.proofs.Merging.{joins_true}
 use Rattle.split_merge.specs.declared.plan.Change.{Change}
 use Rattle.split_merge.specs.declared.plan.Change.TheVariants.{Alter}
 use Rattle.split_merge.specs.declared.planner.Run.{Run}
-use Rattle.split_merge.specs.Planner.{Event, same_area, detaching, replacing, closing, taken, left, run_with, planned_with, along}
+use Rattle.split_merge.specs.Planner.{Event, same_area, detaching, replacing, closing, taken, left, spare, covered, left_over, settled, unsettled, run_with, planned_with, along}
 use Rattle.split_merge.proofs.Joining.{joins-joined_area}
 use Rattle.split_merge.proofs.Turning.{Turns}
 use Rattle.split_merge.proofs.Steps.{same_areas}
@@ -27,7 +27,7 @@ made None (Event.Comes part ∷ events) = made (Some part) events
 made (Some new) (Event.Comes part ∷ events) = if joins new part then made (Some (joined_area new part)) events else new ∷ made (Some part) events
 made new (Event.Passed area ∷ events) = option_to_list new ++ area ∷ made None events
 
--- the area that a run makes, and the old one that begins where it begins
+-- the area that a run makes, and the old one that it takes the place of
 abbrev pub new_of_run : Option Run → Option Record
 new_of_run None = None
 new_of_run (Some run) = Some run.new
@@ -60,11 +60,18 @@ turns_closing (Some run) t = turns_replacing run.old run.new t
 pending_split : (pending : Option Record) (part : Record) (areas : List Record)
     → option_to_list (taken pending part) ++ (option_to_list (left pending part) ++ areas) ≡ option_to_list pending ++ areas
 pending_split None part areas = refl
-pending_split (Some old) part areas = by (nat_eq old.span.lo part.span.lo)
+pending_split (Some old) part areas = by (nat_lt part.span.lo old.span.hi)
   where
     by : (test : Bool) → option_to_list (if test then Some old else None) ++ (option_to_list (if test then None else Some old) ++ areas) ≡ old ∷ areas
     by true = refl
     by false = refl
+
+-- a run that has an old area leaves another over, and else takes it
+turns_sharing : (partner old : Option Record) (areas : List Record) {plan : List Change} {list : List Record}
+    → Turns plan (option_to_list (option_or partner old) ++ areas) list
+    → Turns (detaching (spare partner old) ++ plan) (option_to_list partner ++ (option_to_list old ++ areas)) list
+turns_sharing None old areas t = t
+turns_sharing (Some partner) old areas t = turns_detaching (partner ∷ []) old areas t
 
 turns_part : (run : Run) (pending : Option Record) (part : Record) (events : List Event)
     → ((next : Run) → Turns (along (left pending part) (Some next) events) (option_to_list next.old ++ (option_to_list (left pending part) ++ olds_in events))
@@ -80,29 +87,59 @@ turns_part run pending part events goes_on = by (joins run.new part)
     rest = option_to_list (left pending part) ++ olds_in events
 
     by : (join : Bool)
-        → Turns ((if join then detaching (taken pending part) else replacing run.old run.new)
-        ++ along (left pending part) (Some (if join then record { old = run.old; new = joined } else record { old = taken pending part; new = part })) events)
+        → Turns ((if join then detaching (spare run.old (taken pending part)) else replacing run.old run.new)
+        ++ along (left pending part) (Some (if join then record { old = option_or run.old (taken pending part); new = joined }
+        else record { old = taken pending part; new = part })) events)
         (option_to_list run.old ++ (option_to_list pending ++ olds_in events))
         (if join then made (Some joined) events else run.new ∷ made (Some part) events)
-    by true = subst (λ areas. Turns (detaching (taken pending part) ++ along (left pending part) (Some (record { old = run.old; new = joined })) events)
+    by true = subst (λ areas. Turns (detaching (spare run.old (taken pending part))
+        ++ along (left pending part) (Some (record { old = option_or run.old (taken pending part); new = joined })) events)
         (option_to_list run.old ++ areas) (made (Some joined) events)) (pending_split pending part (olds_in events))
-        (turns_detaching (option_to_list run.old) (taken pending part) rest (goes_on (record { old = run.old; new = joined })))
+        (turns_sharing run.old (taken pending part) rest (goes_on (record { old = option_or run.old (taken pending part); new = joined })))
     by false = turns_replacing run.old run.new
         (subst (λ areas. Turns (along (left pending part) (Some (record { old = taken pending part; new = part })) events) areas (made (Some part) events))
         (pending_split pending part (olds_in events)) (goes_on (record { old = taken pending part; new = part })))
 
+-- what is settled: the run takes the pending old area, or that goes
+turns_settling : (pending : Option Record) (run : Option Run) (areas : List Record) {plan : List Change} {list : List Record}
+    → Turns plan (old_of_run (settled pending run) ++ areas) list
+    → Turns (detaching (unsettled pending run) ++ plan) (old_of_run run ++ (option_to_list pending ++ areas)) list
+turns_settling pending None areas t = turns_detaching [] pending areas t
+turns_settling pending (Some run) areas {plan = plan} {list = list} t = by run.old pending t
+  where
+    by : (partner old : Option Record) → Turns plan (option_to_list (option_or partner (covered old run.new)) ++ areas) list
+        → Turns (detaching (left_over partner old run.new) ++ plan) (option_to_list partner ++ (option_to_list old ++ areas)) list
+    by (Some partner) old t = turns_detaching (partner ∷ []) old areas t
+    by None None t = t
+    by None (Some old) t = test (nat_lt old.span.lo run.new.span.hi) t
+      where
+        test : (within : Bool) → Turns plan (option_to_list (if within then Some old else None) ++ areas) list
+            → Turns (detaching (if within then None else Some old) ++ plan) (old ∷ areas) list
+        test true t = t
+        test false t = Turns.goes [] old areas t
+
+-- and makes the same area
+new_settled : (pending : Option Record) (run : Option Run) → new_of_run (settled pending run) ≡ new_of_run run
+new_settled pending None = refl
+new_settled pending (Some run) = refl
+
 turns_end : (pending : Option Record) (run : Option Run)
-    → Turns (detaching pending ++ closing run) (old_of_run run ++ (option_to_list pending ++ [])) (option_to_list (new_of_run run))
-turns_end pending run = turns_detaching (old_of_run run) pending []
-    (subst (λ plan. Turns plan (old_of_run run ++ []) (option_to_list (new_of_run run))) (append-nil (closing run))
-    (subst (λ list. Turns (closing run ++ []) (old_of_run run ++ []) list) (append-nil (option_to_list (new_of_run run))) (turns_closing run Turns.done)))
+    → Turns (detaching (unsettled pending run) ++ closing (settled pending run)) (old_of_run run ++ (option_to_list pending ++ [])) (option_to_list (new_of_run run))
+turns_end pending run = turns_settling pending run [] (subst (λ plan. Turns plan (old_of_run last ++ []) (option_to_list (new_of_run run))) (append-nil (closing last))
+    (subst (λ list. Turns (closing last ++ []) (old_of_run last ++ []) list) (append-nil (option_to_list (new_of_run last)) ∙ ap option_to_list (new_settled pending run))
+    (turns_closing last Turns.done)))
+  where
+    last : Option Run
+    last = settled pending run
 
 -- the plan along these events turns the old areas into those that are made
 pub turns_along : (pending : Option Record) (run : Option Run) (events : List Event)
     → Turns (along pending run events) (old_of_run run ++ (option_to_list pending ++ olds_in events)) (made (new_of_run run) events)
 turns_along pending run [] = turns_end pending run
 turns_along pending run (Event.Begins area ∷ events) =
-    turns_detaching (old_of_run run) pending (area ∷ olds_in events) (turns_along (Some area) run events)
+    turns_settling pending run (area ∷ olds_in events)
+    (subst (λ new. Turns (along (Some area) (settled pending run) events) (old_of_run (settled pending run) ++ area ∷ olds_in events) (made new events))
+    (new_settled pending run) (turns_along (Some area) (settled pending run) events))
 turns_along pending None (Event.Comes part ∷ events) =
     subst (λ areas. Turns (along (left pending part) (Some (record { old = taken pending part; new = part })) events) areas (made (Some part) events))
     (pending_split pending part (olds_in events)) (turns_along (left pending part) (Some (record { old = taken pending part; new = part })) events)
@@ -110,8 +147,11 @@ turns_along pending (Some run) (Event.Comes part ∷ events) =
     turns_part run pending part events (λ next. turns_along (left pending part) (Some next) events)
 turns_along pending run (Event.Passed area ∷ events) =
     subst (λ plan. Turns plan (old_of_run run ++ (option_to_list pending ++ area ∷ olds_in events)) (option_to_list (new_of_run run) ++ area ∷ made None events))
-    (sym (append_assoc (detaching pending) (closing run) (along None None events)))
-    (turns_detaching (old_of_run run) pending (area ∷ olds_in events) (turns_closing run (Turns.stays area (turns_along None None events))))
+    (sym (append_assoc (detaching (unsettled pending run)) (closing (settled pending run)) (along None None events)))
+    (turns_settling pending run (area ∷ olds_in events)
+    (subst (λ new. Turns (closing (settled pending run) ++ along None None events) (old_of_run (settled pending run) ++ area ∷ olds_in events)
+    (option_to_list new ++ area ∷ made None events)) (new_settled pending run)
+    (turns_closing (settled pending run) (Turns.stays area (turns_along None None events)))))
 
 -- parts have pages
 abbrev pub HasPages : Event → Type 0

@@ -5,7 +5,7 @@ use Rattle.mm_types.specs.declared.area.Span.{Span}
 use Rattle.mm_types.specs.declared.area.Record.{Record}
 use Rattle.area_list.specs.Areas.{IsCanonical}
 use Rattle.area_list.specs.Changes.{cut, put, merge, insert_area}
-use Rattle.area_model.specs.Mremap.{overlap}
+use Rattle.area_list.specs.Areas.{overlap}
 use Rattle.area_list.proofs.Elements.{Each-weaker, Each-always}
 use Rattle.area_list.proofs.Order.{IsGood}
 use Rattle.area_list.proofs.Cutting.{cut_canonical}

@@ -5,16 +5,17 @@ use Rattle.std.proofs.lemmas.Bool.{cond_both, ltb-true}
 use Rattle.std.proofs.lemmas.Bool.Decides.{nat_tests}
 use Rattle.std.proofs.lemmas.List.{length-append}
 use Rattle.mm_types.specs.declared.area.Span.{Span}
-use Rattle.mm_types.specs.declared.area.Prot.{Prot}
 use Rattle.mm_types.specs.declared.area.Record.{Record}
 use Rattle.mm_types.specs.Records.{IsValid}
 use Rattle.area_list.specs.Areas.{joins}
-use Rattle.area_list.specs.Changes.{piece, with_prot, parts_protected}
+use Rattle.area_list.specs.declared.attributes.AttrChange.{AttrChange}
+use Rattle.area_list.specs.Attributes.{with_attr}
+use Rattle.area_list.specs.Changes.{piece, parts_changed}
 use Rattle.area_list.proofs.Elements.{Pairs, Each-append, Each-weaker, Pairs-append}
 use Rattle.area_list.proofs.Parts.{Apart, part, parts_apart, joins_touching, Each-piece, Pairs-piece}
 use Rattle.area_list.proofs.Order.{Before}
 use Rattle.split_merge.specs.declared.becoming.Becoming.{Becoming}
-use Rattle.split_merge.specs.declared.becoming.Becoming.TheVariants.{Outside, Protected}
+use Rattle.split_merge.specs.declared.becoming.Becoming.TheVariants.{Outside, Changed}
 use Rattle.split_merge.specs.Becoming.{low_of, high_of, parts_left, parts_outside_both, AreInOrder}
 use Rattle.split_merge.proofs.Lists.{filter_nothing}
 use Rattle.split_merge.proofs.Walking.{InOrder, rest_in_order}
@@ -26,16 +27,16 @@ abbrev pub OutsideHas : (Record → Type 0) → Becoming → Record → Type 0
 OutsideHas P becoming area = (lo hi : ℕ) → area.span.lo ≤ lo → lo < hi → hi ≤ area.span.hi
     → (hi ≤ (low_of becoming).lo) ⊎ ((low_of becoming).hi ≤ lo) → (hi ≤ (high_of becoming).lo) ⊎ ((high_of becoming).hi ≤ lo) → P (part area lo hi)
 
--- and of one within the lower span, with a protection
+-- and of one within the lower span, with new attributes
 abbrev pub WithinHas : (Record → Type 0) → Becoming → Record → Type 0
-WithinHas P becoming area = (prot : Prot) (lo hi : ℕ) → area.span.lo ≤ lo → lo < hi → hi ≤ area.span.hi
-    → (low_of becoming).lo ≤ lo → hi ≤ (low_of becoming).hi → P (with_prot prot (part area lo hi))
+WithinHas P becoming area = (change : AttrChange) (lo hi : ℕ) → area.span.lo ≤ lo → lo < hi → hi ≤ area.span.hi
+    → (low_of becoming).lo ≤ lo → hi ≤ (low_of becoming).hi → P (with_attr change (part area lo hi))
 
-Each-within : (P : Record → Type 0) (prot : Prot) (area : Record) (lo hi : ℕ) → (lo < hi → P (with_prot prot (part area lo hi)))
-    → Each P (map (with_prot prot) (piece area lo hi))
+Each-within : (P : Record → Type 0) (change : AttrChange) (area : Record) (lo hi : ℕ) → (lo < hi → P (with_attr change (part area lo hi)))
+    → Each P (map (with_attr change) (piece area lo hi))
 unfolding piece
-Each-within P prot area lo hi holds =
-    cond_both (nat_lt lo hi) (part area lo hi ∷ []) [] (λ list. Each P (map (with_prot prot) list))
+Each-within P change area lo hi holds =
+    cond_both (nat_lt lo hi) (part area lo hi ∷ []) [] (λ list. Each P (map (with_attr change) list))
     (λ some. (holds (ltb-true lo hi some), tt)) (λ none. tt)
 
 -- what holds of each part outside both spans
@@ -57,16 +58,16 @@ Each-outside_both P low high area order outside =
 -- what holds of each of the parts
 pub Each-parts : (P : Record → Type 0) (becoming : Becoming) (area : Record) → AreInOrder (low_of becoming) (high_of becoming)
     → OutsideHas P becoming area → WithinHas P becoming area → Each P (parts_left becoming area)
-unfolding parts_protected
+unfolding parts_changed
 Each-parts P (Outside low high) area order outside within = Each-outside_both P low high area order outside
-Each-parts P (Protected span prot) area order outside within =
+Each-parts P (Changed span change) area order outside within =
     Each-append P (piece area area.span.lo (min area.span.hi span.lo))
-    (map (with_prot prot) (piece area (max area.span.lo span.lo) (min area.span.hi span.hi)) ++ piece area (max area.span.lo span.hi) area.span.hi)
+    (map (with_attr change) (piece area (max area.span.lo span.lo) (min area.span.hi span.hi)) ++ piece area (max area.span.lo span.hi) area.span.hi)
     (Each-piece P area area.span.lo (min area.span.hi span.lo)
     (λ some. outside area.span.lo (min area.span.hi span.lo) (omega arith) some (omega arith) (inl (omega arith)) (inl (omega arith))))
-    (Each-append P (map (with_prot prot) (piece area (max area.span.lo span.lo) (min area.span.hi span.hi))) (piece area (max area.span.lo span.hi) area.span.hi)
-    (Each-within P prot area (max area.span.lo span.lo) (min area.span.hi span.hi)
-    (λ some. within prot (max area.span.lo span.lo) (min area.span.hi span.hi) (omega arith) some (omega arith) (omega arith) (omega arith)))
+    (Each-append P (map (with_attr change) (piece area (max area.span.lo span.lo) (min area.span.hi span.hi))) (piece area (max area.span.lo span.hi) area.span.hi)
+    (Each-within P change area (max area.span.lo span.lo) (min area.span.hi span.hi)
+    (λ some. within change (max area.span.lo span.lo) (min area.span.hi span.hi) (omega arith) some (omega arith) (omega arith) (omega arith)))
     (Each-piece P area (max area.span.lo span.hi) area.span.hi
     (λ some. outside (max area.span.lo span.hi) area.span.hi (omega arith) some (omega arith) (inr (omega arith)) (inr (omega arith)))))
 
@@ -79,16 +80,16 @@ pub record IsPartOf (area part : Record) : Type 0 where
 pub parts_within : (becoming : Becoming) (area : Record) → AreInOrder (low_of becoming) (high_of becoming) → Each (IsPartOf area) (parts_left becoming area)
 parts_within becoming area order = Each-parts (IsPartOf area) becoming area order
     (λ lo hi low some high below above. record { low = low; some = some; high = high })
-    (λ prot lo hi low some high from to. record { low = low; some = some; high = high })
+    (λ change lo hi low some high from to. record { low = low; some = some; high = high })
 
-Pairs-within : (prot : Prot) (area : Record) (lo hi : ℕ) → Pairs Before (map (with_prot prot) (piece area lo hi))
+Pairs-within : (change : AttrChange) (area : Record) (lo hi : ℕ) → Pairs Before (map (with_attr change) (piece area lo hi))
 unfolding piece
-Pairs-within prot area lo hi =
-    cond_both (nat_lt lo hi) (part area lo hi ∷ []) [] (λ list. Pairs Before (map (with_prot prot) list)) (λ some. (tt, tt)) (λ none. tt)
+Pairs-within change area lo hi =
+    cond_both (nat_lt lo hi) (part area lo hi ∷ []) [] (λ list. Pairs Before (map (with_attr change) list)) (λ some. (tt, tt)) (λ none. tt)
 
 -- the parts ascend
 pub parts_ascend : (becoming : Becoming) (area : Record) → AreInOrder (low_of becoming) (high_of becoming) → Pairs Before (parts_left becoming area)
-unfolding parts_outside_both parts_protected
+unfolding parts_outside_both parts_changed
 parts_ascend (Outside low high) area order =
     let spans = ascend low high order in
     let second = piece area (max area.span.lo low.hi) (min area.span.hi high.lo) in
@@ -103,18 +104,18 @@ parts_ascend (Outside low high) area order =
     (λ some. Each-append (Before (part area area.span.lo (min area.span.hi low.lo))) second third
     (Each-piece (Before (part area area.span.lo (min area.span.hi low.lo))) area (max area.span.lo low.hi) (min area.span.hi high.lo) (λ more. omega (arith, spans.upwards)))
     (Each-piece (Before (part area area.span.lo (min area.span.hi low.lo))) area (max area.span.lo high.hi) area.span.hi (λ more. omega (arith, spans.upwards, spans.ends)))))
-parts_ascend (Protected span prot) area order =
-    let second = map (with_prot prot) (piece area (max area.span.lo span.lo) (min area.span.hi span.hi)) in
+parts_ascend (Changed span change) area order =
+    let second = map (with_attr change) (piece area (max area.span.lo span.lo) (min area.span.hi span.hi)) in
     let third = piece area (max area.span.lo span.hi) area.span.hi in
     Pairs-append Before (piece area area.span.lo (min area.span.hi span.lo)) (second ++ third) (Pairs-piece Before area area.span.lo (min area.span.hi span.lo))
-    (Pairs-append Before second third (Pairs-within prot area (max area.span.lo span.lo) (min area.span.hi span.hi))
+    (Pairs-append Before second third (Pairs-within change area (max area.span.lo span.lo) (min area.span.hi span.hi))
     (Pairs-piece Before area (max area.span.lo span.hi) area.span.hi)
-    (Each-within (λ u. Each (Before u) third) prot area (max area.span.lo span.lo) (min area.span.hi span.hi)
-    (λ some. Each-piece (Before (with_prot prot (part area (max area.span.lo span.lo) (min area.span.hi span.hi)))) area (max area.span.lo span.hi) area.span.hi
+    (Each-within (λ u. Each (Before u) third) change area (max area.span.lo span.lo) (min area.span.hi span.hi)
+    (λ some. Each-piece (Before (with_attr change (part area (max area.span.lo span.lo) (min area.span.hi span.hi)))) area (max area.span.lo span.hi) area.span.hi
     (λ more. omega arith))))
     (Each-piece (λ u. Each (Before u) (second ++ third)) area area.span.lo (min area.span.hi span.lo)
     (λ some. Each-append (Before (part area area.span.lo (min area.span.hi span.lo))) second third
-    (Each-within (Before (part area area.span.lo (min area.span.hi span.lo))) prot area (max area.span.lo span.lo) (min area.span.hi span.hi) (λ more. omega arith))
+    (Each-within (Before (part area area.span.lo (min area.span.hi span.lo))) change area (max area.span.lo span.lo) (min area.span.hi span.hi) (λ more. omega arith))
     (Each-piece (Before (part area area.span.lo (min area.span.hi span.lo))) area (max area.span.lo span.hi) area.span.hi (λ more. omega (arith, order.lower)))))
 
 -- an area that lies below all pages that change, or above all, is its only part
@@ -141,7 +142,7 @@ whole_above area from valid above = ap (λ lo. piece area lo area.span.hi) lowes
 pub parts_away : (becoming : Becoming) (area : Record) → AreInOrder (low_of becoming) (high_of becoming) → IsValid area
     → (area.span.hi ≤ (low_of becoming).lo) ⊎ ((low_of becoming).hi ≤ area.span.lo) → (area.span.hi ≤ (high_of becoming).lo) ⊎ ((high_of becoming).hi ≤ area.span.lo)
     → parts_left becoming area ≡ area ∷ []
-unfolding parts_outside_both parts_protected
+unfolding parts_outside_both parts_changed
 parts_away (Outside low high) area order valid (inl below) second =
     let spans = ascend low high order in
     ap (λ parts. parts ++ (piece area (max area.span.lo low.hi) (min area.span.hi high.lo) ++ piece area (max area.span.lo high.hi) area.span.hi)) (whole_below area low.lo valid below)
@@ -159,16 +160,16 @@ parts_away (Outside low high) area order valid (inr above) (inr higher) =
     ∙ ap (λ parts. parts ++ piece area (max area.span.lo high.hi) area.span.hi)
     (piece_none area (max area.span.lo low.hi) (min area.span.hi high.lo) (omega (arith, order.upper)))
     ∙ whole_above area high.hi valid higher
-parts_away (Protected span prot) area order valid (inl below) second =
-    ap (λ parts. parts ++ (map (with_prot prot) (piece area (max area.span.lo span.lo) (min area.span.hi span.hi)) ++ piece area (max area.span.lo span.hi) area.span.hi))
+parts_away (Changed span change) area order valid (inl below) second =
+    ap (λ parts. parts ++ (map (with_attr change) (piece area (max area.span.lo span.lo) (min area.span.hi span.hi)) ++ piece area (max area.span.lo span.hi) area.span.hi))
     (whole_below area span.lo valid below)
-    ∙ ap (λ parts. area ∷ (map (with_prot prot) parts ++ piece area (max area.span.lo span.hi) area.span.hi))
+    ∙ ap (λ parts. area ∷ (map (with_attr change) parts ++ piece area (max area.span.lo span.hi) area.span.hi))
     (piece_none area (max area.span.lo span.lo) (min area.span.hi span.hi) (omega arith))
     ∙ ap (λ parts. area ∷ parts) (piece_none area (max area.span.lo span.hi) area.span.hi (omega (arith, order.lower)))
-parts_away (Protected span prot) area order valid (inr above) second =
-    ap (λ parts. parts ++ (map (with_prot prot) (piece area (max area.span.lo span.lo) (min area.span.hi span.hi)) ++ piece area (max area.span.lo span.hi) area.span.hi))
+parts_away (Changed span change) area order valid (inr above) second =
+    ap (λ parts. parts ++ (map (with_attr change) (piece area (max area.span.lo span.lo) (min area.span.hi span.hi)) ++ piece area (max area.span.lo span.hi) area.span.hi))
     (piece_none area area.span.lo (min area.span.hi span.lo) (omega (arith, order.lower)))
-    ∙ ap (λ parts. map (with_prot prot) parts ++ piece area (max area.span.lo span.hi) area.span.hi)
+    ∙ ap (λ parts. map (with_attr change) parts ++ piece area (max area.span.lo span.hi) area.span.hi)
     (piece_none area (max area.span.lo span.lo) (min area.span.hi span.hi) (omega arith))
     ∙ whole_above area span.hi valid above
 
@@ -187,11 +188,11 @@ length-piece area lo hi = by (nat_lt lo hi)
     by true = refl
     by false = refl
 
-length-within : (prot : Prot) (area : Record) (lo hi : ℕ) → length (map (with_prot prot) (piece area lo hi)) ≡ one_if (nat_lt lo hi)
+length-within : (change : AttrChange) (area : Record) (lo hi : ℕ) → length (map (with_attr change) (piece area lo hi)) ≡ one_if (nat_lt lo hi)
 unfolding piece
-length-within prot area lo hi = by (nat_lt lo hi)
+length-within change area lo hi = by (nat_lt lo hi)
   where
-    by : (test : Bool) → length (map (with_prot prot) (if test then part area lo hi ∷ [] else [])) ≡ (if test then 1 else 0)
+    by : (test : Bool) → length (map (with_attr change) (if test then part area lo hi ∷ [] else [])) ≡ (if test then 1 else 0)
     by true = refl
     by false = refl
 
@@ -212,19 +213,19 @@ first_seam becoming = (low_of becoming).lo
 
 abbrev pub second_seam : Becoming → ℕ
 second_seam (Outside low high) = high.lo
-second_seam (Protected span prot) = span.hi
+second_seam (Changed span change) = span.hi
 
 -- an area has one part more for each of these that it straddles
 length-parts : (becoming : Becoming) (area : Record) → AreInOrder (low_of becoming) (high_of becoming) → IsValid area
     → length (parts_left becoming area) ≤ 1 + one_if (straddles (first_seam becoming) area) + one_if (straddles (second_seam becoming) area)
-unfolding parts_outside_both parts_protected
+unfolding parts_outside_both parts_changed
 length-parts (Outside low high) area order valid = simp (length-append, length-piece)
     (outside_tests area.span.lo area.span.hi low.lo low.hi high.lo high.hi valid.some_pages order.upper (by order.one_or_below) order.lower)
   where
     by : (low ≡ high) ⊎ (low.hi ≤ high.lo) → ((low.lo ≡ high.lo) × (low.hi ≡ high.hi)) ⊎ (low.hi ≤ high.lo)
     by (inl same) = inl (ap (λ (s : Span). s.lo) same, ap (λ (s : Span). s.hi) same)
     by (inr below) = inr below
-length-parts (Protected span prot) area order valid = simp (length-append, length-piece, length-within)
+length-parts (Changed span change) area order valid = simp (length-append, length-piece, length-within)
     (protected_tests area.span.lo area.span.hi span.lo span.hi valid.some_pages order.lower)
 
 length-straddled : (page : ℕ) (area : Record) (areas : List Record)
@@ -298,7 +299,7 @@ pub parts_below : (becoming : Becoming) (area other : Record) → AreInOrder (lo
 parts_below becoming area other order valid apart away = Each-parts (λ part. Unjoined part other) becoming area order
     (λ lo hi low some high below above. subst (Unjoined (part area lo hi)) (part_whole other other.span.hi valid refl)
     ((parts_apart area other lo hi other.span.lo other.span.hi apart low some high (omega arith)).apart))
-    (λ prot lo hi low some high from to. joins_touching (with_prot prot (part area lo hi)) other (touch lo hi some high from to away))
+    (λ change lo hi low some high from to. joins_touching (with_attr change (part area lo hi)) other (touch lo hi some high from to away))
   where
     touch : (lo hi : ℕ) → lo < hi → hi ≤ area.span.hi → (low_of becoming).lo ≤ lo → hi ≤ (low_of becoming).hi
         → (other.span.hi < (low_of becoming).lo) ⊎ ((low_of becoming).hi < other.span.lo) → hi < other.span.lo
@@ -310,7 +311,7 @@ pub parts_above : (becoming : Becoming) (area other : Record) → AreInOrder (lo
 parts_above becoming area other order valid apart away = Each-parts (Unjoined other) becoming area order
     (λ lo hi low some high below above. subst (λ first. Unjoined first (part area lo hi)) (part_whole other other.span.hi valid refl)
     ((parts_apart other area other.span.lo other.span.hi lo hi apart (omega arith) valid.some_pages (omega arith) low).apart))
-    (λ prot lo hi low some high from to. joins_touching other (with_prot prot (part area lo hi)) (touch lo hi some low from to away))
+    (λ change lo hi low some high from to. joins_touching other (with_attr change (part area lo hi)) (touch lo hi some low from to away))
   where
     touch : (lo hi : ℕ) → lo < hi → area.span.lo ≤ lo → (low_of becoming).lo ≤ lo → hi ≤ (low_of becoming).hi
         → (other.span.hi < (low_of becoming).lo) ⊎ ((low_of becoming).hi < other.span.lo) → other.span.hi < lo

@@ -14,7 +14,7 @@ use Rattle.split_merge.specs.declared.planner.Run.{Run}
 use Rattle.split_merge.specs.declared.planner.Planner.{Planner}
 use Rattle.split_merge.specs.Plans.{is_near_either}
 use Rattle.split_merge.specs.Becoming.{low_of, high_of, parts_left, AreInOrder, BeginsOne}
-use Rattle.split_merge.specs.Planner.{Event, page_at, detaching, closing, planned_with, left, run_with, along, come, come_in, planned, reached, reached_with, laid, weight, events_at, events_along}
+use Rattle.split_merge.specs.Planner.{Event, page_at, detaching, closing, settled, unsettled, planned_with, left, run_with, along, come, come_in, planned, reached, reached_with, laid, weight, events_at, events_along}
 use Rattle.split_merge.proofs.Lists.{filter_all, Each-filter, length-filter_at_most}
 use Rattle.split_merge.proofs.Ascending.{Pairs-filter}
 use Rattle.split_merge.proofs.Steps.{weight-append}
@@ -85,8 +85,8 @@ all_passed : (becoming : Becoming) (pending : Option Record) (run : Option Run) 
 all_passed becoming pending run [] far = refl
 all_passed becoming pending run (area ∷ areas) far =
     ap (λ events. along pending run (events ++ events_along becoming areas)) (events_far becoming area far.0)
-    ∙ ap (λ rest. (detaching pending ++ closing run) ++ rest) (all_passed becoming None None areas far.1)
-    ∙ append-nil (detaching pending ++ closing run)
+    ∙ ap (λ rest. (detaching (unsettled pending run) ++ closing (settled pending run)) ++ rest) (all_passed becoming None None areas far.1)
+    ∙ append-nil (detaching (unsettled pending run) ++ closing (settled pending run))
 
 pub last_planned : (becoming : Becoming) (planner : Planner) (areas : List Record)
     → Each (λ area. (is_close becoming area ≡ false) × IfSome planner.coming (λ new. new.span.lo < area.span.lo)) areas

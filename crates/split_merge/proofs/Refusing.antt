@@ -5,11 +5,11 @@ use Rattle.mm_types.specs.declared.area.Span.{Span}
 use Rattle.mm_types.specs.declared.area.Record.{Record}
 use Rattle.mm_types.specs.declared.config.Config.{Config}
 use Rattle.mm_types.specs.declared.config.TheConstants.{PAGE_SIZE}
-use Rattle.area_model.specs.declared.placement.Bounds.{Bounds}
+use Rattle.area_rules.specs.declared.placement.Bounds.{Bounds}
 use Rattle.area_list.specs.Areas.{IsCanonical, IsSound}
-use Rattle.area_model.specs.Munmap.{range_of}
-use Rattle.area_model.specs.Placement.{bounds_of}
-use Rattle.area_model.specs.Tables.{pages_of, is_aligned}
+use Rattle.area_rules.specs.Munmap.{range_of}
+use Rattle.area_rules.specs.Placement.{bounds_of}
+use Rattle.area_rules.specs.Tables.{pages_of, is_aligned}
 use Rattle.split_merge.specs.declared.plan.Change.{Change}
 use Rattle.split_merge.specs.Plans.{IsLocal, applied, Makes, IsKept}
 

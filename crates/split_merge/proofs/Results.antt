@@ -158,7 +158,7 @@ plan_makes end becoming new areas list c order fits is after =
     turns_makes (subst (λ made_list. Turns (along None None events) areas made_list) makes
     (subst (λ olds. Turns (along None None events) olds (made None events)) s.olds (turns_along None None events)))
     (ascending end areas c) (ascending end list after)
-    (changes_real areas events (subst (λ olds. Each (Contains olds) areas) (sym s.olds) (each_contained areas)) s.ordered)
+    (changes_real areas events (Each-weaker IsValid (λ area. area.span.lo < area.span.hi) (λ area v. v.some_pages) areas (in_order end areas c).valid) (subst (λ olds. Each (Contains olds) areas) (sym s.olds) (each_contained areas)) s.ordered)
 
 -- only areas near the spans go
 begun_close : (becoming : Becoming) (areas : List Record) → Each (λ area. is_close becoming area ≡ true) (begun_in (events_along becoming areas))

@@ -10,7 +10,7 @@ use Rattle.mm_types.specs.declared.area.Record.{Record}
 use Rattle.mm_types.specs.Records.{IsValid}
 use Rattle.area_list.specs.Areas.{MappedPage, IsCanonical, index_of, has_page, mapped_page, page_map}
 use Rattle.area_list.specs.Changes.{piece, parts_outside, cut, put, merge}
-use Rattle.area_model.specs.Mremap.{overlap}
+use Rattle.area_list.specs.Areas.{overlap}
 use Rattle.area_list.proofs.Elements.{Pairs-weaker}
 use Rattle.area_list.proofs.Parts.{Apart, part, part_valid, piece_below, piece_above}
 use Rattle.area_list.proofs.Order.{IsGood, good_from_canonical, pairs_from_canonical}

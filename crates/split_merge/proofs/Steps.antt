@@ -13,8 +13,8 @@ use Rattle.split_merge.specs.declared.plan.Change.{Change}
 use Rattle.split_merge.specs.declared.plan.Change.TheVariants.{Alter}
 use Rattle.split_merge.specs.declared.planner.Run.{Run}
 use Rattle.split_merge.specs.declared.planner.Planner.{Planner}
-use Rattle.split_merge.specs.Plans.{Planned}
-use Rattle.split_merge.specs.Planner.{Event, page_at, same_area, detaching, replacing, closing, taken, left, planned_with, along, come, come_in, laid, reached, reached_with, reaching, reaching_with, held, weight, GoesAlong}
+use Rattle.split_merge.specs.Plans.{PlanView}
+use Rattle.split_merge.specs.Planner.{Event, page_at, same_area, detaching, replacing, closing, taken, left, spare, left_over, settled, unsettled, planned_with, along, come, come_in, laid, reached, reached_with, reaching, reaching_with, held, weight, GoesAlong}
 
 -- attributes are the same where areas with them would join
 same_attrs : (a b : Attr) → same_attr a b ≡ true → a ≡ b
@@ -59,11 +59,15 @@ length-closing (Some run) = length-replacing run.old run.new
 
 taken_or_left : (pending : Option Record) (part : Record) → option_len (taken pending part) + option_len (left pending part) ≡ option_len pending
 taken_or_left None part = refl
-taken_or_left (Some old) part = by (nat_eq old.span.lo part.span.lo)
+taken_or_left (Some old) part = by (nat_lt part.span.lo old.span.hi)
   where
     by : (test : Bool) → option_len (if test then Some old else None) + option_len (if test then None else Some old) ≡ 1
     by true = refl
     by false = refl
+
+spare_short : (partner old : Option Record) → option_len (spare partner old) ≤ option_len old
+spare_short None old = omega arith
+spare_short (Some other) old = omega arith
 
 -- a part brings at most one change more
 pub laid_short : (pending : Option Record) (run : Option Run) (part : Record)
@@ -71,10 +75,25 @@ pub laid_short : (pending : Option Record) (run : Option Run) (part : Record)
 laid_short pending None part = omega (arith, taken_or_left pending part)
 laid_short pending (Some run) part = by (joins run.new part)
   where
-    by : (join : Bool) → length (if join then detaching (taken pending part) else replacing run.old run.new) + option_len (left pending part)
+    by : (join : Bool) → length (if join then detaching (spare run.old (taken pending part)) else replacing run.old run.new) + option_len (left pending part)
         ≤ option_len pending + 1
-    by true = omega (arith, length-detaching (taken pending part), taken_or_left pending part)
+    by true = omega (arith, length-detaching (spare run.old (taken pending part)), spare_short run.old (taken pending part), taken_or_left pending part)
     by false = omega (arith, length-replacing run.old run.new, taken_or_left pending part)
+
+left_over_short : (partner pending : Option Record) (new : Record) → option_len (left_over partner pending new) ≤ option_len pending
+left_over_short (Some partner) pending new = omega arith
+left_over_short None None new = omega arith
+left_over_short None (Some old) new = by (nat_lt old.span.lo new.span.hi)
+  where
+    by : (test : Bool) → option_len (if test then None else Some old) ≤ 1
+    by true = omega arith
+    by false = omega arith
+
+-- what is settled brings no change more
+pub settled_short : (pending : Option Record) (run : Option Run)
+    → option_len (unsettled pending run) + option_len (settled pending run) ≤ option_len pending + option_len run
+settled_short pending None = omega arith
+settled_short pending (Some run) = omega (arith, left_over_short run.old pending run.new)
 
 -- where the planner reaches a page, it holds no more
 pub reach_short : (planner : Planner) (page : ℕ) → length (reaching planner page) + held (reached planner page) ≤ held planner
@@ -134,7 +153,7 @@ reach_planned planner event later = by planner.coming refl
         test false = ap (λ (c : Option Record). along planner.pending planner.run (event ∷ come c later)) is
 
 -- a step: the page of what comes is reached, and then this is planned
-step : (event : Event) (planner : Planner) (rest : Planner → Planner) (more : Planner → List Change) (old : Planned)
+step : (event : Event) (planner : Planner) (rest : Planner → Planner) (more : Planner → List Change) (old : PlanView)
     → ((q : Planner) (later : List Event) → more q ++ along (rest q).pending (rest q).run (come (rest q).coming later) ≡ along q.pending q.run (event ∷ come q.coming later))
     → ((q : Planner) → length (more q) + held (rest q) ≤ held q + weight (event ∷ []))
     → ((q : Planner) → (rest q).coming ≡ q.coming)
@@ -164,24 +183,27 @@ step event planner rest more old plans holds keeps =
     kept (inl none) = inl (keeps (reached planner (page_at event)) ∙ none)
     kept (inr same) = inr (keeps (reached planner (page_at event)) ∙ same)
 
-pub begin_goes : (planner next : Planner) (area : Record) (old mid new : Planned) → next ≡ reached planner area.span.lo
-    → mid ≡ record old { changes = old.changes ++ reaching planner area.span.lo } → new ≡ record mid { changes = mid.changes ++ detaching next.pending }
-    → GoesAlong (Event.Begins area ∷ []) planner (record next { pending = Some area }) old new
-begin_goes planner next area old mid new reach first second =
-    subst (GoesAlong (Event.Begins area ∷ []) planner (record next { pending = Some area }) old)
-    (sym (second ∙ ap (λ (plan : Planned). record plan { changes = plan.changes ++ detaching next.pending }) first))
+pub begin_goes : (planner next last : Planner) (area : Record) (old mid new : PlanView) → next ≡ reached planner area.span.lo
+    → mid ≡ record old { changes = old.changes ++ reaching planner area.span.lo } → last ≡ record next { pending = None; run = settled next.pending next.run }
+    → new ≡ record mid { changes = mid.changes ++ detaching (unsettled next.pending next.run) }
+    → GoesAlong (Event.Begins area ∷ []) planner (record last { pending = Some area }) old new
+begin_goes planner next last area old mid new reach first settle second =
+    subst (GoesAlong (Event.Begins area ∷ []) planner (record last { pending = Some area }) old)
+    (sym (second ∙ ap (λ (plan : PlanView). record plan { changes = plan.changes ++ detaching (unsettled next.pending next.run) }) first))
     (subst (λ (q : Planner). GoesAlong (Event.Begins area ∷ []) planner (record q { pending = Some area }) old
-    (record old { changes = (old.changes ++ reaching planner area.span.lo) ++ detaching q.pending })) (sym reach)
-    (step (Event.Begins area) planner (λ q. record q { pending = Some area }) (λ q. detaching q.pending) old
-    (λ q later. refl) (λ q. omega (arith, length-detaching q.pending)) (λ q. refl)))
+    (record old { changes = (old.changes ++ reaching planner area.span.lo) ++ detaching (unsettled next.pending next.run) })) (sym settle)
+    (subst (λ (q : Planner). GoesAlong (Event.Begins area ∷ []) planner (record q { pending = Some area; run = settled q.pending q.run }) old
+    (record old { changes = (old.changes ++ reaching planner area.span.lo) ++ detaching (unsettled q.pending q.run) })) (sym reach)
+    (step (Event.Begins area) planner (λ q. record q { pending = Some area; run = settled q.pending q.run }) (λ q. detaching (unsettled q.pending q.run)) old
+    (λ q later. refl) (λ q. omega (arith, length-detaching (unsettled q.pending q.run), settled_short q.pending q.run)) (λ q. refl))))
 
-pub come_to_goes : (planner next last : Planner) (part : Record) (old mid new : Planned) → next ≡ reached planner part.span.lo
+pub come_to_goes : (planner next last : Planner) (part : Record) (old mid new : PlanView) → next ≡ reached planner part.span.lo
     → mid ≡ record old { changes = old.changes ++ reaching planner part.span.lo } → last ≡ laid next part
     → new ≡ record mid { changes = mid.changes ++ planned_with next.pending next.run part }
     → GoesAlong (Event.Comes part ∷ []) planner last old new
 come_to_goes planner next last part old mid new reach first lay second =
     subst (GoesAlong (Event.Comes part ∷ []) planner last old)
-    (sym (second ∙ ap (λ (plan : Planned). record plan { changes = plan.changes ++ planned_with next.pending next.run part }) first))
+    (sym (second ∙ ap (λ (plan : PlanView). record plan { changes = plan.changes ++ planned_with next.pending next.run part }) first))
     (subst (λ (q : Planner). GoesAlong (Event.Comes part ∷ []) planner q old
     (record old { changes = (old.changes ++ reaching planner part.span.lo) ++ planned_with next.pending next.run part })) (sym lay)
     (subst (λ (q : Planner). GoesAlong (Event.Comes part ∷ []) planner (laid q part) old
@@ -189,20 +211,30 @@ come_to_goes planner next last part old mid new reach first lay second =
     (step (Event.Comes part) planner (λ q. laid q part) (λ q. planned_with q.pending q.run part) old
     (λ q later. refl) (λ q. omega (arith, laid_short q.pending q.run part)) (λ q. refl))))
 
-pub pass_goes : (planner next : Planner) (area : Record) (old mid more new : Planned) → next ≡ reached planner area.span.lo
-    → mid ≡ record old { changes = old.changes ++ reaching planner area.span.lo } → more ≡ record mid { changes = mid.changes ++ detaching next.pending }
-    → new ≡ record more { changes = more.changes ++ closing next.run }
-    → GoesAlong (Event.Passed area ∷ []) planner (record next { pending = None; run = None }) old new
-pass_goes planner next area old mid more new reach first second third =
-    subst (GoesAlong (Event.Passed area ∷ []) planner (record next { pending = None; run = None }) old)
-    (sym (third ∙ ap (λ (plan : Planned). record plan { changes = plan.changes ++ closing next.run })
-    (second ∙ ap (λ (plan : Planned). record plan { changes = plan.changes ++ detaching next.pending }) first)
-    ∙ ap (λ changes. record old { changes = changes }) (append_assoc (old.changes ++ reaching planner area.span.lo) (detaching next.pending) (closing next.run))))
+pub pass_goes : (planner next last : Planner) (area : Record) (old mid more new : PlanView) → next ≡ reached planner area.span.lo
+    → mid ≡ record old { changes = old.changes ++ reaching planner area.span.lo } → last ≡ record next { pending = None; run = settled next.pending next.run }
+    → more ≡ record mid { changes = mid.changes ++ detaching (unsettled next.pending next.run) }
+    → new ≡ record more { changes = more.changes ++ closing last.run }
+    → GoesAlong (Event.Passed area ∷ []) planner (record last { run = None }) old new
+pass_goes planner next last area old mid more new reach first settle second third =
+    subst (GoesAlong (Event.Passed area ∷ []) planner (record last { run = None }) old)
+    (sym (third ∙ ap (λ (plan : PlanView). record plan { changes = plan.changes ++ closing last.run })
+    (second ∙ ap (λ (plan : PlanView). record plan { changes = plan.changes ++ detaching (unsettled next.pending next.run) }) first)
+    ∙ ap (λ changes. record old { changes = changes }) (append_assoc (old.changes ++ reaching planner area.span.lo) (detaching (unsettled next.pending next.run)) (closing last.run))))
+    (subst (λ (q : Planner). GoesAlong (Event.Passed area ∷ []) planner (record q { run = None }) old
+    (record old { changes = (old.changes ++ reaching planner area.span.lo) ++ (detaching (unsettled next.pending next.run) ++ closing q.run) })) (sym settle)
     (subst (λ (q : Planner). GoesAlong (Event.Passed area ∷ []) planner (record q { pending = None; run = None }) old
-    (record old { changes = (old.changes ++ reaching planner area.span.lo) ++ (detaching q.pending ++ closing q.run) })) (sym reach)
-    (step (Event.Passed area) planner (λ q. record q { pending = None; run = None }) (λ q. detaching q.pending ++ closing q.run) old
+    (record old { changes = (old.changes ++ reaching planner area.span.lo) ++ (detaching (unsettled q.pending q.run) ++ closing (settled q.pending q.run)) })) (sym reach)
+    (step (Event.Passed area) planner (λ q. record q { pending = None; run = None })
+    (λ q. detaching (unsettled q.pending q.run) ++ closing (settled q.pending q.run)) old
     (λ q later. refl)
-    (λ q. omega (arith, length-append (detaching q.pending) (closing q.run), length-detaching q.pending, length-closing q.run)) (λ q. refl)))
+    (λ q. omega (
+      arith,
+      length-append (detaching (unsettled q.pending q.run)) (closing (settled q.pending q.run)),
+      length-detaching (unsettled q.pending q.run),
+      length-closing (settled q.pending q.run),
+      settled_short q.pending q.run,
+    )) (λ q. refl))))
 
 pub weight-append : (xs ys : List Event) → weight (xs ++ ys) ≡ weight xs + weight ys
 weight-append [] ys = omega arith
@@ -215,7 +247,7 @@ weight-comes [] = refl
 weight-comes (part ∷ parts) = omega (arith, weight-comes parts)
 
 -- along some and then along others is along all
-pub goes_on : (xs ys : List Event) {planner next last : Planner} {old new newest : Planned} → GoesAlong xs planner next old new
+pub goes_on : (xs ys : List Event) {planner next last : Planner} {old new newest : PlanView} → GoesAlong xs planner next old new
     → GoesAlong ys next last new newest → GoesAlong (xs ++ ys) planner last old newest
 goes_on xs ys {planner = planner} {next = next} {last = last} {old = old} first second = record {
   planned = λ later. second.planned later ∙ first.planned (ys ++ later)
@@ -232,44 +264,47 @@ goes_on xs ys {planner = planner} {next = next} {last = last} {old = old} first 
     kept (inr same) (inr before) = inr (same ∙ before)
 
 -- the room that is left where a page is reached
-pub reach_room : (planner next : Planner) (page : ℕ) (old mid : Planned) → next ≡ reached planner page
+pub reach_room : (planner next : Planner) (page : ℕ) (old mid : PlanView) → next ≡ reached planner page
     → mid ≡ record old { changes = old.changes ++ reaching planner page } → (more : ℕ) → length old.changes + (held planner + more) ≤ old.room
     → length mid.changes + (held next + more) ≤ mid.room
 reach_room planner next page old mid reach first more room = omega (
   arith,
-  ap (λ (plan : Planned). length plan.changes) first,
-  ap (λ (plan : Planned). plan.room) first,
+  ap (λ (plan : PlanView). length plan.changes) first,
+  ap (λ (plan : PlanView). plan.room) first,
   length-append old.changes (reaching planner page),
   ap (λ (p : Planner). held p) reach,
   reach_short planner page,
   room,
 )
 
--- the room that is left where an old area was taken away
-pub detach_room : (old : Option Record) (mid new : Planned) (more : ℕ) → new ≡ record mid { changes = mid.changes ++ detaching old }
-    → length mid.changes + (option_len old + more) ≤ mid.room → length new.changes + more ≤ new.room
-detach_room old mid new more is room = omega (
+-- the room that is left where the pending old area was settled
+pub settle_room : (planner next : Planner) (mid new : PlanView) (more : ℕ) → next ≡ record planner { pending = None; run = settled planner.pending planner.run }
+    → new ≡ record mid { changes = mid.changes ++ detaching (unsettled planner.pending planner.run) }
+    → length mid.changes + (option_len planner.pending + (option_len planner.run + more)) ≤ mid.room → length new.changes + (option_len next.run + more) ≤ new.room
+settle_room planner next mid new more settle is room = omega (
   arith,
-  ap (λ (plan : Planned). length plan.changes) is,
-  ap (λ (plan : Planned). plan.room) is,
-  length-append mid.changes (detaching old),
-  length-detaching old,
+  ap (λ (plan : PlanView). length plan.changes) is,
+  ap (λ (plan : PlanView). plan.room) is,
+  length-append mid.changes (detaching (unsettled planner.pending planner.run)),
+  length-detaching (unsettled planner.pending planner.run),
+  settled_short planner.pending planner.run,
+  ap (λ (p : Planner). option_len p.run) settle,
   room,
 )
 
 -- the room that is left where the planner went along
-pub goes_room : (events : List Event) {planner next : Planner} {old new : Planned} → GoesAlong events planner next old new → (more : ℕ)
+pub goes_room : (events : List Event) {planner next : Planner} {old new : PlanView} → GoesAlong events planner next old new → (more : ℕ)
     → length old.changes + (held planner + (weight events + more)) ≤ old.room → length new.changes + (held next + more) ≤ new.room
 goes_room events g more room = omega (arith, g.within, g.room, room)
 
 -- the room that is left at the end, after the new area if that is still to come
-pub last_room : (planner next : Planner) (new : Record) (old mid : Planned) → planner.coming ≡ Some new → next ≡ laid planner new
+pub last_room : (planner next : Planner) (new : Record) (old mid : PlanView) → planner.coming ≡ Some new → next ≡ laid planner new
     → mid ≡ record old { changes = old.changes ++ planned_with planner.pending planner.run new } → length old.changes + held planner ≤ old.room
     → length mid.changes + (option_len next.pending + option_len next.run) ≤ mid.room
 last_room planner next new old mid coming lay is room = omega (
   arith,
-  ap (λ (plan : Planned). length plan.changes) is,
-  ap (λ (plan : Planned). plan.room) is,
+  ap (λ (plan : PlanView). length plan.changes) is,
+  ap (λ (plan : PlanView). plan.room) is,
   length-append old.changes (planned_with planner.pending planner.run new),
   laid_short planner.pending planner.run new,
   ap (λ (c : Option Record). option_len c) coming,
@@ -278,12 +313,12 @@ last_room planner next new old mid coming lay is room = omega (
   room,
 )
 
-pub same_room : (planner next : Planner) (old mid : Planned) → next ≡ planner → mid ≡ old → length old.changes + held planner ≤ old.room
+pub same_room : (planner next : Planner) (old mid : PlanView) → next ≡ planner → mid ≡ old → length old.changes + held planner ≤ old.room
     → length mid.changes + (option_len next.pending + option_len next.run) ≤ mid.room
 same_room planner next old mid same is room = omega (
   arith,
-  ap (λ (plan : Planned). length plan.changes) is,
-  ap (λ (plan : Planned). plan.room) is,
+  ap (λ (plan : PlanView). length plan.changes) is,
+  ap (λ (plan : PlanView). plan.room) is,
   ap (λ (p : Planner). option_len p.pending) same,
   ap (λ (p : Planner). option_len p.run) same,
   room,

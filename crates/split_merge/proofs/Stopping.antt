@@ -9,7 +9,7 @@ use Rattle.mm_types.specs.declared.area.Span.{Span}
 use Rattle.mm_types.specs.declared.area.Record.{Record}
 use Rattle.mm_types.specs.declared.call.Errno.TheVariants.{Enomem, Eacces}
 use Rattle.area_list.specs.Areas.{has_page, area_at}
-use Rattle.area_model.specs.Mprotect.{stop_error}
+use Rattle.area_rules.specs.Mprotect.{stop_error}
 use Rattle.area_list.proofs.Elements.{Each-also}
 use Rattle.area_list.proofs.Order.{Before}
 use Rattle.mm_types.specs.Records.{IsValid}

@@ -10,7 +10,6 @@ use Rattle.split_merge.specs.declared.plan.Change.TheVariants.{Detach, Alter, Ad
 use Rattle.split_merge.specs.Plans.{olds_of, news_of, starts_alike, without, with_all, applied, Makes}
 use Rattle.split_merge.proofs.Ascending.{Below, with_all_behind, with_all_in_front}
 use Rattle.split_merge.proofs.Replacing.{each_contained, without_middle, without_behind, apart}
-use Rattle.split_merge.proofs.Counting.{same_begin}
 
 -- a plan that turns the one list into the other, area by area: the first old area stays or becomes the first new one, a new one comes first, or an old one among the first goes
 pub data Turns : List Change → List Record → List Record → Type 0 where
@@ -129,24 +128,26 @@ turns_applied t pairs ascend = turns_result t pairs ascend
 abbrev pub Unlike : Record → Record → Type 0
 Unlike a b = a.span.lo ≡ b.span.lo → ⊥
 
--- a change of a list is real where an area becomes another that begins where it begins, or is added where none begins
+-- a change of a list is real where an area becomes another, at whose first page no third begins, or is added where none begins
 abbrev pub IsRealChange : List Record → Change → Type 0
 IsRealChange areas (Detach old) = Unit {0}
-IsRealChange areas (Alter old new) = (old.span.lo ≡ new.span.lo) × (old ≢ new)
+IsRealChange areas (Alter old new) = Each (λ area. new.span.lo ≡ area.span.lo → old ≡ area) areas × (old ≢ new)
 IsRealChange areas (Add new) = Each (Unlike new) areas
 
-each_real : (areas olds : List Record) → Pairs Below areas → Each (Contains areas) olds → (plan : List Change) → Each (Contains areas) (olds_of plan)
+each_real : (areas olds : List Record) → Each (Contains areas) olds → (plan : List Change) → Each (Contains areas) (olds_of plan)
     → Each (IsRealChange areas) plan → Each (λ new. ¬ (Contains olds new)) (news_of plan)
-each_real areas olds pairs members [] here real = tt
-each_real areas olds pairs members (Detach old ∷ plan) here real = each_real areas olds pairs members plan here.1 real.1
-each_real areas olds pairs members (Alter old new ∷ plan) here real = (
-  (λ taken. real.0.1 (same_begin areas old new pairs here.0 (All-contains (Contains areas) olds new (All-from_recursion (Contains areas) olds members) taken) real.0.0)),
-  each_real areas olds pairs members plan here.1 real.1,
+each_real areas olds members [] here real = tt
+each_real areas olds members (Detach old ∷ plan) here real = each_real areas olds members plan here.1 real.1
+each_real areas olds members (Alter old new ∷ plan) here real = (
+  (λ taken. real.0.1 (All-contains (λ area. new.span.lo ≡ area.span.lo → old ≡ area) areas new
+      (All-from_recursion (λ area. new.span.lo ≡ area.span.lo → old ≡ area) areas real.0.0)
+      (All-contains (Contains areas) olds new (All-from_recursion (Contains areas) olds members) taken) refl)),
+  each_real areas olds members plan here.1 real.1,
 )
-each_real areas olds pairs members (Add new ∷ plan) here real = (
+each_real areas olds members (Add new ∷ plan) here real = (
   (λ taken. All-contains (Unlike new) areas new (All-from_recursion (Unlike new) areas real.0)
       (All-contains (Contains areas) olds new (All-from_recursion (Contains areas) olds members) taken) refl),
-  each_real areas olds pairs members plan here real.1,
+  each_real areas olds members plan here real.1,
 )
 
 -- such a plan makes the new list, where both are in ascending order and each change is real
@@ -161,5 +162,5 @@ turns_makes {plan = plan} {areas = areas} t pairs ascend real =
       };
       result = turns_applied t pairs ascend;
       real = All-from_recursion (λ new. ¬ (Contains (olds_of plan) new)) (news_of plan)
-          (each_real areas (olds_of plan) pairs members plan members real);
+          (each_real areas (olds_of plan) members plan members real);
     }

@@ -8,7 +8,7 @@ use Rattle.area_list.proofs.Elements.{Each-weaker, Each-also}
 use Rattle.split_merge.specs.declared.becoming.Becoming.{Becoming}
 use Rattle.split_merge.specs.declared.planner.Planner.{Planner}
 use Rattle.split_merge.specs.Finding.{first_from}
-use Rattle.split_merge.specs.Plans.{Planned}
+use Rattle.split_merge.specs.Plans.{PlanView}
 use Rattle.split_merge.specs.Becoming.{low_of, high_of, parts_left, AreInOrder, BeginsOne}
 use Rattle.split_merge.specs.Planner.{Event, along, come, planned, held, weight, events_at, events_along, all_planned, GoesAlong}
 use Rattle.split_merge.proofs.Walking.{ending_above, each_ending_above, InOrder, Spares, IsNext, none_above}
@@ -39,13 +39,13 @@ module _ (becoming : Becoming) (spans : AreInOrder (low_of becoming) (high_of be
       ap (events_along becoming) n.rest
       ∙ ap (λ events. events ++ rest_from area.span.hi) (events_close becoming area (close_one becoming area (omega (arith, n.above)) high either))
 
-  pub next_planned : (page from : ℕ) (events : List Event) {planner next : Planner} {old new : Planned} → GoesAlong events planner next old new
+  pub next_planned : (page from : ℕ) (events : List Event) {planner next : Planner} {old new : PlanView} → GoesAlong events planner next old new
       → rest_from page ≡ events ++ rest_from from
       → new.changes ++ planned next (rest_from from) ≡ old.changes ++ planned planner (rest_from page)
   next_planned page from events {planner = planner} {old = old} goes is = goes.planned (rest_from from)
       ∙ ap (λ rest. old.changes ++ planned planner rest) (sym is)
 
-  pub next_within : (page from : ℕ) (events : List Event) {planner next : Planner} {old new : Planned} → GoesAlong events planner next old new
+  pub next_within : (page from : ℕ) (events : List Event) {planner next : Planner} {old new : PlanView} → GoesAlong events planner next old new
       → rest_from page ≡ events ++ rest_from from
       → length new.changes + (held next + weight (rest_from from)) ≤ length old.changes + (held planner + weight (rest_from page))
   next_within page from events goes is = omega (arith, goes.within, ap weight is, weight-append events (rest_from from))

@@ -2,9 +2,9 @@
 use Rattle.std.specs.Prelude.{◌≡◌, ◌≤◌, ◌⊎◌, min, max, List, ◌++◌, Option, IfSome}
 use Rattle.mm_types.specs.declared.area.Span.{Span}
 use Rattle.mm_types.specs.declared.area.Record.{Record}
-use Rattle.area_list.specs.Changes.{piece, parts_protected}
+use Rattle.area_list.specs.Changes.{piece, parts_changed}
 use Rattle.split_merge.specs.declared.becoming.Becoming.{Becoming}
-use Rattle.split_merge.specs.declared.becoming.Becoming.TheVariants.{Outside, Protected}
+use Rattle.split_merge.specs.declared.becoming.Becoming.TheVariants.{Outside, Changed}
 
 -- what lies outside two spans: the parts of the area below the lower, between the two, and above the upper
 unfoldable pub parts_outside_both : Span → Span → Record → List Record
@@ -14,17 +14,17 @@ parts_outside_both low high area = piece area area.span.lo (min area.span.hi low
 -- the lower of the two spans whose pages change, which are one where there is only one
 abbrev pub low_of : Becoming → Span
 low_of (Outside low high) = low
-low_of (Protected span prot) = span
+low_of (Changed span change) = span
 
 -- the upper of the two
 abbrev pub high_of : Becoming → Span
 high_of (Outside low high) = high
-high_of (Protected span prot) = span
+high_of (Changed span change) = span
 
 -- the parts that take the place of an area
 abbrev pub parts_left : Becoming → Record → List Record
 parts_left (Outside low high) area = parts_outside_both low high area
-parts_left (Protected span prot) area = parts_protected prot span area
+parts_left (Changed span change) area = parts_changed change span area
 
 -- the two spans are one, or the one lies below the other
 pub record AreInOrder (low high : Span) : Type 0 where

@@ -2,14 +2,14 @@
 use Rattle.std.specs.Prelude.{ℕ, ◌≡◌, ◌≢◌, ◌≤◌, ◌+◌, ◌*◌, Bool, true, not, ◌&&◌, ◌||◌, nat_eq, nat_le, List, [], ◌∷◌, length, filter, All, AllPairs, Contains, Option, Some, None}
 use Rattle.mm_types.specs.declared.area.Span.{Span}
 use Rattle.mm_types.specs.declared.area.Record.{Record}
-use Rattle.area_model.specs.declared.placement.Bounds.{Bounds}
+use Rattle.area_rules.specs.declared.placement.Bounds.{Bounds}
 use Rattle.area_list.specs.Areas.{IsCanonical}
 use Rattle.area_list.specs.Changes.{insert_area}
 use Rattle.split_merge.specs.declared.plan.Change.{Change}
 use Rattle.split_merge.specs.declared.plan.Change.TheVariants.{Detach, Alter, Add}
 
 -- a plan as contracts see it: its changes, and for how many it has room
-pub record Planned : Type 0 where
+pub record PlanView : Type 0 where
   pub changes : List Change
   pub room : ℕ
 
@@ -96,6 +96,6 @@ pub record IsKept (bounds : Bounds) (most : ℕ) (areas : List Record) : Type 0 
   pub few : length areas ≤ most
 
 -- a plan to begin with: no change, and room for two of each area and four more
-pub record IsFresh (most : ℕ) (plan : Planned) : Type 0 where
+pub record IsFresh (most : ℕ) (plan : PlanView) : Type 0 where
   pub empty : plan.changes ≡ []
   pub room : 2 * most + 4 ≤ plan.room

@@ -1,5 +1,5 @@
-ghost use Rattle.std.specs.Prelude.{◌≡◌, ◌≤◌, length};
-ghost use Rattle.area_model.specs.Placement.{place};
+ghost use Rattle.std.specs.Prelude.{◌≡◌, ◌≤◌, false, length, All};
+ghost use Rattle.area_rules.specs.Placement.{place_low, place_high};
 ghost use Rattle.split_merge.specs.Finding.{first_from, last_before};
 ghost use Rattle.split_merge.specs.PageNumbers.{page_number};
 
@@ -9,7 +9,7 @@ use mm_types::{Page, Record};
 pub trait Areas {
     ghost use Rattle.std.specs.Prelude.{ℕ, List};
     ghost use Rattle.mm_types.specs.declared.area.Record.{Record};
-    ghost use Rattle.area_model.specs.declared.placement.Bounds.{Bounds};
+    ghost use Rattle.area_rules.specs.declared.placement.Bounds.{Bounds};
 
     /// The areas, in order.
     ghost list: { Self → List Record };
@@ -32,8 +32,19 @@ pub trait Areas {
     fn before(&self, page: Page) -> Option<Record>
         ensures { result ≡ last_before (list self.now) page.0 };
 
-    /// Where so many pages go that name no place, as `place` has it without a hint.
+    /// Where so many pages go that name no place: as high as there is room below the top, else as low as there is room from the
+    /// floor on.
     fn place(&self, len: u64) -> Option<Page>
         requires { 1 ≤ len }
-        ensures { page_number result ≡ place (bounds self.now) (list self.now) len 0 };
+        ensures { page_number result ≡ place_low (bounds self.now) (list self.now) len };
+
+    /// Where so many pages go whose hint asks for memory above the usual window: as high as there is room below the limit.
+    fn place_high(&self, len: u64) -> Option<Page>
+        requires { 1 ≤ len }
+        ensures { page_number result ≡ place_high (bounds self.now) (list self.now) len };
+
+    /// Whether an area may be sealed: false only where none is, so that calls of a process that seals nothing pay nothing for
+    /// seals.
+    fn may_be_sealed(&self) -> bool
+        ensures { result ≡ false → All (λ area. area.attr.sealed ≡ false) (list self.now) };
 }

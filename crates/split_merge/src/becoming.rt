@@ -2,19 +2,21 @@
 ghost use Rattle.std.specs.Prelude.{◌≡◌, ◌++◌, min, max, flat_map, map};
 ghost use Rattle.std.specs.Option.{option_to_list};
 ghost use Rattle.mm_types.specs.Records.{IsValid};
-ghost use Rattle.area_list.specs.Changes.{piece, with_prot, parts_protected};
+ghost use Rattle.area_list.specs.Attributes.{with_attr};
+ghost use Rattle.area_list.specs.Changes.{piece, parts_changed};
 ghost use Rattle.split_merge.specs.Becoming.{parts_outside_both, parts_left, low_of, high_of};
 
-use crate::parts::{piece, with_prot};
-use mm_types::{Prot, Record, Span};
+use crate::parts::piece;
+use area_list::{AttrChange, with_attr};
+use mm_types::{Record, Span};
 
 /// What becomes of the pages of a span, or of two.
 #[derive(Clone, Copy)]
 pub(crate) enum Becoming {
     /// The pages of the two spans, which may be one, go.
     Outside { low: Span, high: Span },
-    /// The pages of the span get the protection.
-    Protected { span: Span, prot: Prot },
+    /// The attributes of the pages of the span change.
+    Changed { span: Span, change: AttrChange },
 }
 
 /// The parts of an area outside both spans: below the lower, between the two, and above the upper.
@@ -30,24 +32,24 @@ fn outside(low: Span, high: Span, area: &Record) -> [Option<Record>; 3]
     ]
 }
 
-/// The part of an area within the span, with the protection, if it has a page.
-fn within(span: Span, prot: Prot, area: &Record) -> Option<Record>
+/// The part of an area within the span, with its attributes changed, if it has a page.
+fn within(span: Span, change: AttrChange, area: &Record) -> Option<Record>
     requires { IsValid area.now }
-    ensures { option_to_list result ≡ map (with_prot prot) (piece area.now (max area.now.span.lo span.lo) (min area.now.span.hi span.hi)) }
+    ensures { option_to_list result ≡ map (with_attr change) (piece area.now (max area.now.span.lo span.lo) (min area.now.span.hi span.hi)) }
 {
     let part = piece(area, area.span.lo.max(span.lo), area.span.hi.min(span.hi))?;
-    Some(with_prot(prot, part))
+    Some(with_attr(change, &part))
 }
 
-/// The parts of an area: below the span, within it with the protection, and above it.
-#[tactic(auto, unfolding(area_list::specs::Changes::parts_protected))]
-fn protected(span: Span, prot: Prot, area: &Record) -> [Option<Record>; 3]
+/// The parts of an area: below the span, within it with its attributes changed, and above it.
+#[tactic(auto, unfolding(area_list::specs::Changes::parts_changed))]
+fn changed(span: Span, change: AttrChange, area: &Record) -> [Option<Record>; 3]
     requires { IsValid area.now }
-    ensures { flat_map option_to_list result ≡ parts_protected prot span area.now }
+    ensures { flat_map option_to_list result ≡ parts_changed change span area.now }
 {
     [
         piece(area, area.span.lo, area.span.hi.min(span.lo)),
-        within(span, prot, area),
+        within(span, change, area),
         piece(area, area.span.lo.max(span.hi), area.span.hi),
     ]
 }
@@ -59,7 +61,7 @@ impl Becoming {
     {
         match self {
             Becoming::Outside { low, .. } => *low,
-            Becoming::Protected { span, .. } => *span,
+            Becoming::Changed { span, .. } => *span,
         }
     }
 
@@ -69,7 +71,7 @@ impl Becoming {
     {
         match self {
             Becoming::Outside { high, .. } => *high,
-            Becoming::Protected { span, .. } => *span,
+            Becoming::Changed { span, .. } => *span,
         }
     }
 
@@ -80,7 +82,7 @@ impl Becoming {
     {
         match self {
             Becoming::Outside { low, high } => outside(*low, *high, area),
-            Becoming::Protected { span, prot } => protected(*span, *prot, area),
+            Becoming::Changed { span, change } => changed(*span, *change, area),
         }
     }
 }

@@ -2,22 +2,30 @@
 #![tactic(auto)]
 
 mod areas;
+mod attributes;
 mod becoming;
 mod cut;
+mod growth;
 mod lookups;
 mod parts;
 mod plan;
+mod planned;
 mod planner;
 mod protect;
 mod put;
 mod relocate;
+mod scans;
 mod stops;
 mod walk;
 
 pub use areas::Areas;
+pub use attributes::plan_attributes;
 pub use cut::plan_cut;
-pub use lookups::{area_at, is_free, is_too_long};
+pub use growth::plan_growth;
+pub use lookups::{area_at, grower, is_free, is_too_long};
 pub use plan::{Change, Plan};
+pub use planned::Planned;
 pub use protect::plan_protect;
 pub use put::plan_put;
 pub use relocate::plan_move;
+pub use scans::{has_hole, has_sealed};

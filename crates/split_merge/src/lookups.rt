@@ -1,12 +1,15 @@
 //! Looks at a list of areas for the tests of the calls.
 ghost use Rattle.std.specs.Prelude.{◌≡◌, ◌<◌, ◌≤◌, ◌+◌, ◌^◌, length, nat_lt};
 ghost use Rattle.area_list.specs.Areas.{IsCanonical, area_at};
-ghost use Rattle.area_model.specs.Placement.{is_free};
+ghost use Rattle.area_rules.specs.Growing.{grower};
+ghost use Rattle.area_rules.specs.Placement.{is_free};
 ghost use Rattle.split_merge.specs.Plans.{applied, IsPlanOf};
 
 use crate::areas::Areas;
 use crate::plan::Plan;
-use mm_types::{Page, Record};
+use area_list::page_of;
+use area_rules::is_above;
+use mm_types::{Config, Page, Record};
 
 /// The area that has a page, if one has it. One look by page.
 pub fn area_at<A: Areas>(areas: &A, page: u64) -> Option<Record>
@@ -27,6 +30,18 @@ pub fn is_free<A: Areas>(areas: &A, pages: u64, start: u64) -> bool
         Some(area) => start + pages <= area.span.lo,
         None => true,
     }
+}
+
+/// The area that grows into a page, if one does. One look by page.
+pub fn grower<A: Areas>(config: &Config, areas: &A, page: u64) -> Option<Record>
+    requires { IsCanonical (A.bounds areas.now).limit (A.list areas.now) }
+    ensures { result ≡ grower config.now (A.list areas.now) page }
+{
+    if page == 0 || page < page_of(config.min) {
+        return None;
+    }
+    let area = areas.from(Page(page - 1))?;
+    is_above(page, &area).then_some(area)
 }
 
 /// Whether the list would have more areas after the plan than are allowed.

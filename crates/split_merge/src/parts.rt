@@ -3,10 +3,10 @@ ghost use Rattle.std.specs.Prelude.{◌≡◌, ◌≢◌, ◌<◌, ◌≤◌, �
 ghost use Rattle.std.specs.Option.{option_to_list};
 ghost use Rattle.mm_types.specs.Records.{IsValid};
 ghost use Rattle.area_list.specs.Areas.{index_of};
-ghost use Rattle.area_list.specs.Changes.{piece, joined_area, with_prot};
+ghost use Rattle.area_list.specs.Changes.{piece, joined_area};
 
 use area_list::index_of;
-use mm_types::{Attr, Prot, Record, Span};
+use mm_types::{Record, Span};
 
 /// The part of an area from `lo` up to `hi`, if it has a page.
 #[tactic(auto, unfolding(area_list::specs::Changes::piece))]
@@ -36,15 +36,5 @@ pub(crate) fn joined(a: &Record, b: &Record) -> Record
             hi: b.span.hi,
         },
         ..*a
-    }
-}
-
-/// The area with another protection.
-pub(crate) fn with_prot(prot: Prot, area: Record) -> Record
-    ensures { result ≡ with_prot prot area }
-{
-    Record {
-        attr: Attr { prot, ..area.attr },
-        ..area
     }
 }

@@ -49,9 +49,9 @@ impl Change {
 
 impl Model for Plan {
     ghost use Rattle.std.specs.Vec.{vec_capacity};
-    ghost use Rattle.split_merge.specs.Plans.{Planned};
+    ghost use Rattle.split_merge.specs.Plans.{PlanView};
 
-    ghost Value = { Planned };
+    ghost Value = { PlanView };
 
     ghost view = { λ p. record { changes = p.changes.items; room = vec_capacity p.changes } };
 }

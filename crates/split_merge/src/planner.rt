@@ -3,7 +3,7 @@ ghost use Rattle.std.specs.Prelude.{◌≡◌, ◌<◌, ◌≤◌, ◌+◌, ◌+
 ghost use Rattle.std.specs.Option.{option_len};
 ghost use Rattle.mm_types.specs.Records.{IsValid};
 ghost use Rattle.split_merge.specs.Becoming.{parts_left};
-ghost use Rattle.split_merge.specs.Planner.{Event, detaching, replacing, closing, taken, left, planned_with, laid, reached, reaching, planned, held, weight, GoesAlong};
+ghost use Rattle.split_merge.specs.Planner.{Event, detaching, replacing, closing, taken, left, spare, covered, left_over, settled, unsettled, planned_with, laid, reached, reaching, planned, held, weight, GoesAlong};
 
 use crate::becoming::Becoming;
 use crate::parts::joined;
@@ -11,20 +11,21 @@ use crate::plan::{Change, Plan};
 use area_list::joins;
 use mm_types::Record;
 
-/// An area of the new list that is being made, and the old area that begins where it begins, if one does.
+/// An area of the new list that is being made, and the old area that it takes the place of, if there is one.
 #[derive(Clone, Copy)]
 pub(crate) struct Run {
     old: Option<Record>,
     new: Record,
 }
 
-/// The plan of a call along a list. Of the old list and the new one, each by ascending page, it plans the difference: an
-/// old area at whose first page no new area begins goes, and one at whose first page another begins becomes that.
+/// The plan of a call along a list. Of the old list and the new one, each by ascending page, it plans the difference: an old area
+/// becomes the new one with the first part that begins within it, or, where none does, the one that lies over its first page. Where
+/// there is none, or another old area became that already, it goes.
 #[derive(Clone, Copy)]
 pub(crate) struct Planner {
     /// The new area, until its place is reached.
     coming: Option<Record>,
-    /// The last old area, until a part begins at its first page.
+    /// The last old area, until a part of it comes.
     pending: Option<Record>,
     /// The area that is being made.
     run: Option<Run>,
@@ -65,18 +66,42 @@ fn close(run: Option<Run>, plan: &mut Plan)
     }
 }
 
-/// The pending old area, where the part begins at its first page.
+/// The pending old area, where the part begins below its end.
 fn taken(pending: Option<Record>, part: &Record) -> Option<Record>
     ensures { result ≡ taken pending part.now }
 {
-    pending.filter(|old| old.span.lo == part.span.lo)
+    pending.filter(|old| part.span.lo < old.span.hi)
 }
 
-/// The pending old area, where the part does not begin at its first page.
+/// The pending old area, where the part does not begin below its end.
 fn left(pending: Option<Record>, part: &Record) -> Option<Record>
     ensures { result ≡ left pending part.now }
 {
-    pending.filter(|old| old.span.lo != part.span.lo)
+    pending.filter(|old| part.span.lo >= old.span.hi)
+}
+
+/// The old area, where the run has another already.
+fn spare(partner: Option<Record>, old: Option<Record>) -> Option<Record>
+    ensures { result ≡ spare partner old }
+{
+    partner.and(old)
+}
+
+/// The pending old area, where it begins below the end of a new one.
+fn covered(pending: Option<Record>, new: &Record) -> Option<Record>
+    ensures { result ≡ covered pending new.now }
+{
+    pending.filter(|old| old.span.lo < new.span.hi)
+}
+
+/// The pending old area that a new one leaves over, which has an old area already or ends below it.
+fn left_over(partner: Option<Record>, pending: Option<Record>, new: &Record) -> Option<Record>
+    ensures { result ≡ left_over partner pending new.now }
+{
+    match partner {
+        Some(_) => pending,
+        None => pending.filter(|old| old.span.lo >= new.span.hi),
+    }
 }
 
 impl Planner {
@@ -84,7 +109,7 @@ impl Planner {
     ghost use Rattle.std.specs.Option.{option_len, option_to_list};
     ghost use Rattle.mm_types.specs.Records.{IsValid};
     ghost use Rattle.split_merge.specs.Becoming.{parts_left};
-    ghost use Rattle.split_merge.specs.Planner.{Event, planned_with, laid, reached, reaching, planned, held, weight, GoesAlong};
+    ghost use Rattle.split_merge.specs.Planner.{Event, detaching, settled, unsettled, planned_with, laid, reached, reaching, planned, held, weight, GoesAlong};
 
     /// A planner at the begin of a list, with at most one new area to come.
     pub(crate) fn new(coming: Option<Record>) -> Planner
@@ -97,7 +122,8 @@ impl Planner {
         }
     }
 
-    /// Lays a part: the area that is being made goes on where the part joins it, and else another begins.
+    /// Lays a part: the area that is being made goes on where the part joins it, and else another begins. Either takes the place of
+    /// the pending old area, if it has none yet.
     fn lay(&mut self, part: Record, plan: &mut Plan)
         requires { length plan.old.changes + 1 ≤ plan.old.room }
         ensures planner { self.new ≡ laid self.old part }
@@ -109,9 +135,9 @@ impl Planner {
             None => Run { old, new: part },
             Some(run) => {
                 if joins(&run.new, &part) {
-                    detach(old, plan);
+                    detach(spare(run.old, old), plan);
                     Run {
-                        old: run.old,
+                        old: run.old.or(old),
                         new: joined(&run.new, &part),
                     }
                 } else {
@@ -121,6 +147,27 @@ impl Planner {
             }
         };
         self.run = Some(run);
+    }
+
+    /// Settles what becomes of the pending old area, of which no more parts come: the area that is being made takes its place, if it
+    /// has its first page and no old area yet, and else it goes.
+    fn settle(&mut self, plan: &mut Plan)
+        requires { length plan.old.changes + option_len self.old.pending ≤ plan.old.room }
+        ensures planner { self.new ≡ record self.old { pending = None; run = settled self.old.pending self.old.run } }
+        ensures plan { plan.new ≡ record plan.old { changes = plan.old.changes ++ detaching (unsettled self.old.pending self.old.run) } }
+    {
+        let pending = self.pending;
+        self.pending = None;
+        match self.run {
+            None => detach(pending, plan),
+            Some(run) => {
+                self.run = Some(Run {
+                    old: run.old.or(covered(pending, &run.new)),
+                    new: run.new,
+                });
+                detach(left_over(run.old, pending, &run.new), plan);
+            }
+        }
     }
 
     /// Lays the new area, if it begins below the page and is still to come.
@@ -143,7 +190,7 @@ impl Planner {
         ensures { GoesAlong (Event.Begins area ∷ []) self.old self.new plan.old plan.new }
     {
         self.reach(area.span.lo, plan);
-        detach(self.pending, plan);
+        self.settle(plan);
         self.pending = Some(area);
     }
 
@@ -187,9 +234,8 @@ impl Planner {
         ensures coming { self.new.coming ≡ (reached self.old area.span.lo).coming }
     {
         self.reach(area.span.lo, plan);
-        detach(self.pending, plan);
+        self.settle(plan);
         close(self.run, plan);
-        self.pending = None;
         self.run = None;
     }
 
@@ -201,7 +247,7 @@ impl Planner {
         if let Some(new) = self.coming {
             self.lay(new, plan);
         }
-        detach(self.pending, plan);
+        self.settle(plan);
         close(self.run, plan);
     }
 }

@@ -1,6 +1,6 @@
 ghost use Rattle.std.specs.Prelude.{◌≡◌, ◌<◌, ◌≤◌};
 ghost use Rattle.area_list.specs.Areas.{area_at};
-ghost use Rattle.area_model.specs.Mprotect.{stop_of, stop_error, protected_prefix};
+ghost use Rattle.area_rules.specs.Mprotect.{stop_of, stop_error, protected_prefix};
 ghost use Rattle.split_merge.specs.Plans.{Makes, IsLocal, IsKept, IsFresh};
 
 use crate::areas::Areas;
@@ -8,6 +8,7 @@ use crate::becoming::Becoming;
 use crate::plan::Plan;
 use crate::stops::stop_of;
 use crate::walk::plan_changes;
+use area_list::AttrChange;
 use mm_types::{Errno, Prot, Span};
 
 /// Plans that the pages of the span have the protection, up to the first page that is not mapped or may not have it.
@@ -28,7 +29,10 @@ pub fn plan_protect<A: Areas>(areas: &A, span: Span, prot: Prot, plan: &mut Plan
         hi: stop.page,
         ..span
     };
-    let becoming = Becoming::Protected { span: prefix, prot };
+    let becoming = Becoming::Changed {
+        span: prefix,
+        change: AttrChange::Protection(prot),
+    };
     plan_changes(areas, &becoming, None, plan);
     stop.error
 }

@@ -10,7 +10,7 @@ use crate::walk::plan_changes;
 use mm_types::Record;
 
 /// Plans that the area lies over what was there, as one with the neighbours that join it. The joined area takes the place
-/// of the old one that begins where it begins, if one does.
+/// of an old one that has some of its pages, if one has.
 pub fn plan_put<A: Areas>(areas: &A, area: Record, plan: &mut Plan)
     requires list { IsKept (A.bounds areas.now) (A.most areas.now) (A.list areas.now) }
     requires valid { IsValid area }

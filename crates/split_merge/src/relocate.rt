@@ -2,7 +2,7 @@
 ghost use Rattle.std.specs.Prelude.{◌≡◌, ◌<◌, ◌≤◌, false, if◌then◌else◌, nat_lt};
 ghost use Rattle.mm_types.specs.Records.{IsValid};
 ghost use Rattle.area_list.specs.Changes.{cut, put};
-ghost use Rattle.area_model.specs.Mremap.{overlap};
+ghost use Rattle.area_list.specs.Areas.{overlap};
 ghost use Rattle.split_merge.specs.Plans.{Makes, IsLocalToEither, IsKept, IsFresh};
 
 use crate::areas::Areas;

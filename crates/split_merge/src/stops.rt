@@ -1,7 +1,7 @@
 //! Where a new protection stops.
 ghost use Rattle.std.specs.Prelude.{◌≡◌};
 ghost use Rattle.area_list.specs.Areas.{IsCanonical, area_at};
-ghost use Rattle.area_model.specs.Mprotect.{stop_of, stop_error};
+ghost use Rattle.area_rules.specs.Mprotect.{stop_of, stop_error};
 
 use crate::areas::Areas;
 use crate::lookups::area_at;

@@ -1,5 +1,5 @@
 -- For `lock_text`: what the events of a script leave room for.
-use Rattle.std.proofs.Common.{◌≡◌, ◌≤◌, ◌<◌, ◌+◌, ℕ, List, [], ◌∷◌, ◌++◌, length, get_or, drop, sym, ap, ◌∙◌, subst, append_assoc, add-one, drop-cons, Option, Some, None, refl, lit≤, lit<, arith}
+use Rattle.std.proofs.Common.{◌≡◌, ◌≤◌, ◌<◌, ◌+◌, ℕ, List, [], ◌∷◌, ◌++◌, length, get_or, drop, sym, ap, ◌∙◌, subst, append_assoc, add-one, drop-cons, Option, Some, None, refl, inl, lit≤, lit<, arith}
 use Rattle.mm_types.specs.Config.{IsValidConfig, default_config}
 use Rattle.lock_core.specs.declared.events.LockEvent.{LockEvent}
 use Rattle.lock_core.specs.declared.events.LockEvent.TheVariants.{Add, Look, Field, Sub, Begin, Mark, Store, End, Split, Join}
@@ -18,7 +18,8 @@ unfolding default_config
 default_valid = record {
   min = record { aligned = refl; above_zero = lit≤ tt; within = lit≤ tt };
   top = record { aligned = refl; above_zero = lit≤ tt; within = lit≤ tt };
-  limit = refl;
+  heap = inl refl;
+  limit = inl refl;
   some_areas = lit< tt;
   most_areas = lit≤ tt;
   most_files = lit≤ tt;

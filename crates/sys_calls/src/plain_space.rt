@@ -2,16 +2,17 @@
 ghost use Rattle.std.specs.Prelude.{◌≡◌, ◌≤◌, ◌<◌, ◌+◌, ◌-◌, ◌^◌, IfOk};
 ghost use Rattle.mm_types.specs.Config.{IsValidConfig};
 ghost use Rattle.area_list.specs.Areas.{IsSound};
-ghost use Rattle.area_model.specs.Steps.{step, opening};
-ghost use Rattle.area_model.specs.Verdicts.{verdict};
+ghost use Rattle.area_rules.specs.Steps.{step, opening};
+ghost use Rattle.area_rules.specs.Growing.{grows};
+ghost use Rattle.area_rules.specs.Tables.{counters_of};
+ghost use Rattle.area_rules.specs.Verdicts.{verdict};
 
 use crate::plans::plan_call;
-use area_model::area_verdict;
-use mm_types::{Access, Call, Config, NoMemory, Page, Record, Reply, Verdict};
-use split_merge::{Plan, area_at};
+use mm_types::{Access, Call, Config, Counters, NoMemory, Page, Record, Reply, Verdict};
+use split_merge::Plan;
 use std::alloc::Global;
 use std::marker::Model;
-use sys_map::VecAreas;
+use sys_map::{VecAreas, grows, verdict};
 
 /// An address space without locks, for calls one after another. Contracts see it as the space of the model with its
 /// configuration. All memory of its calls is taken when it is made.
@@ -19,8 +20,7 @@ use sys_map::VecAreas;
 pub struct PlainSpace<'a> {
     config: &'a Config,
     areas: VecAreas,
-    /// How many objects are numbered: the files, and each shared anonymous mapping.
-    objects: u32,
+    counters: Counters,
     /// Empty between two calls.
     plan: Plan,
 }
@@ -38,7 +38,7 @@ impl<'a> Model for PlainSpace<'a> {
 }
 
 impl<'a> PlainSpace<'a> {
-    /// A space of this configuration with no area, in which the files are numbered. `NoMemory` where the memory of its
+    /// A space of this configuration with no area, an empty heap, and the files numbered. `NoMemory` where the memory of its
     /// calls cannot be had: later calls take none.
     pub fn new(alloc: Global, config: &'a Config) -> Result<PlainSpace<'a>, NoMemory>
         requires { IsValidConfig config.now }
@@ -46,11 +46,10 @@ impl<'a> PlainSpace<'a> {
     {
         let areas = VecAreas::with_room(alloc, config)?;
         let plan = Plan::with_room(alloc, config.areas)?;
-        let objects = config.files.items().len() as u32;
         Ok(PlainSpace {
             config,
             areas,
-            objects,
+            counters: Counters::opening(config),
             plan,
         })
     }
@@ -64,22 +63,31 @@ impl<'a> PlainSpace<'a> {
         ensures config { self.new.config ≡ self.old.config }
         ensures objects { self.new.space.objects ≤ self.old.space.objects + 1 }
     {
-        let called = plan_call(self.config, self.objects, &self.areas, call, &mut self.plan);
+        let called = plan_call(
+            self.config,
+            self.counters,
+            &self.areas,
+            call,
+            &mut self.plan,
+        );
         self.areas.apply(&self.plan);
         self.plan.clear();
-        self.objects = called.objects;
+        self.counters = called.counters;
         called.reply
     }
 
-    /// The verdict on a fault at a page. One search by page.
-    #[tactic(auto, unfolding(area_model::specs::Verdicts::verdict))]
+    /// The verdict on a fault that grows no area. Two searches by page at most.
     pub fn verdict(&self, page: Page, access: Access) -> Verdict
-        ensures { result ≡ verdict self.now.config.files self.now.space.areas page.0 access }
+        ensures { result ≡ verdict self.now.config self.now.space.areas page.0 access }
     {
-        match area_at(&self.areas, page.0) {
-            Some(area) => area_verdict(self.config.files.items(), page.0, access, &area),
-            None => Verdict::MapErr,
-        }
+        verdict(self.config, &self.areas, page, access)
+    }
+
+    /// Whether a fault grows an area: the call `Touch` with its page and access does it then. One search by page.
+    pub fn grows(&self, page: Page, access: Access) -> bool
+        ensures { result ≡ grows self.now.config self.now.space.areas page.0 access }
+    {
+        grows(self.config, &self.areas, page, access)
     }
 
     /// The areas, in order. They are sound for the configuration.
@@ -90,10 +98,10 @@ impl<'a> PlainSpace<'a> {
         self.areas.list()
     }
 
-    /// How many objects are numbered: the files, and each shared anonymous mapping.
-    pub fn objects(&self) -> u32
-        ensures { result ≡ self.now.space.objects }
+    /// What it keeps besides the areas: how many objects are numbered, and the break.
+    pub fn counters(&self) -> Counters
+        ensures { result ≡ counters_of self.now.space }
     {
-        self.objects
+        self.counters
     }
 }

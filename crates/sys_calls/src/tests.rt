@@ -46,6 +46,7 @@ fn config(alloc: Global) -> Result<Config, AllocError> {
         limit: 0x7fff_ffff_f000,
         areas: 4,
         files: Files::of(files),
+        heap: 0,
     })
 }
 
@@ -107,7 +108,7 @@ fn area(lo: u64, hi: u64, prot: Prot, object: u32, offset: u64) -> Record {
 /// Makes calls one after another, each with its reply, and compares the areas after them.
 fn makes(rt: &impl Abort, space: &mut PlainSpace<'_>, calls: &[(Call, Reply)], areas: &[Record]) {
     for (call, reply) in calls {
-        assert!(rt; space.objects() < u32::MAX);
+        assert!(rt; space.counters().objects < u32::MAX);
         assert_eq!(rt; space.call(call), *reply, "{call:?}");
     }
     assert_eq!(rt; space.list(), areas);
@@ -118,7 +119,7 @@ fn calls_and_faults(rt: HostRuntime) -> Result<(), Fail> {
     let config = config(rt.alloc())?;
     assert!(rt; config.valid());
     let mut space = PlainSpace::new(rt.alloc(), &config)?;
-    assert_eq!(rt; space.objects(), 1);
+    assert_eq!(rt; space.counters().objects, 1);
     let protecting = Call::Mprotect {
         addr: 0x2_4000,
         len: 0x2000,
@@ -186,7 +187,7 @@ fn calls_and_faults(rt: HostRuntime) -> Result<(), Fail> {
             area(0x26, 0x29, READ_WRITE, 0, 0),
         ],
     );
-    assert_eq!(rt; space.objects(), 3);
+    assert_eq!(rt; space.counters().objects, 3);
     Ok(())
 }
 

@@ -4,9 +4,10 @@ pub mod Editing
 pub mod Going
 pub mod Leaving
 pub mod Coming
+pub mod Unsealed
 pub mod Ranging
 pub mod InOrder
 pub mod Scanning
 pub mod Cutting
-pub mod Hinting
 pub mod MmapCases
+pub mod TouchCases

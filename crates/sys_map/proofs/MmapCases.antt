@@ -5,35 +5,37 @@ use Rattle.mm_types.specs.declared.area.Record.{Record}
 use Rattle.mm_types.specs.declared.call.Errno.{Errno}
 use Rattle.mm_types.specs.declared.call.MmapArgs.{MmapArgs}
 use Rattle.mm_types.specs.declared.call.Reply.{Reply}
-use Rattle.mm_types.specs.declared.call.Reply.TheVariants.{Refused, Addr, Zero}
+use Rattle.mm_types.specs.declared.call.Reply.TheVariants.{Refused, Addr, Zero, Grown}
 use Rattle.mm_types.specs.declared.config.Config.{Config}
 use Rattle.mm_types.specs.Config.{IsValidConfig}
 use Rattle.area_list.specs.Areas.{page_of}
 use Rattle.area_list.specs.Changes.{put}
-use Rattle.area_model.specs.Mmap.{mmap, mmap_rows, mmap_done, start_of, mapped_list, new_area, objects_after}
-use Rattle.area_model.specs.Tables.{AddressSpace, Outcome, has_too_many_areas}
+use Rattle.area_rules.specs.Mmap.{mmap, mmap_rows, mmap_done, start_of, mapped_list, new_area, objects_after}
+use Rattle.area_rules.specs.Tables.{AddressSpace, Outcome, counters_of, has_too_many_areas}
+use Rattle.mm_types.specs.declared.call.Counters.{Counters}
 use Rattle.mm_types.specs.Rows.{first_row}
-use Rattle.area_model.proofs.MmapTable.{refusal}
-use Rattle.area_model.proofs.NewArea.{IsAccepted, accepted_from_rows, start_fits, new_area_good}
+use Rattle.area_rules.proofs.MmapTable.{refusal}
+use Rattle.area_rules.proofs.NewArea.{IsAccepted, accepted_from_rows, start_fits, new_area_good}
 use Rattle.area_list.proofs.Order.{IsGood}
 use Rattle.mm_types.specs.declared.call.Call.TheVariants.{Mmap}
-use Rattle.area_model.specs.declared.placement.Bounds.{Bounds}
-use Rattle.area_model.specs.Steps.{step, IsReady}
-use Rattle.area_model.proofs.Stepping.{step_sound}
-use Rattle.area_model.proofs.Rows.{rows_false}
+use Rattle.area_rules.specs.declared.placement.Bounds.{Bounds}
+use Rattle.area_rules.specs.Steps.{step_unsealed, IsReady}
+use Rattle.area_rules.proofs.Stepping.{unsealed_sound}
+use Rattle.area_rules.proofs.Limits.{limit_between}
+use Rattle.area_rules.proofs.Rows.{rows_false}
 use Rattle.split_merge.specs.declared.plan.Change.{Change}
-use Rattle.split_merge.specs.Plans.{Planned, Makes, IsLocal}
+use Rattle.split_merge.specs.Plans.{PlanView, Makes, IsLocal}
 use Rattle.split_merge.specs.Calls.{IsPrepared, IsPlannedCall}
-use Rattle.area_model.specs.Munmap.{range_of}
-use Rattle.area_model.specs.Tables.{pages_of}
+use Rattle.area_rules.specs.Munmap.{range_of}
+use Rattle.area_rules.specs.Tables.{pages_of}
 use Rattle.split_merge.proofs.Calling.{planned, unchanged}
 
 -- a refusal by its reply
 abbrev refused_with : AddressSpace → Reply → Outcome
 refused_with space reply = record { space = space; reply = reply }
 
-module _ {config : Config} {space : AddressSpace} {bounds : Bounds} {most : ℕ} {old : Planned} (args : MmapArgs)
-    (ready : IsReady config space) (prepared : IsPrepared config bounds most old) (new : Planned) (room : new.room ≡ old.room) where
+module _ {config : Config} {space : AddressSpace} {bounds : Bounds} {most : ℕ} {old : PlanView} (args : MmapArgs)
+    (ready : IsReady config space) (prepared : IsPrepared config bounds most old) (new : PlanView) (room : new.room ≡ old.room) where
   -- a call that is refused
   pub refused_call : (errno : Errno) (reply : Reply) → reply ≡ Refused errno → mmap config space args ≡ refusal space errno → new.changes ≡ []
       → IsPlannedCall bounds most space.areas (mmap config space args) reply old new
@@ -48,18 +50,18 @@ module _ {config : Config} {space : AddressSpace} {bounds : Bounds} {most : ℕ}
   done_call start area is newest made =
       planned prepared new room space.areas (mmap config space args) (Addr (4096 * start)) (sym (ap (λ (o : Outcome). o.reply) is))
       (subst (Makes new.changes space.areas) (ap (λ area. put area space.areas) newest ∙ sym (ap (λ (o : Outcome). o.space.areas) is)) made)
-      (unfold step in step_sound config space (Mmap args) ready)
+      (unfold step_unsealed in unsealed_sound config space (Mmap args) ready)
 
 module _ (config : Config) (space : AddressSpace) (args : MmapArgs) where
-  -- the counter after it
-  pub refused_counter : (errno : Errno) (objects : ℕ) → objects ≡ space.objects → mmap config space args ≡ refusal space errno
-      → objects ≡ (mmap config space args).space.objects
-  refused_counter errno objects same is = same ∙ sym (ap (λ (o : Outcome). o.space.objects) is)
+  -- the counters after it
+  pub refused_counters : (errno : Errno) (counters : Counters) → counters ≡ counters_of space → mmap config space args ≡ refusal space errno
+      → counters ≡ counters_of (mmap config space args).space
+  refused_counters errno counters same is = same ∙ sym (ap (λ (o : Outcome). counters_of o.space) is)
 
-  pub done_counter : (start objects : ℕ) → objects ≡ objects_after space.objects args → mmap config space args ≡ mmap_done config space args start
-      → objects ≡ (mmap config space args).space.objects
+  pub done_counters : (start objects : ℕ) → objects ≡ objects_after space.objects args → mmap config space args ≡ mmap_done config space args start
+      → record { objects = objects; brk = space.brk } ≡ counters_of (mmap config space args).space
   unfolding mmap_done
-  done_counter start objects counted is = counted ∙ sym (ap (λ (o : Outcome). o.space.objects) is)
+  done_counters start objects counted is = ap (λ n. record { objects = n; brk = space.brk }) counted ∙ sym (ap (λ (o : Outcome). counters_of o.space) is)
 
   -- the test on the length of the list
   pub too_many : (start : ℕ) (new : Record) (list : List Record) (result test : Bool) → new ≡ new_area config space.objects args start
@@ -79,7 +81,7 @@ accepted_area config areas objects args start valid passes found =
 pub accepted_low : (config : Config) (areas : List Record) (args : MmapArgs) (start : ℕ) → IsValidConfig config
     → first_row (mmap_rows config areas args) ≡ None → start_of config areas args ≡ Some start → start ≤ 2 ^ 45
 accepted_low config areas args start valid passes found =
-    omega (arith, start_fits config areas args start valid (accepted_from_rows config areas args (rows_false (mmap_rows config areas args) passes)) found, valid.limit)
+    omega (arith, start_fits config areas args start valid (accepted_from_rows config areas args (rows_false (mmap_rows config areas args) passes)) found, (limit_between config valid).high)
 
 -- and the length is not empty
 pub accepted_some : (config : Config) (areas : List Record) (args : MmapArgs) → first_row (mmap_rows config areas args) ≡ None → 1 ≤ args.len
@@ -101,6 +103,7 @@ done_local config objects args start addr new plan areas newest is local =
     addr_of (Refused errno) = 0
     addr_of (Addr addr) = addr
     addr_of Zero = 0
+    addr_of (Grown area index) = 0
 
     begins : start ≡ page_of addr
     begins = omega (arith, ap addr_of is)

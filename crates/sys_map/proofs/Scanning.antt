@@ -9,7 +9,9 @@ use Rattle.std.proofs.lemmas.List.Sums.{list_all-from_AllPass, prefix_len_passes
 use Rattle.std.proofs.lemmas.Option.{slice_get-get_or, slice_get_within, get_or_from_slice_get}
 use Rattle.std.proofs.lemmas.Bool.{cases_lt, cases_eq, ltb-true, ltb-false, leb-true, leb-false}
 use Rattle.mm_types.specs.declared.area.Record.{Record}
-use Rattle.area_model.specs.Placement.{is_free}
+use Rattle.area_rules.specs.declared.placement.Bounds.{Bounds}
+use Rattle.area_rules.specs.Placement.{is_free, highest_below, high_place}
+use Rattle.area_rules.proofs.Placing.{high_found, high_none}
 use Rattle.sys_map.specs.BinarySearch.{begins_below, ends_by, BeginsRise, EndsRise}
 use Rattle.sys_map.proofs.Fronting.{last_is}
 
@@ -134,3 +136,16 @@ parted_at number areas place area ascend at = (
       | inl same ↦ omega (arith, ap number (ap (λ n. get_or areas n d) same ∙ at.there d))
       | inr apart ↦ omega (arith, ascend place k d (omega arith) inside, ap number (at.there d))
     ]
+
+-- the search from above, below any page: it has found a place
+pub highest_found : (bounds : Bounds) (last : ℕ) (areas : List Record) (pages end : ℕ) → bounds.low + pages ≤ end → end ≤ last
+    → ((start : ℕ) → end < start + pages → start + pages ≤ last → is_free areas pages start ≡ false)
+    → is_free areas pages (end - pages) ≡ true → highest_below bounds last areas pages ≡ Some (end - pages)
+unfolding high_place
+highest_found bounds last areas pages end room within none free = high_found (record bounds { top = last }) areas pages end room within none free
+
+-- or has nothing to try any more
+pub highest_none : (bounds : Bounds) (last : ℕ) (areas : List Record) (pages end : ℕ) → end < bounds.low + pages
+    → ((start : ℕ) → end < start + pages → start + pages ≤ last → is_free areas pages start ≡ false) → highest_below bounds last areas pages ≡ None
+unfolding high_place
+highest_none bounds last areas pages end past none = high_none (record bounds { top = last }) areas pages end past none

@@ -1,5 +1,5 @@
 //! Plans, carried out on vectors.
-ghost use Rattle.std.specs.Prelude.{◌≡◌, ◌≢◌, ◌≤◌, ◌<◌, ◌+◌, [], ◌∷◌, length, vec_len, vec_capacity, All, AllPairs, Contains};
+ghost use Rattle.std.specs.Prelude.{◌≡◌, ◌≢◌, ◌≤◌, ◌<◌, ◌+◌, false, [], ◌∷◌, length, vec_len, vec_capacity, All, AllPairs, Contains};
 ghost use Rattle.split_merge.specs.Plans.{applied, olds_of, news_of, without, with_all};
 ghost use Rattle.sys_map.specs.BinarySearch.{BeginsRise, BeginsAscend};
 ghost use Rattle.sys_map.specs.Touched.{IsTouched};
@@ -106,6 +106,20 @@ pub(crate) fn insert_news(areas: &mut Vec<Record>, changes: &[Change])
     for change in changes {
         insert_new(areas, change);
     }
+}
+
+/// Whether the changes bring a sealed area.
+pub(crate) fn brings_sealed(changes: &[Change]) -> bool
+    ensures { result ≡ false → All (λ new. new.attr.sealed ≡ false) (news_of changes.now) }
+{
+    for change in changes {
+        if let Some(new) = change.new() {
+            if new.attr.sealed {
+                return true;
+            }
+        }
+    }
+    false
 }
 
 /// Changes a list by the changes of a plan, one after the other.

@@ -1,31 +1,22 @@
 //! Places of ranges: at a hint, and without one.
-ghost use Rattle.std.specs.Prelude.{◌≡◌, ◌<◌, ◌≤◌, ◌+◌, ◌^◌, IfSome, nat_le};
-ghost use Rattle.mm_types.specs.Config.{IsValidConfig};
+ghost use Rattle.std.specs.Prelude.{◌≡◌, ◌≤◌, if◌then◌else◌};
 ghost use Rattle.area_list.specs.Areas.{IsCanonical};
-ghost use Rattle.area_model.specs.Placement.{bounds_of, hinted_place, place};
+ghost use Rattle.area_rules.specs.Placement.{bounds_of, hinted_place, is_high, place, place_high, place_low};
 ghost use Rattle.split_merge.specs.PageNumbers.{page_number};
 
-use area_list::page_of;
-use area_model::fits;
+use area_rules::{Bounds, bounds_of, fits, hint_page, is_high, window_end};
 use mm_types::{Config, Page};
 use split_merge::{Areas, is_free};
 
-/// The hint's page where it is free up to the limit. A hint below one page is none, and another is raised to the
-/// lowest page.
-#[tactic(auto, unfolding(area_model::specs::Placement::hinted_place))]
-fn hinted_place<A: Areas>(config: &Config, areas: &A, pages: u64, hint: u64) -> Option<u64>
+/// The hint's page, where so many pages from it on are free up to the end of the window.
+#[tactic(auto, unfolding(area_rules::specs::Placement::hinted_place))]
+fn hinted_place<A: Areas>(bounds: Bounds, areas: &A, pages: u64, hint: u64) -> Option<u64>
     requires canonical { IsCanonical (A.bounds areas.now).limit (A.list areas.now) }
-    ensures { result ≡ hinted_place (bounds_of config.now) (A.list areas.now) pages hint }
+    ensures { result ≡ hinted_place bounds (A.list areas.now) pages hint }
 {
-    if page_of(hint) == 0 {
-        return None;
-    }
-    let start = page_of(hint).max(page_of(config.min));
-    if fits(start, pages, page_of(config.limit)) && is_free(areas, pages, start) {
-        Some(start)
-    } else {
-        None
-    }
+    let start = hint_page(bounds, hint)?;
+    let end = window_end(bounds, hint);
+    (fits(start, pages, end) && is_free(areas, pages, start)).then_some(start)
 }
 
 /// The number of a page, if there is one.
@@ -35,15 +26,31 @@ fn number_of(page: Option<Page>) -> Option<u64>
     page.map(|page| page.0)
 }
 
+/// Where the list has a place for so many pages, for a high call or for any other.
+fn searched_place<A: Areas>(bounds: Bounds, areas: &A, pages: u64, hint: u64) -> Option<u64>
+    requires bounds { A.bounds areas.now ≡ bounds }
+    requires some_pages { 1 ≤ pages }
+    ensures { result ≡ (if is_high bounds hint then place_high bounds (A.list areas.now) pages
+        else place_low bounds (A.list areas.now) pages) }
+{
+    if is_high(bounds, hint) {
+        number_of(areas.place_high(pages))
+    } else {
+        number_of(areas.place(pages))
+    }
+}
+
 /// Where so many pages go: at the hint, else where the list has a place for them.
+#[tactic(auto, unfolding(area_rules::specs::Placement::place))]
 pub(crate) fn place<A: Areas>(config: &Config, areas: &A, pages: u64, hint: u64) -> Option<u64>
     requires canonical { IsCanonical (A.bounds areas.now).limit (A.list areas.now) }
     requires bounds { A.bounds areas.now ≡ bounds_of config.now }
     requires some_pages { 1 ≤ pages }
     ensures { result ≡ place (bounds_of config.now) (A.list areas.now) pages hint }
 {
-    if let Some(start) = hinted_place(config, areas, pages, hint) {
+    let bounds = bounds_of(config);
+    if let Some(start) = hinted_place(bounds, areas, pages, hint) {
         return Some(start);
     }
-    number_of(areas.place(pages))
+    searched_place(bounds, areas, pages, hint)
 }

@@ -3,30 +3,23 @@ ghost use Rattle.std.specs.Prelude.{◌≡◌, ◌≤◌, ℕ, []};
 ghost use Rattle.mm_types.specs.declared.call.Errno.{Errno};
 ghost use Rattle.mm_types.specs.declared.call.Reply.TheVariants.{Addr, Refused};
 ghost use Rattle.area_list.specs.Areas.{IsCanonical};
-ghost use Rattle.area_model.specs.Mmap.{start_of, mmap};
-ghost use Rattle.area_model.specs.Munmap.{range_of};
-ghost use Rattle.area_model.specs.Placement.{bounds_of};
-ghost use Rattle.area_model.specs.Stepped.{space_of};
-ghost use Rattle.area_model.specs.Steps.{IsReady};
+ghost use Rattle.area_rules.specs.Mmap.{start_of, mmap};
+ghost use Rattle.area_rules.specs.Munmap.{range_of};
+ghost use Rattle.area_rules.specs.Placement.{bounds_of};
+ghost use Rattle.area_rules.specs.Tables.{space_of, counters_of};
+ghost use Rattle.area_rules.specs.Steps.{IsReady};
 ghost use Rattle.split_merge.specs.Calls.{IsPrepared, IsPlannedCall};
 ghost use Rattle.split_merge.specs.Plans.{IsLocal};
 
 use crate::hint::place;
 use crate::refusal::request_error;
 use area_list::page_of;
-use area_model::{is_fixed, new_area, objects_numbered, pages_of};
-use mm_types::{Config, Errno, MmapArgs, PAGE_SIZE, Reply};
-use split_merge::{Areas, Plan, is_too_long, plan_put};
-
-/// The outcome of a call of mmap(2): its reply, and how many objects are numbered after it.
-#[derive(Clone, Copy, Debug, PartialEq, Eq)]
-pub struct Mapped {
-    pub reply: Reply,
-    pub objects: u32,
-}
+use area_rules::{is_fixed, new_area, objects_numbered, pages_of};
+use mm_types::{Config, Counters, Errno, MmapArgs, PAGE_SIZE, Reply};
+use split_merge::{Areas, Plan, Planned, is_too_long, plan_put};
 
 /// The page where the mapping begins, if it has a place.
-#[tactic(auto, unfolding(area_model::specs::Mmap::start_of))]
+#[tactic(auto, unfolding(area_rules::specs::Mmap::start_of))]
 fn start_of<A: Areas>(config: &Config, areas: &A, args: &MmapArgs) -> Option<u64>
     requires canonical { IsCanonical (A.bounds areas.now).limit (A.list areas.now) }
     requires bounds { A.bounds areas.now ≡ bounds_of config.now }
@@ -40,46 +33,49 @@ fn start_of<A: Areas>(config: &Config, areas: &A, args: &MmapArgs) -> Option<u64
     }
 }
 
-/// One call of mmap(2), planned. `objects` is how many objects were numbered before it. The reply, the counter and the
-/// list that the plan makes are those of the model. After a refusal the plan is empty. No memory is taken.
+/// One call of mmap(2), planned. `counters` are those before it. The reply, the counters and the list that the plan makes are
+/// those of its table. After a refusal the plan is empty. No memory is taken.
 pub fn plan_mmap<A: Areas>(
     config: &Config,
-    objects: u32,
+    counters: Counters,
     areas: &A,
     args: &MmapArgs,
     plan: &mut Plan,
-) -> Mapped
-    requires ready { IsReady config.now (space_of (A.list areas.now) objects) }
+) -> Planned
+    requires ready { IsReady config.now (space_of (A.list areas.now) counters) }
     requires prepared { IsPrepared config.now (A.bounds areas.now) (A.most areas.now) plan.old }
     ensures planned { IsPlannedCall (A.bounds areas.now) (A.most areas.now) (A.list areas.now)
-        (mmap config.now (space_of (A.list areas.now) objects) args.now) result.reply plan.old plan.new }
-    ensures counter { result.objects ≡ (mmap config.now (space_of (A.list areas.now) objects) args.now).space.objects }
+        (mmap config.now (space_of (A.list areas.now) counters) args.now) result.reply plan.old plan.new }
+    ensures counters { result.counters ≡ counters_of (mmap config.now (space_of (A.list areas.now) counters) args.now).space }
     ensures local { (addr : ℕ) → result.reply ≡ Addr addr → IsLocal (range_of addr args.now.len) (A.list areas.now) plan.new.changes }
     ensures refused { (errno : Errno) → result.reply ≡ Refused errno → plan.new.changes ≡ [] }
 {
     if let Some(errno) = request_error(config, areas, args) {
-        return refused(errno, objects);
+        return refused(errno, counters);
     }
     let Some(start) = start_of(config, areas, args) else {
-        return refused(Errno::Enomem, objects);
+        return refused(Errno::Enomem, counters);
     };
-    plan_put(areas, new_area(config, objects, args, start), plan);
+    plan_put(areas, new_area(config, counters.objects, args, start), plan);
     if is_too_long(config.areas, areas, plan) {
         plan.clear();
-        return refused(Errno::Enomem, objects);
+        return refused(Errno::Enomem, counters);
     }
-    Mapped {
+    Planned {
         reply: Reply::Addr(PAGE_SIZE * start),
-        objects: objects_numbered(objects, args),
+        counters: Counters {
+            objects: objects_numbered(counters.objects, args),
+            ..counters
+        },
     }
 }
 
-/// A refusal, which numbers no object.
-fn refused(errno: Errno, objects: u32) -> Mapped
-    ensures { result ≡ record { reply = Refused errno; objects = objects } }
+/// A refusal, which leaves the counters.
+fn refused(errno: Errno, counters: Counters) -> Planned
+    ensures { result ≡ record { reply = Refused errno; counters = counters } }
 {
-    Mapped {
+    Planned {
         reply: Reply::Refused(errno),
-        objects,
+        counters,
     }
 }

@@ -1,21 +1,22 @@
 //! munmap(2) as a plan.
-ghost use Rattle.std.specs.Prelude.{◌≡◌, ℕ, []};
+ghost use Rattle.std.specs.Prelude.{◌≡◌, []};
+ghost use Rattle.mm_types.specs.declared.call.Counters.{Counters};
 ghost use Rattle.mm_types.specs.Config.{IsValidConfig};
 ghost use Rattle.mm_types.specs.declared.call.Errno.{Errno};
 ghost use Rattle.mm_types.specs.declared.call.Reply.TheVariants.{Refused};
 ghost use Rattle.area_list.specs.Areas.{IsSound};
-ghost use Rattle.area_model.specs.Munmap.{range_of, munmap};
-ghost use Rattle.area_model.specs.Stepped.{space_of};
+ghost use Rattle.area_rules.specs.Munmap.{range_of, munmap};
+ghost use Rattle.area_rules.specs.Tables.{space_of};
 ghost use Rattle.split_merge.specs.Calls.{IsPrepared, IsPlannedCall};
 ghost use Rattle.split_merge.specs.Plans.{IsLocal};
 
-use area_model::{end_of, is_aligned, range_of};
+use area_rules::{end_of, is_aligned, range_of};
 use mm_types::{Config, Errno, Reply};
 use split_merge::{Areas, Plan, is_too_long, plan_cut};
 
 /// One call of munmap(2), planned. `addr` and `len` are in bytes. The reply and the list that the plan makes are those
-/// of the model, and do not depend on the counter of objects. After a refusal the plan is empty. No memory is taken.
-#[tactic(auto, using(split_merge::proofs::Refusing::nothing_made, split_merge::proofs::Refusing::nothing_local, split_merge::proofs::Refusing::nothing_kept), unfolding(area_model::specs::Munmap::munmap, area_model::specs::Munmap::munmap_rows))]
+/// of its table, and do not depend on the counters. After a refusal the plan is empty. No memory is taken.
+#[tactic(auto, using(split_merge::proofs::Refusing::nothing_made, split_merge::proofs::Refusing::nothing_local, split_merge::proofs::Refusing::nothing_kept), unfolding(area_rules::specs::Munmap::munmap, area_rules::specs::Munmap::munmap_rows))]
 pub fn plan_munmap<A: Areas>(
     config: &Config,
     areas: &A,
@@ -26,8 +27,8 @@ pub fn plan_munmap<A: Areas>(
     requires valid { IsValidConfig config.now }
     requires sound { IsSound config.now (A.list areas.now) }
     requires prepared { IsPrepared config.now (A.bounds areas.now) (A.most areas.now) plan.old }
-    ensures planned { (objects : ℕ) → IsPlannedCall (A.bounds areas.now) (A.most areas.now) (A.list areas.now)
-        (munmap config.now (space_of (A.list areas.now) objects) addr len) result plan.old plan.new }
+    ensures planned { (counters : Counters) → IsPlannedCall (A.bounds areas.now) (A.most areas.now) (A.list areas.now)
+        (munmap config.now (space_of (A.list areas.now) counters) addr len) result plan.old plan.new }
     ensures local { IsLocal (range_of addr len) (A.list areas.now) plan.new.changes }
     ensures refused { (errno : Errno) → result ≡ Refused errno → plan.new.changes ≡ [] }
 {

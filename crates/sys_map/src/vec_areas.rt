@@ -1,12 +1,12 @@
 //! A list of areas in a sorted vector.
 ghost use Rattle.std.specs.Prelude.{◌≡◌, [], IfOk};
-ghost use Rattle.area_model.specs.Placement.{bounds_of};
+ghost use Rattle.area_rules.specs.Placement.{bounds_of};
 ghost use Rattle.split_merge.specs.Plans.{applied, IsPlanOf, IsKept};
 
-use crate::apply::carry_out;
+use crate::apply::{brings_sealed, carry_out};
 use crate::binary_search::{area_at, begins_below, ends_by, last_of};
-use crate::placement::place;
-use area_model::{Bounds, bounds_of};
+use crate::placement::{place_high, place_low};
+use area_rules::{Bounds, bounds_of};
 use mm_types::{AreaList, Config, NoMemory, Page, Record};
 use split_merge::{Areas, Plan};
 use std::alloc::Global;
@@ -21,22 +21,24 @@ pub struct VecAreas {
     middle: Vec<Record>,
     bounds: Bounds,
     most: u32,
+    /// Whether an area was ever sealed.
+    sealed: bool,
 }
 
 impl Model for VecAreas {
     ghost use Rattle.std.specs.Vec.{vec_capacity};
-    ghost use Rattle.sys_map.specs.Stored.{Stored, HasRoom};
+    ghost use Rattle.sys_map.specs.Stored.{Stored, IsWellStored};
 
     ghost Value = { Stored };
 
     ghost view = { λ v. record { list = v.items.items; bounds = v.bounds; most = v.most; room = vec_capacity v.items } };
 
-    ghost invariant = { λ v. HasRoom v.bounds v.most v.items.items (vec_capacity v.items) (vec_capacity v.middle) };
+    ghost invariant = { λ v. IsWellStored v.bounds v.most v.sealed v.items.items (vec_capacity v.items) (vec_capacity v.middle) };
 }
 
 impl VecAreas {
     /// An empty list with the numbers of a configuration, and room for exactly the areas that are allowed.
-    #[tactic(auto, unfolding(area_model::specs::Placement::bounds_of))]
+    #[tactic(auto, unfolding(area_rules::specs::Placement::bounds_of))]
     pub fn with_room(alloc: Global, config: &Config) -> Result<VecAreas, NoMemory>
         ensures { IfOk result (λ areas. areas
             ≡ record { list = []; bounds = bounds_of config.now; most = config.now.areas; room = config.now.areas }) }
@@ -47,6 +49,7 @@ impl VecAreas {
             middle: Vec::with_capacity(alloc, most)?,
             bounds: bounds_of(config),
             most: config.areas,
+            sealed: false,
         })
     }
 
@@ -71,7 +74,9 @@ impl VecAreas {
         requires kept { IsKept self.old.bounds self.old.most (applied plan.now.changes self.old.list) }
         ensures { self.new ≡ record self.old { list = applied plan.now.changes self.old.list } }
     {
-        carry_out(&mut self.items, &mut self.middle, plan.changes());
+        let changes = plan.changes();
+        self.sealed = self.sealed || brings_sealed(changes);
+        carry_out(&mut self.items, &mut self.middle, changes);
     }
 }
 
@@ -97,6 +102,14 @@ impl Areas for VecAreas {
     }
 
     fn place(&self, len: u64) -> Option<Page> {
-        place(self.bounds, self.items.as_slice(), len).map(Page)
+        place_low(self.bounds, self.items.as_slice(), len).map(Page)
+    }
+
+    fn place_high(&self, len: u64) -> Option<Page> {
+        place_high(self.bounds, self.items.as_slice(), len).map(Page)
+    }
+
+    fn may_be_sealed(&self) -> bool {
+        self.sealed
     }
 }

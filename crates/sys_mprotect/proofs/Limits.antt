@@ -10,14 +10,16 @@ use Rattle.mm_types.specs.declared.area.Prot.{Prot}
 use Rattle.mm_types.specs.declared.area.Record.{Record}
 use Rattle.mm_types.specs.declared.call.Errno.{Errno}
 use Rattle.mm_types.specs.declared.call.Errno.TheVariants.{Enomem}
-use Rattle.area_list.specs.Areas.{IsCanonical, area_at, has_page, page_map, protected_page}
+use Rattle.area_list.specs.Areas.{IsCanonical, area_at, has_page, page_map}
+use Rattle.area_list.specs.declared.attributes.AttrChange.TheVariants.{Protection}
+use Rattle.area_list.specs.Attributes.{changed_page}
 use Rattle.area_list.specs.Changes.{protected_list}
-use Rattle.area_model.specs.Laws.{IsStop, prefix_of}
-use Rattle.area_model.specs.Mprotect.{may_have, stop_of, stop_error, protected_prefix}
+use Rattle.area_rules.specs.Laws.{IsStop, prefix_of}
+use Rattle.area_rules.specs.Mprotect.{may_have, stop_of, stop_error, protected_prefix}
 use Rattle.area_list.proofs.Elements.{Each-always}
-use Rattle.area_model.proofs.Stopping.{stop_before, may_not_unmapped}
+use Rattle.area_rules.proofs.Stopping.{stop_before, may_not_unmapped}
 use Rattle.area_list.proofs.Order.{IsGood, good_from_canonical}
-use Rattle.area_model.proofs.ProtectLaws.{stop_is, prefix_unique}
+use Rattle.area_rules.proofs.ProtectLaws.{stop_is, prefix_unique}
 use Rattle.split_merge.specs.declared.plan.Change.{Change}
 use Rattle.split_merge.specs.Plans.{olds_of, IsLocal, Makes, is_near}
 use Rattle.split_merge.proofs.Lists.{length-filter_wider}
@@ -67,7 +69,7 @@ module _ (limit : ℕ) (prot : Prot) (range : Span) (areas : List Record) (c : I
   -- and changes nothing
   prefix_past : limit ≤ range.lo → range.lo < range.hi → areas ≡ protected_prefix prot range areas
   prefix_past past some = prefix_unique limit prot range areas areas (omega arith) c c
-      (λ page. sym (cond-false (has_page (prefix_of prot range areas) page) (option_map (protected_page prot) (page_map areas page)) (page_map areas page)
+      (λ page. sym (cond-false (has_page (prefix_of prot range areas) page) (option_map (changed_page (Protection prot)) (page_map areas page)) (page_map areas page)
       (ap (λ stop. nat_le range.lo page && nat_lt page stop) (stop_past past some) ∙ unmoved range.lo page)))
 
   pub makes_past : (plan : List Change) → limit ≤ range.lo → range.lo < range.hi → plan ≡ [] → Makes plan areas (protected_prefix prot range areas)

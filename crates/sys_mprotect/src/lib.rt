@@ -2,19 +2,20 @@
 #![tactic(auto)]
 
 ghost use Rattle.std.specs.Prelude.{◌≡◌, ◌<◌, ◌≤◌, ◌+◌, ◌*◌, ℕ, [], Some};
+ghost use Rattle.mm_types.specs.declared.call.Counters.{Counters};
 ghost use Rattle.mm_types.specs.declared.call.Reply.{Reply};
 ghost use Rattle.mm_types.specs.Config.{IsValidConfig};
 ghost use Rattle.area_list.specs.Areas.{IsSound, area_at};
-ghost use Rattle.area_model.specs.Mprotect.{stop_of, stop_error, protected_prefix, mprotect_rows, mprotect};
-ghost use Rattle.area_model.specs.Munmap.{range_of};
-ghost use Rattle.area_model.specs.Stepped.{space_of};
+ghost use Rattle.area_rules.specs.Mprotect.{stop_of, stop_error, protected_prefix, mprotect_rows, mprotect};
+ghost use Rattle.area_rules.specs.Munmap.{range_of};
+ghost use Rattle.area_rules.specs.Tables.{space_of};
 ghost use Rattle.mm_types.specs.Rows.{first_row};
 ghost use Rattle.split_merge.specs.Calls.{IsPrepared, IsPlannedCall};
 ghost use Rattle.split_merge.specs.Plans.{IsLocal, Makes, IsKept, IsFresh};
 
 use area_list::page_of;
-use area_model::{end_of, is_aligned, range_of, stopped_reply};
-use mm_types::{ADDRESSES_END, Config, Errno, Prot, Reply, Span};
+use area_rules::{mprotect_answer, range_of, stopped_reply};
+use mm_types::{Config, Errno, Prot, Reply, Span};
 use split_merge::{Areas, Plan, is_too_long, plan_protect};
 
 /// Plans the protection on the pages of the range before the first that is not mapped or may not have it, and gives the
@@ -51,10 +52,10 @@ fn plan_prefix<A: Areas>(
 }
 
 /// One call of mprotect(2), planned. `addr` and `len` are in bytes. The reply and the list that the plan makes are those
-/// of the model, and do not depend on the counter of objects. Where the call stops at a page that is not mapped (ENOMEM)
+/// of its table, and do not depend on the counters. Where the call stops at a page that is not mapped (ENOMEM)
 /// or may not have the protection (EACCES), the plan has the new protection of the pages before it; after every other
 /// refusal it is empty. No memory is taken.
-#[tactic(auto, using(split_merge::proofs::Refusing::nothing_made, split_merge::proofs::Refusing::nothing_local, split_merge::proofs::Refusing::nothing_kept), unfolding(area_model::specs::Mprotect::mprotect, area_model::specs::Mprotect::mprotect_rows))]
+#[tactic(auto, using(split_merge::proofs::Refusing::nothing_made, split_merge::proofs::Refusing::nothing_local, split_merge::proofs::Refusing::nothing_kept), unfolding(area_rules::specs::Mprotect::mprotect, area_rules::specs::Mprotect::mprotect_rows, area_rules::specs::Mprotect::protect_request_rows))]
 pub fn plan_mprotect<A: Areas>(
     config: &Config,
     areas: &A,
@@ -66,20 +67,14 @@ pub fn plan_mprotect<A: Areas>(
     requires valid { IsValidConfig config.now }
     requires sound { IsSound config.now (A.list areas.now) }
     requires prepared { IsPrepared config.now (A.bounds areas.now) (A.most areas.now) plan.old }
-    ensures planned { (objects : ℕ) → IsPlannedCall (A.bounds areas.now) (A.most areas.now) (A.list areas.now)
-        (mprotect config.now (space_of (A.list areas.now) objects) addr len prot) result plan.old plan.new }
+    ensures planned { (counters : Counters) → IsPlannedCall (A.bounds areas.now) (A.most areas.now) (A.list areas.now)
+        (mprotect config.now (space_of (A.list areas.now) counters) addr len prot) result plan.old plan.new }
     ensures local { IsLocal (range_of addr len) (A.list areas.now) plan.new.changes }
     ensures early { (reply : Reply) → first_row (mprotect_rows config.now (A.list areas.now) addr len prot) ≡ Some reply
         → plan.new.changes ≡ [] }
 {
-    if !is_aligned(addr) {
-        return Reply::Refused(Errno::Einval);
-    }
-    if len == 0 {
-        return Reply::Zero;
-    }
-    if ADDRESSES_END <= end_of(addr, len) {
-        return Reply::Refused(Errno::Enomem);
+    if let Some(reply) = mprotect_answer(addr, len) {
+        return reply;
     }
     let limit = page_of(config.limit);
     let error = plan_prefix(areas, limit, range_of(addr, len), prot, plan);

@@ -1,33 +1,35 @@
--- For `plan_change`, `plan_elsewhere` and `plan_growth`: the cases of mremap(2), and what its tests leave for each.
+-- For `plan_change`, `plan_elsewhere` and `plan_longer`: the cases of mremap(2), and what its tests leave for each.
 use Rattle.std.proofs.Common.{◌≡◌, ◌≤◌, ◌<◌, ◌+◌, ◌*◌, ◌^◌, ◌⊎◌, inl, inr, ℕ, Bool, true, false, not, ◌&&◌, ◌||◌, List, Some, option_map, refl, ◌∙◌, sym, subst, arith}
 use Rattle.std.proofs.lemmas.Bool.{cond-true, cond-false, ltb-false}
 use Rattle.std.proofs.lemmas.Option.{same_Some}
 use Rattle.mm_types.specs.declared.area.Record.{Record}
 use Rattle.mm_types.specs.declared.config.Config.{Config}
-use Rattle.area_model.specs.declared.mremap_request.MremapArgs.{MremapArgs}
+use Rattle.area_rules.specs.declared.mremap_request.MremapArgs.{MremapArgs}
 use Rattle.area_list.specs.Areas.{page_of, IsCanonical}
 use Rattle.mm_types.specs.declared.config.TheConstants.{PAGE_SIZE}
-use Rattle.area_model.specs.Placement.{bounds_of}
-use Rattle.area_model.specs.Tables.{pages_of, is_aligned}
-use Rattle.area_model.specs.declared.placement.Bounds.{Bounds}
+use Rattle.area_rules.specs.Placement.{bounds_of}
+use Rattle.area_rules.specs.Tables.{pages_of, is_aligned}
+use Rattle.area_rules.specs.declared.placement.Bounds.{Bounds}
 use Rattle.area_list.specs.Changes.{IsSmall}
-use Rattle.area_model.specs.Mremap.{carried_area, added_range, overlap, moves_to, grows, old_range, has_room, mremap_rows, moved, grown_list, shrunk_list, mremap_change}
-use Rattle.area_model.specs.Laws.{MovesTo, moved_range}
+use Rattle.area_rules.specs.Mremap.{carried_area, added_range, moves_to, lengthens, old_range, has_room, mremap_rows, moved, lengthened_list, shrunk_list, mremap_change}
+use Rattle.area_list.specs.Areas.{overlap}
+use Rattle.area_rules.specs.Laws.{MovesTo, moved_range}
 use Rattle.area_list.proofs.Order.{IsGood}
 use Rattle.area_list.proofs.SmallNumbers.{small_valid}
-use Rattle.area_model.proofs.Moving.{move_beside}
-use Rattle.area_model.proofs.NewArea.{pages_some}
-use Rattle.area_model.proofs.Rows.{NoneHolds, rows_false}
-use Rattle.area_model.proofs.RemapLaws.{IsRemappable, some_range, remappable_from_rows, IsOld, old_area, grown_good, moved_good, moved_fits}
+use Rattle.area_rules.proofs.Moving.{move_beside}
+use Rattle.area_rules.proofs.NewArea.{pages_some}
+use Rattle.area_rules.proofs.Rows.{NoneHolds, rows_false}
+use Rattle.area_rules.proofs.Limits.{limit_between}
+use Rattle.area_rules.proofs.RemapLaws.{IsRemappable, some_range, remappable_from_rows, IsOld, old_area, grown_good, moved_good, moved_fits}
 use Rattle.split_merge.proofs.Refusing.{range_within}
 use Rattle.sys_mremap.specs.Cases.{IsAccepted, IsAdmitted, goes_elsewhere, other_place}
 
 module _ (config : Config) (areas : List Record) (args : MremapArgs) (area : Record) where
   -- why a range goes elsewhere
   elsewhere_cases : goes_elsewhere config areas args ≡ true
-      → (moves_to args ≡ true) ⊎ ((moves_to args ≡ false) × (grows args ≡ true) × (has_room config areas args ≡ false))
+      → (moves_to args ≡ true) ⊎ ((moves_to args ≡ false) × (lengthens args ≡ true) × (has_room config areas args ≡ false))
   unfolding goes_elsewhere
-  elsewhere_cases goes = by (moves_to args) (grows args) (has_room config areas args) goes
+  elsewhere_cases goes = by (moves_to args) (lengthens args) (has_room config areas args) goes
     where
       by : (moves more room : Bool) → (moves || (more && not room)) ≡ true → (moves ≡ true) ⊎ ((moves ≡ false) × (more ≡ true) × (room ≡ false))
       by true more room goes = inl refl
@@ -52,9 +54,9 @@ module _ (config : Config) (areas : List Record) (args : MremapArgs) (area : Rec
   ]
 
   -- a range that stays where it is and grows has room
-  staying : goes_elsewhere config areas args ≡ false → (moves_to args ≡ false) × (grows args ≡ true → has_room config areas args ≡ true)
+  staying : goes_elsewhere config areas args ≡ false → (moves_to args ≡ false) × (lengthens args ≡ true → has_room config areas args ≡ true)
   unfolding goes_elsewhere
-  staying stays = (moves_not (moves_to args) _ stays, has_room_to (moves_to args) (grows args) (has_room config areas args) stays)
+  staying stays = (moves_not (moves_to args) _ stays, has_room_to (moves_to args) (lengthens args) (has_room config areas args) stays)
     where
       moves_not : (moves rest : Bool) → (moves || rest) ≡ false → moves ≡ false
       moves_not moves rest stays = grind arith
@@ -62,17 +64,17 @@ module _ (config : Config) (areas : List Record) (args : MremapArgs) (area : Rec
       has_room_to : (moves more room : Bool) → (moves || (more && not room)) ≡ false → more ≡ true → room ≡ true
       has_room_to moves more room stays longer = grind arith
 
-  pub growing_room : goes_elsewhere config areas args ≡ false → grows args ≡ true → has_room config areas args ≡ true
+  pub growing_room : goes_elsewhere config areas args ≡ false → lengthens args ≡ true → has_room config areas args ≡ true
   growing_room stays more = (staying stays).1 more
 
   -- it grows in place
-  pub growing_change : goes_elsewhere config areas args ≡ false → grows args ≡ true
-      → mremap_change config areas area args ≡ Some (record { areas = grown_list areas area args; page = page_of args.old })
+  pub growing_change : goes_elsewhere config areas args ≡ false → lengthens args ≡ true
+      → mremap_change config areas area args ≡ Some (record { areas = lengthened_list areas area args; page = page_of args.old })
   unfolding mremap_change
   growing_change stays more = rw ((staying stays).0, more, growing_room stays more)
 
   -- and one that does not grow shrinks in place
-  pub shrinking_change : goes_elsewhere config areas args ≡ false → grows args ≡ false
+  pub shrinking_change : goes_elsewhere config areas args ≡ false → lengthens args ≡ false
       → mremap_change config areas area args ≡ Some (record { areas = shrunk_list areas args; page = page_of args.old })
   unfolding mremap_change
   shrinking_change stays less = rw ((staying stays).0, less)
@@ -119,7 +121,7 @@ module _ {config : Config} {bounds : Bounds} {most : ℕ} {areas : List Record} 
   new_some = omega (arith, pages_some args.new_len remappable.some_new)
 
   -- what grows in place
-  pub grown_by_bounds : grows args ≡ true → has_room config areas args ≡ true
+  pub grown_by_bounds : lengthens args ≡ true → has_room config areas args ≡ true
       → IsGood bounds.limit (carried_area area (added_range args).lo (added_range args))
   grown_by_bounds more room =
       good_by_bounds _ (grown_good config areas args area h.valid canonical remappable h.accepted.found more room)
@@ -134,7 +136,7 @@ module _ {config : Config} {bounds : Bounds} {most : ℕ} {areas : List Record} 
     moved_low = omega (
       arith,
       moved_fits config areas args start h.valid remappable (elsewhere_moves config areas args area start goes found),
-      h.valid.limit,
+      (limit_between config h.valid).high,
     )
 
     pub moved_beside : overlap (old_range args) (moved_range args start) ≡ false

@@ -8,8 +8,8 @@ use Rattle.mm_types.specs.declared.config.Config.{Config}
 use Rattle.area_list.specs.Areas.{page_of, area_at}
 use Rattle.std.specs.Option.{option_or}
 use Rattle.mm_types.specs.Rows.{first_row}
-use Rattle.area_model.specs.declared.mremap_request.MremapArgs.{MremapArgs}
-use Rattle.area_model.specs.Mremap.{area_rows, range_rows, mremap_rows}
+use Rattle.area_rules.specs.declared.mremap_request.MremapArgs.{MremapArgs}
+use Rattle.area_rules.specs.Mremap.{area_rows, range_rows, mremap_rows}
 
 -- where the request is not refused whatever the list is, the tests are those of the area that has the old range's first page
 pub rows_of_area : (config : Config) (areas : List Record) (args : MremapArgs) (refusal : Option Errno) (page : ℕ) (area : Record)

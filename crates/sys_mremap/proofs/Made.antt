@@ -1,18 +1,19 @@
--- For `plan_change`, `plan_elsewhere`, `plan_growth` and others: the lists that the plans of mremap(2)'s changes make, and that these plans are local to the old range and the new one.
+-- For `plan_change`, `plan_elsewhere`, `plan_longer` and others: the lists that the plans of mremap(2)'s changes make, and that these plans are local to the old range and the new one.
 use Rattle.std.proofs.Common.{◌≡◌, ◌≤◌, ◌<◌, ◌+◌, ℕ, false, nat_lt, List, [], Option, Some, refl, ap, ◌∙◌, sym, subst, arith}
 use Rattle.std.proofs.lemmas.Bool.{cond-true, cond-false, lt-ltb, le-ltb}
 use Rattle.mm_types.specs.declared.area.Span.{Span}
 use Rattle.mm_types.specs.declared.area.Record.{Record}
-use Rattle.area_model.specs.declared.mremap_table.Moved.{Moved}
-use Rattle.area_model.specs.declared.mremap_request.MremapArgs.{MremapArgs}
+use Rattle.area_rules.specs.declared.mremap_request.Moved.{Moved}
+use Rattle.area_rules.specs.declared.mremap_request.MremapArgs.{MremapArgs}
 use Rattle.area_list.specs.Areas.{page_of}
 use Rattle.area_list.specs.Changes.{cut, put}
-use Rattle.area_model.specs.Tables.{pages_of}
-use Rattle.area_model.specs.Munmap.{range_of}
-use Rattle.area_model.specs.Mremap.{overlap, carried_area, added_range, old_range, moved_list, grown_list, shrunk_list}
-use Rattle.area_model.specs.Laws.{moved_range}
+use Rattle.area_rules.specs.Tables.{pages_of}
+use Rattle.area_rules.specs.Munmap.{range_of}
+use Rattle.area_rules.specs.Mremap.{carried_area, added_range, old_range, moved_list, lengthened_list, shrunk_list}
+use Rattle.area_list.specs.Areas.{overlap}
+use Rattle.area_rules.specs.Laws.{moved_range}
 use Rattle.split_merge.specs.declared.plan.Change.{Change}
-use Rattle.split_merge.specs.Plans.{Planned, Makes, IsLocal, IsLocalToEither}
+use Rattle.split_merge.specs.Plans.{PlanView, Makes, IsLocal, IsLocalToEither}
 use Rattle.split_merge.proofs.Refusing.{nothing_made}
 use Rattle.sys_mremap.specs.Cases.{MakesAt, PlansChange}
 use Rattle.sys_mremap.proofs.Nearness.{local_in_first, local_in_second, nothing_local}
@@ -44,12 +45,12 @@ beside_there args area carried hole start is from apart =
     (subst (λ span. overlap (old_range args) span ≡ false) (sym (ap (λ (a : Record). a.span) is)) apart)
 
 -- the plan of a range that begins where it began
-pub made_in_place : (args : MremapArgs) (plan planned : Planned) (areas after : List Record) (change : Option Moved) (page : ℕ)
+pub made_in_place : (args : MremapArgs) (plan planned : PlanView) (areas after : List Record) (change : Option Moved) (page : ℕ)
     → change ≡ Some (record { areas = after; page = page_of args.old }) → MakesAt (page_of args.old) args planned.changes areas after → plan ≡ planned
     → page ≡ page_of args.old → PlansChange args plan.changes areas change (Some page)
 made_in_place args plan planned areas after change page is made same at =
     subst (λ first. PlansChange args plan.changes areas change (Some first)) (sym at)
-    (after, is, subst (λ (p : Planned). MakesAt (page_of args.old) args p.changes areas after) (sym same) made)
+    (after, is, subst (λ (p : PlanView). MakesAt (page_of args.old) args p.changes areas after) (sym same) made)
 
 module _ (areas : List Record) (args : MremapArgs) (plan : List Change) where
   pub shrunk_by_cut : (rest : Span) → rest ≡ rest_range args → rest.lo < rest.hi → Makes plan areas (cut rest areas) → IsLocal rest areas plan
@@ -79,8 +80,8 @@ module _ (areas : List Record) (args : MremapArgs) (plan : List Change) where
       }
 
   pub grown_by_put : (area grown : Record) → grown ≡ carried_area area (added_range args).lo (added_range args) → Makes plan areas (put grown areas)
-      → IsLocal grown.span areas plan → MakesAt (page_of args.old) args plan areas (grown_list areas area args)
-  unfolding grown_list carried_area added_range
+      → IsLocal grown.span areas plan → MakesAt (page_of args.old) args plan areas (lengthened_list areas area args)
+  unfolding lengthened_list carried_area added_range
   grown_by_put area grown is made local = let span = ap (λ (a : Record). a.span) is in record {
     makes = subst (λ a. Makes plan areas (put a areas)) is made;
     local = local_in_second grown.span (old_range args) (moved_range args (page_of args.old)) areas plan

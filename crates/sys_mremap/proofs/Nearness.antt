@@ -1,4 +1,4 @@
--- For `plan_change`, `plan_elsewhere`, `plan_growth` and others: plans that are local to a part of the old range or the new one are local to these two.
+-- For `plan_change`, `plan_elsewhere`, `plan_longer` and others: plans that are local to a part of the old range or the new one are local to these two.
 use Rattle.std.proofs.Common.{◌≡◌, ◌≤◌, ℕ, Bool, true, ◌&&◌, ◌||◌, nat_le, List, [], get_or, subst, sym, arith}
 use Rattle.std.proofs.lemmas.Bool.Decides.{nat_tests}
 use Rattle.mm_types.specs.declared.area.Span.{Span}

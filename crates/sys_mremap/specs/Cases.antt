@@ -3,14 +3,14 @@ use Rattle.std.specs.Prelude.{ℕ, ◌≡◌, Bool, not, ◌&&◌, ◌||◌, if�
 use Rattle.mm_types.specs.declared.area.Record.{Record}
 use Rattle.mm_types.specs.declared.config.Config.{Config}
 use Rattle.mm_types.specs.Config.{IsValidConfig}
-use Rattle.area_model.specs.declared.placement.Bounds.{Bounds}
-use Rattle.area_model.specs.declared.mremap_table.Moved.{Moved}
-use Rattle.area_model.specs.declared.mremap_request.MremapArgs.{MremapArgs}
+use Rattle.area_rules.specs.declared.placement.Bounds.{Bounds}
+use Rattle.area_rules.specs.declared.mremap_request.Moved.{Moved}
+use Rattle.area_rules.specs.declared.mremap_request.MremapArgs.{MremapArgs}
 use Rattle.area_list.specs.Areas.{page_of, area_at}
-use Rattle.area_model.specs.Placement.{bounds_of}
+use Rattle.area_rules.specs.Placement.{bounds_of}
 use Rattle.mm_types.specs.Rows.{first_row}
-use Rattle.area_model.specs.Mremap.{moves_to, grows, old_range, has_room, new_place, mremap_rows}
-use Rattle.area_model.specs.Laws.{moved_range}
+use Rattle.area_rules.specs.Mremap.{moves_to, lengthens, old_range, has_room, new_place, mremap_rows}
+use Rattle.area_rules.specs.Laws.{moved_range}
 use Rattle.split_merge.specs.declared.plan.Change.{Change}
 use Rattle.split_merge.specs.Plans.{Makes, IsLocalToEither, IsKept}
 
@@ -28,7 +28,7 @@ pub record IsAdmitted (config : Config) (bounds : Bounds) (most : ℕ) (areas : 
 
 -- the range goes elsewhere: to a fixed place, or since it grows where it has no room
 unfoldable pub goes_elsewhere : Config → List Record → MremapArgs → Bool
-goes_elsewhere config areas args = moves_to args || (grows args && not (has_room config areas args))
+goes_elsewhere config areas args = moves_to args || (lengthens args && not (has_room config areas args))
 
 -- the page that a range goes to
 unfoldable pub other_place : Config → List Record → MremapArgs → Option ℕ

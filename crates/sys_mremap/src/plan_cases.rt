@@ -1,13 +1,13 @@
 //! The cases of mremap(2) as plans: a move, growth in place, and shrinking in place.
 ghost use Rattle.std.specs.Prelude.{◌≡◌, ◌<◌, ◌≤◌, ◌^◌, true, IfSome};
 ghost use Rattle.area_list.specs.Areas.{page_of};
-ghost use Rattle.area_model.specs.Mremap.{old_range, grows, shrunk_list, grown_list, has_room, mremap_change};
+ghost use Rattle.area_rules.specs.Mremap.{old_range, lengthens, shrunk_list, lengthened_list, has_room, mremap_change};
 ghost use Rattle.split_merge.specs.Plans.{IsKept, IsFresh};
 ghost use Rattle.sys_mremap.specs.Cases.{IsAdmitted, goes_elsewhere, MakesAt, PlansChange};
 
 use crate::destination::{goes_elsewhere, other_place};
 use area_list::page_of;
-use area_model::{MremapArgs, added_range, carried_area, grows, old_range, pages_of};
+use area_rules::{MremapArgs, added_range, carried_area, lengthens, old_range, pages_of};
 use mm_types::{Config, Record, Span};
 use split_merge::{Areas, Plan, plan_cut, plan_move, plan_put};
 
@@ -37,7 +37,7 @@ fn plan_elsewhere<A: Areas>(
 }
 
 /// Plans that the area runs on after the old range, up to the new length.
-fn plan_growth<A: Areas>(
+fn plan_longer<A: Areas>(
     config: &Config,
     areas: &A,
     area: &Record,
@@ -45,10 +45,10 @@ fn plan_growth<A: Areas>(
     plan: &mut Plan,
 )
     requires admitted { IsAdmitted config.now (A.bounds areas.now) (A.most areas.now) (A.list areas.now) args.now area.now }
-    requires longer { grows args.now ≡ true }
+    requires longer { lengthens args.now ≡ true }
     requires has_room { has_room config.now (A.list areas.now) args.now ≡ true }
     requires fresh { IsFresh (A.most areas.now) plan.old }
-    ensures made { MakesAt (page_of args.now.old) args.now plan.new.changes (A.list areas.now) (grown_list (A.list areas.now) area.now args.now) }
+    ensures made { MakesAt (page_of args.now.old) args.now plan.new.changes (A.list areas.now) (lengthened_list (A.list areas.now) area.now args.now) }
     ensures room { plan.new.room ≡ plan.old.room }
 {
     let added = added_range(args);
@@ -91,8 +91,8 @@ pub(crate) fn plan_change<A: Areas>(
     if goes_elsewhere(config, areas, args) {
         return plan_elsewhere(config, areas, area, args, plan);
     }
-    if grows(args) {
-        plan_growth(config, areas, area, args, plan);
+    if lengthens(args) {
+        plan_longer(config, areas, area, args, plan);
     } else {
         plan_shrinking(areas, args, plan);
     }

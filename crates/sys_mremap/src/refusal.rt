@@ -1,12 +1,12 @@
 //! The tests of mremap(2)'s table on its request.
 ghost use Rattle.std.specs.Prelude.{◌≡◌, MatchResult};
 ghost use Rattle.area_list.specs.Areas.{IsCanonical};
-ghost use Rattle.area_model.specs.Mremap.{mremap_rows};
+ghost use Rattle.area_rules.specs.Mremap.{mremap_rows};
 ghost use Rattle.mm_types.specs.Rows.{first_row};
 ghost use Rattle.sys_mremap.specs.Cases.{IsAccepted};
 
 use area_list::page_of;
-use area_model::{MremapArgs, area_refusal, mremap_refusal};
+use area_rules::{MremapArgs, area_refusal, mremap_refusal};
 use mm_types::{Config, Errno, Record};
 use split_merge::{Areas, area_at};
 

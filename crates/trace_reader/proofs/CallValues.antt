@@ -8,15 +8,15 @@ use Rattle.mm_types.specs.declared.call.Call.TheVariants.{Mmap, Munmap, Mprotect
 use Rattle.mm_types.specs.declared.config.TheConstants.{PAGE_SIZE}
 use Rattle.mm_types.specs.declared.flags.TheConstants.{MREMAP_FIXED}
 use Rattle.trace_reader.specs.declared.trace.Op.TheVariants as ops
-use Rattle.flag_table.specs.Tables.{map_flags, mremap_flags}
+use Rattle.flag_table.specs.Tables.{mremap_flags}
 use Rattle.trace_reader.specs.declared.fault.Cause.{Cause}
 use Rattle.trace_reader.specs.declared.fault.Cause.TheVariants.{Word, Arity}
 use Rattle.trace_reader.specs.Causes.{◌>>=◌}
 use Rattle.trace_reader.specs.Calls.{mmap, mmap_of, munmap_of, mprotect, mprotect_of, moved, number_if, mremap, mremap_of, call_named, fault_of, maps_of, called, op_named, op_of}
 use Rattle.mm_types.specs.Flags.{has_flag}
-use Rattle.trace_reader.specs.Fields.{number, mapped_descriptor, access, flags, prot}
+use Rattle.trace_reader.specs.Fields.{number, mapped_descriptor, access, flags, mmap_flags, prot}
 use Rattle.trace_reader.specs.Values.{IsCallValue, IsOpValue}
-use Rattle.trace_reader.proofs.FieldValues.{IsWord, IsDescriptor, number-value, mapped_descriptor-value, map_flags-value, mremap_flags-value}
+use Rattle.trace_reader.proofs.FieldValues.{IsWord, IsDescriptor, number-value, mapped_descriptor-value, mmap_flags-value, mremap_flags-value}
 
 abbrev IsFlags : ℕ → Type 0
 IsFlags bits = bits < 2 ^ 32
@@ -81,8 +81,8 @@ fault_fits (Ok a) (Err c) ha = tt
 mmap_of-value : (words : List (List ℕ)) → IfOk (mmap_of words) IsCallValue
 unfolding mmap_of mmap
 mmap_of-value (addr ∷ len ∷ allowed ∷ kind ∷ fd ∷ offset ∷ []) =
-    mmap_fits (number addr) (number len) (prot allowed) (flags map_flags kind) (mapped_descriptor fd) (number offset)
-    (number-value addr) (number-value len) (map_flags-value kind) (mapped_descriptor-value fd) (number-value offset)
+    mmap_fits (number addr) (number len) (prot allowed) (mmap_flags kind) (mapped_descriptor fd) (number offset)
+    (number-value addr) (number-value len) (mmap_flags-value kind) (mapped_descriptor-value fd) (number-value offset)
 mmap_of-value _ = tt
 
 munmap_of-value : (words : List (List ℕ)) → IfOk (munmap_of words) IsCallValue

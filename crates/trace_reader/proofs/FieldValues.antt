@@ -4,6 +4,8 @@ use Rattle.std.proofs.lemmas.Bool.{cond_both, and_parts, leb-true, eqb-true}
 use Rattle.std.proofs.lemmas.Int.{ints}
 use Rattle.std.proofs.lemmas.Nat.{and_le_r}
 use Rattle.mm_types.specs.declared.config.TheConstants.{PAGE_SIZE, ADDRESS_LIMIT}
+use Rattle.mm_types.specs.declared.flags.TheConstants.{MAP_GROWSDOWN}
+use Rattle.mm_types.specs.Flags.{has_flag}
 use Rattle.flag_table.specs.Laws.{IsSound}
 use Rattle.flag_table.specs.Reading.{reading}
 use Rattle.flag_table.specs.Tables.{Table, map_flags, mremap_flags, bits_of}
@@ -11,9 +13,9 @@ use Rattle.flag_table.specs.declared.fault.NameFault.{NameFault}
 use Rattle.flag_table.proofs.Sound.{map_is_sound, mremap_is_sound}
 use Rattle.flag_table.proofs.Texts.{HasRows-reading}
 use Rattle.trace_reader.specs.declared.fault.Cause.{Cause}
-use Rattle.trace_reader.specs.declared.fault.Cause.TheVariants.{Number}
+use Rattle.trace_reader.specs.declared.fault.Cause.TheVariants.{Number, Flag}
 use Rattle.trace_reader.specs.Causes.{◌>>=◌}
-use Rattle.trace_reader.specs.Fields.{number, number_in, bound, descriptor, mapped_descriptor, or_flag, flags}
+use Rattle.trace_reader.specs.Fields.{number, number_in, bound, descriptor, mapped_descriptor, or_flag, flags, mmap_flags}
 use Rattle.trace_reader.specs.declared.limits.TheConstants.{GREATEST_THREAD}
 use Rattle.trace_reader.specs.Numbers.{digits_of, number_of, thread_of}
 use Rattle.trace_reader.proofs.Digits.{digits_of-Some}
@@ -126,8 +128,15 @@ small_mremap : bits_of mremap_flags.rows < 2 ^ 32
 unfolding mremap_flags
 small_mremap = lit< tt
 
-pub map_flags-value : (word : List ℕ) → IfOk (flags map_flags word) (λ bits. bits < 2 ^ 32)
-map_flags-value word = flags-value map_flags word map_is_sound small_map
+pub mmap_flags-value : (word : List ℕ) → IfOk (mmap_flags word) (λ bits. bits < 2 ^ 32)
+unfolding mmap_flags
+mmap_flags-value word = allowed (flags map_flags word) (flags-value map_flags word map_is_sound small_map)
+  where
+    allowed : (r : Result ℕ Cause) → IfOk r (λ bits. bits < 2 ^ 32)
+        → IfOk (r >>= λ bits. if has_flag bits MAP_GROWSDOWN then Err Flag else Ok bits) (λ bits. bits < 2 ^ 32)
+    allowed (Ok bits) small = cond_both (has_flag bits MAP_GROWSDOWN) (Err Flag) (Ok bits) (λ r. IfOk r (λ bits. bits < 2 ^ 32))
+        (λ _. tt) (λ _. small)
+    allowed (Err cause) small = tt
 
 pub mremap_flags-value : (word : List ℕ) → IfOk (flags mremap_flags word) (λ bits. bits < 2 ^ 32)
 mremap_flags-value word = flags-value mremap_flags word mremap_is_sound small_mremap

@@ -1,5 +1,5 @@
 -- For `traces_fit`: what holds of every trace that was read.
-use Rattle.std.proofs.Common.{◌≡◌, ◌≢◌, ℕ, ◌+◌, ◌^◌, ◌<◌, ◌≤◌, Bool, true, false, not, ◌&&◌, nat_eq, nat_lt, nat_le, List, [], ◌∷◌, ◌++◌, length, get_or, codes, bytes_eq, ℤ, Option, Some, None, unwrap_or, Result, Ok, Err, ok_or, IfOk, IfSome, All, AllPairs, if◌then◌else◌, refl, subst, arith, lit≤}
+use Rattle.std.proofs.Common.{◌≡◌, ◌≢◌, ℕ, ◌+◌, ◌^◌, ◌<◌, ◌≤◌, Bool, true, false, not, ◌&&◌, nat_eq, nat_lt, nat_le, List, [], ◌∷◌, ◌++◌, length, get_or, codes, bytes_eq, ℤ, Option, Some, None, unwrap_or, Result, Ok, Err, ok_or, IfOk, IfSome, All, AllPairs, if◌then◌else◌, refl, inl, subst, arith, lit≤}
 use Rattle.std.specs.List.{list_any, slice_split}
 use Rattle.std.specs.Ordering.{int_eq}
 use Rattle.std.specs.Str.{is_utf8}
@@ -299,7 +299,8 @@ config_of-value s known =
     record {
       min = record { aligned = least.aligned; above_zero = least.above_zero; within = least.within };
       top = record { aligned = top.aligned; above_zero = top.above_zero; within = top.within };
-      limit = refl;
+      heap = inl refl;
+      limit = inl refl;
       some_areas = omega (arith, areas.0);
       most_areas = areas.1;
       most_files = known.files;

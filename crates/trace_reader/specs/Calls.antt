@@ -7,11 +7,11 @@ use Rattle.mm_types.specs.declared.flags.TheConstants.{MREMAP_FIXED}
 use Rattle.trace_reader.specs.declared.trace.Op.{Op}
 use Rattle.trace_reader.specs.declared.trace.Op.TheVariants as ops
 use Rattle.mm_types.specs.Flags.{has_flag}
-use Rattle.flag_table.specs.Tables.{map_flags, mremap_flags}
+use Rattle.flag_table.specs.Tables.{mremap_flags}
 use Rattle.trace_reader.specs.declared.fault.Cause.{Cause}
 use Rattle.trace_reader.specs.declared.fault.Cause.TheVariants.{Word, Arity}
 use Rattle.trace_reader.specs.Causes.{◌>>=◌}
-use Rattle.trace_reader.specs.Fields.{number, mapped_descriptor, access, flags, prot}
+use Rattle.trace_reader.specs.Fields.{number, mapped_descriptor, access, flags, mmap_flags, prot}
 use Rattle.trace_reader.specs.Words.{words_of}
 
 -- the mmap(2) of these words
@@ -20,7 +20,7 @@ mmap addr len allowed options fd offset = do
   a ← number addr
   l ← number len
   p ← prot allowed
-  f ← flags map_flags options
+  f ← mmap_flags options
   d ← mapped_descriptor fd
   o ← number offset
   Ok (Mmap (record { addr = a; len = l; prot = p; flags = f; fd = d; offset = o }))

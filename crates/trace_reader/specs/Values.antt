@@ -1,7 +1,7 @@
 -- What holds of every trace that was read.
 use Rattle.std.specs.Prelude.{◌-◌, ◌^◌, ◌<◌, ◌≤◌, ◌≤ℤ◌, length, All, pos, negsuc}
 use Rattle.mm_types.specs.declared.call.Call.{Call}
-use Rattle.mm_types.specs.declared.call.Call.TheVariants.{Mmap, Munmap, Mprotect, Mremap}
+use Rattle.mm_types.specs.declared.call.Call.TheVariants.{Mmap, Munmap, Mprotect, Mremap, Touch, Brk, Mseal}
 use Rattle.mm_types.specs.declared.call.MmapArgs.{MmapArgs}
 use Rattle.trace_reader.specs.declared.trace.Op.{Op}
 use Rattle.trace_reader.specs.declared.trace.Op.TheVariants as ops
@@ -19,13 +19,16 @@ pub record IsMapping (args : MmapArgs) : Type 0 where
   pub high : args.fd ≤ℤ pos (2 ^ 31 - 1)
   pub offset : args.offset < 2 ^ 64
 
--- the numbers of a call fit their types
+-- the call is one that a trace may ask for, and its numbers fit their types
 abbrev pub IsCallValue : Call → Type 0
 IsCallValue (Mmap args) = IsMapping args
 IsCallValue (Munmap addr len) = (addr < 2 ^ 64) × (len < 2 ^ 64)
 IsCallValue (Mprotect addr len prot) = (addr < 2 ^ 64) × (len < 2 ^ 64)
 IsCallValue (Mremap old old_len new_len flags new) = (old < 2 ^ 64) × (old_len < 2 ^ 64) × (new_len < 2 ^ 64)
     × (flags < 2 ^ 32) × (new < 2 ^ 64)
+IsCallValue (Touch page access) = ⊥
+IsCallValue (Brk addr) = ⊥
+IsCallValue (Mseal addr len flags) = ⊥
 
 -- and so do those of an operation, whose page has an address of 64 bits
 abbrev pub IsOpValue : Op → Type 0

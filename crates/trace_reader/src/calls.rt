@@ -5,10 +5,10 @@ ghost use Rattle.trace_reader.specs.Calls.{mmap, mmap_of, munmap_of, mprotect, m
 ghost use Rattle.trace_reader.specs.Reading.{Gives};
 
 use crate::fault::{CallError, Cause};
-use crate::fields::{access, flags, mapped_descriptor, number, prot};
+use crate::fields::{access, flags, mapped_descriptor, mmap_flags, number, prot};
 use crate::trace::Op;
 use crate::words::words_of;
-use flag_table::{map_table, mremap_table};
+use flag_table::mremap_table;
 use mm_types::{Call, MREMAP_FIXED, MmapArgs, PAGE_SIZE, Page, has_flag};
 use std::alloc::Global;
 
@@ -29,7 +29,7 @@ fn mmap(
         addr: number(addr)?,
         len: number(len)?,
         prot: prot(alloc, allowed)?,
-        flags: flags(alloc, &map_table(), options)?,
+        flags: mmap_flags(alloc, options)?,
         fd: mapped_descriptor(fd)?,
         offset: number(offset)?,
     }))

@@ -77,6 +77,11 @@ fn the_first_bad_line_is_named(rt: HostRuntime) -> Result<(), Fail> {
         (2, Cause::Number, "file 3 r 1 0:0:0 1 a\n"),
         (2, Cause::Number, "file 3 r 1 1000:0 1 a\n"),
         (2, Cause::Flag, "0 mprotect 0 1 PROT_READ|PROT_READ\n"),
+        (
+            2,
+            Cause::Flag,
+            "0 mmap 0 1 PROT_READ MAP_PRIVATE|MAP_GROWSDOWN -2 0\n",
+        ),
         (2, Cause::Word, "0 fault 0 rw\n"),
         (2, Cause::Word, "file 3 x 1 0:0 1 a\n"),
         (2, Cause::Arity, "0 mremap 0 1 2 MREMAP_MAYMOVE 0\n"),

@@ -7,7 +7,7 @@ use Rattle.std.proofs.lemmas.List.Elements.{filter-append}
 use Rattle.mm_types.specs.declared.call.Entry.{Entry}
 use Rattle.lock_core.specs.Core.{StartsWith}
 use Rattle.lock_core.specs.Events.{longer}
-use Rattle.area_model.specs.Journals.{calls_by}
+use Rattle.area_rules.specs.Journals.{calls_by}
 
 -- an entry of another caller is none of the caller's
 pub calls_other : (caller : ℕ) (journal : List Entry) (entry : Entry) → entry.caller ≢ caller → calls_by caller (journal ++ entry ∷ []) ≡ calls_by caller journal

@@ -6,8 +6,8 @@ use Rattle.std.proofs.lemmas.Bool.{cond-true, eq-eqb, cases_lt}
 use Rattle.std.proofs.lemmas.List.{length-set, get_or_past}
 use Rattle.mm_types.specs.declared.call.Entry.{Entry}
 use Rattle.mm_types.specs.declared.config.Config.{Config}
-use Rattle.area_model.specs.Steps.{step as call_step, after, IsLegalJournal}
-use Rattle.area_model.proofs.Journals.{legal-push}
+use Rattle.area_rules.specs.Steps.{step as call_step, after, IsLegalJournal}
+use Rattle.area_rules.proofs.Journals.{legal-push}
 use Rattle.lock_core.specs.declared.stage.SlotState.{SlotState}
 use Rattle.lock_core.specs.Core.{Core, Reader, slot_at, count_at, reader_at}
 use Rattle.lock_core.specs.Facts.{Facts, list_after}
@@ -21,7 +21,7 @@ use Rattle.atomic_table.proofs.Lists.{exchanged}
 use Rattle.vma_lock.specs.declared.view.SeatKind.TheVariants.{Writes}
 use Rattle.vma_lock.specs.declared.view.View.{View}
 use Rattle.vma_lock.specs.Views.{slot_count, reader_of, view_at, spent_view, begin_at, try_at, mark_at, store_at, end_at}
-use Rattle.area_model.specs.Journals.{calls_by}
+use Rattle.area_rules.specs.Journals.{calls_by}
 use Rattle.vma_lock.specs.Words.{table_words, mark_place, field_place}
 use Rattle.vma_lock.specs.Rule.{IsTraced, turn_weight, bears, IsWriter, Fits, Shows}
 use Rattle.vma_lock.specs.Plays.{begun, tried, stored, ended}

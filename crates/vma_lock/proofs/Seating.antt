@@ -7,7 +7,7 @@ use Rattle.std.proofs.lemmas.List.{length-set, length-map, map-set, get_or-map, 
 use Rattle.std.proofs.Math.Seq.{map-set_same}
 use Rattle.mm_types.specs.declared.call.Entry.{Entry}
 use Rattle.mm_types.specs.declared.config.Config.{Config}
-use Rattle.area_model.specs.Steps.{step as call_step, after}
+use Rattle.area_rules.specs.Steps.{step as call_step, after}
 use Rattle.lock_core.specs.declared.stage.SlotState.{SlotState}
 use Rattle.lock_core.specs.Core.{slot_at, free_slot, held}
 use Rattle.lock_core.specs.Facts.{list_after}

@@ -6,14 +6,15 @@ use Rattle.std.proofs.lemmas.List.{length-set, get_or-set_other}
 use Rattle.std.proofs.lemmas.List.Sums.{sum_by-cons}
 use Rattle.mm_types.specs.declared.area.Record.{Record}
 use Rattle.mm_types.specs.declared.call.Call.{Call}
+use Rattle.mm_types.specs.declared.call.Counters.{Counters}
 use Rattle.mm_types.specs.declared.call.Entry.{Entry}
-use Rattle.mm_types.specs.declared.files.FileRow.{FileRow}
 use Rattle.mm_types.specs.declared.config.Config.{Config}
+use Rattle.mm_types.specs.Config.{counters_at_opening}
 use Rattle.mm_types.specs.Packed.{packed}
-use Rattle.area_model.specs.Stepped.{space_of}
-use Rattle.area_model.specs.Steps.{step, opening, after}
-use Rattle.area_model.specs.Tables.{AddressSpace, Outcome}
-use Rattle.area_model.proofs.Journals.{after-nil, after-push}
+use Rattle.area_rules.specs.Tables.{space_of}
+use Rattle.area_rules.specs.Steps.{step, opening, after}
+use Rattle.area_rules.specs.Tables.{AddressSpace, Outcome}
+use Rattle.area_rules.proofs.Journals.{after-nil, after-push}
 use Rattle.lock_core.specs.declared.stage.SlotState.{SlotState}
 use Rattle.lock_core.specs.declared.stage.Stage.{Stage}
 use Rattle.lock_core.specs.declared.stage.Stage.TheVariants.{Holds}
@@ -106,10 +107,10 @@ enters_exactly slots list before marked written row free some_slot shows same ma
     (shows_exactly marked.slots list (record (slot_at marked.slots 0) { row = row }) marked_free many shows)
 
 -- the list after one more call
-pub list_more : (config : Config) (journal : List Entry) (entry : Entry) (space : AddressSpace) (list : List Record) (objects : ℕ)
-    → after config journal ≡ space → (step config space entry.call).space ≡ space_of list objects
-    → after config (journal ++ entry ∷ []) ≡ space_of list objects
-list_more config journal entry space list objects now stepped =
+pub list_more : (config : Config) (journal : List Entry) (entry : Entry) (space : AddressSpace) (list : List Record) (counters : Counters)
+    → after config journal ≡ space → (step config space entry.call).space ≡ space_of list counters
+    → after config (journal ++ entry ∷ []) ≡ space_of list counters
+list_more config journal entry space list counters now stepped =
     after-push config journal entry ∙ ap (λ s. (step config s entry.call).space) now ∙ stepped
 
 -- what a whole call on the first slot owes at its end
@@ -129,20 +130,20 @@ enter_owes first lent begun marked written seat entry row lend begin mark write 
     free some_slot shows slots mark.desk (ap (λ (v : View). v.desk) write)))
 
 -- the space after a call that the model made
-pub small_after : (config : Config) (view : View) (entry : Entry) (list next : List Record) (objects more : ℕ) (outcome : Outcome) → IsSmall view list objects
-    → config ≡ view.config → outcome.space ≡ space_of next more → outcome ≡ step config (space_of list objects) entry.call
+pub small_after : (config : Config) (view : View) (entry : Entry) (list next : List Record) (counters more : Counters) (outcome : Outcome) → IsSmall view list counters
+    → config ≡ view.config → outcome.space ≡ space_of next more → outcome ≡ step config (space_of list counters) entry.call
     → after view.config (view.seen ++ entry ∷ []) ≡ space_of next more
-small_after config view entry list next objects more outcome small same space is =
-    list_more view.config view.seen entry (space_of list objects) next more small.space
-    (ap (λ c. (step c (space_of list objects) entry.call).space) (sym same) ∙ sym (ap (λ (o : Outcome). o.space) is) ∙ space)
+small_after config view entry list next counters more outcome small same space is =
+    list_more view.config view.seen entry (space_of list counters) next more small.space
+    (ap (λ c. (step c (space_of list counters) entry.call).space) (sym same) ∙ sym (ap (λ (o : Outcome). o.space) is) ∙ space)
 
 -- a new table is that of a space with no area
-pub opened_small : (config : Config) (readers : ℕ) → config.files ≡ [] → IsSmall (opened_view config readers) [] 0
+pub opened_small : (config : Config) (readers : ℕ) → IsSmall (opened_view config readers) [] (counters_at_opening config)
 unfolding opening
-opened_small config readers none_open = record {
+opened_small config readers = record {
   closed = refl;
   turn = refl;
-  space = after-nil config ∙ ap (λ (l : List FileRow). record { areas = []; objects = length l }) none_open;
+  space = after-nil config;
   free = λ slot apart. free_copies (slot_count config) slot;
 }
   where
@@ -152,11 +153,11 @@ opened_small config readers none_open = record {
     free_copies (suc count) (suc slot) = free_copies count slot
 
 -- the reply of a call that the model made first
-pub small_reply : (config : Config) (view : View) (call : Call) (list : List Record) (objects : ℕ) (outcome : Outcome) → IsSmall view list objects
-    → config ≡ view.config → outcome ≡ step config (space_of list objects) call
+pub small_reply : (config : Config) (view : View) (call : Call) (list : List Record) (counters : Counters) (outcome : Outcome) → IsSmall view list counters
+    → config ≡ view.config → outcome ≡ step config (space_of list counters) call
     → outcome.reply ≡ (step view.config (after view.config view.seen) call).reply
-small_reply config view call list objects outcome small same is =
-    ap (λ (o : Outcome). o.reply) is ∙ ap (λ c. (step c (space_of list objects) call).reply) same
+small_reply config view call list counters outcome small same is =
+    ap (λ (o : Outcome). o.reply) is ∙ ap (λ c. (step c (space_of list counters) call).reply) same
     ∙ ap (λ s. (step view.config s call).reply) (sym small.space)
 
 -- a try that found readers, and then the mark
@@ -170,7 +171,6 @@ marking_from first tried marked slot found is marking = record {
 }
 
 -- the same, as the writer of a new table knows it
-pub opened_is_small : (config : Config) (readers : ℕ) (view : View) (list : List Record) → config.files ≡ [] → view ≡ opened_view config readers → list ≡ []
-    → IsSmall view list 0
-opened_is_small config readers view list none_open is empty =
-    subst (λ (v : View). IsSmall v list 0) (sym is) (subst (λ (l : List Record). IsSmall (opened_view config readers) l 0) (sym empty) (opened_small config readers none_open))
+pub opened_is_small : (config : Config) (readers : ℕ) (view : View) (list : List Record) (counters : Counters)
+    → counters ≡ counters_at_opening config → view ≡ opened_view config readers → list ≡ [] → IsSmall view list counters
+opened_is_small config readers view list counters counted is empty = rw (counted, is, empty) (opened_small config readers)

@@ -1,4 +1,4 @@
--- For `VmaTable::give_back_turn`, `VmaTable::hear`, `VmaTable::join` and others: splits and joins of seats keep the rule of a table, and so does a load that tells of a join.
+-- For `VmaTable::give_back_turn`, `VmaTable::learn_from_reader`, `VmaTable::join` and others: splits and joins of seats keep the rule of a table, and so does a load that tells of a join.
 use Rattle.std.proofs.Common.{ℕ, ◌≡◌, ◌≢◌, ◌<◌, ◌≤◌, ◌+◌, ◌∙◌, inl, inr, refl, sym, ap, subst, nat_eq, List, [], ◌∷◌, ◌++◌, length, get_or, set, Option, Some, None, arith}
 use mathlib.Core.Option.{some, none}
 use lib.ListN.{get_elem?}
@@ -20,7 +20,7 @@ use Rattle.atomic_table.proofs.Lists.{set_else}
 use Rattle.vma_lock.specs.declared.view.SeatKind.TheVariants.{Reads, Writes, Note, Spent}
 use Rattle.vma_lock.specs.declared.view.View.{View}
 use Rattle.vma_lock.specs.Views.{reader_of, view_at, spent_view, split_view, new_reader, after_reader, without_turn, note_of, turn_note, lent_at, heard_at, joined_at, returned_at}
-use Rattle.area_model.specs.Journals.{calls_by}
+use Rattle.area_rules.specs.Journals.{calls_by}
 use Rattle.vma_lock.specs.Rule.{turn_weight, bears, kind_weight, can_hold, Fits, Shows}
 use Rattle.vma_lock.specs.Plays.{settled}
 use Rattle.vma_lock.proofs.Places.{each_else, each_more}

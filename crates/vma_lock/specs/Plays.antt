@@ -3,7 +3,7 @@ use Rattle.std.specs.Prelude.{ℕ, ◌≡◌, ◌≢◌, ◌<◌, ◌≤◌, ◌
 use mathlib.Core.Option.{some}
 use Rattle.mm_types.specs.declared.call.Entry.{Entry}
 use Rattle.mm_types.specs.declared.config.Config.{Config}
-use Rattle.area_model.specs.Steps.{IsLegalJournal}
+use Rattle.area_rules.specs.Steps.{IsLegalJournal}
 use Rattle.lock_core.specs.declared.stage.Stage.{Stage}
 use Rattle.lock_core.specs.declared.stage.Stage.TheVariants.{Out, Holds, Valid, Gone}
 use Rattle.lock_core.specs.Core.{StartsWith, slot_at}
@@ -12,7 +12,7 @@ use Rattle.lock_core.specs.Rows.{IsRowOf, Exactly}
 use Rattle.atomic_table.specs.Table.{Me, Step}
 use Rattle.vma_lock.specs.declared.view.View.{View}
 use Rattle.vma_lock.specs.Views.{add_at, look_at, field_at, sub_at, begin_at, try_at, mark_at, store_at, end_at}
-use Rattle.area_model.specs.Journals.{calls_by}
+use Rattle.area_rules.specs.Journals.{calls_by}
 use Rattle.vma_lock.specs.Words.{mark_place, field_place}
 use Rattle.vma_lock.specs.Rule.{IsTraced}
 

@@ -14,7 +14,7 @@ use Rattle.vma_lock.specs.declared.view.SeatKind.TheVariants.{Reads, Writes, Not
 use Rattle.vma_lock.specs.declared.view.SeenAt.{SeenAt}
 use Rattle.vma_lock.specs.declared.view.View.{View}
 use Rattle.vma_lock.specs.Views.{slot_count, reader_of, view_at}
-use Rattle.area_model.specs.Journals.{calls_by}
+use Rattle.area_rules.specs.Journals.{calls_by}
 use Rattle.vma_lock.specs.Words.{table_words}
 
 -- 1 where it is this caller's turn

@@ -1,9 +1,10 @@
 -- No public clause cites what stands here: a small address space of at most one area, which lies in slot 0, as the tests have it.
 use Rattle.std.specs.Prelude.{ℕ, ◌≡◌, ◌≢◌, ◌%◌, ◌⊎◌, true, false, List, [], ◌∷◌, slice_get, Some, None}
 use Rattle.mm_types.specs.declared.area.Record.{Record}
+use Rattle.mm_types.specs.declared.call.Counters.{Counters}
 use Rattle.mm_types.specs.Packed.{packed}
-use Rattle.area_model.specs.Stepped.{space_of}
-use Rattle.area_model.specs.Steps.{after}
+use Rattle.area_rules.specs.Tables.{space_of}
+use Rattle.area_rules.specs.Steps.{after}
 use Rattle.lock_core.specs.declared.stage.SlotState.{SlotState}
 use Rattle.lock_core.specs.declared.stage.Stage.TheVariants.{Out}
 use Rattle.lock_core.specs.Core.{slot_at}
@@ -17,12 +18,12 @@ use Rattle.vma_lock.specs.Seats.{stage, HasTurn}
 abbrev pub AreFree : List SlotState → Type 0
 AreFree slots = (slot : ℕ) → slot ≢ 0 → is_detached (slot_at slots slot).row ≡ true
 
--- The writer between two calls: it has no turn, the list and the count of objects are those after the journal, and all
+-- The writer between two calls: it has no turn, the list and the counters are those after the journal, and all
 -- slots but the first are detached.
-pub record IsSmall (view : View) (list : List Record) (objects : ℕ) : Type 0 where
+pub record IsSmall (view : View) (list : List Record) (counters : Counters) : Type 0 where
   pub closed : view.desk.seq % 2 ≡ 0
   pub turn : view.turn ≡ None
-  pub space : after view.config view.seen ≡ space_of list objects
+  pub space : after view.config view.seen ≡ space_of list counters
   pub free : AreFree view.desk.slots
 
 -- a row shows a list of at most one area

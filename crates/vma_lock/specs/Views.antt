@@ -1,7 +1,8 @@
 -- What a seat knows, and what each step makes of it.
-use Rattle.std.specs.Prelude.{ℕ, ◌+◌, ◌*◌, if◌then◌else◌, nat_eq, List, [], ◌∷◌, ◌++◌, slice_index, slice_index_or, slice_set, replicate, Option, Some, None}
+use Rattle.std.specs.Prelude.{ℕ, ◌+◌, if◌then◌else◌, nat_eq, List, [], ◌∷◌, ◌++◌, slice_index, slice_index_or, slice_set, replicate, Option, Some, None}
 use Rattle.mm_types.specs.declared.call.Entry.{Entry}
 use Rattle.mm_types.specs.declared.config.Config.{Config}
+use Rattle.mm_types.specs.Config.{slots_for}
 use Rattle.lock_core.specs.declared.stage.SlotState.{SlotState}
 use Rattle.lock_core.specs.declared.stage.Stage.{Stage}
 use Rattle.lock_core.specs.declared.stage.Stage.TheVariants.{Out, Holds, Gone}
@@ -16,7 +17,7 @@ use Rattle.vma_lock.specs.declared.view.View.{View}
 
 -- how many slots a table has: enough for the areas of a call's list before and after it
 abbrev pub slot_count : Config → ℕ
-slot_count config = 2 * config.areas + 2
+slot_count config = slots_for config.areas
 
 -- the reader of the protocol that a seat is
 abbrev pub reader_of : View → Reader
@@ -42,7 +43,7 @@ no_desk = record { seq = 0; slots = []; made = 0 }
 
 -- a configuration of no table
 abbrev pub no_config : Config
-no_config = record { min = 0; top = 0; limit = 0; areas = 0; files = [] }
+no_config = record { min = 0; top = 0; limit = 0; areas = 0; files = []; heap = 0 }
 
 -- a seat that was joined into another
 abbrev pub spent_view : View

@@ -7,7 +7,7 @@ ghost use Rattle.vma_lock.specs.Seats.{table_of, config_of, IsOf, Writes, view, 
 use crate::rule::NewReader;
 use crate::seats::{ReaderSeat, VmaTable, WriterSeat};
 use atomic_table::Table;
-use mm_types::{Config, NoMemory};
+use mm_types::{Config, NoMemory, slots_for};
 use std::alloc::Global;
 use std::sync::Arc;
 
@@ -66,7 +66,7 @@ fn open(alloc: Global, config: &Config) -> Result<(VmaTable, WriterSeat), NoMemo
     ensures table { IfOk result (λ made. config_of made.0 ≡ config.now) }
     ensures writer { IfOk result (λ made. Writes made.1 made.0 × (sight made.1 ≡ opened_view config.now 0)) }
 {
-    let slots = 2 * config.areas as usize + 2;
+    let slots = slots_for(config.areas) as usize;
     let words = opening_words(alloc, slots)?;
     let (table, seat) = Table::of_words(alloc, words.as_slice(), config)?;
     let table = VmaTable {

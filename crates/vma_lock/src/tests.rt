@@ -29,6 +29,7 @@ fn config(alloc: Global) -> Config
         limit: ADDRESS_LIMIT,
         areas: 4,
         files: Files::of(Vec::new(alloc)),
+        heap: 0,
     }
 }
 

@@ -2,7 +2,7 @@ ghost use Rattle.std.specs.Prelude.{◌≡◌, ◌≢◌, ℕ, length, IfOk, if�
 ghost use Rattle.lock_core.specs.declared.stage.Stage.TheVariants.{Out};
 ghost use Rattle.lock_core.specs.Core.{StartsWith};
 ghost use Rattle.vma_lock.specs.Views.{without_turn, lent_at, heard_at, joined_at, returned_at};
-ghost use Rattle.area_model.specs.Journals.{calls_by};
+ghost use Rattle.area_rules.specs.Journals.{calls_by};
 ghost use Rattle.vma_lock.specs.Plays.{IsSettled};
 ghost use Rattle.vma_lock.specs.Seats.{config_of, IsOf, Writes, view, seen, stage, HasTurn, sight, journal, IsClosed, is_turn_of, met_turn, kept_turn, greeted_at, Meets};
 
@@ -63,10 +63,10 @@ impl VmaTable {
     {
         self.greet(writer, seat);
         self.look(seat);
-        self.hear(writer, seat);
+        self.learn_from_reader(writer, seat);
     }
 
-    /// The writer tells a reader what it has seen, and gives its turn back if it has it.
+    /// The writer shows a reader what it has seen, and gives its turn back if it has it.
     fn greet(&self, writer: &mut WriterSeat, seat: &mut ReaderSeat)
         requires { Writes writer.old self.now × IsOf seat.old self.now }
         ensures tables { Writes writer.new self.now × IsOf seat.new self.now }
@@ -76,11 +76,11 @@ impl VmaTable {
         if is_turn_of(writer.turn, seat.caller) {
             self.give_back_turn(writer, seat);
         } else {
-            self.tell(writer, seat);
+            self.show_reader(writer, seat);
         }
     }
 
-    /// The writer tells a reader what it has seen, and gives its turn away.
+    /// The writer shows a reader what it has seen, and gives its turn away.
     fn give_back_turn(&self, writer: &mut WriterSeat, seat: &mut ReaderSeat)
         requires { Writes writer.old self.now × IsOf seat.old self.now }
         ensures tables { Writes writer.new self.now × IsOf seat.new self.now }
@@ -94,8 +94,8 @@ impl VmaTable {
         seat.version = seat.version.max(writer.version());
     }
 
-    /// The writer tells a reader what it has seen.
-    fn tell(&self, writer: &mut WriterSeat, seat: &mut ReaderSeat)
+    /// The writer shows a reader what it has seen.
+    fn show_reader(&self, writer: &mut WriterSeat, seat: &mut ReaderSeat)
         requires { Writes writer.old self.now × IsOf seat.old self.now }
         ensures tables { Writes writer.new self.now × IsOf seat.new self.now }
         ensures seat { view seat.new ≡ joined_at (view seat.old) (sight writer.old) }
@@ -107,8 +107,8 @@ impl VmaTable {
         seat.version = seat.version.max(writer.version());
     }
 
-    /// A reader tells the writer what it has seen, which is a beginning of the journal.
-    fn hear(&self, writer: &mut WriterSeat, seat: &mut ReaderSeat)
+    /// The writer learns what a reader has seen, which is a beginning of the journal.
+    fn learn_from_reader(&self, writer: &mut WriterSeat, seat: &mut ReaderSeat)
         requires { Writes writer.old self.now × IsOf seat.old self.now }
         ensures tables { Writes writer.new self.now × IsOf seat.new self.now }
         ensures seat { view seat.new ≡ view seat.old }

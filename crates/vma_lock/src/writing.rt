@@ -1,5 +1,5 @@
 ghost use Rattle.std.specs.Prelude.{◌≡◌, ◌<◌, ◌+◌, ◌*◌, ◌^◌, ◌++◌, ◌∷◌, [], length, MatchResult};
-ghost use Rattle.area_model.specs.Steps.{step, after, IsLegalJournal};
+ghost use Rattle.area_rules.specs.Steps.{step, after, IsLegalJournal};
 ghost use Rattle.lock_core.specs.Core.{slot_at};
 ghost use Rattle.lock_core.specs.Facts.{list_after};
 ghost use Rattle.lock_core.specs.Rows.{Exactly};

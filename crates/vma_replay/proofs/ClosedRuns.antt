@@ -10,7 +10,7 @@ use Rattle.mm_types.specs.declared.config.Config.{Config}
 use Rattle.trace_reader.specs.declared.trace.TraceLine.{TraceLine}
 use Rattle.trace_reader.specs.Values.{IsLineValue}
 use Rattle.atomic_table.specs.Seated.{TableId}
-use Rattle.area_model.specs.Journals.{calls_by, IsReadRight}
+use Rattle.area_rules.specs.Journals.{calls_by, IsReadRight}
 use Rattle.history.specs.declared.callers.TheConstants.{MOST_THREADS}
 use Rattle.history.specs.Histories.{caller_of, lines_of}
 use Rattle.history.specs.Runs.{own_of, ops_of, asked, IsRun}

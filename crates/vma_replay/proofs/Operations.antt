@@ -12,7 +12,7 @@ use Rattle.mm_types.specs.declared.config.Config.{Config}
 use Rattle.trace_reader.specs.declared.trace.Op.{Op}
 use Rattle.trace_reader.specs.declared.trace.Op.TheVariants as ops
 use Rattle.trace_reader.specs.declared.trace.TraceLine.{TraceLine}
-use Rattle.area_model.specs.Journals.{calls_by, IsReadRight}
+use Rattle.area_rules.specs.Journals.{calls_by, IsReadRight}
 use Rattle.lock_core.specs.Core.{StartsWith}
 use Rattle.history.specs.Histories.{op_of}
 use Rattle.history.specs.Runs.{content_of, own_of, ops_of, asked}

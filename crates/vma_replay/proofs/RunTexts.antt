@@ -11,8 +11,8 @@ use Rattle.mm_types.specs.declared.call.Seen.{Seen}
 use Rattle.mm_types.specs.declared.config.Config.{Config}
 use Rattle.trace_reader.specs.declared.trace.Trace.{Trace}
 use Rattle.trace_reader.specs.declared.trace.TraceLine.{TraceLine}
-use Rattle.area_model.specs.Tables.{AddressSpace}
-use Rattle.area_model.specs.Steps.{step, opening, after}
+use Rattle.area_rules.specs.Tables.{AddressSpace}
+use Rattle.area_rules.specs.Steps.{step, opening, after}
 use Rattle.lock_core.specs.Facts.{list_after}
 use Rattle.history.specs.declared.items.Content.{Content}
 use Rattle.history.specs.declared.items.Content.TheVariants as contents

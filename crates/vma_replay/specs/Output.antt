@@ -17,7 +17,7 @@ use Rattle.history.specs.declared.items.Item.{Item}
 use Rattle.trace_reader.specs.declared.trace.TraceLine.{TraceLine}
 use Rattle.mm_types.specs.MapsText.{range_text, list_text}
 use Rattle.trace_reader.specs.declared.trace.Trace.{Trace}
-use Rattle.area_model.specs.Steps.{after}
+use Rattle.area_rules.specs.Steps.{after}
 use Rattle.history.specs.Histories.{line_of, journal_of, serial_history}
 
 -- the name of an error
@@ -31,15 +31,20 @@ errno_name errnos.Eexist = codes "EEXIST"
 errno_name errnos.Einval = codes "EINVAL"
 errno_name errnos.Eoverflow = codes "EOVERFLOW"
 
--- an address in hexadecimal, 0, or -1 and the error's name
+-- the area that serves a fault, and the page of its object
+unfoldable pub served_text : Record → ℕ → List ℕ
+served_text area index = codes "served " ++ (range_text area ++ (codes " page " ++ decimal index))
+
+-- an address in hexadecimal, 0, -1 and the error's name, or the area that a fault grew, as one that serves it
 unfoldable pub reply_text : Reply → List ℕ
 reply_text (replies.Addr address) = codes "0x" ++ digits 16 false address
 reply_text replies.Zero = codes "0"
 reply_text (replies.Refused errno) = codes "-1 " ++ errno_name errno
+reply_text (replies.Grown area index) = served_text area index
 
 -- the area that serves and the page of its object, or the signal and its code
 unfoldable pub verdict_text : Verdict → List ℕ
-verdict_text (verdicts.Served area index) = codes "served " ++ (range_text area ++ (codes " page " ++ decimal index))
+verdict_text (verdicts.Served area index) = served_text area index
 verdict_text verdicts.MapErr = codes "SIGSEGV SEGV_MAPERR"
 verdict_text verdicts.AccErr = codes "SIGSEGV SEGV_ACCERR"
 verdict_text verdicts.BusErr = codes "SIGBUS BUS_ADRERR"

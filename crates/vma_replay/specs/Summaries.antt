@@ -2,10 +2,9 @@
 use Rattle.std.specs.Prelude.{ℕ, Bool, true, false, List, ◌++◌, length, codes, decimal, count_by}
 use Rattle.mm_types.specs.declared.area.Verdict.{Verdict}
 use Rattle.mm_types.specs.declared.area.Verdict.TheVariants as verdicts
-use Rattle.mm_types.specs.declared.call.Reply.{Reply}
-use Rattle.mm_types.specs.declared.call.Reply.TheVariants as replies
 use Rattle.mm_types.specs.declared.config.Config.{Config}
-use Rattle.area_model.specs.Steps.{after}
+use Rattle.area_rules.specs.Steps.{after}
+use Rattle.area_rules.specs.Tables.{is_refusal}
 use Rattle.history.specs.declared.items.Content.{Content}
 use Rattle.history.specs.declared.items.Content.TheVariants as contents
 use Rattle.history.specs.declared.items.Item.{Item}
@@ -13,12 +12,6 @@ use Rattle.history.specs.Histories.{is_call, journal_of, serial_history}
 use Rattle.trace_reader.specs.declared.trace.Trace.{Trace}
 use Rattle.gen_load.specs.Loads.{load_trace}
 use Rattle.vma_replay.specs.declared.summary.Summary.{Summary}
-
--- whether a call was refused: its reply is an error
-abbrev pub is_refusal : Reply → Bool
-is_refusal (replies.Addr address) = false
-is_refusal replies.Zero = false
-is_refusal (replies.Refused errno) = true
 
 -- whether a fault was served, by an area
 abbrev pub is_service : Verdict → Bool

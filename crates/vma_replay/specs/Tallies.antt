@@ -6,7 +6,8 @@ use Rattle.gen_load.specs.declared.loading.TheConstants.{MOST_OPERATIONS}
 use Rattle.vma_replay.specs.declared.summary.Summary.{Summary}
 use Rattle.vma_replay.specs.declared.words.Job.{Job}
 use Rattle.vma_replay.specs.declared.words.Job.TheVariants as jobs
-use Rattle.vma_replay.specs.Summaries.{is_fault, is_refusal, is_served}
+use Rattle.area_rules.specs.Tables.{is_refusal}
+use Rattle.vma_replay.specs.Summaries.{is_fault, is_served}
 
 -- the summary of a closed run by one caller
 abbrev pub tally_of : ClosedView → Summary

@@ -2,7 +2,6 @@
 //! and writes what each of its steps results in; or replays a generated trace, and writes a summary of what it did.
 #![tactic(auto)]
 
-mod copying;
 mod driving;
 mod generating;
 mod giving;

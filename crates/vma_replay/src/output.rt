@@ -1,7 +1,6 @@
 //! The text of what a line results in, and of what stands before a list.
 ghost use Rattle.std.specs.Prelude.{◌≡◌, ◌++◌, OnOk, codes, decimal};
-ghost use Rattle.mm_types.specs.MapsText.{range_text};
-ghost use Rattle.vma_replay.specs.Output.{errno_name, reply_text, verdict_text, start_text};
+ghost use Rattle.vma_replay.specs.Output.{errno_name, reply_text, served_text, verdict_text, start_text};
 
 use maps_print::push_range;
 use mm_types::{Errno, NoMemory, Record, Reply, Verdict};
@@ -23,8 +22,9 @@ pub(crate) fn push_verdict(text: &mut Vec<u8>, verdict: Verdict) -> Result<(), N
 }
 
 /// Appends the area that serves a fault, and the page of its object.
+#[tactic(auto, unfolding(crate::specs::Output::served_text))]
 fn push_served(text: &mut Vec<u8>, area: &Record, index: u64) -> Result<(), NoMemory>
-    ensures { OnOk result (text.new.items ≡ text.old.items ++ (codes "served " ++ (range_text area.now ++ (codes " page " ++ decimal index)))) }
+    ensures { OnOk result (text.new.items ≡ text.old.items ++ served_text area.now index) }
 {
     text.extend_from_slice(b"served ")?;
     push_range(text, area)?;
@@ -47,7 +47,7 @@ pub(crate) fn push_start(text: &mut Vec<u8>, line: &TraceLine, version: u64) -> 
     write!(text, "L{number} t{thread} v{version} = ").map_err(|_| NoMemory)
 }
 
-/// Appends a reply: an address, 0, or -1 and the name of the error.
+/// Appends a reply: an address, 0, -1 and the name of the error, or the area that a fault grew.
 #[tactic(auto, unfolding(crate::specs::Output::reply_text))]
 pub(crate) fn push_reply(text: &mut Vec<u8>, reply: Reply) -> Result<(), NoMemory>
     ensures { OnOk result (text.new.items ≡ text.old.items ++ reply_text reply) }
@@ -59,6 +59,7 @@ pub(crate) fn push_reply(text: &mut Vec<u8>, reply: Reply) -> Result<(), NoMemor
             let name = errno_name(errno);
             write!(text, "-1 {name}").map_err(|_| NoMemory)
         }
+        Reply::Grown { area, index } => push_served(text, &area, index),
     }
 }
 

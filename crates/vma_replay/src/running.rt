@@ -6,7 +6,6 @@ ghost use Rattle.vma_replay.specs.declared.words.Mode.TheVariants.{Serial, Threa
 ghost use Rattle.vma_replay.specs.Replaying.{IsRunOf};
 ghost use Rattle.vma_replay.specs.Sharing.{AreShares};
 
-use crate::copying::copy_config;
 use crate::driving::{drive, in_order};
 use crate::places::shares;
 use crate::words::Mode;
@@ -43,7 +42,7 @@ pub(crate) fn run_serial<R: Wait>(rt: &R, alloc: Global, trace: &Trace) -> Resul
     ensures run { IfOk result (λ run. IsRunOf Serial trace.now run) }
     ensures list { IfOk result (λ run. run.list ≡ list_after trace.now.config run.journal) }
 {
-    let config = copy_config(alloc, &trace.config)?;
+    let config = trace.config.copy(alloc)?;
     let ready = Ready::make(alloc, config, &[trace.lines.items().len() as u64])?;
     run_one_pass::<Brand, R>(rt, alloc, ready, trace)
 }
@@ -59,7 +58,7 @@ fn run_threads<R: Threads + Wait + Sync, G: Gate>(
     ensures run { IfOk result (λ run. IsRunOf InThreads trace.now run) }
     ensures list { IfOk result (λ run. run.list ≡ list_after trace.now.config run.journal) }
 {
-    let config = copy_config(alloc, &trace.config)?;
+    let config = trace.config.copy(alloc)?;
     let operations = shares(alloc, trace.lines.items())?;
     let ready = Ready::make(alloc, config, &operations)?;
     run_passes::<Brand, R, G>(rt, alloc, ready, trace, gate)

@@ -1,18 +1,5 @@
 use super::*;
-use crate::{model_verdict, sound};
-use mm_types::{Access, Page, Verdict};
 use std::test::Fail;
-
-/// Faults on a sound list, each with its verdict.
-fn faults(rt: &impl Abort, config: &Config, list: &AreaList, cases: &[(u64, Access, Verdict)]) {
-    assert!(rt; sound(config, list));
-    for (page, access, verdict) in cases {
-        assert_eq!(rt;
-            model_verdict(&config.files, list, Page(*page), *access),
-            *verdict
-        );
-    }
-}
 
 #[test]
 fn verdicts(rt: HostRuntime) -> Result<(), Fail> {

@@ -1,5 +1,5 @@
 use super::*;
-use mm_types::{MAP_FIXED_NOREPLACE, MAP_SHARED};
+use mm_types::{MAP_FIXED_NOREPLACE, MAP_GROWSDOWN, MAP_SHARED};
 use std::test::Fail;
 
 /// Anonymous memory with these flags.
@@ -37,14 +37,32 @@ fn refused_requests(rt: HostRuntime) -> Result<(), Fail> {
         (Call::Mmap(fixed(0xf000, 4096)), Errno::Eperm),
         (Call::Mmap(fixed(0x7fff_ffff_e000, 8192)), Errno::Enomem),
     ];
-    refuses(&rt, &config, &opening(rt.alloc(), 3), &calls)?;
+    refuses(&rt, &config, &opening(&rt, &config), &calls)?;
+    Ok(())
+}
+
+#[test]
+fn growth_of_other_memory(rt: HostRuntime) -> Result<(), Fail> {
+    let config = config(TOP, MOST_AREAS, three_files(rt.alloc())?);
+    let unreadable = MmapArgs {
+        flags: MAP_PRIVATE | MAP_GROWSDOWN,
+        ..of_file(4, 4096, 0)
+    };
+    let calls = [
+        (Call::Mmap(unreadable), Errno::Einval),
+        (
+            Call::Mmap(flagged(MAP_SHARED | MAP_ANONYMOUS | MAP_GROWSDOWN)),
+            Errno::Einval,
+        ),
+    ];
+    refuses(&rt, &config, &opening(&rt, &config), &calls)?;
     Ok(())
 }
 
 #[test]
 fn place_in_use(rt: HostRuntime) -> Result<(), Fail> {
     let config = default_config(rt.alloc());
-    let space = run(&rt, &config, 0, &[maps(fixed(0x2_0000, 8192), 0x2_0000)])?;
+    let space = run(&rt, &config, &[maps(fixed(0x2_0000, 8192), 0x2_0000)])?;
     let kept = MmapArgs {
         flags: MAP_PRIVATE | MAP_ANONYMOUS | MAP_FIXED_NOREPLACE,
         ..fixed(0x2_1000, 4096)
@@ -60,7 +78,7 @@ fn no_place(rt: HostRuntime) -> Result<(), Fail> {
         maps(anonymous(4096), 0x1_0000),
         maps(anonymous(4096), 0x2aaa_aaaa_b000),
     ];
-    let space = run(&rt, &config, 0, &calls)?;
+    let space = run(&rt, &config, &calls)?;
     refuses(
         &rt,
         &config,
@@ -77,7 +95,7 @@ fn too_many_areas(rt: HostRuntime) -> Result<(), Fail> {
         maps(anonymous(4096), 0x7fff_f7ff_e000),
         maps(anonymous(4096), 0x7fff_f7ff_d000),
     ];
-    let space = run(&rt, &config, 0, &calls)?;
+    let space = run(&rt, &config, &calls)?;
     let read_only = MmapArgs {
         prot: READ,
         ..anonymous(4096)
@@ -129,7 +147,7 @@ fn places(rt: HostRuntime) -> Result<(), Fail> {
         anonymous_area(0x7_ffff_7ffa, 0x7_ffff_7fff),
         anonymous_area(0x7_ffff_fffe, 0x7_ffff_ffff),
     ];
-    let space = run(&rt, &config, 0, &calls)?;
+    let space = run(&rt, &config, &calls)?;
     lists(&rt, &space, &areas);
     Ok(())
 }
@@ -147,7 +165,7 @@ fn over_what_was_there(rt: HostRuntime) -> Result<(), Fail> {
         anonymous_area(0x21, 0x22),
         file_area(0x22, 0x23, 3),
     ];
-    let space = run(&rt, &config, 3, &calls)?;
+    let space = run(&rt, &config, &calls)?;
     lists(&rt, &space, &areas);
     Ok(())
 }
@@ -176,8 +194,8 @@ fn numbered_objects(rt: HostRuntime) -> Result<(), Fail> {
         maps(shared, 0x7fff_f7ff_d000),
         maps(shared, 0x7fff_f7ff_b000),
     ];
-    let space = run(&rt, &config, 0, &calls)?;
-    assert_eq!(rt; space.objects, 2);
+    let space = run(&rt, &config, &calls)?;
+    assert_eq!(rt; space.counters.objects, 2);
     lists(
         &rt,
         &space,

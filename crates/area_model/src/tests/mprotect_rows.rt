@@ -2,10 +2,6 @@ use super::*;
 use mm_types::MAP_SHARED;
 use std::test::Fail;
 
-fn protect(addr: u64, len: u64, prot: Prot) -> Call {
-    Call::Mprotect { addr, len, prot }
-}
-
 #[test]
 fn refused_ranges(rt: HostRuntime) -> Result<(), Fail> {
     let config = config(TOP, 1, Vec::new(rt.alloc()));
@@ -13,7 +9,6 @@ fn refused_ranges(rt: HostRuntime) -> Result<(), Fail> {
     let space = run(
         &rt,
         &config,
-        0,
         &[maps(fixed(0x2_0000, 0x3000), 0x2_0000), nothing],
     )?;
     let calls = [
@@ -33,15 +28,13 @@ fn a_page_within(rt: HostRuntime) -> Result<(), Fail> {
         (protect(0x2_1000, 0x2000, READ), Reply::Zero),
         (protect(0x2_2000, 1, READ_WRITE), Reply::Zero),
     ];
-    let space = run(&rt, &config, 0, &calls)?;
-    let mut read_only = anonymous_area(0x21, 0x22);
-    read_only.attr.prot = READ;
+    let space = run(&rt, &config, &calls)?;
     lists(
         &rt,
         &space,
         &[
             anonymous_area(0x20, 0x21),
-            read_only,
+            read_only(0x21, 0x22),
             anonymous_area(0x22, 0x24),
         ],
     );
@@ -87,7 +80,7 @@ fn stops_at_a_page(rt: HostRuntime) -> Result<(), Fail> {
             Reply::Zero,
         ),
     ];
-    let space = run(&rt, &config, 3, &calls)?;
+    let space = run(&rt, &config, &calls)?;
     lists(
         &rt,
         &space,

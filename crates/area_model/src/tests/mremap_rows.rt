@@ -63,7 +63,7 @@ fn refused_requests(rt: HostRuntime) -> Result<(), Fail> {
         (remap(4096, 8192, 0), Errno::Enomem),
         (remap(4096, 8192, MREMAP_MAYMOVE), Errno::Enomem),
     ];
-    refuses(&rt, &config, &run(&rt, &config, 0, &[two_pages()])?, &calls)?;
+    refuses(&rt, &config, &run(&rt, &config, &[two_pages()])?, &calls)?;
     Ok(())
 }
 
@@ -74,7 +74,7 @@ fn end_of_an_object(rt: HostRuntime) -> Result<(), Fail> {
         addr: OLD,
         ..of_file(3, 4096, 0x7fff_ffff_ffff_e000)
     };
-    let space = run(&rt, &config, 3, &[maps(last, OLD)])?;
+    let space = run(&rt, &config, &[maps(last, OLD)])?;
     refuses(
         &rt,
         &config,
@@ -93,7 +93,7 @@ fn in_place(rt: HostRuntime) -> Result<(), Fail> {
         (remap(8192, 0x4000, MREMAP_MAYMOVE), Reply::Addr(OLD)),
         (remap(0x4000, 0x3000, 0), Reply::Addr(OLD)),
     ];
-    let space = run(&rt, &config, 0, &calls)?;
+    let space = run(&rt, &config, &calls)?;
     lists(&rt, &space, &[anonymous_area(0x20, 0x23)]);
     Ok(())
 }
@@ -118,7 +118,7 @@ fn to_another_place(rt: HostRuntime) -> Result<(), Fail> {
         anonymous_area(0x40, 0x41),
         anonymous_area(0x7_ffff_7ffd, 0x7_ffff_7fff),
     ];
-    let space = run(&rt, &config, 0, &calls)?;
+    let space = run(&rt, &config, &calls)?;
     lists(&rt, &space, &areas);
     Ok(())
 }

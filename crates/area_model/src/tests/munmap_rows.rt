@@ -39,7 +39,7 @@ fn refused_ranges(rt: HostRuntime) -> Result<(), Fail> {
             Errno::Einval,
         ),
     ];
-    refuses(&rt, &config, &opening(rt.alloc(), 0), &calls)?;
+    refuses(&rt, &config, &opening(&rt, &config), &calls)?;
     Ok(())
 }
 
@@ -53,7 +53,6 @@ fn a_hole_splits(rt: HostRuntime) -> Result<(), Fail> {
     let space = run(
         &rt,
         &config,
-        3,
         &[four_pages(), (HOLE, Reply::Zero), (nothing, Reply::Zero)],
     )?;
     let areas = [
@@ -67,7 +66,7 @@ fn a_hole_splits(rt: HostRuntime) -> Result<(), Fail> {
 #[test]
 fn too_many_areas(rt: HostRuntime) -> Result<(), Fail> {
     let config = config(TOP, 1, three_files(rt.alloc())?);
-    let space = run(&rt, &config, 3, &[four_pages()])?;
+    let space = run(&rt, &config, &[four_pages()])?;
     refuses(&rt, &config, &space, &[(HOLE, Errno::Enomem)])?;
     Ok(())
 }

@@ -1,7 +1,7 @@
 //! Both tables with one pass, written by hand: an address space of at most one area, which lies in slot 0.
 ghost use Rattle.std.specs.Prelude.{◌≡◌, ◌<◌, ◌≤◌, ◌^◌, ◌++◌, ◌∷◌, [], length, None, IfOk, IfSome};
 ghost use Rattle.mm_types.specs.Config.{IsValidConfig};
-ghost use Rattle.area_model.specs.Steps.{step, after};
+ghost use Rattle.area_rules.specs.Steps.{step, after};
 ghost use Rattle.lock_core.specs.Facts.{list_after};
 ghost use Rattle.vma_lock.specs.Views.{opened_view};
 ghost use Rattle.vma_lock.specs.Seats.{sight, journal, slots, IsClosed};
@@ -13,7 +13,7 @@ use super::leaf::publish_leaf;
 use super::row::row_of;
 use crate::{Fast, FaultView, Pass};
 use area_model::{is_ready, model_step};
-use mm_types::{Access, AreaList, Call, Config, Entry, NoMemory, Page, Slot};
+use mm_types::{Access, AreaList, Call, Config, Counters, Entry, NoMemory, Page, Slot};
 use node_slots::NodeWriter;
 use std::alloc::Global;
 use std::process::Abort;
@@ -25,7 +25,7 @@ const NOBODY: u32 = 64;
 /// Where the one entry of the published tree ends.
 const END: Page = Page(0x8_0000_0000);
 
-/// The tables, a pass, and the writer of areas with the list and the count of objects after its journal.
+/// The tables, a pass, and the writer of areas with the list and the counters after its journal.
 #[derive(Drop)]
 pub(super) struct Bench {
     pub(super) view: FaultView,
@@ -33,11 +33,11 @@ pub(super) struct Bench {
     pub(super) pass: Pass,
     pub(super) writer: WriterSeat,
     pub(super) list: AreaList,
-    pub(super) objects: u32,
+    pub(super) counters: Counters,
     pub ghost sits: { SitsAt view pass },
     pub ghost table_is: { writer.seat.table_id ≡ view.table },
     pub ghost config_is: { config ≡ (sight writer).config },
-    pub ghost kept: { IsSmall (sight writer) list objects },
+    pub ghost kept: { IsSmall (sight writer) list counters },
 }
 
 impl Bench {
@@ -49,13 +49,14 @@ impl Bench {
         assert!(rt; config.valid());
         let (view, pass, writer, mut nodes) = make(rt, alloc, &config)?;
         assert!(rt; publish_leaf(&view.nodes, &mut nodes, END).is_some());
+        let counters = Counters::opening(&config);
         Ok(Bench {
             view,
             config,
             pass,
             writer,
             list: AreaList::of(Vec::new(alloc)),
-            objects: 0,
+            counters,
         })
     }
 
@@ -72,10 +73,10 @@ impl Bench {
         call: Call,
         page: Page,
     ) -> Result<Option<(Bench, Fast)>, NoMemory> {
-        if self.writer.version() >= 1000 || !is_ready(&self.config, self.objects, &self.list) {
+        if self.writer.version() >= 1000 || !is_ready(&self.config, self.counters, &self.list) {
             return Ok(None);
         }
-        let stepped = model_step(alloc, &self.config, self.objects, &self.list, &call)?;
+        let stepped = model_step(alloc, &self.config, self.counters, &self.list, &call)?;
         let Some(row) = row_of(&stepped.list) else {
             return Ok(None);
         };
@@ -90,7 +91,7 @@ impl Bench {
             mut pass,
             mut writer,
             list: _,
-            objects: _,
+            counters: _,
         } = self;
         let Some(fast) = enter(&view, &mut pass, &mut writer, entry, row, page) else {
             return Ok(None);
@@ -101,7 +102,7 @@ impl Bench {
             pass,
             writer,
             list: stepped.list,
-            objects: stepped.objects,
+            counters: stepped.counters,
         };
         Ok(Some((bench, fast)))
     }

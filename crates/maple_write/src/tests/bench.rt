@@ -4,9 +4,8 @@ ghost use Rattle.maple_node.specs.Words.{slot_word};
 ghost use Rattle.node_slots.specs.Seats.{Writes, free_of};
 
 use crate::{publish_tree, store};
-use maple_node::Steps;
 use maple_read::walk;
-use mm_types::{NoMemory, Page, Row, Slot, Span};
+use mm_types::{NoMemory, Page, Row, Slot, Span, Steps};
 use node_slots::{NodeSeat, NodeTable, NodeWriter, Tree};
 use std::alloc::Global;
 use std::marker::Model;

@@ -3,9 +3,9 @@ ghost use Rattle.std.specs.Prelude.{◌≡◌, ◌≤◌, ◌<◌, length};
 ghost use Rattle.fault_path.specs.Passes.{caller, IsPassOf, ArePasses};
 
 use crate::{Closed, Ready, Space, SpaceName};
-use area_model::{Stepped, is_ready, model_step, model_verdict, sound};
+use area_model::{Stepped, grows, is_ready, model_step, model_verdict, sound};
 use fault_path::Pass;
-use mm_types::{Access, AreaList, Call, Config, NoMemory, Page, Reply, Seen};
+use mm_types::{Access, AreaList, Call, Config, Counters, NoMemory, Page, Reply, Seen};
 use std::alloc::Global;
 use std::process::Abort;
 use std::sync::Wait;
@@ -124,14 +124,14 @@ pub(super) fn judge<R: Abort>(
     assert!(rt; config.valid());
     let mut space = Stepped {
         list: AreaList::of(Vec::new(alloc)),
-        objects: config.files.items().len() as u32,
+        counters: Counters::opening(config),
         reply: Reply::Zero,
     };
     judge_reads(rt, config, closed, 0, &space.list);
     let mut version = 0u64;
     for entry in closed.journal() {
-        assert!(rt; is_ready(config, space.objects, &space.list));
-        space = model_step(alloc, config, space.objects, &space.list, &entry.call)?;
+        assert!(rt; is_ready(config, space.counters, &space.list));
+        space = model_step(alloc, config, space.counters, &space.list, &entry.call)?;
         assert_eq!(rt; entry.reply, space.reply);
         version = version.saturating_add(1);
         judge_reads(rt, config, closed, version, &space.list);
@@ -158,11 +158,8 @@ fn judge_read<R: Abort>(rt: &R, config: &Config, read: &Seen, now: u64, areas: &
             access,
             verdict,
         } if *version == now => {
-            assert!(rt; sound(config, areas));
-            assert_eq!(rt;
-                *verdict,
-                model_verdict(&config.files, areas, *page, *access)
-            );
+            assert!(rt; sound(config, areas) && !grows(config, areas, *page, *access));
+            assert_eq!(rt; *verdict, model_verdict(config, areas, *page, *access));
         }
         Seen::Maps { version, list } if *version == now => {
             assert_eq!(rt; list.items(), areas.items());

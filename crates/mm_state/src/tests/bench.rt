@@ -6,7 +6,10 @@ ghost use Rattle.node_slots.specs.Seats as trees;
 
 use crate::state::MmState;
 use maple_read::{a_root_that_was_loaded, walk};
-use mm_types::{AreaList, Call, Config, Entry, FileRow, Files, NoMemory, Page, Reply, Slot, Text};
+use mm_types::{
+    AreaList, Call, Config, Entry, FileRow, Files, NoMemory, Page, Reply, Slot, Text, rows_for,
+    slots_for,
+};
 use node_slots::{NodeSeat, NodeTable};
 use std::alloc::Global;
 use std::sync::Wait;
@@ -47,8 +50,8 @@ impl Bench {
         };
         let (nodes, node_writer, node_seats) = NodeTable::new(
             alloc,
-            config.areas + 128,
-            2 * config.areas + 2,
+            rows_for(config.areas),
+            slots_for(config.areas),
             1,
         )?;
         let Some(node_seat) = first(node_seats) else {
@@ -158,5 +161,6 @@ pub(super) fn config(alloc: Global) -> Result<Config, NoMemory>
         limit: 0x7fff_ffff_f000,
         areas: 9,
         files: Files::of(files),
+        heap: 0,
     })
 }

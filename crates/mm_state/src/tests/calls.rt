@@ -5,7 +5,7 @@ ghost use Rattle.std.specs.Prelude.{◌≤◌, ◌<◌};
 
 use super::bench::{Bench, SLOTS, config};
 use area_model::{is_ready, model_step};
-use mm_types::{AreaList, Call, Config, MmapArgs, NoMemory, Page, Prot, Record, unpack};
+use mm_types::{AreaList, Call, Config, Counters, MmapArgs, NoMemory, Page, Prot, Record, unpack};
 use std::alloc::Global;
 use std::process::Abort;
 use std::sync::Wait;
@@ -107,23 +107,23 @@ fn pairs_follow<R: Abort>(rt: &R, bench: &mut Bench, list: &AreaList) {
     }
 }
 
-/// Makes one call on the table and in the model, and compares the reply, the list, and the pairs of the tree. Answers how many
-/// objects the model then has numbered: the lists agree on their numbers.
+/// Makes one call on the table and in the model, and compares the reply, the list, and the pairs of the tree. Answers the
+/// counters that the model then has: the lists agree on their numbers.
 fn compare<R: Abort + Wait>(
     rt: &R,
     alloc: Global,
     config: &Config,
     bench: &mut Bench,
-    objects: u32,
+    counters: Counters,
     call: &Call,
-) -> Result<u32, NoMemory> {
+) -> Result<Counters, NoMemory> {
     let list = bench.list(alloc)?;
-    assert!(rt; is_ready(config, objects, &list));
-    let wanted = model_step(alloc, config, objects, &list, call)?;
+    assert!(rt; is_ready(config, counters, &list));
+    let wanted = model_step(alloc, config, counters, &list, call)?;
     assert!(rt; bench.call(rt, call) == Some(wanted.reply));
     assert!(rt; bench.list(alloc)?.items() == wanted.list.items());
     pairs_follow(rt, bench, &wanted.list);
-    Ok(wanted.objects)
+    Ok(wanted.counters)
 }
 
 #[test]
@@ -131,16 +131,15 @@ fn calls_do_as_the_model(rt: HostRuntime) -> Result<(), Fail> {
     let alloc = rt.alloc();
     let settings = config(alloc)?;
     assert!(rt; settings.valid());
-    let model = config(alloc)?;
+    let model = settings.copy(alloc)?;
     let Some(mut bench) = Bench::open(alloc, settings)? else {
         panic!(rt; "there is no reader")
     };
-    // The two files are numbered.
-    let mut objects = 2;
+    let mut counters = Counters::opening(&model);
     let mut generator = Generator(1);
     for _ in 0..6000 {
         let call = generator.call();
-        objects = compare(&rt, alloc, &model, &mut bench, objects, &call)?;
+        counters = compare(&rt, alloc, &model, &mut bench, counters, &call)?;
     }
     Ok(())
 }

@@ -4,8 +4,7 @@ ghost use Rattle.maple_gap.specs.Gaps.{fits, IsGreatest, IsLeast, NonePasses, fi
 
 use super::SpanTree;
 use maple_gap::{before_slot, highest, lowest, next_slot};
-use maple_node::Steps;
-use mm_types::{Page, Slot};
+use mm_types::{Page, Slot, Steps};
 
 /// The nodes that are read, which nobody counts here.
 struct Reads;

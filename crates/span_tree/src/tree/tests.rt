@@ -4,8 +4,8 @@ ghost use Rattle.node_slots.specs.Seats.{IsOf, IsClosed};
 ghost use Rattle.span_tree.specs.Tests.{IsStill, few_pairs};
 
 use super::SpanTree;
-use maple_node::{Layout, Steps};
-use mm_types::{NoMemory, Page, Slot, Span};
+use maple_node::Layout;
+use mm_types::{NoMemory, Page, Slot, Span, Steps};
 use node_slots::{NodeSeat, NodeTable};
 use std::alloc::Global;
 use std::sync::Wait;

@@ -2,12 +2,12 @@
 ghost use Rattle.std.specs.Prelude.{◌≡◌, ◌<◌, ◌^◌, ◌++◌, ◌∷◌, [], length, true, false, None, IfSome};
 ghost use Rattle.mm_types.specs.Packed.{packed};
 ghost use Rattle.mm_types.specs.Records.{IsValid};
-ghost use Rattle.area_model.specs.Steps.{step, after};
+ghost use Rattle.area_rules.specs.Steps.{step, after};
 ghost use Rattle.lock_core.specs.declared.stage.Stage.TheVariants.{Out};
 ghost use Rattle.lock_core.specs.Facts.{list_after};
 ghost use Rattle.lock_core.specs.Rows.{is_detached};
 ghost use Rattle.vma_lock.specs.Views.{mark_at};
-ghost use Rattle.area_model.specs.Journals.{calls_by};
+ghost use Rattle.area_rules.specs.Journals.{calls_by};
 ghost use Rattle.vma_lock.specs.Seats.{slots_of, IsOf, Writes, view, seen, HasTurn, sight, journal, slots, stage, IsHeld, IsOpen, IsClosed};
 ghost use Rattle.vma_lock.specs.Small.{AreFree, ShowsOne, IsMarking};
 

@@ -4,7 +4,7 @@ use super::entering::{enter_held, row_of};
 use super::{ROW, config, first_seat, mapping};
 use crate::VmaTable;
 use area_model::{is_ready, model_step};
-use mm_types::{AreaList, Entry, NoMemory, Reply, Slot};
+use mm_types::{AreaList, Counters, Entry, NoMemory, Reply, Slot};
 use std::process::Abort;
 
 /// A call waits for the reader of a slot, and a later look of the reader validates the row that the call wrote.
@@ -19,9 +19,10 @@ fn the_writer_waits_for_a_reader(rt: HostRuntime) -> Result<(), NoMemory> {
     };
     assert_eq!(rt; table.add(&mut seat, Slot(0)), 0);
     let empty = AreaList::of(Vec::new(alloc));
-    assert!(rt; is_ready(&config, 0, &empty));
+    let counters = Counters::opening(&config);
+    assert!(rt; is_ready(&config, counters, &empty));
     let call = mapping();
-    let stepped = model_step(alloc, &config, 0, &empty, &call)?;
+    let stepped = model_step(alloc, &config, counters, &empty, &call)?;
     let Some(row) = row_of(&stepped.list) else {
         panic!(rt; "the list has other areas")
     };

@@ -6,23 +6,23 @@ ghost use Rattle.vma_lock.specs.Small.{IsSmall};
 use super::entering::{enter, row_of};
 use crate::{ReaderSeat, VmaTable, WriterSeat};
 use area_model::{is_ready, model_step};
-use mm_types::{AreaList, Call, Config, Entry, NoMemory, Reply};
+use mm_types::{AreaList, Call, Config, Counters, Entry, NoMemory, Reply};
 use std::alloc::Global;
 use std::sync::Wait;
 
-/// The writer with the list and the count of objects after its journal.
+/// The writer with the list and the counters after its journal.
 #[derive(Drop)]
 pub(super) struct Small {
     pub(super) writer: WriterSeat,
     list: AreaList,
-    objects: u32,
-    pub ghost kept: { IsSmall (sight writer) list objects },
+    counters: Counters,
+    pub ghost kept: { IsSmall (sight writer) list counters },
 }
 
 impl Small {
     ghost use Rattle.std.specs.Prelude.{◌<◌, ◌^◌, ◌++◌, ◌∷◌, [], length, true, IfOk, IfSome};
     ghost use Rattle.vma_lock.specs.Views.{opened_view};
-    ghost use Rattle.area_model.specs.Journals.{calls_by};
+    ghost use Rattle.area_rules.specs.Journals.{calls_by};
     ghost use Rattle.vma_lock.specs.Seats.{IsOf, Writes, view, seen, HasTurn, journal};
 
     /// The writer of a new table, whose list is empty.
@@ -34,7 +34,7 @@ impl Small {
         Small {
             writer,
             list: AreaList::of(Vec::new(alloc)),
-            objects: 0,
+            counters: Counters::opening(config),
         }
     }
 
@@ -68,10 +68,10 @@ impl Small {
             × (calls_by (view seat.old).caller (seen seat.new)
             ≡ calls_by (view seat.old).caller (seen seat.old) ++ record { caller = (view seat.old).caller; call = call; reply = reply } ∷ []))) }
     {
-        if !is_ready(config, self.objects, &self.list) {
+        if !is_ready(config, self.counters, &self.list) {
             return Ok(None);
         }
-        let stepped = model_step(alloc, config, self.objects, &self.list, &call)?;
+        let stepped = model_step(alloc, config, self.counters, &self.list, &call)?;
         let Some(row) = row_of(&stepped.list) else {
             return Ok(None);
         };
@@ -83,7 +83,7 @@ impl Small {
         };
         enter(rt, table, &mut self.writer, seat, entry, row);
         self.list = stepped.list;
-        self.objects = stepped.objects;
+        self.counters = stepped.counters;
         Ok(Some(reply))
     }
 }

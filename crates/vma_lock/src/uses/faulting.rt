@@ -4,7 +4,7 @@ ghost use Rattle.lock_core.specs.declared.stage.Stage.TheVariants.{Out};
 ghost use Rattle.lock_core.specs.Core.{StartsWith};
 ghost use Rattle.lock_core.specs.Facts.{list_after};
 ghost use Rattle.lock_core.specs.Rows.{IsRowOf};
-ghost use Rattle.area_model.specs.Journals.{calls_by};
+ghost use Rattle.area_rules.specs.Journals.{calls_by};
 ghost use Rattle.vma_lock.specs.Seats.{slots_of, IsOf, view, seen, stage};
 
 use crate::{ReaderSeat, VmaTable};

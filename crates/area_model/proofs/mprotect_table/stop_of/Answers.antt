@@ -2,7 +2,7 @@
 use Rattle.std.proofs.Common.{◌<◌, ◌∙◌, sym, false, arith}
 use Rattle.area_list.specs.Areas.{area_at}
 use Rattle.area_list.proofs.Ordered.{ends_above}
-use Rattle.area_model.proofs.Stopping.{stop_at_end, stop_before, may_not_unmapped, may_by_area, may_up_to}
+use Rattle.area_rules.proofs.Stopping.{stop_at_end, stop_before, may_not_unmapped, may_by_area, may_up_to}
 use Rattle.area_model.proofs.mprotect_table.stop_of.Goals as goal
 
 pub returns-in_default : goal.returns-in_default

@@ -1,7 +1,7 @@
 -- For `stop_of`: what each loop keeps.
 use Rattle.std.proofs.Common.{◌≡◌, ℕ, ◌-◌, ◌<◌, ◌≤◌, true}
 use Rattle.area_list.specs.Areas.{area_at}
-use Rattle.area_model.specs.Mprotect.{may_have}
+use Rattle.area_rules.specs.Mprotect.{may_have}
 use Rattle.area_model.proofs.mprotect_table.stop_of.Given as goal
 
 -- each page of the range before this one may have the protection

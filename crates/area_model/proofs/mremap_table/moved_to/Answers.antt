@@ -1,6 +1,6 @@
 -- For `moved_to`: its goals.
 use Rattle.std.proofs.Common.{arith}
-use Rattle.area_model.proofs.Carrying.{small_moved}
+use Rattle.area_rules.proofs.Carrying.{small_moved}
 use Rattle.area_model.proofs.mremap_table.moved_to.Goals as goal
 
 pub cut-requires : goal.cut-requires

@@ -1,7 +1,7 @@
 -- A new protection up to the stop.
 use Rattle.std.proofs.Common.{List, arith}
 use Rattle.mm_types.specs.declared.area.Record.{Record}
-use Rattle.area_model.proofs.ProtectLaws.{stop_is}
+use Rattle.area_rules.proofs.ProtectLaws.{stop_is}
 use Rattle.split_merge.proofs.Planning.{all_changes}
 use Rattle.split_merge.proofs.Protecting.{makes_prefix, prefix_local}
 use Rattle.split_merge.proofs.Spans.{one_in_order}

@@ -3,7 +3,7 @@ use Rattle.std.proofs.Common.{◌<◌, ◌∙◌, List, sym, false, arith}
 use Rattle.mm_types.specs.declared.area.Record.{Record}
 use Rattle.area_list.specs.Areas.{area_at}
 use Rattle.area_list.proofs.Ordered.{ends_above}
-use Rattle.area_model.proofs.Stopping.{stop_at_end, stop_before, may_not_unmapped, may_by_area, may_up_to}
+use Rattle.area_rules.proofs.Stopping.{stop_at_end, stop_before, may_not_unmapped, may_by_area, may_up_to}
 use Rattle.split_merge.proofs.Stopping.{error_unmapped, error_denied, error_none}
 use Rattle.split_merge.proofs.stops.stop_of.Goals as goal
 

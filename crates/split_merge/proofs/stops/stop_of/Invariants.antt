@@ -1,7 +1,7 @@
 -- For `stop_of` of stops.rt: what its loop keeps.
 use Rattle.std.proofs.Common.{◌≡◌, ℕ, ◌-◌, ◌<◌, ◌≤◌, true}
 use Rattle.area_list.specs.Areas.{area_at}
-use Rattle.area_model.specs.Mprotect.{may_have}
+use Rattle.area_rules.specs.Mprotect.{may_have}
 use Rattle.split_merge.proofs.stops.stop_of.Given as goal
 
 -- each page of the span before this one may have the protection

@@ -1,7 +1,7 @@
 -- For `plan_mremap`: it is refused, or done, as far as its tests come.
 use Rattle.std.proofs.Common.{true, false, refl, ap, ◌∙◌}
 use Rattle.mm_types.specs.declared.call.Errno.TheVariants.{Enomem}
-use Rattle.split_merge.specs.Plans.{Planned}
+use Rattle.split_merge.specs.Plans.{PlanView}
 use Rattle.sys_mremap.proofs.Outcomes.{refused_call, done_call, refused_by_test, length_test, refused_without_change, refused_too_long, done_change, local_from_address}
 use Rattle.sys_mremap.proofs.remapping.plan_mremap.Goals as goal
 
@@ -21,8 +21,8 @@ returns-then-is_too_long-clause-planned g c =
     let long = length_test c.args.config.now.areas c.plan_change.new.plan.changes (g.A.Areas.list c.args.areas.now)
     made.0 c.is_too_long.result true made.2.makes.result c.is_too_long.ensures c.if-is_too_long.true in
     refused_call c.args.config.now (g.A.Areas.list c.args.areas.now) c.of-args.result _ c.of-args.ensures c.requires.prepared c.requires.sound
-    c.clear.new.self (ap (λ (plan : Planned). plan.room) c.clear.ensures ∙ c.plan_change.ensures.room) Enomem
-    (refused_too_long c.in-Ok.ensures made.1 long) (ap (λ (plan : Planned). plan.changes) c.clear.ensures)
+    c.clear.new.self (ap (λ (plan : PlanView). plan.room) c.clear.ensures ∙ c.plan_change.ensures.room) Enomem
+    (refused_too_long c.in-Ok.ensures made.1 long) (ap (λ (plan : PlanView). plan.changes) c.clear.ensures)
 
 pub returns-clause-planned : goal.returns-clause-planned
 returns-clause-planned g c =

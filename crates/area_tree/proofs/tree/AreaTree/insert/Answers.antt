@@ -3,6 +3,7 @@ use Rattle.std.proofs.Common.{◌∙◌, length, set, sym, ap, subst, arith}
 use Rattle.std.proofs.lemmas.List.{length-set}
 use Rattle.span_tree.specs.SpanTrees.{SpanView}
 use Rattle.area_tree.specs.AreaTrees.{AreaTreeView, AreRecords}
+use Rattle.area_tree.proofs.Unsealed.{set_open}
 use Rattle.area_tree.proofs.Changing.{counted, more, more_shown}
 use Rattle.area_tree.proofs.tree.AreaTree.insert.Goals as goal
 
@@ -22,7 +23,9 @@ invariant_of-self c =
       counted = omega (arith, told.count_is, kept.counted, ap (λ (t : SpanView). length t.pairs) c.store.ensures);
       slots = omega (arith, length-set fields.records.items c.args.shown.slot c.args.shown.area, kept.slots, areas);
       limit = kept.limit ∙ sym (ap (λ (t : SpanView). t.limit) c.store.ensures);
+      unsealed = λ none. set_open fields.records.items c.args.shown.slot c.args.shown.area fields.sealed kept.unsealed none;
       top = kept.top;
+      window = kept.window;
       empty = kept.empty;
       room = omega (arith, kept.room, areas);
     }

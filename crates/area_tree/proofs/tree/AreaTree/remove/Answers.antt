@@ -26,7 +26,9 @@ invariant_of-self c =
       counted = omega (arith, told.count_is, kept.counted, ap (λ (t : SpanView). length t.pairs) c.store.ensures);
       slots = omega (arith, kept.slots, areas);
       limit = kept.limit ∙ sym (ap (λ (t : SpanView). t.limit) c.store.ensures);
+      unsealed = kept.unsealed;
       top = kept.top;
+      window = kept.window;
       empty = kept.empty;
       room = omega (arith, kept.room, areas);
     }

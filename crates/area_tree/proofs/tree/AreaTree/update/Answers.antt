@@ -1,6 +1,7 @@
 -- For `AreaTree::update`: one slot shows another area.
 use Rattle.std.proofs.Common.{arith, rules}
 use Rattle.std.proofs.lemmas.List.{length-set}
+use Rattle.area_tree.proofs.Unsealed.{set_open}
 use Rattle.area_tree.proofs.Changing.{within, same_pages, changed}
 use Rattle.area_tree.proofs.tree.AreaTree.update.Goals as goal
 
@@ -18,7 +19,9 @@ invariant_of-self c =
       counted = kept.counted;
       slots = omega (arith, length-set fields.records.items c.args.shown.slot c.args.shown.area, kept.slots);
       limit = kept.limit;
+      unsealed = λ none. set_open fields.records.items c.args.shown.slot c.args.shown.area fields.sealed kept.unsealed none;
       top = kept.top;
+      window = kept.window;
       empty = kept.empty;
       room = kept.room;
     }

@@ -1,6 +1,6 @@
 -- For `note`: a pass with one read more.
 use Rattle.std.proofs.Common.{arith, subst, sym, ◌≤◌, ◌+◌, length, All, ◌∙◌}
-use Rattle.area_model.specs.Journals.{version_of, IsReadRight}
+use Rattle.area_rules.specs.Journals.{version_of, IsReadRight}
 use Rattle.fault_path.specs.Passes.{PassView, config, seen_by, made_by}
 use Rattle.fault_path.proofs.Passes.{noted}
 use Rattle.fault_path.proofs.pass.Pass.note.Goals as goal

@@ -14,18 +14,18 @@ first_difference-requires c =
     let stepped = c.in_ok-stepped.stepped in
     let journal = c.self.inside.protocol.journal in
     let entry = entry_of c.self.inside.config journal c.args.caller c.args.call in
-    let made = ended_space c.self.inside c.args.caller c.args.call stepped.list stepped.objects stepped.reply c.self.invariant c.in_ok-stepped.ensures in
+    let made = ended_space c.self.inside c.args.caller c.args.call stepped.list stepped.counters stepped.reply c.self.invariant c.in_ok-stepped.ensures in
     rw c.items.ensures
-    (ended_valid c.self.inside.config (journal ++ entry ∷ []) stepped.list stepped.objects c.self.invariant.valid
+    (ended_valid c.self.inside.config (journal ++ entry ∷ []) stepped.list stepped.counters c.self.invariant.valid
     (ended_short journal entry (rw (← c.self.view_is) at c.requires.room.entries)) made.1)
 
 pub returns-in-Some : goal.returns-in-Some
 returns-in-Some c =
     let stepped = c.in_ok-stepped.stepped in
-    let made = ended_space c.self.inside c.args.caller c.args.call stepped.list stepped.objects stepped.reply c.self.invariant c.in_ok-stepped.ensures in
+    let made = ended_space c.self.inside c.args.caller c.args.call stepped.list stepped.counters stepped.reply c.self.invariant c.in_ok-stepped.ensures in
     let found = difference_is c.self.inside.protocol.slots c.slots.result.now c.as_slice.result.now stepped.list c.items.result.now c.first_difference.result
     (c.as_slice.ensures.value ∙ c.in_ok-rows.ensures) c.slots.ensures c.items.ensures c.first_difference.ensures in
-    let difference = list_difference_is c.self.inside c.args.caller c.args.call stepped.list stepped.objects c.first_difference.result made.1 found in (
+    let difference = list_difference_is c.self.inside c.args.caller c.args.call stepped.list stepped.counters c.first_difference.result made.1 found in (
       refl,
       inl (rw (← c.self.view_is)
           (refusal_end c.self.inside.config c.self.inside.protocol c.args.caller c.args.call (sym c.if-not-is_open.ensures)
@@ -35,19 +35,19 @@ returns-in-Some c =
 pub invariant_of-self-2 : goal.invariant_of-self-2
 invariant_of-self-2 c =
     let stepped = c.in_ok-stepped.stepped in
-    let made = ended_space c.self.inside c.args.caller c.args.call stepped.list stepped.objects stepped.reply c.self.invariant c.in_ok-stepped.ensures in
+    let made = ended_space c.self.inside c.args.caller c.args.call stepped.list stepped.counters stepped.reply c.self.invariant c.in_ok-stepped.ensures in
     let found = difference_is c.self.inside.protocol.slots c.slots.result.now c.as_slice.result.now stepped.list c.items.result.now c.first_difference.result
     (c.as_slice.ensures.value ∙ c.in_ok-rows.ensures) c.slots.ensures c.items.ensures c.first_difference.ensures in
     rw (c.in_ok-end.ensures, made.0)
-    (kept_end c.self.inside c.args.caller c.args.call stepped.list stepped.objects c.self.invariant (sym c.if-not-is_open.ensures) made.1 (found ∙ c.in_default.is))
+    (kept_end c.self.inside c.args.caller c.args.call stepped.list stepped.counters c.self.invariant (sym c.if-not-is_open.ensures) made.1 (found ∙ c.in_default.is))
 
 pub returns : goal.returns
 returns c =
     let stepped = c.in_ok-stepped.stepped in
-    let made = ended_space c.self.inside c.args.caller c.args.call stepped.list stepped.objects stepped.reply c.self.invariant c.in_ok-stepped.ensures in
+    let made = ended_space c.self.inside c.args.caller c.args.call stepped.list stepped.counters stepped.reply c.self.invariant c.in_ok-stepped.ensures in
     let found = difference_is c.self.inside.protocol.slots c.slots.result.now c.as_slice.result.now stepped.list c.items.result.now c.first_difference.result
     (c.as_slice.ensures.value ∙ c.in_ok-rows.ensures) c.slots.ensures c.items.ensures c.first_difference.ensures in
-    let difference = list_difference_is c.self.inside c.args.caller c.args.call stepped.list stepped.objects c.first_difference.result made.1 found in
+    let difference = list_difference_is c.self.inside c.args.caller c.args.call stepped.list stepped.counters c.first_difference.result made.1 found in
     rw (← c.self.view_is) (
       refusal_end c.self.inside.config c.self.inside.protocol c.args.caller c.args.call (sym c.if-not-is_open.ensures)
           ∙ ap (option_map NotTheList) (difference ∙ c.in_default.is),

@@ -1,6 +1,6 @@
 -- For `fault`: no read before it has a greater version, and the way is the one that the verdict was found on.
 use Rattle.std.proofs.Common.{◌≤◌, slice_index_or, sym, subst}
-use Rattle.area_model.specs.Journals.{version_of}
+use Rattle.area_rules.specs.Journals.{version_of}
 use Rattle.mm_space.proofs.Ways.{way_noted}
 use Rattle.mm_space.proofs.space.Space.fault.Goals as goal
 

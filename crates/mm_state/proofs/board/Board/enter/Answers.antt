@@ -1,6 +1,7 @@
 -- For `Board::enter`: the board is at rest again.
 use Rattle.std.proofs.Common.{◌≡◌, ◌≤◌, ◌+◌, ◌*◌, ◌++◌, [], ◌∷◌, ℕ, Option, Some, None, nat_eq, eq-eqb, refl, if◌then◌else◌, List, All, length, ap, ◌∙◌, arith, subst, sym, length-append, sum_by, vec_capacity}
 use Rattle.std.proofs.lemmas.Bool.{cond-true}
+use Rattle.mm_types.specs.Config.{slots_for}
 use Rattle.mm_types.specs.declared.area.Record.{Record}
 use Rattle.mm_types.specs.declared.call.Entry.{Entry}
 use Rattle.mm_types.specs.declared.config.Config.{Config}
@@ -35,7 +36,7 @@ change_all-requires-clause-can g c =
       table = c.begin.ensures.table;
       open_call = omega (arith, ap (λ (v : View). v.desk.seq) begun, ap (λ w. (sight w).desk.seq) ready.writer, c.requires.rest.closed);
       count = ready.slots.count ∙ c.requires.rest.count ∙ ap slots_of (sym ready.table);
-      records = ready.slots.count ∙ c.requires.rest.records ∙ sym (ap (λ (t : AreaTreeView). 2 * t.tree.areas + 2) ready.areas);
+      records = ready.slots.count ∙ c.requires.rest.records ∙ sym (ap (λ (t : AreaTreeView). slots_for t.tree.areas) ready.areas);
       hangs = subst (λ (states : List SlotState). Hangs states (shown_of c.make_ready.new.self.areas ++ c.make_ready.new.self.moved.items) c.make_ready.new.self.slots)
           (sym (ap (λ (v : View). v.desk.slots) begun ∙ ap slots ready.writer)) p.hangs;
       roomy = ap (λ (t : AreaTreeView). t.tree.roomy) ready.areas;

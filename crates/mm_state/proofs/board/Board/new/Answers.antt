@@ -1,5 +1,6 @@
 -- For `Board::new`: the board of a new table is at rest.
-use Rattle.std.proofs.Common.{◌≡◌, ◌+◌, ◌*◌, ◌%◌, ◌≤◌, List, [], All, length, subst, sym, ap, ◌∙◌, arith}
+use Rattle.std.proofs.Common.{ℕ, ◌≡◌, ◌+◌, ◌*◌, ◌%◌, ◌≤◌, List, [], All, length, subst, sym, ap, ◌∙◌, arith}
+use Rattle.mm_types.specs.Config.{slots_for}
 use Rattle.std.specs.List.{range_with_len}
 use Rattle.std.proofs.lemmas.List.Elements.{All-nil}
 use Rattle.lock_core.specs.declared.stage.SlotState.{SlotState}
@@ -21,9 +22,10 @@ returns-clause-rest c =
     let config = table.1 ∙ ap (λ (v : View). v.config) opened in
     let areas : (config_of c.in_ok-table.table).areas ≡ c.args.config.now.areas = ap (λ config. config.areas) config in
     let tree = c.in_ok-new.ensures in
-    let made = c.in_ok-new-2.ensures in
-    let first : SlotSet = record { free = range_with_len 0 (2 * c.args.config.now.areas + 2); left = []; count = 2 * c.args.config.now.areas + 2 } in
-    let hangs = hangs_new (2 * c.args.config.now.areas + 2) in
+    let set : ℕ → SlotSet = λ n. record { free = range_with_len 0 n; left = []; count = n } in
+    let first = set (slots_for c.args.config.now.areas) in
+    let made = c.in_ok-new-2.ensures ∙ ap set c.slots_for.ensures in
+    let hangs = hangs_new (slots_for c.args.config.now.areas) in
     let states = ap (λ (v : View). v.desk.slots) opened in
     record {
       table = table.0;
@@ -31,7 +33,7 @@ returns-clause-rest c =
       closed = ap (λ (v : View). v.desk.seq % 2) opened;
       turn = ap (λ (v : View). v.turn) opened;
       count = ap (λ (s : SlotSet). s.count) made ∙ ap (λ n. 2 * n + 2) (sym areas);
-      records = ap (λ (s : SlotSet). s.count) made ∙ ap (λ (t : AreaTreeView). 2 * t.tree.areas + 2) (sym tree);
+      records = ap (λ (s : SlotSet). s.count) made ∙ ap (λ (t : AreaTreeView). slots_for t.tree.areas) (sym tree);
       hangs = subst (λ (s : SlotSet). Hangs (sight c.args.writer).desk.slots (shown_of c.in_ok-new.field-0) s) (sym made)
           (subst (λ (shown : List Shown). Hangs (sight c.args.writer).desk.slots shown first) (sym (ap shown_of tree))
           (subst (λ (s : List SlotState). Hangs s [] first) (sym states) hangs));

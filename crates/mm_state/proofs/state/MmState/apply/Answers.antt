@@ -2,13 +2,13 @@
 use Rattle.std.proofs.Common.{ℕ, ◌≡◌, ◌<◌, ◌++◌, ◌∷◌, [], List, length, subst, sym, ap, ◌∙◌, arith, length-append}
 use Rattle.mm_types.specs.declared.area.Record.{Record}
 use Rattle.mm_types.specs.declared.call.Entry.{Entry}
-use Rattle.area_model.specs.declared.placement.Bounds.{Bounds}
-use Rattle.area_model.specs.Steps.{step, after, IsLegalJournal}
-use Rattle.area_model.specs.Stepped.{space_of}
-use Rattle.area_model.specs.Tables.{AddressSpace}
-use Rattle.area_model.proofs.Journals.{legal-push}
+use Rattle.area_rules.specs.declared.placement.Bounds.{Bounds}
+use Rattle.area_rules.specs.Steps.{step, after, IsLegalJournal}
+use Rattle.area_rules.specs.Tables.{space_of}
+use Rattle.area_rules.specs.Tables.{AddressSpace}
+use Rattle.area_rules.proofs.Journals.{legal-push}
 use Rattle.split_merge.specs.declared.plan.Change.{Change}
-use Rattle.split_merge.specs.Plans.{Planned, IsKept, applied}
+use Rattle.split_merge.specs.Plans.{PlanView, IsKept, applied}
 use Rattle.sys_calls.proofs.Keeping.{made_space}
 use Rattle.lock_core.specs.Facts.{list_after}
 use Rattle.vma_lock.specs.Seats.{config_of, slots}
@@ -22,7 +22,7 @@ pub plan_call-called-requires-clause-ready : goal.plan_call-called-requires-clau
 plan_call-called-requires-clause-ready g c =
     let s = c.self.inside in
     let i = c.self.invariant in
-    ready_now s.config s.journal.items (areas_of s.board.areas) s.objects i.valid (omega (arith, i.room, i.entries)) i.space
+    ready_now s.config s.journal.items (areas_of s.board.areas) s.counters i.valid (omega (arith, i.room, i.entries)) i.space
 
 pub plan_call-called-requires-clause-prepared : goal.plan_call-called-requires-clause-prepared
 plan_call-called-requires-clause-prepared g c =
@@ -36,7 +36,7 @@ enter-requires-clause-plan g c =
     let entry : Entry = record { caller = c.caller.result; call = c.args.call.now; reply = c.plan_call-called.result.reply } in
     let room = subst (λ (v : StateView). length v.journal < v.room) (sym c.self.view_is) c.requires.room in
     subst (λ (changes : List Change). IsEntered s.board changes entry) (sym c.changes.ensures)
-    (entered s.board s.config s.journal.items s.objects entry s.plan c.plan_call-called.new.plan record {
+    (entered s.board s.config s.journal.items s.counters entry s.plan c.plan_call-called.new.plan record {
       settings = i.settings;
       journal_is = i.journal;
       space = i.space;
@@ -57,7 +57,7 @@ returns-clause-stays g c =
     let now = slots c.enter.new.self.writer in
     let made : applied c.changes.result.now list ≡ then = ap (λ (changes : List Change). applied changes list) c.changes.ensures
     ∙ c.plan_call-called.ensures.planned.makes.result
-    ∙ ap (λ (space : AddressSpace). space.areas) (space_after s.config s.journal.items list s.objects entry i.space ∙ ap (after s.config) (sym c.push_reserved.ensures.items)) in
+    ∙ ap (λ (space : AddressSpace). space.areas) (space_after s.config s.journal.items list s.counters entry i.space ∙ ap (after s.config) (sym c.push_reserved.ensures.items)) in
     subst (λ (v : StateView). KeepsSlots (list_of v) then v.slots now) c.self.view_is
     (subst (λ (areas : List Record). KeepsSlots areas then (slots s.board.writer) now) (ap (λ (space : AddressSpace). space.areas) i.space)
     (subst (λ (areas : List Record). KeepsSlots list areas (slots s.board.writer) now) made c.enter.ensures.stays))
@@ -82,17 +82,17 @@ invariant_of-self g c =
         i.legal,
         planned.reply ∙ ap (λ (space : AddressSpace). (step s.config space c.args.call.now).reply) i.space,
       ));
-      space = made_space (areas_of c.enter.new.self.areas) c.plan_call-called.result.objects (step s.config (space_of (areas_of s.board.areas) s.objects) c.args.call.now).space
-          (list ∙ planned.makes.result) c.plan_call-called.ensures.counter
-          ∙ space_after s.config s.journal.items (areas_of s.board.areas) s.objects entry i.space ∙ ap (after s.config) (sym pushed.items);
+      space = made_space (areas_of c.enter.new.self.areas) c.plan_call-called.result.counters (step s.config (space_of (areas_of s.board.areas) s.counters) c.args.call.now).space
+          (list ∙ planned.makes.result) c.plan_call-called.ensures.counters
+          ∙ space_after s.config s.journal.items (areas_of s.board.areas) s.counters entry i.space ∙ ap (after s.config) (sym pushed.items);
       bounds = bounds ∙ i.bounds;
       most = most ∙ i.most;
       kept = subst (λ (b : Bounds). IsKept b c.enter.new.self.areas.tree.areas (areas_of c.enter.new.self.areas)) (sym bounds)
           (subst (λ (n : ℕ). IsKept s.board.areas.bounds n (areas_of c.enter.new.self.areas)) (sym most)
           (subst (λ (areas : List Record). IsKept s.board.areas.bounds s.board.areas.tree.areas areas) (sym list) planned.kept));
       fresh = record {
-        empty = ap (λ (p : Planned). p.changes) c.clear.ensures;
-        room = omega (arith, ap (λ (p : Planned). p.room) c.clear.ensures, planned.room, i.fresh.room);
+        empty = ap (λ (p : PlanView). p.changes) c.clear.ensures;
+        room = omega (arith, ap (λ (p : PlanView). p.room) c.clear.ensures, planned.room, i.fresh.room);
       };
       room = omega (arith, ap length pushed.items, length-append s.journal.items (entry ∷ []), room);
       entries = i.entries;

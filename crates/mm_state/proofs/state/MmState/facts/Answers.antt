@@ -1,7 +1,7 @@
 -- For `MmState::facts`: what the fields keep of the tree.
 use Rattle.std.proofs.Common.{◌≡◌, List, length, sym, ap, subst, ◌∙◌}
 use Rattle.mm_types.specs.declared.area.Record.{Record}
-use Rattle.area_model.specs.Tables.{AddressSpace}
+use Rattle.area_rules.specs.Tables.{AddressSpace}
 use Rattle.maple_node.specs.Trees.{Pair}
 use Rattle.vma_lock.specs.Seats.{slots}
 use Rattle.area_tree.specs.AreaTrees.{areas_of}

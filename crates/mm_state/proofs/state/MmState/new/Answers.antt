@@ -1,8 +1,8 @@
 -- For `MmState::new`: no call was made.
 use Rattle.std.proofs.Common.{List, length, subst, sym, ap, ◌∙◌, arith}
 use Rattle.mm_types.specs.declared.area.Record.{Record}
-use Rattle.area_model.specs.Steps.{IsLegalJournal}
-use Rattle.split_merge.specs.Plans.{Planned, IsKept}
+use Rattle.area_rules.specs.Steps.{IsLegalJournal}
+use Rattle.split_merge.specs.Plans.{PlanView, IsKept}
 use Rattle.vma_lock.specs.declared.view.View.{View}
 use Rattle.vma_lock.specs.Seats.{journal}
 use Rattle.area_tree.specs.AreaTrees.{areas_of}
@@ -22,11 +22,11 @@ invariant_of-result c =
       valid = c.requires.config;
       journal = ap journal board.writer.0 ∙ ap (λ (v : View). v.seen) opened ∙ sym none;
       legal = subst (IsLegalJournal c.args.config) (sym none) (legal_nil c.args.config);
-      space = opening_space c.args.config (areas_of areas) (length c.items.result.now) c.in_ok-journal.journal.items board.none (ap length c.items.ensures) none;
+      space = opening_space c.args.config (areas_of areas) c.opening-counters.result c.in_ok-journal.journal.items board.none c.opening-counters.ensures none;
       bounds = board.bounds.0;
       most = board.bounds.1;
       kept = subst (λ (list : List Record). IsKept areas.bounds areas.tree.areas list) (sym board.none) (kept_nil areas.bounds areas.tree.areas);
-      fresh = record { empty = ap (λ (p : Planned). p.changes) plan; room = omega (arith, ap (λ (p : Planned). p.room) plan) };
+      fresh = record { empty = ap (λ (p : PlanView). p.changes) plan; room = omega (arith, ap (λ (p : PlanView). p.room) plan) };
       room = omega (arith, ap length none);
       entries = c.requires.entries;
       reserved = c.in_ok-journal.ensures.capacity;

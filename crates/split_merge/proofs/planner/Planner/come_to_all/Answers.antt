@@ -4,7 +4,7 @@ use Rattle.std.proofs.lemmas.List.{append-nil}
 use Rattle.std.specs.List.{flat_map}
 use Rattle.std.specs.Option.{option_to_list}
 use Rattle.split_merge.specs.declared.planner.Planner.{Planner}
-use Rattle.split_merge.specs.Plans.{Planned}
+use Rattle.split_merge.specs.Plans.{PlanView}
 use Rattle.split_merge.specs.Planner.{Event, GoesAlong}
 use Rattle.split_merge.proofs.Steps.{goes_on, goes_room, parts_more, parts_within}
 use Rattle.split_merge.proofs.planner.Planner.come_to_all.Goals as goal
@@ -22,12 +22,12 @@ loop-part-preserved c =
     let after : List Event = map Event.Comes (flat_map option_to_list (take (index + 1) parts)) in
     elim c.match-part.branch [
       | in-Some w ↦ subst (λ (p : Planner). GoesAlong after c.args.self.now p c.args.plan.now c.match-part.plan) (sym w.self-is)
-          (subst (λ (p : Planned). GoesAlong after c.args.self.now w.come_to.new.self c.args.plan.now p) (sym w.plan-is)
+          (subst (λ (p : PlanView). GoesAlong after c.args.self.now w.come_to.new.self c.args.plan.now p) (sym w.plan-is)
           (subst (λ events. GoesAlong events c.args.self.now w.come_to.new.self c.args.plan.now w.come_to.new.plan)
           (sym (parts_more parts index (Some w.in-Some.part) c.loop-part-test.true w.in-Some.is))
           (goes_on before (map Event.Comes (option_to_list (Some w.in-Some.part))) c.loop-part.invariant w.come_to.ensures)))
       | in_default w ↦ subst (λ (p : Planner). GoesAlong after c.args.self.now p c.args.plan.now c.match-part.plan) (sym w.self-is)
-          (subst (λ (p : Planned). GoesAlong after c.args.self.now c.loop-part.self c.args.plan.now p) (sym w.plan-is)
+          (subst (λ (p : PlanView). GoesAlong after c.args.self.now c.loop-part.self c.args.plan.now p) (sym w.plan-is)
           (subst (λ events. GoesAlong events c.args.self.now c.loop-part.self c.args.plan.now c.loop-part.plan)
           (sym (parts_more parts index None c.loop-part-test.true w.in_default.is ∙ append-nil before))
           c.loop-part.invariant))

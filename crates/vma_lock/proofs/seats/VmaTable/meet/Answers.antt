@@ -10,7 +10,7 @@ pub returns-clause-seat : goal.returns-clause-seat
 returns-clause-seat c =
     let reader = c.args.seat.now in
     let writer = c.args.writer.now in
-    let heard = subst (λ (v : View). StartsWith v.seen (seen c.look.new.seat)) c.greet.ensures.writer c.hear.ensures.seen in
-    subst (Meets (view reader) (journal writer) (met_turn (sight writer) (view reader))) (sym c.hear.ensures.seat)
+    let heard = subst (λ (v : View). StartsWith v.seen (seen c.look.new.seat)) c.greet.ensures.writer c.learn_from_reader.ensures.seen in
+    subst (Meets (view reader) (journal writer) (met_turn (sight writer) (view reader))) (sym c.learn_from_reader.ensures.seat)
     (met (view reader) (sight writer) (view c.greet.new.seat) c.look.result (view c.look.new.seat) c.greet.ensures.seat
     c.look.ensures.seen c.look.ensures.joined c.look.ensures.slot c.look.ensures.view heard)

@@ -19,7 +19,7 @@ enter_held-left-requires-clause-reply g c =
     let opened = c.in_ok-table.ensures.writer.1 in
     let empty : c.of-empty.result ≡ [] = cc in
     small_reply _ (sight c.in_ok-table.writer) _ _ _ (outcome_of c.in_ok-stepped.stepped)
-    (opened_is_small _ 1 _ _ c.config-config.ensures opened empty) (sym (ap (λ (v : View). v.config) opened)) c.in_ok-stepped.ensures
+    (opened_is_small _ 1 _ _ _ c.opening-counters.ensures opened empty) (sym (ap (λ (v : View). v.config) opened)) c.in_ok-stepped.ensures
 
 pub enter_held-left-requires-clause-shows : goal.enter_held-left-requires-clause-shows
 enter_held-left-requires-clause-shows g c =
@@ -29,5 +29,5 @@ enter_held-left-requires-clause-shows g c =
     subst (λ list. ShowsOne list c.in-Some-row_of.row)
     (sym (ap (λ space. space.areas)
     (small_after _ (sight c.in_ok-table.writer) (record { caller = 0; call = c.mapping-call.result; reply = stepped.reply }) _ _ _ _ (outcome_of stepped)
-    (opened_is_small _ 1 _ _ c.config-config.ensures opened empty) (sym (ap (λ (v : View). v.config) opened)) refl c.in_ok-stepped.ensures)))
+    (opened_is_small _ 1 _ _ _ c.opening-counters.ensures opened empty) (sym (ap (λ (v : View). v.config) opened)) refl c.in_ok-stepped.ensures)))
     c.in-Some-row_of.ensures

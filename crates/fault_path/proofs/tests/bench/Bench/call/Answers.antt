@@ -1,8 +1,9 @@
 -- For the test's `Bench::call`: the list after the call is the model's.
 use Rattle.std.proofs.Common.{◌≡◌, ◌∙◌, ◌++◌, ◌∷◌, [], List, refl, sym, ap, subst}
 use Rattle.mm_types.specs.declared.call.Entry.{Entry}
-use Rattle.area_model.specs.Stepped.{space_of, outcome_of}
-use Rattle.area_model.specs.Steps.{after}
+use Rattle.area_rules.specs.Tables.{space_of}
+use Rattle.area_model.specs.Stepped.{outcome_of}
+use Rattle.area_rules.specs.Steps.{after}
 use Rattle.vma_lock.specs.Seats.{sight}
 use Rattle.vma_lock.specs.Small.{ShowsOne}
 use Rattle.vma_lock.proofs.Small.{small_after}
@@ -30,8 +31,8 @@ invariant_of-bench c =
       kept = record {
         closed = entered.closed;
         turn = entered.turn;
-        space = subst (λ (j : List Entry). after (sight c.enter.new.writer).config j ≡ space_of stepped.list stepped.objects) (sym entered.journal)
-            (subst (λ config. after config (old.seen ++ entry ∷ []) ≡ space_of stepped.list stepped.objects) (sym entered.config) space);
+        space = subst (λ (j : List Entry). after (sight c.enter.new.writer).config j ≡ space_of stepped.list stepped.counters) (sym entered.journal)
+            (subst (λ config. after config (old.seen ++ entry ∷ []) ≡ space_of stepped.list stepped.counters) (sym entered.config) space);
         free = entered.free;
       };
     }

@@ -29,5 +29,5 @@ invariant_of-result g c =
       sits = made.pass;
       table_is = made.tables.0;
       config_is = sym (ap (λ (v : View). v.config) made.writer);
-      kept = opened_is_small c.args.config 1 (sight c.in_ok-view.writer) c.of.result c.requires.files made.writer empty;
+      kept = opened_is_small c.args.config 1 (sight c.in_ok-view.writer) c.of.result _ c.opening-counters.ensures made.writer empty;
     }

@@ -6,4 +6,4 @@ use Rattle.vma_lock.proofs.tests.small.Small.new.Goals as goal
 pub invariant_of-result : goal.invariant_of-result
 invariant_of-result c =
     let empty : c.of.result ≡ [] = cc in
-    record { kept = opened_is_small _ _ _ _ c.requires.files c.requires.opened empty }
+    record { kept = opened_is_small _ _ _ _ _ c.opening.ensures c.requires.opened empty }

@@ -1,0 +1,16 @@
+pub mod Tables
+pub mod Accesses
+pub mod Placement
+pub mod Blockers
+pub mod Growing
+pub mod Seals
+pub mod Mmap
+pub mod Munmap
+pub mod Mprotect
+pub mod Mremap
+pub mod Brk
+pub mod Mseal
+pub mod Verdicts
+pub mod Steps
+pub mod Journals
+pub mod Laws

@@ -1,0 +1,9 @@
+//! Calls of every kind as plans, beside the plain model: a crate of tests alone.
+#![tactic(auto)]
+
+#[cfg(test)]
+mod generator;
+#[cfg(test)]
+mod rows;
+#[cfg(test)]
+mod tests;

@@ -1,0 +1,6 @@
+-- For `make`: the table of nodes has the size that goes with the configuration.
+use Rattle.fault_path.proofs.view.FaultView.make.Goals as goal
+
+pub passes_of-requires-clause-walkers : goal.passes_of-requires-clause-walkers
+passes_of-requires-clause-walkers c =
+    rw (c.rows_for.ensures, c.slots_for.ensures) at c.in_ok-nodes.ensures.fresh

@@ -1,0 +1,22 @@
+ghost use Rattle.std.specs.Prelude.{◌≡◌, Some};
+ghost use Rattle.mm_types.specs.declared.config.Config.{Config};
+ghost use Rattle.area_list.specs.Areas.{IsCanonical};
+ghost use Rattle.area_rules.specs.Growing.{grower, grown_list};
+ghost use Rattle.split_merge.specs.Plans.{Makes, IsFresh};
+
+use crate::areas::Areas;
+use crate::plan::{Change, Plan};
+use area_rules::grown_to;
+use mm_types::Record;
+
+/// Plans that the area grows into the page: one change.
+pub fn plan_growth<A: Areas>(areas: &A, page: u64, old: &Record, plan: &mut Plan)
+    requires canonical { IsCanonical (A.bounds areas.now).limit (A.list areas.now) }
+    requires grower { (config : Config) × (grower config (A.list areas.now) page ≡ Some old.now) }
+    requires fresh { IsFresh (A.most areas.now) plan.old }
+    ensures makes { Makes plan.new.changes (A.list areas.now) (grown_list page (A.list areas.now)) }
+    ensures room { plan.new.room ≡ plan.old.room }
+{
+    let new = grown_to(page, old);
+    plan.push(Change::Alter { old: *old, new });
+}

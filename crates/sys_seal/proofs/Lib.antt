@@ -1,0 +1,2 @@
+pub mod SealCases
+pub mod SealedOff

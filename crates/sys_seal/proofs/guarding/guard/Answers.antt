@@ -1,0 +1,10 @@
+-- For `guard` of guarding.rt: its goals.
+use Rattle.std.proofs.Common.{ap, sym, ◌∙◌}
+use Rattle.split_merge.specs.Plans.{PlanView}
+use Rattle.sys_seal.proofs.SealedOff.{guarded_call}
+use Rattle.sys_seal.proofs.guarding.guard.Goals as goal
+
+pub returns-then-is_sealed_off : goal.returns-then-is_sealed_off
+returns-then-is_sealed_off g c =
+    guarded_call c.requires c.args.call.now c.args.before c.args.planned c.args.plan.now c.clear.new.self (ap (λ (p : PlanView). p.changes) c.clear.ensures)
+    (ap (λ (p : PlanView). p.room) c.clear.ensures) (sym c.is_sealed_off.ensures ∙ c.if-is_sealed_off.true)
