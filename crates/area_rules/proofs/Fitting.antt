@@ -169,8 +169,3 @@ place_free config areas pages hint start h =
     (cond_both (is_high bounds hint) (place_high bounds areas pages) (place_low bounds areas pages) (λ o. o ≡ Some start → Free start)
     (λ high. wide_free config areas pages start) (λ usual. unhinted_free config areas pages start))
     h
-
--- without a hint there is no hint's place, and no high call
-pub place-without_hint : (bounds : Bounds) (areas : List Record) (pages : ℕ) → place bounds areas pages 0 ≡ place_low bounds areas pages
-unfolding place hinted_place hint_page is_high
-place-without_hint bounds areas pages = cond-false (is_high bounds 0) (place_high bounds areas pages) (place_low bounds areas pages) (and_right _ _ refl)

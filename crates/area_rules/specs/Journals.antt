@@ -1,9 +1,10 @@
 -- What callers make of a journal: their entries, and what they read of the list of areas.
-use Rattle.std.specs.Prelude.{ℕ, ◌≡◌, ◌≤◌, nat_eq, List, filter, length, take}
+use Rattle.std.specs.Prelude.{ℕ, ◌≡◌, ◌≤◌, Bool, false, nat_eq, List, filter, length, take}
 use Rattle.mm_types.specs.declared.call.Entry.{Entry}
 use Rattle.mm_types.specs.declared.call.Seen.{Seen}
 use Rattle.mm_types.specs.declared.call.Seen.TheVariants as reads
 use Rattle.mm_types.specs.declared.config.Config.{Config}
+use Rattle.area_rules.specs.Growing.{grows}
 use Rattle.area_rules.specs.Steps.{after}
 use Rattle.area_rules.specs.Verdicts.{verdict}
 
@@ -16,9 +17,10 @@ abbrev pub version_of : Seen → ℕ
 version_of (reads.Fault version page access verdict) = version
 version_of (reads.Maps version list) = version
 
--- what was read is the verdict on the fault over the list after the journal, or that list
+-- what was read is the verdict on a fault that does not grow, over the list after the journal, or that list
 abbrev pub IsReadAfter : Config → List Entry → Seen → Type 0
-IsReadAfter config journal (reads.Fault version page access found) = found ≡ verdict config (after config journal).areas page.0 access
+IsReadAfter config journal (reads.Fault version page access found) = (grows config (after config journal).areas page.0 access ≡ false)
+    × (found ≡ verdict config (after config journal).areas page.0 access)
 IsReadAfter config journal (reads.Maps version list) = list ≡ (after config journal).areas
 
 -- a read is right in a journal where it is so after as many entries as its version says, which the journal has

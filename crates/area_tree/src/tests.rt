@@ -6,6 +6,7 @@ use crate::shown::NO_AREA;
 use crate::{AreaTree, Shown};
 use mm_types::{ADDRESS_LIMIT, Config, Files, NoMemory, Page, Record, Slot, Span};
 use node_slots::NodeTable;
+use span_tree::OpenCall;
 use split_merge::Areas;
 use std::alloc::Global;
 use std::process::Abort;
@@ -58,12 +59,22 @@ fn two_areas<R: Wait + Abort>(rt: &R, alloc: Global) -> Result<AreaTree, NoMemor
     Ok(tree)
 }
 
+/// A first call, which is open.
+#[derive(Drop)]
+struct FirstCall;
+
+impl OpenCall for FirstCall {
+    ghost is_open = { λ _. Unit {0} };
+
+    ghost calls = { λ _. 0 };
+}
+
 /// Takes the lower area out, and publishes the tree.
 fn publish_one(tree: &mut AreaTree)
     requires { Holds tree.old two }
 {
     tree.remove(&shown(3, 16, 20).area);
-    tree.publish();
+    tree.publish(&FirstCall);
 }
 
 /// The slot of the upper area shows one of another object, which is answered.

@@ -4,6 +4,7 @@ ghost use Rattle.mm_types.specs.declared.area.Record.{Record};
 ghost use Rattle.mm_types.specs.Config.{IsValidConfig, slots_for};
 ghost use Rattle.area_list.specs.Areas.{page_of};
 ghost use Rattle.area_rules.specs.Placement.{bounds_of, is_free};
+ghost use Rattle.node_slots.specs.Seats.{pins_of, AreOut};
 ghost use Rattle.span_tree.specs.SpanTrees.{IsFreshWriter, ArePairs};
 ghost use Rattle.area_tree.specs.declared.shown.Shown.{Shown};
 ghost use Rattle.area_tree.specs.AreaTrees.{no_area, shown_of, areas_of, times_shown, span_of, AreasRise};
@@ -13,7 +14,7 @@ use area_list::page_of;
 use area_rules::{Bounds, bounds_of};
 use mm_types::{Config, NoMemory, Page, Record, Slot, slots_for};
 use node_slots::NodeWriter;
-use span_tree::SpanTree;
+use span_tree::{OpenCall, SpanTree};
 use std::alloc::Global;
 use std::marker::Model;
 use std::sync::Wait;
@@ -63,6 +64,8 @@ impl AreaTree {
             shown = [];
             changed = false;
             roomy = false;
+            scans = 0;
+            pins = pins_of nodes;
           };
           records = replicate (slots_for config.now.areas) no_area;
           bounds = bounds_of config.now;
@@ -145,7 +148,13 @@ impl AreaTree {
     pub fn prepare<R: Wait>(&mut self, rt: &R)
         requires { self.old.tree.changed ≡ false }
         ensures same { self.new ≡ record self.old {
-          tree = record self.old.tree { changed = nat_eq self.old.tree.number 0; roomy = true; settled = self.new.tree.settled };
+          tree = record self.old.tree {
+            changed = nat_eq self.old.tree.number 0;
+            roomy = true;
+            settled = self.new.tree.settled;
+            scans = self.new.tree.scans;
+            pins = self.new.tree.pins;
+          };
         } }
         ensures settled { self.old.tree.settled ≤ self.new.tree.settled }
         ensures shown { self.old.tree.shown ≡ self.old.tree.pairs }
@@ -153,8 +162,10 @@ impl AreaTree {
         self.tree.prepare(rt);
     }
 
-    /// Publishes the tree: it is the present one, with the next number.
-    pub fn publish(&mut self)
+    /// Publishes the tree in an open call: it is the present one, with the next number. So many calls ended before this one as trees
+    /// were published, so none is published twice in a call, and none between two calls.
+    pub fn publish<C: OpenCall>(&mut self, call: &C)
+        requires call { C.is_open call.now × (C.calls call.now ≡ self.old.tree.number) }
         requires roomy { self.old.tree.roomy ≡ true }
         requires number { self.old.tree.number < 2 ^ 40 - 1 }
         ensures same { self.new ≡ record self.old {
@@ -168,7 +179,7 @@ impl AreaTree {
         } }
         ensures settled { self.old.tree.settled ≤ self.new.tree.settled }
     {
-        self.tree.publish();
+        self.tree.publish(call);
     }
 
     /// The greatest tree, at most the present one, such that no row waits that left at its publish or before.
@@ -179,10 +190,19 @@ impl AreaTree {
         self.tree.settled()
     }
 
-    /// Scans every pin once: rows that no reader may read any more are free again.
+    /// Looks at the pin of each reader once: rows that no reader may read any more are free again.
     pub fn scan(&mut self)
-        ensures same { self.new ≡ record self.old { tree = record self.old.tree { settled = self.new.tree.settled } } }
+        ensures same { self.new ≡ record self.old {
+          tree = record self.old.tree {
+            settled = self.new.tree.settled;
+            scans = self.old.tree.scans + length self.old.tree.pins;
+            pins = self.new.tree.pins;
+          };
+        } }
         ensures settled { self.old.tree.settled ≤ self.new.tree.settled }
+        ensures readers { length self.new.tree.pins ≡ length self.old.tree.pins }
+        // once it finds every reader closed, every tree is settled
+        ensures gone { AreOut self.new.tree.pins → self.new.tree.settled ≡ self.new.tree.number }
     {
         self.tree.scan();
     }

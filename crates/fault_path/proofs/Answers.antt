@@ -14,7 +14,7 @@ use Rattle.node_slots.specs.declared.view.NodeView.{NodeView}
 use Rattle.fault_path.specs.Passes.{PassView, config, seen_by, walker}
 use Rattle.fault_path.specs.Faults.{IsFound, IsAnswer}
 use Rattle.fault_path.specs.Locking.{GoesOn, IsLocked}
-use Rattle.fault_path.proofs.Members.{member_verdict, verdict_mapped, verdict_serves}
+use Rattle.fault_path.proofs.Members.{member_still, member_verdict, verdict_mapped, verdict_serves}
 
 -- the slot was given back
 pub sub_goes : (old held new : View) → GoesOn old held → new ≡ sub_at held → GoesOn old new
@@ -63,6 +63,10 @@ answered page access answer version area files old new held locked found sub giv
       gives = gives';
       version_is = version_is;
       right = gives' ∙ member_verdict (config new) (list_after (config new) (seen_by new)) area page access
+          (subst (λ (v : View). IsSound v.config (list_after v.config v.seen)) (sym sub) locked.sound)
+          (subst (λ (v : View). Contains (list_after v.config v.seen) area) (sym sub) locked.member)
+          found.holds.has;
+      still = member_still (config new) (list_after (config new) (seen_by new)) area page access
           (subst (λ (v : View). IsSound v.config (list_after v.config v.seen)) (sym sub) locked.sound)
           (subst (λ (v : View). Contains (list_after v.config v.seen) area) (sym sub) locked.member)
           found.holds.has;

@@ -1,6 +1,6 @@
 -- For `fault_fast`, `lock_slot` and `Held::look`: an area of a sound list that has a page is the one that the list has there, and
 -- the row of a validated slot holds such an area.
-use Rattle.std.proofs.Common.{ℕ, zero, suc, ◌≡◌, ◌≢◌, ◌<◌, ◌≤◌, ◌^◌, ◌∙◌, true, false, ◌&&◌, cond, List, [], ◌∷◌, length, get_or, Option, Some, None, refl, sym, ap, subst, inl, inr, arith}
+use Rattle.std.proofs.Common.{ℕ, zero, suc, ◌≡◌, ◌≢◌, ◌<◌, ◌≤◌, ◌-◌, ◌^◌, ◌∙◌, true, false, ◌&&◌, cond, List, [], ◌∷◌, length, get_or, Option, Some, None, refl, sym, ap, subst, inl, inr, arith}
 use Rattle.std.specs.List.{Contains, AllByRecursion as Each}
 use Rattle.std.specs.Option.{IfSome, option_map_or}
 use Rattle.std.proofs.lemmas.Bool.{and_parts}
@@ -23,14 +23,17 @@ use Rattle.area_list.proofs.Parts.{Apart}
 use Rattle.area_list.proofs.Order.{pairs_from_canonical}
 use Rattle.area_rules.specs.Steps.{after, IsReady}
 use Rattle.area_rules.specs.Accesses.{permits}
-use Rattle.area_rules.specs.Growing.{grower}
+use Rattle.area_rules.specs.Growing.{grower, grows}
 use Rattle.area_rules.specs.Verdicts.{is_past_end, area_verdict, unmapped_verdict, verdict}
+use Rattle.area_rules.proofs.Cases.{grower_is}
 use Rattle.area_rules.proofs.Journals.{after_ready}
+use Rattle.area_rules.proofs.Unmapped.{free_at}
 use Rattle.lock_core.specs.Facts.{list_after}
 use Rattle.lock_core.specs.Rows.{IsRowOf}
 use Rattle.lock_core.proofs.Reading.{row_after}
 use Rattle.lock_core.proofs.Weighing.{no_area}
 use Rattle.fault_path.specs.Faults.{Lacks}
+use Rattle.fault_path.proofs.Places.{none_is_some}
 
 -- what is so of each element is so of one that there is
 each_at : {A : Type 0} (P : A → Type 0) (xs : List A) (k : ℕ) (d : A) → Each P xs → k < length xs → P (get_or xs k d)
@@ -63,6 +66,19 @@ pub member_at : (config : Config) (areas : List Record) (area : Record) (page : 
     → has_page area.span page ≡ true → area_at areas page ≡ Some area
 member_at config areas area page sound member has =
     find_at areas member.0 area page (pairs_from_canonical _ areas sound.canonical) member.1 member.2 has
+
+-- a fault at a page that an area has grows none
+pub member_still : (config : Config) (areas : List Record) (area : Record) (page : ℕ) (access : Access) → IsSound config areas
+    → Contains areas area → has_page area.span page ≡ true → grows config areas page access ≡ false
+unfolding grows
+member_still config areas area page access sound member has = at (grower config areas page) refl
+  where
+    at : (found : Option Record) → grower config areas page ≡ found → option_map_or (λ (a : Record). permits a.attr.prot access) found false ≡ false
+    at None is = refl
+    at (Some above) is =
+        let free = (grower_is config areas page above is).free in
+        let none : area_at areas page ≡ None = free_at areas 2 (page - 1) page free (omega arith) (omega arith) in
+        absurd (none_is_some (sym none ∙ member_at config areas area page sound member has))
 
 -- so its verdict is that over the list
 pub member_verdict : (config : Config) (areas : List Record) (area : Record) (page : ℕ) (access : Access) → IsSound config areas

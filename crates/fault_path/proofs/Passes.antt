@@ -1,6 +1,7 @@
 -- For `Pass::note`, `passes_of`, `fault_fast` and `Held::unlock`: fresh passes, one with one read more, and one whose seats went on.
 use Rattle.std.proofs.Common.{ℕ, ◌≡◌, ◌≤◌, ◌+◌, List, [], ◌∷◌, ◌++◌, length, take, get_or, All, Some, refl, sym, ap, subst, arith, ◌∙◌}
-use Rattle.std.specs.Prelude.{AllPairs}
+use Rattle.std.specs.Prelude.{AllPairs, nat_lt}
+use Rattle.std.proofs.lemmas.Bool.{cond_both}
 use Rattle.std.proofs.lemmas.List.{length-append, length-take, take-take}
 use Rattle.std.proofs.lemmas.List.Elements.{All-push, All-weaker}
 use Rattle.std.proofs.lemmas.List.Quantifiers.{all_pairs_push}
@@ -13,11 +14,13 @@ use Rattle.lock_core.specs.Core.{StartsWith}
 use Rattle.atomic_table.specs.Seated.{TableId}
 use Rattle.vma_lock.specs.declared.seats.ReaderSeat.{ReaderSeat}
 use Rattle.vma_lock.specs.Seats.{view, stage}
-use Rattle.vma_lock.specs.Views.{new_reader, opened_view}
+use Rattle.vma_lock.specs.declared.view.View.{View}
+use Rattle.vma_lock.specs.Views.{joined_at, new_reader, opened_view}
+use Rattle.area_rules.specs.Steps.{IsLegalJournal}
 use Rattle.node_slots.specs.declared.seats.NodeSeat.{NodeSeat}
 use Rattle.node_slots.specs.Views.{reader_view}
 use Rattle.node_slots.specs.Seats as node_seats
-use Rattle.fault_path.specs.Passes.{PassView, IsPass, IsPassOf, IsFresh, caller, config, seen_by, made_by, node_size}
+use Rattle.fault_path.specs.Passes.{PassView, ViewedTable, SitsAt, IsPass, IsPassOf, IsFresh, caller, config, seen_by, made_by, node_size}
 use Rattle.fault_path.specs.Locking.{GoesOn}
 use Rattle.fault_path.specs.Holding.{KeepsPass}
 
@@ -126,3 +129,22 @@ pub gone_on : (old new : PassView) (reserved : ℕ) → IsPass old reserved → 
     → node_seats.IsClosed new.nodes → new.log ≡ old.log → new.left ≡ old.left → new.operations ≡ old.operations → IsPass new reserved
 gone_on old new reserved kept on free closed log left operations =
     pass_of new reserved (keeps_on old new reserved (keeps_of old reserved kept) on closed log left operations) free
+
+-- where a pass sits, by equal things
+pub sits_in : (viewed shown : ViewedTable) (pass given : PassView) → shown ≡ viewed → given ≡ pass → SitsAt viewed pass → SitsAt shown given
+sits_in viewed shown pass given shown_is given_is sits =
+    subst (λ (v : ViewedTable). SitsAt v given) (sym shown_is) (subst (λ (p : PassView). SitsAt viewed p) (sym given_is) sits)
+
+-- a reader into which another was joined, which had seen a legal journal too
+pub joined_goes : (old other new : View) → new ≡ joined_at old other → StartsWith new.seen old.seen
+    → ((caller : ℕ) → old.turn ≡ Some caller → calls_by caller new.seen ≡ calls_by caller old.seen) → IsLegalJournal old.config other.seen
+    → GoesOn old new
+joined_goes old other new joined later own legal = record {
+  caller = ap (λ (v : View). v.caller) joined;
+  config = ap (λ (v : View). v.config) joined;
+  turn = ap (λ (v : View). v.turn) joined;
+  legal = λ first. subst (λ (v : View). IsLegalJournal v.config v.seen) (sym joined)
+      (cond_both (nat_lt (length old.seen) (length other.seen)) other.seen old.seen (IsLegalJournal old.config) (λ less. legal) (λ more. first));
+  later = later;
+  own = own;
+}

@@ -5,7 +5,7 @@ use Rattle.std.proofs.lemmas.List.{length-append}
 some_is : {X : Type 0} (P : X → Type 0) (x y : X) → Some x ≡ Some y → P x → P y
 some_is P x y is holds = subst (λ o. IfSome o P) is holds
 
-none_is_some : {X : Type 0} {x : X} → None ≡ Some x → ⊥
+pub none_is_some : {X : Type 0} {x : X} → None ≡ Some x → ⊥
 none_is_some {X} {x} is = grind (arith, is)
 
 -- what is so of the elements, each in its place, and of one more, is so of all together

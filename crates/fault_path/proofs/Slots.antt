@@ -14,7 +14,7 @@ use Rattle.vma_lock.specs.declared.view.View.{View}
 use Rattle.vma_lock.specs.declared.view.SeenAt.{SeenAt}
 use Rattle.vma_lock.specs.Plays.{Sees, LooksAt}
 use Rattle.vma_lock.specs.Seats.{is_validated, row_of}
-use Rattle.vma_lock.specs.Views.{or_first, add_at, look_at, read_at, sub_at}
+use Rattle.vma_lock.specs.Views.{or_first, holds_slot, add_at, look_at, read_at, sub_at}
 use Rattle.fault_path.specs.Faults.{ReadsSlot, words_of, Lacks}
 use Rattle.fault_path.specs.Locking.{IsLocked, LocksSlot}
 use Rattle.fault_path.proofs.Members.{seen_sound, held_member, lacks_page}
@@ -40,7 +40,7 @@ pub record Validated (old new : View) (slot : ℕ) (row : List ℕ) : Type 0 whe
 
 -- what a look found
 abbrev seen_at : ℕ → List Entry → Option SeenAt
-seen_at seq journal = Some (record { seq = seq; seen = journal })
+seen_at seq journal = Some (record { seq = seq; seen = journal; held = true })
 
 -- an add, a look that found another sequence, and a read of the row
 pub validated : (old added looked new : View) (slot lock_seq seq : ℕ) (row : List ℕ) → added ≡ add_at old slot lock_seq → Sees added seq looked.seen
@@ -56,8 +56,8 @@ validated old added looked new slot lock_seq seq row add sees looks look apart r
     let config : new.config ≡ added.config = ap (λ (v : View). v.config) read ∙ ap (λ (v : View). v.config) look in
     let seen : new.seen ≡ looked.seen = ap (λ (v : View). v.seen) read in
     let four : length row ≡ 4 = ap (λ (l : List ℕ). length l) same ∙ found.2 in
-    let first : looked.trace.first ≡ Some (record { seq = seq; seen = looked.seen }) =
-    ap (λ (v : View). v.trace.first) look ∙ ap (λ (v : View). or_first v.trace.first (record { seq = seq; seen = looked.seen })) add in
+    let first : looked.trace.first ≡ Some (record { seq = seq; seen = looked.seen; held = true }) =
+    ap (λ (v : View). v.trace.first) look ∙ ap (λ (v : View). or_first v.trace.first (record { seq = seq; seen = looked.seen; held = holds_slot v.stage })) add in
     record {
       valid = ap is_validated (stays ∙ found.1);
       row_is = ap row_of stays ∙ sym row_is;

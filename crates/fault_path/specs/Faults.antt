@@ -7,6 +7,7 @@ use Rattle.mm_types.specs.declared.area.Verdict.{Verdict}
 use Rattle.mm_types.specs.declared.area.Verdict.TheVariants.{Served, MapErr}
 use Rattle.mm_types.specs.Packed.{unpacked}
 use Rattle.area_list.specs.Areas.{has_page}
+use Rattle.area_rules.specs.Growing.{grows}
 use Rattle.area_rules.specs.Verdicts.{area_verdict, verdict}
 use Rattle.lock_core.specs.Rows.{is_detached}
 use Rattle.lock_core.specs.Facts.{list_after}
@@ -39,11 +40,11 @@ pub record IsUnpaired (page tree : ℕ) (walked : NodeView) : Type 0 where
   pub number : shown.root.tree ≡ tree
   pub none : slot_at page shown ≡ None
 
--- One slot was tried: one add found this lock sequence in it, one look after the add found this sequence, and so many words of
--- the slot's row were read.
+-- One slot was tried: one add found this lock sequence in it, one look after the add found this sequence while the slot was held,
+-- and so many words of the slot's row were read.
 pub record TriesOnce (slot lock_seq seq words : ℕ) (old new : View) : Type 0 where
   pub added : new.trace.added ≡ Some (slot, lock_seq)
-  pub first : new.trace.first ≡ Some (record { seq = seq; seen = new.seen })
+  pub first : new.trace.first ≡ Some (record { seq = seq; seen = new.seen; held = true })
   pub adds : new.trace.adds ≡ old.trace.adds + 1
   pub looks : new.trace.looks ≡ old.trace.looks + 1
   pub fields : new.trace.fields ≡ old.trace.fields + words
@@ -107,13 +108,15 @@ abbrev pub IsMember : Record → PassView → Type 0
 IsMember area pass = Contains (list_after (config pass) (seen_by pass)) area
 
 -- Answered: the page was found in an area, of whose row the verdict is that of the area alone; and it is the verdict over the
--- list after all of the journal that the pass has seen, whose length is the version. A page that no area has is never answered.
+-- list after all of the journal that the pass has seen, whose length is the version, where the fault grows no area. A page that no
+-- area has is never answered.
 pub record IsAnswer (page : ℕ) (access : Access) (answer : Verdict) (version : ℕ) (old new : PassView) : Type 0 where
   pub area : Record
   pub found : IsFound page area (view old.reader) (view new.reader) (walker new)
   pub gives : answer ≡ area_verdict (config new).files page access area
   pub version_is : version ≡ length (seen_by new)
   pub right : answer ≡ verdict (config new) (list_after (config new) (seen_by new)) page access
+  pub still : grows (config new) (list_after (config new) (seen_by new)) page access ≡ false
   pub mapped : answer ≢ MapErr
   pub serves : (other : Record) (index : ℕ) → answer ≡ Served other index → other ≡ area
 

@@ -3,3 +3,4 @@ pub mod Faults
 pub mod Locking
 pub mod Holding
 pub mod Benches
+pub mod Notes

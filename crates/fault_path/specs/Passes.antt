@@ -3,7 +3,6 @@ use Rattle.std.specs.Prelude.{ℕ, ◌≡◌, ◌≤◌, ◌+◌, ◌*◌, List,
 use Rattle.mm_types.specs.declared.call.Entry.{Entry}
 use Rattle.mm_types.specs.declared.call.Seen.{Seen}
 use Rattle.mm_types.specs.declared.config.Config.{Config}
-use Rattle.mm_types.specs.declared.files.FileRow.{FileRow}
 use Rattle.mm_types.specs.Config.{IsValidConfig, rows_for, slots_for}
 use Rattle.area_rules.specs.Journals.{calls_by, version_of, IsReadRight}
 use Rattle.area_rules.specs.Steps.{IsLegalJournal}
@@ -16,6 +15,7 @@ use Rattle.node_slots.specs.declared.seats.NodeSeat.{NodeSeat}
 use Rattle.node_slots.specs.declared.view.NodeView.{NodeView}
 use Rattle.node_slots.specs.declared.view.Size.{Size}
 use Rattle.node_slots.specs.declared.seats.NodeWriter.{NodeWriter}
+use Rattle.fault_path.specs.declared.pass.Rest.{Rest}
 use Rattle.node_slots.specs.Opening.{IsFreeFrom}
 use Rattle.node_slots.specs.Views.{opened_view}
 use Rattle.node_slots.specs.Seats as node_seats
@@ -31,11 +31,11 @@ pub record ViewedTable : Type 0 where
 abbrev pub node_size : Config → ℕ → Size
 node_size config callers = record { rows = rows_for config.areas; slots = slots_for config.areas; readers = callers }
 
--- what a view of tables keeps: its configuration is valid, it has the files of the configuration, and the table of nodes has
--- the size that goes with it
-pub record IsViewed (settings : Config) (size : Size) (files : List FileRow) : Type 0 where
+-- what a view of tables keeps: it has the configuration of its table of areas, which is valid, and the table of nodes has the
+-- size that goes with it
+pub record IsViewed (settings : Config) (size : Size) (kept : Config) : Type 0 where
   pub valid : IsValidConfig settings
-  pub files_are : files ≡ settings.files
+  pub config_is : kept ≡ settings
   pub size_is : size ≡ node_size settings size.readers
 
 -- the writer of a new table of nodes: tree 0 is present in row 0, and all other rows are free
@@ -52,6 +52,10 @@ pub record PassView : Type 0 where
   pub log : List Seen
   pub left : ℕ
   pub operations : ℕ
+
+-- the pass of a seat at the table of areas, with the rest that a pass has
+abbrev pub pass_of : ReaderSeat → Rest → PassView
+pass_of reader rest = record { reader = reader; nodes = rest.nodes; log = rest.log.items; left = rest.left; operations = rest.operations }
 
 -- whose pass it is
 abbrev pub caller : PassView → ℕ

@@ -4,9 +4,8 @@ ghost use Rattle.fault_path.specs.Passes.{seen_by, looks_of};
 ghost use Rattle.fault_path.specs.Faults.{IsMember};
 ghost use Rattle.fault_path.specs.Holding.{StaysAlike};
 
-use crate::pass::Pass;
-use mm_types::{Record, Seen};
-use node_slots::NodeSeat;
+use crate::pass::{Pass, Rest};
+use mm_types::Record;
 use std::marker::Model;
 use vma_lock::{ReaderSeat, VmaTable};
 
@@ -18,28 +17,20 @@ pub struct Held<'a> {
     pub(crate) table: &'a VmaTable,
     pub(crate) area: Record,
     pub(crate) reader: ReaderSeat,
-    pub(crate) nodes: NodeSeat,
-    pub(crate) log: Vec<Seen>,
-    pub(crate) left: u64,
-    pub(crate) operations: u64,
+    pub(crate) rest: Rest,
 }
 
 impl<'a> Model for Held<'a> {
     ghost use Rattle.std.specs.Prelude.{vec_capacity};
     ghost use Rattle.vma_lock.specs.Seats.{table_of};
+    ghost use Rattle.fault_path.specs.Passes.{pass_of};
     ghost use Rattle.fault_path.specs.Holding.{HeldView, IsHeld};
 
     ghost Value = { HeldView };
 
-    ghost view = { λ h. record {
-      area = h.area;
-      pass = record { reader = h.reader; nodes = h.nodes; log = h.log.items; left = h.left; operations = h.operations };
-    } };
+    ghost view = { λ h. record { area = h.area; pass = pass_of h.reader h.rest } };
 
-    ghost invariant = { λ h. IsHeld (table_of h.table.now) (record {
-      area = h.area;
-      pass = record { reader = h.reader; nodes = h.nodes; log = h.log.items; left = h.left; operations = h.operations };
-    }) (vec_capacity h.log) };
+    ghost invariant = { λ h. IsHeld (table_of h.table.now) (record { area = h.area; pass = pass_of h.reader h.rest }) (vec_capacity h.rest.log) };
 }
 
 impl<'a> Held<'a> {
@@ -83,18 +74,9 @@ impl<'a> Held<'a> {
             table,
             area: _,
             mut reader,
-            nodes,
-            log,
-            left,
-            operations,
+            rest,
         } = self;
         table.sub(&mut reader);
-        Pass {
-            reader,
-            nodes,
-            log,
-            left,
-            operations,
-        }
+        Pass { reader, rest }
     }
 }

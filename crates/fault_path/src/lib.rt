@@ -5,11 +5,13 @@
 mod fast;
 mod held;
 mod locking;
+mod notes;
 mod pass;
 mod view;
 
 pub use fast::{Fast, Miss};
 pub use held::Held;
+pub use notes::Note;
 pub use pass::Pass;
 pub use view::FaultView;
 

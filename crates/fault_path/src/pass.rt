@@ -18,6 +18,12 @@ use vma_lock::ReaderSeat;
 #[derive(Drop)]
 pub struct Pass {
     pub reader: ReaderSeat,
+    pub(crate) rest: Rest,
+}
+
+/// What a pass has beside its seat at the table of areas.
+#[derive(Drop)]
+pub(crate) struct Rest {
     pub(crate) nodes: NodeSeat,
     pub(crate) log: Vec<Seen>,
     pub(crate) left: u64,
@@ -26,14 +32,13 @@ pub struct Pass {
 
 impl Model for Pass {
     ghost use Rattle.std.specs.Prelude.{vec_capacity};
-    ghost use Rattle.fault_path.specs.Passes.{PassView, IsPass};
+    ghost use Rattle.fault_path.specs.Passes.{PassView, IsPass, pass_of};
 
     ghost Value = { PassView };
 
-    ghost view = { λ p. record { reader = p.reader; nodes = p.nodes; log = p.log.items; left = p.left; operations = p.operations } };
+    ghost view = { λ p. pass_of p.reader p.rest };
 
-    ghost invariant = { λ p.
-        IsPass (record { reader = p.reader; nodes = p.nodes; log = p.log.items; left = p.left; operations = p.operations }) (vec_capacity p.log) };
+    ghost invariant = { λ p. IsPass (pass_of p.reader p.rest) (vec_capacity p.rest.log) };
 }
 
 impl Pass {
@@ -51,13 +56,13 @@ impl Pass {
         requires few { operations < 2 ^ 32 }
         ensures { IfOk result (λ pass. pass ≡ record { reader = reader; nodes = nodes; log = []; left = operations; operations = operations }) }
     {
-        Ok(Pass {
-            reader,
+        let rest = Rest {
             nodes,
             log: Vec::with_capacity(alloc, operations as usize)?,
             left: operations,
             operations,
-        })
+        };
+        Ok(Pass { reader, rest })
     }
 
     /// Whose pass it is.
@@ -85,21 +90,21 @@ impl Pass {
     pub fn walks(&self) -> u64
         ensures { result ≡ min (walks_of self.now) (2 ^ 64 - 1) }
     {
-        self.nodes.walks()
+        self.rest.nodes.walks()
     }
 
     /// How many operations are left.
     pub fn left(&self) -> u64
         ensures { result ≡ self.now.left }
     {
-        self.left
+        self.rest.left
     }
 
     /// The reads so far, in order.
     pub fn log(&self) -> &[Seen]
         ensures { result.now ≡ self.now.log }
     {
-        self.log.as_slice()
+        self.rest.log.as_slice()
     }
 
     /// Tells what each pass keeps.
@@ -112,7 +117,7 @@ impl Pass {
         ensures rises { AllPairs (λ earlier later. version_of earlier ≤ version_of later) self.now.log }
         ensures few { length (made_by self.now) + length self.now.log + self.now.left ≤ self.now.operations }
     {
-        let _left = self.left;
+        let _left = self.rest.left;
     }
 
     /// Adds a read to the log, as one operation. The read is right in what the pass has seen, and no read before it has a
@@ -124,7 +129,7 @@ impl Pass {
         ensures { self.new ≡ record self.old { log = self.old.log ++ read ∷ []; left = self.old.left - 1 } }
     {
         self.spend();
-        self.log.push_reserved(read);
+        self.rest.log.push_reserved(read);
     }
 
     /// Takes one operation, for a call that is to be made. Tells how many entries the caller can have made at most.
@@ -133,28 +138,20 @@ impl Pass {
         ensures same { self.new ≡ record self.old { left = self.old.left - 1 } }
         ensures few { length (made_by self.old) + length self.old.log + self.old.left ≤ self.old.operations }
     {
-        self.left -= 1;
+        self.rest.left -= 1;
     }
 
     /// Ends the pass, and hands its log out.
     pub fn into_log(self) -> Vec<Seen>
         ensures { result.items ≡ self.log }
     {
-        let (_reader, log) = self.into_parts();
-        log
-    }
-
-    /// Ends the pass, and hands its seat at the table of areas and its log out. The other seat is closed for ever.
-    pub(crate) fn into_parts(self) -> (ReaderSeat, Vec<Seen>)
-        ensures { (result.0 ≡ self.reader) × (result.1.items ≡ self.log) }
-    {
-        let Pass {
-            reader,
+        let Pass { reader: _, rest } = self;
+        let Rest {
             nodes: _,
             log,
             left: _,
             operations: _,
-        } = self;
-        (reader, log)
+        } = rest;
+        log
     }
 }

@@ -6,7 +6,7 @@ ghost use Rattle.vma_lock.specs.declared.seats.ReaderSeat.{ReaderSeat as Reader}
 ghost use Rattle.vma_lock.specs.Views.{opened_view, new_reader};
 ghost use Rattle.vma_lock.specs.Seats.{table_of, IsOf, sight, view};
 ghost use Rattle.node_slots.specs.declared.seats.NodeSeat.{NodeSeat as Walker};
-ghost use Rattle.node_slots.specs.Views.{reader_view};
+ghost use Rattle.node_slots.specs.Views.{reader_view, joined_at};
 ghost use Rattle.node_slots.specs.Seats as node_seats;
 ghost use Rattle.fault_path.specs.Passes.{caller, config, seen_by, looks_of, made_by, node_size, walker, SitsAt, IsLater, AreFresh, IsNewWriter};
 ghost use Rattle.fault_path.specs.Faults.{WalksOnce, IsFast, Misses};
@@ -15,9 +15,9 @@ ghost use Rattle.fault_path.specs.Holding.{Locks, StaysAlike};
 use crate::fast::{Fast, Miss};
 use crate::held::Held;
 use crate::locking::lock_page;
-use crate::pass::Pass;
+use crate::pass::{Pass, Rest};
 use area_rules::area_verdict;
-use mm_types::{Access, Config, Files, NoMemory, Page, Seen, rows_for, slots_for};
+use mm_types::{Access, Config, NoMemory, Page, Seen, rows_for, slots_for};
 use node_slots::{NodeSeat, NodeTable, NodeWriter};
 use std::alloc::Global;
 use std::marker::Model;
@@ -29,8 +29,7 @@ use vma_lock::{ReaderSeat, VmaTable, WriterSeat};
 pub struct FaultView {
     pub(crate) table: VmaTable,
     pub(crate) nodes: NodeTable,
-    /// The files of the configuration.
-    files: Files,
+    config: Config,
 }
 
 impl Model for FaultView {
@@ -48,7 +47,7 @@ impl Model for FaultView {
       callers = (size_of v.nodes).readers;
     } };
 
-    ghost invariant = { λ v. IsViewed (config_of v.table) (size_of v.nodes) v.files };
+    ghost invariant = { λ v. IsViewed (config_of v.table) (size_of v.nodes) v.config };
 }
 
 impl FaultView {
@@ -81,11 +80,11 @@ impl FaultView {
             callers,
         )?;
         let passes = passes_of(alloc, &table, &nodes, config, seats, walkers, operations)?;
-        let files = config.files.copy(alloc)?;
+        let config = config.copy(alloc)?;
         let view = FaultView {
             table,
             nodes,
-            files,
+            config,
         };
         Ok((view, passes, writer, node_writer))
     }
@@ -106,13 +105,13 @@ impl FaultView {
             &self.table,
             &self.nodes,
             &mut pass.reader,
-            &mut pass.nodes,
+            &mut pass.rest.nodes,
             page,
         ) {
             Ok(area) => {
                 self.table.sub(&mut pass.reader);
                 Fast::Answer {
-                    verdict: area_verdict(self.files.items(), page.0, access, &area),
+                    verdict: area_verdict(self.config.files.items(), page.0, access, &area),
                     version: pass.reader.version(),
                 }
             }
@@ -129,48 +128,41 @@ impl FaultView {
     {
         let Pass {
             mut reader,
-            mut nodes,
-            log,
-            left,
-            operations,
+            mut rest,
         } = pass;
-        match lock_page(&self.table, &self.nodes, &mut reader, &mut nodes, page) {
+        match lock_page(&self.table, &self.nodes, &mut reader, &mut rest.nodes, page) {
             Ok(area) => Ok(Held {
                 table: &self.table,
                 area,
                 reader,
-                nodes,
-                log,
-                left,
-                operations,
+                rest,
             }),
-            Err(miss) => {
-                let pass = Pass {
-                    reader,
-                    nodes,
-                    log,
-                    left,
-                    operations,
-                };
-                Err((pass, miss))
-            }
+            Err(miss) => Err((Pass { reader, rest }, miss)),
         }
     }
 
-    /// Joins another pass of these tables into one, which has then seen the longer of both lists. Hands the other's log out;
-    /// its operations that are left and its turn end, and its pin is closed for ever.
+    /// Joins another pass of these tables into one, both its seats, which has then seen the longer of both lists. Hands the other's log
+    /// out; its operations that are left and its turn end, and its pin is closed for ever.
     pub fn join(&self, into: &mut Pass, other: Pass) -> Vec<Seen>
-        requires tables { (into.old.reader.seat.table_id ≡ self.now.table) × (other.reader.seat.table_id ≡ self.now.table) }
-        requires configs { config other ≡ config into.old }
+        requires { SitsAt self.now into.old × SitsAt self.now other }
         ensures later { IsLater into.old into.new }
         ensures seen { seen_by into.new ≡ longer (seen_by into.old) (seen_by other) }
         ensures looks { looks_of into.new ≡ looks_of into.old }
-        ensures same { into.new ≡ record into.old { reader = into.new.reader } }
+        ensures walker { walker into.new ≡ joined_at (walker into.old) }
+        ensures same { into.new ≡ record into.old { reader = into.new.reader; nodes = into.new.nodes } }
         ensures log { result.items ≡ other.log }
     {
+        into.facts();
         other.facts();
-        let (reader, log) = other.into_parts();
+        let Pass { reader, rest } = other;
+        let Rest {
+            nodes,
+            log,
+            left: _,
+            operations: _,
+        } = rest;
         self.table.join(&mut into.reader, reader);
+        self.nodes.join(&mut into.rest.nodes, nodes);
         log
     }
 }

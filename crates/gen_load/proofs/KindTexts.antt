@@ -1,5 +1,5 @@
 -- For `push_line`: the text of a line of each kind.
-use Rattle.std.proofs.Common.{◌≡◌, ℕ, ◌*◌, ◌/◌, ◌<◌, false, ◌++◌, codes, nat_eq, refl, ap, ◌∙◌, append_assoc, arith}
+use Rattle.std.proofs.Common.{◌≡◌, ℕ, ◌*◌, ◌/◌, ◌<◌, false, ◌++◌, codes, nat_eq, None, refl, ap, ◌∙◌, append_assoc, arith}
 use Rattle.std.specs.Fmt.{digits, decimal}
 use Rattle.std.proofs.lemmas.Bool.{cond-false, ne_eqb}
 use Rattle.std.proofs.lemmas.Fmt.{decimal_digit}
@@ -7,7 +7,7 @@ use Rattle.mm_types.specs.declared.config.TheConstants.{PAGE_SIZE}
 use Rattle.flag_table.specs.Printing.{printed}
 use Rattle.flag_table.specs.Tables.{map_flags, mremap_flags}
 use Rattle.trace_reader.specs.Fields.{prot_of_bits}
-use Rattle.gen_load.specs.LineTexts.{address_word, prot_word, call_words, op_words, text_of, line_text}
+use Rattle.gen_load.specs.LineTexts.{address_word, prot_word, call_words, op_words, line_words, text_of, line_text}
 use Rattle.gen_load.specs.Loads.{kind_of, thread_of, address_of, length_of, prot_bits_of, new_length_of, mapping, exactly, anywhere, operation, line_of}
 
 -- an address that is there
@@ -24,16 +24,16 @@ page_address : (draw : ℕ) → PAGE_SIZE * (address_of draw / PAGE_SIZE) ≡ ad
 page_address draw = omega arith
 
 -- a line that maps
-mapping_text : (thread address flags draw : ℕ) → line_text (record { number = 0; thread = thread; op = mapping address flags draw })
+mapping_text : (thread address flags draw : ℕ) → line_text (record { number = 0; thread = thread; op = mapping address flags draw; after = None })
     ≡ decimal thread ++ (codes " mmap " ++ (address_word address ++ (codes " " ++ (decimal (length_of draw) ++ (codes " "
     ++ (prot_word (prot_of_bits (prot_bits_of draw)) ++ (codes " " ++ (printed map_flags flags ++ codes " -1 0\n"))))))))
-unfolding text_of op_words call_words mapping
+unfolding text_of line_words op_words call_words mapping
 mapping_text thread address flags draw = rw (decimal_digit 0 (omega arith), decimal_digit 1 (omega arith)) (simp append_assoc)
 
 -- a line by its kind
 by_kind : (kind draw : ℕ) → kind_of draw ≡ kind
-    → line_text (line_of 0 draw) ≡ line_text (record { number = 0; thread = thread_of draw; op = operation kind draw })
-by_kind kind draw is = ap (λ (k : ℕ). line_text (record { number = 0; thread = thread_of draw; op = operation k draw })) is
+    → line_text (line_of 0 draw) ≡ line_text (record { number = 0; thread = thread_of draw; op = operation kind draw; after = None })
+by_kind kind draw is = ap (λ (k : ℕ). line_text (record { number = 0; thread = thread_of draw; op = operation k draw; after = None })) is
 
 pub exactly_text : (draw : ℕ) → kind_of draw ≡ 0 → line_text (line_of 0 draw) ≡ decimal (thread_of draw)
     ++ (codes " mmap 0x" ++ (digits 16 false (address_of draw) ++ (codes " " ++ (decimal (length_of draw) ++ (codes " "
@@ -57,26 +57,26 @@ anywhere_text draw is = by_kind 2 draw is ∙ mapping_text (thread_of draw) 0 an
 
 pub unmap_text : (draw : ℕ) → kind_of draw ≡ 3 → line_text (line_of 0 draw) ≡ decimal (thread_of draw)
     ++ (codes " munmap 0x" ++ (digits 16 false (address_of draw) ++ (codes " " ++ (decimal (length_of draw) ++ codes "\n"))))
-unfolding operation text_of op_words call_words
+unfolding operation text_of line_words op_words call_words
 unmap_text draw is = by_kind 3 draw is ∙ rw (address_word-some (address_of draw) (address_of-some draw)) (simp append_assoc)
 
 pub protect_text : (draw : ℕ) → kind_of draw ≡ 4 → line_text (line_of 0 draw) ≡ decimal (thread_of draw)
     ++ (codes " mprotect 0x" ++ (digits 16 false (address_of draw) ++ (codes " " ++ (decimal (length_of draw) ++ (codes " " ++ (prot_word (prot_of_bits (prot_bits_of draw)) ++ codes "\n"))))))
-unfolding operation text_of op_words call_words
+unfolding operation text_of line_words op_words call_words
 protect_text draw is = by_kind 4 draw is ∙ rw (address_word-some (address_of draw) (address_of-some draw)) (simp append_assoc)
 
 pub move_text : (draw : ℕ) → kind_of draw ≡ 5 → line_text (line_of 0 draw) ≡ decimal (thread_of draw)
     ++ (codes " mremap 0x" ++ (digits 16 false (address_of draw) ++ (codes " " ++ (decimal (length_of draw) ++ (codes " "
     ++ (decimal (new_length_of draw) ++ codes " MREMAP_MAYMOVE\n"))))))
-unfolding operation text_of op_words call_words printed mremap_flags
+unfolding operation text_of line_words op_words call_words printed mremap_flags
 move_text draw is = by_kind 5 draw is ∙ rw (address_word-some (address_of draw) (address_of-some draw)) (simp append_assoc)
 
 pub read_text : (draw : ℕ) → kind_of draw ≡ 6 → line_text (line_of 0 draw) ≡ decimal (thread_of draw)
     ++ (codes " fault 0x" ++ (digits 16 false (address_of draw) ++ codes " r\n"))
-unfolding operation text_of op_words
+unfolding operation text_of line_words op_words
 read_text draw is = by_kind 6 draw is ∙ rw (page_address draw, address_word-some (address_of draw) (address_of-some draw)) (simp append_assoc)
 
 pub write_text : (draw : ℕ) → kind_of draw ≡ 7 → line_text (line_of 0 draw) ≡ decimal (thread_of draw)
     ++ (codes " fault 0x" ++ (digits 16 false (address_of draw) ++ codes " w\n"))
-unfolding operation text_of op_words
+unfolding operation text_of line_words op_words
 write_text draw is = by_kind 7 draw is ∙ rw (page_address draw, address_word-some (address_of draw) (address_of-some draw)) (simp append_assoc)

@@ -11,7 +11,7 @@ use Rattle.std.proofs.lemmas.Fmt.{decimal_digit, decimal_is_IsNumeral, digits_is
 use Rattle.std.proofs.lemmas.List.Elements.{All-nil, All-cons, All-append}
 use Rattle.trace_reader.specs.declared.fault.Cause.TheVariants.{Number}
 use Rattle.trace_reader.specs.Fields.{number}
-use Rattle.trace_reader.specs.Numbers.{digits_of, number_of, thread_of}
+use Rattle.trace_reader.specs.Numbers.{digits_of, number_of, decimal_of, thread_of}
 use Rattle.gen_load.specs.LineTexts.{address_word}
 use Rattle.gen_load.proofs.PlainWords.{IsPlain, IsWord}
 
@@ -77,6 +77,9 @@ number-decimal n fits =
     ap (λ o. ok_or o Number) (cond-false (starts_with nat_eq (decimal n) (codes "0x")) (digits_of 16 16 (drop 2 (decimal n)))
     (digits_of 10 20 (decimal n)) (no_prefix (decimal n) (decimal_is_IsNumeral n fits).0.1)
     ∙ digits_of-numeral 10 20 n (decimal n) (decimal-spells n fits))
+
+pub decimal_of-decimal : (n : ℕ) → n < 2 ^ 64 → decimal_of (decimal n) ≡ Some n
+decimal_of-decimal n fits = digits_of-numeral 10 20 n (decimal n) (decimal-spells n fits)
 
 pub thread_of-decimal : (n : ℕ) → n < 64 → thread_of (decimal n) ≡ Some n
 unfolding thread_of

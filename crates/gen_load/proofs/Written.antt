@@ -3,7 +3,7 @@ use Rattle.std.proofs.Common.{◌≡◌, ℕ, suc, ◌+◌, ◌-◌, ◌<◌, �
 use Rattle.std.proofs.lemmas.List.{append-nil}
 use Rattle.std.specs.declared.alloc.AllocError.{AllocError}
 use Rattle.std.specs.Fmt.{AppendsText}
-use Rattle.gen_load.specs.LineTexts.{text_of, line_text}
+use Rattle.gen_load.specs.LineTexts.{line_words, text_of, line_text}
 use Rattle.gen_load.specs.Loads.{next_of, draw_of, line_of, lines_after, load_text}
 
 -- what was written is this text
@@ -14,7 +14,7 @@ wrote (Err error) old new text output appended is = tt
 
 -- the text of a line does not have its number
 pub line_text-number : (number draw : ℕ) → line_text (line_of number draw) ≡ line_text (line_of 0 draw)
-unfolding text_of
+unfolding text_of line_words
 line_text-number number draw = refl
 
 -- the text so far, and the lines that are left after so many

@@ -1,5 +1,5 @@
 -- The text of a line of a trace, in the form that the reader of traces accepts.
-use Rattle.std.specs.Prelude.{ℕ, ◌*◌, false, List, [], ◌∷◌, ◌++◌, codes, nat_eq, bit_or, if◌then◌else◌}
+use Rattle.std.specs.Prelude.{ℕ, ◌≡◌, ◌*◌, false, List, [], ◌∷◌, ◌++◌, codes, nat_eq, bit_or, Option, Some, None, Result, Err, if◌then◌else◌}
 use Rattle.std.specs.Fmt.{digits, decimal, signed_decimal}
 use Rattle.std.specs.List.{join_with_byte}
 use Rattle.std.specs.Str.{byte}
@@ -11,8 +11,12 @@ use Rattle.mm_types.specs.declared.call.Call.TheVariants.{Mmap, Munmap, Mprotect
 use Rattle.mm_types.specs.declared.config.TheConstants.{PAGE_SIZE}
 use Rattle.mm_types.specs.declared.flags.TheConstants.{PROT_READ, PROT_WRITE, PROT_EXEC, MREMAP_FIXED}
 use Rattle.mm_types.specs.Flags.{has_flag}
-use Rattle.flag_table.specs.Tables.{prot_flags, map_flags, mremap_flags}
+use Rattle.flag_table.specs.Tables.{HasRows, prot_flags, map_flags, mremap_flags}
 use Rattle.flag_table.specs.Printing.{printed}
+use Rattle.trace_reader.specs.Operations.{note, line_of}
+use Rattle.trace_reader.specs.Words.{words_of}
+use Rattle.trace_reader.specs.declared.fault.Cause.{Cause}
+use Rattle.trace_reader.specs.declared.fault.Cause.TheVariants.{Arity}
 use Rattle.trace_reader.specs.declared.trace.Op.{Op}
 use Rattle.trace_reader.specs.declared.trace.Op.TheVariants as ops
 use Rattle.trace_reader.specs.declared.trace.TraceLine.{TraceLine}
@@ -36,7 +40,7 @@ access_word Read = codes "r"
 access_word Write = codes "w"
 access_word Exec = codes "x"
 
--- the words of a call; a trace has none for the last three yet
+-- the words of a call; a touch has none, since no line asks for one
 unfoldable pub call_words : Call → List (List ℕ)
 call_words (Mmap args) = codes "mmap" ∷ address_word args.addr ∷ decimal args.len ∷ prot_word args.prot
     ∷ printed map_flags args.flags ∷ signed_decimal args.fd ∷ decimal args.offset ∷ []
@@ -45,19 +49,52 @@ call_words (Mprotect addr len prot) = codes "mprotect" ∷ address_word addr ∷
 call_words (Mremap old old_len new_len flags new) = codes "mremap" ∷ address_word old ∷ decimal old_len ∷ decimal new_len
     ∷ printed mremap_flags flags ∷ (if has_flag flags MREMAP_FIXED then address_word new ∷ [] else [])
 call_words (Touch page access) = []
-call_words (Brk addr) = []
-call_words (Mseal addr len flags) = []
+call_words (Brk addr) = codes "brk" ∷ address_word addr ∷ []
+call_words (Mseal addr len flags) = codes "mseal" ∷ address_word addr ∷ decimal len ∷ decimal flags ∷ []
 
 -- the words of an operation: its name, and the words of its form
 unfoldable pub op_words : Op → List (List ℕ)
 op_words (ops.Call call) = call_words call
 op_words (ops.Fault page access) = codes "fault" ∷ address_word (PAGE_SIZE * page.0) ∷ access_word access ∷ []
 op_words ops.Maps = codes "maps" ∷ []
+op_words (ops.Fork child) = codes "fork" ∷ decimal child ∷ []
 
--- the text of a line: its thread and the words of its operation, with a space between each two
+-- the word that names a line, where one is named
+abbrev pub note_words : Option ℕ → List (List ℕ)
+note_words None = []
+note_words (Some number) = (note ++ decimal number) ∷ []
+
+-- the words of a line: its thread, those of its operation, and the line that it names
+unfoldable pub line_words : TraceLine → List (List ℕ)
+line_words line = decimal line.thread ∷ (op_words line.op ++ note_words line.after)
+
+-- the text of a line: its words with a space between each two
 unfoldable pub text_of : TraceLine → List ℕ
-text_of line = join_with_byte (byte " ") (decimal line.thread ∷ op_words line.op)
+text_of line = join_with_byte (byte " ") (line_words line)
 
 -- the bytes of a line: its text, and a newline
 abbrev pub line_text : TraceLine → List ℕ
 line_text line = text_of line ++ codes "\n"
+
+-- the line of this number that words are
+abbrev pub line_of_words : ℕ → List (List ℕ) → Result TraceLine Cause
+line_of_words number [] = Err Arity
+line_of_words number (first ∷ words) = line_of number first words
+
+-- the line of this number that a text is
+abbrev pub line_read : ℕ → List ℕ → Result TraceLine Cause
+line_read number text = line_of_words number (words_of text)
+
+-- the flags of an operation have names, and an mremap has a new address only where its flags ask for one
+abbrev pub HasNames : Op → Type 0
+HasNames (ops.Call (Mmap args)) = HasRows map_flags args.flags
+HasNames (ops.Call (Munmap addr len)) = Unit {0}
+HasNames (ops.Call (Mprotect addr len prot)) = Unit {0}
+HasNames (ops.Call (Mremap old old_len new_len flags new)) =
+    HasRows mremap_flags flags × (has_flag flags MREMAP_FIXED ≡ false → new ≡ 0)
+HasNames (ops.Call (Touch page access)) = Unit {0}
+HasNames (ops.Call (Brk addr)) = Unit {0}
+HasNames (ops.Call (Mseal addr len flags)) = Unit {0}
+HasNames (ops.Fault page access) = Unit {0}
+HasNames ops.Maps = Unit {0}
+HasNames (ops.Fork child) = Unit {0}

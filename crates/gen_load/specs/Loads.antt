@@ -1,5 +1,5 @@
 -- A load: a trace of pseudo-random operations, made from a number.
-use Rattle.std.specs.Prelude.{ℕ, zero, suc, ◌+◌, ◌*◌, ◌/◌, ◌%◌, ◌^◌, List, [], ◌∷◌, ◌++◌, codes, flat_map, nat_eq, bit_or, negsuc, if◌then◌else◌}
+use Rattle.std.specs.Prelude.{ℕ, zero, suc, ◌+◌, ◌*◌, ◌/◌, ◌%◌, ◌^◌, List, [], ◌∷◌, ◌++◌, codes, flat_map, nat_eq, bit_or, negsuc, None, if◌then◌else◌}
 use Rattle.mm_types.specs.declared.area.Access.TheVariants.{Read, Write}
 use Rattle.mm_types.specs.declared.call.Call.TheVariants.{Mmap, Munmap, Mprotect, Mremap}
 use Rattle.mm_types.specs.declared.config.TheConstants.{PAGE_SIZE}
@@ -81,7 +81,7 @@ operation_of draw = operation (kind_of draw) draw
 
 -- the line of a draw, with its number in the trace
 abbrev pub line_of : ℕ → ℕ → TraceLine
-line_of number draw = record { number = number; thread = thread_of draw; op = operation_of draw }
+line_of number draw = record { number = number; thread = thread_of draw; op = operation_of draw; after = None }
 
 -- the lines of so many draws after a number, the first line of this number in the trace
 unfoldable pub lines_after : ℕ → ℕ → ℕ → List TraceLine

@@ -1,5 +1,5 @@
 -- For the methods of `Progress`: how far the callers are before the first item, after each, and at the end.
-use Rattle.std.proofs.Common.{ℕ, zero, suc, ◌≡◌, ◌+◌, ◌<◌, ◌≤◌, ◌∙◌, refl, sym, ap, subst, cond, Bool, true, false, nat_eq, List, [], ◌∷◌, ◌++◌, length, length-append, map, filter, get_or, set, replicate, slice_get, All, Bor, Option, Some, None, arith, inl, inr}
+use Rattle.std.proofs.Common.{ℕ, ◌≡◌, ◌+◌, ◌<◌, ◌≤◌, ◌∙◌, refl, sym, ap, subst, cond, Bool, true, false, nat_eq, List, [], ◌∷◌, ◌++◌, length, length-append, map, filter, get_or, set, replicate, slice_get, All, Bor, Option, Some, None, arith, inl, inr}
 use Rattle.std.specs.Prelude.{Vec, vec_len}
 use Rattle.std.specs.List.{last_or, HoldsAt}
 use Rattle.std.specs.Option.{option_map, option_copied, MatchOption}
@@ -14,10 +14,13 @@ use Rattle.history.specs.declared.items.Content.{Content}
 use Rattle.history.specs.declared.items.Content.TheVariants as contents
 use Rattle.history.specs.declared.items.Item.{Item}
 use Rattle.history.specs.declared.progress.Progress.{Progress}
+use Rattle.history.specs.declared.callers.TheConstants.{MOST_THREADS}
+use Rattle.history.specs.Threads.{counts_below}
 use Rattle.history.specs.Histories.{caller_of, lines_of, items_of, is_call, journal_of}
 use Rattle.history.specs.CallerPlaces.{ArePlaces, StandAt}
 use Rattle.history.specs.Checking.{next_line}
 use Rattle.history.specs.Walks.{lowest_after, IsProgress, HasNoneLeft, IsLowestLeft}
+use Rattle.history.proofs.Lists.{slice_get_found}
 use Rattle.history.proofs.ThreadCounts.{items_within}
 use Rattle.history.proofs.Legal.{calls}
 use Rattle.history.proofs.Placed.{count_calls, journal_append}
@@ -58,13 +61,15 @@ pub journal_within : (items : List Item) → length (journal_of items) ≤ lengt
 journal_within items = omega (arith, count_calls items, length-filter calls items, count_by-le-length calls items)
 
 -- before the first item
-pub progress_none : (lines : List TraceLine) (callers : ℕ) (progress : Progress) → ArePlaces lines callers progress.places.items
+pub progress_none : (lines : List TraceLine) (callers : ℕ) (progress : Progress) → progress.callers ≡ counts_below MOST_THREADS lines
+    → ArePlaces lines callers progress.places.items
     → progress.answered.items ≡ replicate (length progress.places.items) 0 → progress.version ≡ 0 → progress.lowest ≡ 0
     → IsProgress lines [] progress
 unfolding items_of journal_of
-progress_none lines callers progress placed none version lowest =
+progress_none lines callers progress threads placed none version lowest =
     let count : ℕ = length progress.places.items in
     record {
+      threads = threads;
       places = subst (λ (n : ℕ). ArePlaces lines n progress.places.items) (sym placed.all) placed;
       all = ap (λ (l : List ℕ). length l) none ∙ length-replicate count 0;
       answered = λ caller within. ap (λ (l : List ℕ). get_or l caller 0) none ∙ get_or-replicate count caller 0 0 within;
@@ -100,14 +105,15 @@ pub progress_more : (lines : List TraceLine) (before : List Item) (item : Item) 
     → IsProgress lines before old → next_line lines before item.caller ≡ Some line
     → item.version ≡ old.version + cond (is_call item.content) 1 0
     → new.answered.items ≡ set old.answered.items item.caller (get_or old.answered.items item.caller 0 + 1)
-    → new.places ≡ old.places → new.version ≡ item.version → new.lowest ≡ cond (is_call item.content) 0 item.caller
+    → new.places ≡ old.places → new.callers ≡ old.callers → new.version ≡ item.version → new.lowest ≡ cond (is_call item.content) 0 item.caller
     → IsProgress lines (before ++ item ∷ []) new
-progress_more lines before item line old new is next counted pushed same version lowest =
+progress_more lines before item line old new is next counted pushed same kept version lowest =
     let size : length new.places.items ≡ length old.places.items = ap (λ (v : Vec (Vec ℕ Global) Global). length v.items) same in
     let here : item.caller < length old.places.items = left_within lines before old item.caller line is next in
     let within : item.caller < length old.answered.items = omega (arith, is.all) in
     let one : ℕ → ℕ = λ caller. cond (nat_eq item.caller caller) 1 0 in
     record {
+      threads = kept ∙ is.threads;
       places = subst (λ (v : Vec (Vec ℕ Global) Global). ArePlaces lines (length v.items) v.items) (sym same) is.places;
       all = ap (λ (l : List ℕ). length l) pushed ∙ length-set old.answered.items item.caller (get_or old.answered.items item.caller 0 + 1)
           ∙ is.all ∙ sym size;
@@ -259,11 +265,6 @@ own_count lines callers places caller own placed owns =
     let same : length (map (slice_get lines) own.items) ≡ length (map Some (lines_of lines caller)) =
     ap (λ (l : List (Option TraceLine)). length l) (placed.stand caller own owns) in
     omega (arith, own.ok.0, same, length-map own.items (slice_get lines), length-map (lines_of lines caller) Some)
-
-slice_get_found : {X : Type 0} (xs : List X) (place : ℕ) → place < length xs → (x : X) × (slice_get xs place ≡ Some x)
-slice_get_found [] place within = absurd (omega arith)
-slice_get_found (x ∷ xs) zero within = (x, refl)
-slice_get_found (x ∷ xs) (suc place) within = slice_get_found xs place (omega arith)
 
 none_past : (lines : List TraceLine) (before : List Item) (progress : Progress) (caller : ℕ) → IsProgress lines before progress
     → length progress.places.items ≤ caller → length (items_of before caller) ≡ length (lines_of lines caller)

@@ -14,7 +14,7 @@ use Rattle.history.specs.declared.items.Content.{Content}
 use Rattle.history.specs.declared.items.Content.TheVariants as contents
 use Rattle.history.specs.declared.items.Item.{Item}
 use Rattle.history.specs.Histories.{items_of, is_call, entry_of, journal_of, gather}
-use Rattle.history.specs.Runs.{entry_items, content_of, read_item, log_items, logs_items, history_of, own_of, IsRun}
+use Rattle.history.specs.Runs.{entry_items, content_of, read_item, log_items, logs_items, history_of, own_of, IsRun, AreMade, IsLegalAfter, IsReadRightAfter}
 use Rattle.history.proofs.SerialOrder.{insert_item, BeginsAt, inserted_first}
 use Rattle.history.proofs.Sorts.{Small, gather_by_caller, gather_calls}
 use Rattle.history.proofs.Steps.{entry_item, items_append, no_items, read_is_no_call}
@@ -176,11 +176,23 @@ entries_below most version (first ∷ entries) others =
     All-cons (λ (item : Item). item.caller < most) (entry_item version first) (entry_items (version + 1) entries) below
     (entries_below most (version + 1) entries (λ caller above. (rest_none caller first entries (others caller above)).1))
 
--- What makes each item of a history right at its place: a legal journal, reads that are right in it, and callers of 32 bits.
-pub record IsGathered (config : Config) (journal : List Entry) (logs : List (List Seen)) : Type 0 where
-  pub legal : IsLegalJournal config journal
-  pub right : (caller : ℕ) (log : List Seen) → slice_get logs caller ≡ Some log → All (IsReadRight config journal) log
+-- What makes each item of a history right at its place, in a space that began with some entries: a legal journal of calls that lines make,
+-- reads that are right in it, and callers of 32 bits.
+pub record IsGathered (config : Config) (start journal : List Entry) (logs : List (List Seen)) : Type 0 where
+  pub legal : IsLegalAfter config start journal
+  pub made : AreMade config start journal
+  pub right : (caller : ℕ) (log : List Seen) → slice_get logs caller ≡ Some log → All (IsReadRightAfter config start journal) log
   pub small : All Small (entry_items 0 journal ++ logs_items 0 logs)
+
+-- in a space that began empty these are what they are in its journal
+pub legal_from_opening : (config : Config) (journal : List Entry) → IsLegalJournal config journal → IsLegalAfter config [] journal
+legal_from_opening config journal legal = record { replies = legal.replies }
+
+pub right_from_opening : (config : Config) (journal : List Entry) (log : List Seen) → All (IsReadRight config journal) log
+    → All (IsReadRightAfter config [] journal) log
+right_from_opening config journal log all =
+    All-weaker (IsReadRight config journal) (IsReadRightAfter config [] journal)
+    (λ read right. record { right = right.right; within = right.within }) log all
 
 -- callers are small where there are few of them
 pub small_items : (most : ℕ) (journal : List Entry) (logs : List (List Seen)) → most ≤ 2 ^ 32 → length logs ≤ most
@@ -192,11 +204,12 @@ small_items most journal logs few all others =
     let within : place < length logs = slice_get_within logs place log found in
     all_log Small (0 + place) log (λ k d below. omega arith)))
 
-pub run_gathered : (config : Config) (lines : List TraceLine) (callers : ℕ) (journal : List Entry) (logs : List (List Seen))
-    → IsRun config lines callers journal logs
-    → callers ≤ 2 ^ 32 → IsGathered config journal logs
-run_gathered config lines callers journal logs run few = record {
+pub run_gathered : (config : Config) (start : List Entry) (lines : List TraceLine) (callers : ℕ) (journal : List Entry) (logs : List (List Seen))
+    → IsRun config start lines callers journal logs
+    → callers ≤ 2 ^ 32 → IsGathered config start journal logs
+run_gathered config start lines callers journal logs run few = record {
   legal = run.legal;
+  made = run.made;
   right = run.right;
   small = small_items callers journal logs few (omega (arith, run.all)) run.others;
 }

@@ -1,5 +1,8 @@
+pub mod Lists
 pub mod CallerOrder
+pub mod Calls
 pub mod Serial
+pub mod Numbers
 pub mod SerialOrder
 pub mod ThreadCounts
 pub mod Sorts
@@ -7,11 +10,14 @@ pub mod Gathers
 pub mod Steps
 pub mod Legal
 pub mod Placed
+pub mod Naming
 pub mod Finished
+pub mod Touches
 pub mod Labels
 pub mod Orders
 pub mod Merging
 pub mod Regrouping
 pub mod Placing
 pub mod Advances
+pub mod Told
 pub mod Walking

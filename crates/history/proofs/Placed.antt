@@ -3,21 +3,21 @@ use Rattle.std.proofs.Common.{ℕ, zero, suc, ◌≡◌, ◌+◌, ◌-◌, ◌*�
 use Rattle.std.proofs.lemmas.Bool.{true≢false, cases_Bool, cases_order, cond-true, cond-false}
 use Rattle.std.proofs.lemmas.List.{take_at, get_or_append_left, get_or_at}
 use Rattle.std.proofs.lemmas.List.Elements.{All-nil, All-cons, All-append, All-filter, All-weaker, filter-append, filter_map-append}
-use Rattle.std.proofs.lemmas.Option.{slice_get_within, get_or_from_slice_get}
 use Rattle.mm_types.specs.declared.call.Entry.{Entry}
 use Rattle.mm_types.specs.declared.call.Seen.{Seen}
 use Rattle.mm_types.specs.declared.call.Seen.TheVariants as reads
 use Rattle.mm_types.specs.declared.config.Config.{Config}
-use Rattle.area_rules.specs.Steps.{step, after, IsLegalJournal}
-use Rattle.area_rules.specs.Journals.{IsReadRight}
+use Rattle.area_rules.specs.Steps.{step, after}
 use Rattle.stable_sort.proofs.Sorting.{Rises, Rises-sort_by}
 use Rattle.history.specs.declared.items.Content.{Content}
 use Rattle.history.specs.declared.items.Content.TheVariants as contents
 use Rattle.history.specs.declared.items.Item.{Item}
-use Rattle.history.specs.Histories.{is_call, entry_of, journal_of, IsRight}
-use Rattle.history.specs.Runs.{entry_items, read_item, logs_items, history_of, place_key}
+use Rattle.history.specs.Histories.{asks_for, is_call, call_of, entry_of, journal_of}
+use Rattle.history.specs.Runs.{entry_items, read_item, logs_items, history_of, place_key, AreMade, IsLegalAfter, IsReadRightAfter}
+use Rattle.history.proofs.Lists.{split_at, at_place}
 use Rattle.history.proofs.Sorts.{Small, gather_is_sort}
 use Rattle.history.proofs.Gathers.{all_gather}
+use Rattle.history.proofs.Calls.{fault_call, IsAnswer}
 use Rattle.history.proofs.Steps.{entry_item}
 use Rattle.history.proofs.Legal.{calls, entries_at, entries_length, all_log, all_logs, IsGathered, history_calls, history_journal}
 
@@ -91,16 +91,16 @@ slice_get_middle : {X : Type 0} (xs : List X) (y : X) (ys : List X) → slice_ge
 slice_get_middle [] y ys = refl
 slice_get_middle (x ∷ xs) y ys = slice_get_middle xs y ys
 
--- an item stands at its version and is right after the journal before it
-pub record IsPlaced (config : Config) (before : List Item) (item : Item) : Type 0 where
+-- an item stands at its version and is the answer after the journal before it
+pub record IsPlaced (config : Config) (start : List Entry) (before : List Item) (item : Item) : Type 0 where
   pub version : item.version ≡ length (journal_of before) + (if is_call item.content then 1 else 0)
-  pub right : IsRight config (journal_of before) item.content
+  pub right : IsAnswer config (start ++ journal_of before) item.content
 
 -- a call stands at its place of the journal
-pub call_at : (config : Config) (journal : List Entry) (before : List Item) (item : Item) (rest : List Item) → IsLegalJournal config journal
+pub call_at : (config : Config) (start journal : List Entry) (before : List Item) (item : Item) (rest : List Item) → IsLegalAfter config start journal → AreMade config start journal
     → journal_of (before ++ item ∷ rest) ≡ journal → filter calls (before ++ item ∷ rest) ≡ entry_items 0 journal → is_call item.content ≡ true
-    → IsPlaced config before item
-call_at config journal before item rest legal entries whole call =
+    → IsPlaced config start before item
+call_at config start journal before item rest legal made entries whole call =
     let front : List Item = filter calls before in
     let behind : List Item = filter calls rest in
     let place : ℕ = length (journal_of before) in
@@ -112,12 +112,15 @@ call_at config journal before item rest legal entries whole call =
     ∙ slice_get_middle front item behind in
     let at : (entry : Entry) × (slice_get journal (length front) ≡ Some entry) × (entry_item (0 + length front) entry ≡ item) =
     entries_at 0 journal (length front) item found in
-    let reply : at.0.reply ≡ (step config (after config (take (length front) journal)) at.0.call).reply = legal.replies (length front) at.0 at.1 in
+    let reply : at.0.reply ≡ (step config (after config (start ++ take (length front) journal)) at.0.call).reply = legal.replies (length front) at.0 at.1 in
     let so_far : take (length front) journal ≡ journal_of before = ap (λ (n : ℕ). take n journal) (sym count)
     ∙ sym (journal_before journal before (item ∷ rest) entries) in
-    let right : IsRight config (journal_of before) (contents.Called at.0.call at.0.reply) =
-    reply ∙ ap (λ (j : List Entry). (step config (after config j) at.0.call).reply) so_far in
-    subst (λ (x : Item). IsPlaced config before x) at.2 (record { version = omega (arith, count); right = right })
+    let right : IsAnswer config (start ++ journal_of before) (contents.Called at.0.call at.0.reply) = (
+      ap (λ (j : List Entry). call_of config (after config (start ++ j)) (asks_for at.0.call)) (sym so_far)
+          ∙ made (length front) at.0 at.1,
+      reply ∙ ap (λ (j : List Entry). (step config (after config (start ++ j)) at.0.call).reply) so_far,
+    ) in
+    subst (λ (x : Item). IsPlaced config start before x) at.2 (record { version = omega (arith, count); right = right })
 
 -- a read stands at its version
 pub read_at : (journal : List Entry) (before : List Item) (item : Item) (rest : List Item)
@@ -177,14 +180,15 @@ read_at journal before item rest whole read parts all_calls within small =
     first_behind front (x ∷ behind) d some = get_or_at front x behind d (length front) refl
 
 -- what is so of an item of a gathered history that is a read
-abbrev pub ReadRight : Config → List Entry → Item → Type 0
-ReadRight config journal item =
-    is_call item.content ≡ false → (item.version ≤ length journal) × IsRight config (take item.version journal) item.content
+abbrev pub ReadRight : Config → List Entry → List Entry → Item → Type 0
+ReadRight config start journal item = is_call item.content ≡ false
+    → (item.version ≤ length journal) × IsAnswer config (start ++ take item.version journal) item.content
 
-read_right : (config : Config) (journal : List Entry) (caller : ℕ) (read : Seen) → IsReadRight config journal read
-    → ReadRight config journal (read_item caller read)
-read_right config journal caller (reads.Fault version page access verdict) right = λ no_call. (right.within, right.right)
-read_right config journal caller (reads.Maps version list) right = λ no_call. (right.within, right.right)
+read_right : (config : Config) (start journal : List Entry) (caller : ℕ) (read : Seen) → IsReadRightAfter config start journal read
+    → ReadRight config start journal (read_item caller read)
+read_right config start journal caller (reads.Fault version page access verdict) right =
+    λ no_call. (right.within, (fault_call config (start ++ take version journal) version page access verdict right.right, right.right.1))
+read_right config start journal caller (reads.Maps version list) right = λ no_call. (right.within, right.right)
 
 entries_are_calls : (version : ℕ) (journal : List Entry) → All (λ y. is_call y.content ≡ true) (entry_items version journal)
 unfolding entry_items
@@ -193,18 +197,18 @@ entries_are_calls version (first ∷ entries) =
     All-cons (λ (y : Item). is_call y.content ≡ true) (entry_item version first) (entry_items (version + 1) entries) refl
     (entries_are_calls (version + 1) entries)
 
-reads_right : (config : Config) (journal : List Entry) (logs : List (List Seen)) → IsGathered config journal logs
-    → All (ReadRight config journal) (history_of journal logs)
+reads_right : (config : Config) (start journal : List Entry) (logs : List (List Seen)) → IsGathered config start journal logs
+    → All (ReadRight config start journal) (history_of journal logs)
 unfolding history_of
-reads_right config journal logs run =
-    all_gather (ReadRight config journal) (entry_items 0 journal ++ logs_items 0 logs)
-    (All-append (ReadRight config journal) (entry_items 0 journal) (logs_items 0 logs)
-    (All-weaker (λ (y : Item). is_call y.content ≡ true) (ReadRight config journal) (λ y call. λ read. absurd (true≢false (sym call ∙ read)))
+reads_right config start journal logs run =
+    all_gather (ReadRight config start journal) (entry_items 0 journal ++ logs_items 0 logs)
+    (All-append (ReadRight config start journal) (entry_items 0 journal) (logs_items 0 logs)
+    (All-weaker (λ (y : Item). is_call y.content ≡ true) (ReadRight config start journal) (λ y call. λ read. absurd (true≢false (sym call ∙ read)))
     (entry_items 0 journal) (entries_are_calls 0 journal))
-    (all_logs (ReadRight config journal) 0 logs (λ place log found.
-    all_log (ReadRight config journal) (0 + place) log
-    (All-weaker (IsReadRight config journal) (λ read. ReadRight config journal (read_item (0 + place) read))
-    (λ read right. read_right config journal (0 + place) read right) log (run.right place log found)))))
+    (all_logs (ReadRight config start journal) 0 logs (λ place log found.
+    all_log (ReadRight config start journal) (0 + place) log
+    (All-weaker (IsReadRightAfter config start journal) (λ read. ReadRight config start journal (read_item (0 + place) read))
+    (λ read right. read_right config start journal (0 + place) read right) log (run.right place log found)))))
 
 pub history_rises : (journal : List Entry) (logs : List (List Seen)) → All Small (entry_items 0 journal ++ logs_items 0 logs)
     → Rises place_key 0 (history_of journal logs)
@@ -218,22 +222,10 @@ history_small : (journal : List Entry) (logs : List (List Seen)) → All Small (
 unfolding history_of
 history_small journal logs small = all_gather Small (entry_items 0 journal ++ logs_items 0 logs) small
 
--- a list, as what stands before a place, the element there, and what stands after it
-pub split_at : {X : Type 0} (xs : List X) (place : ℕ) (x : X) → slice_get xs place ≡ Some x → (rest : List X) × (take place xs ++ x ∷ rest ≡ xs)
-split_at [] place x found = absurd (cc)
-split_at {X} (first ∷ xs) zero x found =
-    let is : first ≡ x = cc in (xs, ap (λ (y : X). y ∷ xs) (sym is))
-split_at {X} (first ∷ xs) (suc place) x found =
-    let later = split_at xs place x found in (later.0, ap (λ (l : List X). first ∷ l) later.1)
-
-pub at_place : {X : Type 0} (P : X → Type 0) (xs : List X) (place : ℕ) (x : X) → All P xs → slice_get xs place ≡ Some x → P x
-at_place P xs place x all found =
-    subst P (get_or_from_slice_get xs place x x found) (all place x (slice_get_within xs place x found))
-
 -- each item of a gathered history is placed
-pub placed : (config : Config) (journal : List Entry) (logs : List (List Seen)) → IsGathered config journal logs
-    → (place : ℕ) (item : Item) → slice_get (history_of journal logs) place ≡ Some item → IsPlaced config (take place (history_of journal logs)) item
-placed config journal logs run place item found =
+pub placed : (config : Config) (start journal : List Entry) (logs : List (List Seen)) → IsGathered config start journal logs
+    → (place : ℕ) (item : Item) → slice_get (history_of journal logs) place ≡ Some item → IsPlaced config start (take place (history_of journal logs)) item
+placed config start journal logs run place item found =
     let items : List Item = history_of journal logs in
     let before : List Item = take place items in
     let split : (rest : List Item) × (before ++ item ∷ rest ≡ items) = split_at items place item found in
@@ -241,12 +233,12 @@ placed config journal logs run place item found =
     let entries : journal_of (before ++ item ∷ rest) ≡ journal = ap journal_of split.1 ∙ history_journal journal logs run.small in
     let whole : filter calls (before ++ item ∷ rest) ≡ entry_items 0 journal = ap (filter calls) split.1 ∙ history_calls journal logs run.small in
     elim (cases_Bool (is_call item.content)) [
-      | inl call ↦ call_at config journal before item rest run.legal entries whole call
+      | inl call ↦ call_at config start journal before item rest run.legal run.made entries whole call
       | inr read ↦
           let parts : Parts before item rest =
           (rises_parts 0 before item rest (subst (λ (l : List Item). Rises place_key 0 l) (sym split.1) (history_rises journal logs run.small))).0 in
-          let right : (item.version ≤ length journal) × IsRight config (take item.version journal) item.content =
-          at_place (ReadRight config journal) items place item (reads_right config journal logs run) found read in
+          let right : (item.version ≤ length journal) × IsAnswer config (start ++ take item.version journal) item.content =
+          at_place (ReadRight config start journal) items place item (reads_right config start journal logs run) found read in
           let small : Small item = at_place Small items place item (history_small journal logs run.small) found in
           let version : item.version ≡ length (journal_of before) =
           read_at journal before item rest whole read parts (entries_are_calls 0 journal) right.0 small in
@@ -254,7 +246,7 @@ placed config journal logs run place item found =
           ap (λ (n : ℕ). take n journal) version ∙ sym (journal_before journal before (item ∷ rest) entries) in
           record {
             version = version ∙ sym (no_more (length (journal_of before))) ∙ ap (λ (t : Bool). length (journal_of before) + cond t 1 0) (sym read);
-            right = subst (λ (j : List Entry). IsRight config j item.content) so_far right.1;
+            right = subst (λ (j : List Entry). IsAnswer config (start ++ j) item.content) so_far right.1;
           }
     ]
   where

@@ -6,11 +6,10 @@ use Rattle.std.proofs.lemmas.List.Elements.{All-nil, All-cons, All-append, All-f
 use Rattle.mm_types.specs.declared.call.Entry.{Entry}
 use Rattle.mm_types.specs.declared.call.Seen.{Seen}
 use Rattle.mm_types.specs.declared.call.Seen.TheVariants as reads
-use Rattle.trace_reader.specs.declared.trace.Op.TheVariants as ops
 use Rattle.area_rules.specs.Journals.{calls_by, version_of}
 use Rattle.history.specs.declared.items.Content.TheVariants as contents
 use Rattle.history.specs.declared.items.Item.{Item}
-use Rattle.history.specs.Histories.{items_of, op_of, is_call, gather}
+use Rattle.history.specs.Histories.{items_of, asks_for, op_of, is_call, gather}
 use Rattle.history.specs.Runs.{entry_items, content_of, read_item, log_items, own_of, ops_of}
 use Rattle.history.proofs.Gathers.{Before, After, gather_last, higher_after, call_before, read_before}
 
@@ -168,7 +167,7 @@ ops_more xs x = map_push (λ (item : Item). op_of item.content) xs x
 -- of operations
 pub ops_call : (caller : ℕ) (old rest : List Entry) (log : List Seen) (entry : Entry) → calls_by caller rest ≡ []
     → All (λ read. version_of read ≤ length old) log → entry.caller ≡ caller
-    → ops_of (own_of caller ((old ++ rest) ++ entry ∷ []) log) ≡ ops_of (own_of caller old log) ++ ops.Call entry.call ∷ []
+    → ops_of (own_of caller ((old ++ rest) ++ entry ∷ []) log) ≡ ops_of (own_of caller old log) ++ asks_for entry.call ∷ []
 ops_call caller old rest log entry none within own =
     ap ops_of (own_call caller old rest log entry none within own) ∙ ops_more (own_of caller old log) (entry_item (0 + length (old ++ rest)) entry)
 

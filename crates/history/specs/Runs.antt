@@ -1,17 +1,21 @@
 -- Finished runs: what callers did, as items of a history.
-use Rattle.std.specs.Prelude.{ℕ, ◌≡◌, ◌≤◌, ◌+◌, ◌*◌, ◌^◌, if◌then◌else◌, List, [], ◌∷◌, ◌++◌, length, map, slice_get, Some, All}
+use Rattle.std.specs.Prelude.{ℕ, ◌≡◌, ◌≤◌, ◌+◌, ◌*◌, ◌^◌, if◌then◌else◌, List, [], ◌∷◌, ◌++◌, length, map, take, slice_get, Some, All}
+use Rattle.mm_types.specs.declared.call.Call.{Call}
+use Rattle.mm_types.specs.declared.call.Call.TheVariants.{Mmap, Munmap, Mprotect, Mremap, Touch, Brk, Mseal}
 use Rattle.mm_types.specs.declared.call.Entry.{Entry}
+use Rattle.mm_types.specs.declared.call.Reply.{Reply}
+use Rattle.mm_types.specs.declared.call.Reply.TheVariants.{Addr, Zero, Refused, Grown}
 use Rattle.mm_types.specs.declared.call.Seen.{Seen}
 use Rattle.mm_types.specs.declared.call.Seen.TheVariants as reads
 use Rattle.mm_types.specs.declared.config.Config.{Config}
 use Rattle.trace_reader.specs.declared.trace.Op.{Op}
 use Rattle.trace_reader.specs.declared.trace.TraceLine.{TraceLine}
-use Rattle.area_rules.specs.Steps.{IsLegalJournal}
-use Rattle.area_rules.specs.Journals.{calls_by, version_of, IsReadRight}
+use Rattle.area_rules.specs.Steps.{step, after}
+use Rattle.area_rules.specs.Journals.{calls_by, version_of, IsReadAfter}
 use Rattle.history.specs.declared.items.Content.{Content}
 use Rattle.history.specs.declared.items.Content.TheVariants as contents
 use Rattle.history.specs.declared.items.Item.{Item}
-use Rattle.history.specs.Histories.{items_of, lines_of, op_of, is_call, gather}
+use Rattle.history.specs.Histories.{items_of, lines_of, read_as, asks_for, op_of, is_call, call_of, gather}
 
 -- the items of the entries of a journal that goes on from a version; an entry's version counts the entry itself
 unfoldable pub entry_items : ℕ → List Entry → List Item
@@ -51,15 +55,65 @@ ops_of items = map (λ item. op_of item.content) items
 
 -- what lines ask for
 abbrev pub asked : List TraceLine → List Op
-asked lines = map (λ line. line.op) lines
+asked lines = map (λ line. read_as line.op) lines
 
--- A finished run of the lines of a trace by so many callers: the journal is legal, there is a log for each caller whose reads are right in the
--- journal, what each caller did is its lines, in order, and nobody else did anything or has a line.
-pub record IsRun (config : Config) (lines : List TraceLine) (callers : ℕ) (journal : List Entry) (logs : List (List Seen)) : Type 0 where
-  pub legal : IsLegalJournal config journal
+-- in a space that began with some entries, the operation of each entry behind them makes that call there
+abbrev pub AreMade : Config → List Entry → List Entry → Type 0
+AreMade config start journal = (place : ℕ) (entry : Entry) → slice_get journal place ≡ Some entry
+    → call_of config (after config (start ++ take place journal)) (asks_for entry.call) ≡ Some entry.call
+
+-- an entry is no touch, or one that grew
+abbrev pub HasGrown : Entry → Type 0
+HasGrown entry = grew entry.call entry.reply
+  where
+    grown : Reply → Type 0
+    grown (Addr addr) = ⊥
+    grown Zero = ⊥
+    grown (Refused errno) = ⊥
+    grown (Grown area index) = Unit {0}
+
+    grew : Call → Reply → Type 0
+    grew (Mmap args) reply = Unit {0}
+    grew (Munmap addr len) reply = Unit {0}
+    grew (Mprotect addr len prot) reply = Unit {0}
+    grew (Mremap old old_len new_len flags new) reply = Unit {0}
+    grew (Touch page access) reply = grown reply
+    grew (Brk addr) reply = Unit {0}
+    grew (Mseal addr len flags) reply = Unit {0}
+
+-- each entry behind those that a space began with has the step's reply
+pub record IsLegalAfter (config : Config) (start journal : List Entry) : Type 0 where
+  pub replies : (place : ℕ) (entry : Entry) → slice_get journal place ≡ Some entry
+      → entry.reply ≡ (step config (after config (start ++ take place journal)) entry.call).reply
+
+-- a read is right behind the entries that a space began with, and its version counts from there
+pub record IsReadRightAfter (config : Config) (start journal : List Entry) (read : Seen) : Type 0 where
+  pub right : IsReadAfter config (start ++ take (version_of read) journal) read
+  pub within : version_of read ≤ length journal
+
+-- an item comes after a call where it has seen it, and where it is a call itself has a later place
+abbrev pub ComesAfter : Item → Item → Type 0
+ComesAfter said heard = said.version + (if is_call heard.content then 1 else 0) ≤ heard.version
+
+-- where a line names a line, what its caller did for it comes after what the other's caller did for that one
+abbrev pub AreTold : List TraceLine → List Entry → List (List Seen) → Type 0
+AreTold lines journal logs = (caller place : ℕ) (log : List Seen) (item : Item) (line : TraceLine) (number : ℕ)
+    → slice_get logs caller ≡ Some log → slice_get (own_of caller journal log) place ≡ Some item
+    → slice_get (lines_of lines caller) place ≡ Some line → line.after ≡ Some number
+    → (teller there : ℕ) (other : List Seen) (said : Item) (named : TraceLine)
+    → slice_get logs teller ≡ Some other → slice_get (own_of teller journal other) there ≡ Some said
+    → slice_get (lines_of lines teller) there ≡ Some named → named.number ≡ number → ComesAfter said item
+
+-- A finished run of the lines of a trace by so many callers, in a space that began with some entries: behind these the journal is legal and
+-- the operation of each entry makes it there, there is a log for each caller whose reads are right in the journal, what each caller did is
+-- its lines, in order, what a line names was done before, and nobody else did anything or has a line.
+pub record IsRun (config : Config) (start : List Entry) (lines : List TraceLine) (callers : ℕ) (journal : List Entry) (logs : List (List Seen)) : Type 0 where
+  pub legal : IsLegalAfter config start journal
+  pub made : AreMade config start journal
   pub all : length logs ≡ callers
-  pub right : (caller : ℕ) (log : List Seen) → slice_get logs caller ≡ Some log → All (IsReadRight config journal) log
+  pub right : (caller : ℕ) (log : List Seen) → slice_get logs caller ≡ Some log → All (IsReadRightAfter config start journal) log
   pub done : (caller : ℕ) (log : List Seen) → slice_get logs caller ≡ Some log → ops_of (own_of caller journal log) ≡ asked (lines_of lines caller)
+  pub told : AreTold lines journal logs
   pub others : (caller : ℕ) → callers ≤ caller → calls_by caller journal ≡ []
   pub no_lines : (caller : ℕ) → callers ≤ caller → lines_of lines caller ≡ []
 

@@ -1,22 +1,28 @@
 -- No public clause cites what stands here: what `check` keeps while it walks over the items of a history.
-use Rattle.std.specs.Prelude.{ℕ, ◌≡◌, ◌+◌, ◌-◌, ◌^◌, ◌<◌, ◌≤◌, false, if◌then◌else◌, List, length, take, slice_index, All, Option, Some, None, IsSomeAnd}
+use Rattle.std.specs.Prelude.{ℕ, ◌≡◌, ◌+◌, ◌-◌, ◌^◌, ◌<◌, ◌≤◌, false, if◌then◌else◌, List, ◌++◌, length, take, slice_index, All, Option, Some, None, IfSome, IsSomeAnd}
 use Rattle.std.specs.List.{last_or}
 use Rattle.mm_types.specs.declared.area.Record.{Record}
+use Rattle.mm_types.specs.declared.call.Entry.{Entry}
 use Rattle.mm_types.specs.declared.config.Config.{Config}
 use Rattle.trace_reader.specs.declared.trace.TraceLine.{TraceLine}
+use Rattle.trace_reader.specs.Values.{AreNumbered}
 use Rattle.area_rules.specs.Tables.{AddressSpace}
 use Rattle.area_rules.specs.Steps.{after}
+use Rattle.sys_calls.specs.Plain.{PlainView}
 use Rattle.history.specs.declared.answers.Answer.{Answer}
 use Rattle.history.specs.declared.answers.Answer.TheVariants as answers
 use Rattle.history.specs.declared.answers.CheckFault.{CheckFault}
 use Rattle.history.specs.declared.answers.CheckFault.TheVariants as faults
 use Rattle.history.specs.declared.answers.Expected.{Expected}
 use Rattle.history.specs.declared.answers.Expected.TheVariants as expected
+use Rattle.history.specs.declared.callers.TheConstants.{MOST_THREADS}
+use Rattle.history.specs.declared.checking.Case.{Case}
 use Rattle.history.specs.declared.checking.Walk.{Walk}
 use Rattle.history.specs.declared.items.Item.{Item}
 use Rattle.history.specs.declared.progress.Progress.{Progress}
-use Rattle.history.specs.Histories.{items_of, lines_of, journal_of, is_call, op_of, space_after}
+use Rattle.history.specs.Histories.{items_of, lines_of, journal_of, is_call, read_as, op_of, space_after, StandsAmong}
 use Rattle.history.specs.CallerPlaces.{ArePlaces}
+use Rattle.history.specs.Threads.{counts_below}
 use Rattle.history.specs.Checking.{AreGood, IsRefused}
 
 -- what is expected, where a list is this one
@@ -33,6 +39,7 @@ lowest_after (Some prior) = if is_call prior.content then 0 else prior.caller
 
 -- the callers are as far as some items say, each of which is of a caller and answers one of its lines
 pub record IsProgress (lines : List TraceLine) (before : List Item) (progress : Progress) : Type 0 where
+  pub threads : progress.callers ≡ counts_below MOST_THREADS lines
   pub places : ArePlaces lines (length progress.places.items) progress.places.items
   pub all : length progress.answered.items ≡ length progress.places.items
   pub answered : (caller : ℕ) → caller < length progress.places.items → slice_index progress.answered.items caller ≡ length (items_of before caller)
@@ -41,11 +48,11 @@ pub record IsProgress (lines : List TraceLine) (before : List Item) (progress : 
   pub few : (caller : ℕ) → length (items_of before caller) ≤ length (lines_of lines caller)
   pub callers : All (λ item. item.caller < length progress.places.items) before
 
--- an item can stand next, where this is the next line of its caller
+-- an item has the version of its moment, goes after the reads before it, and is what a line asks for
 pub record IsNext (progress : Progress) (line : Option TraceLine) (item : Item) : Type 0 where
   pub version : item.version ≡ progress.version + (if is_call item.content then 1 else 0)
   pub order : is_call item.content ≡ false → progress.lowest ≤ item.caller
-  pub asked : IsSomeAnd line (λ line. line.op ≡ op_of item.content)
+  pub asked : IsSomeAnd line (λ line. read_as line.op ≡ op_of item.content)
 
 -- no caller has a line left
 abbrev pub HasNoneLeft : List TraceLine → List Item → Type 0
@@ -61,16 +68,28 @@ abbrev pub space_after_line : Config → AddressSpace → Option TraceLine → A
 space_after_line config space None = space
 space_after_line config space (Some line) = space_after config space line.op
 
+-- the line that a line names, if there is one and it names one, is among some items
+abbrev pub IsTold : List TraceLine → List Item → Option TraceLine → Type 0
+IsTold lines before line = IfSome line (λ line. IfSome line.after (StandsAmong lines before))
+
+-- a space began with some entries
+pub record HasBegun (config : Config) (start : List Entry) (begun : PlainView) : Type 0 where
+  pub opened : begun.config ≡ config
+  pub space : begun.space ≡ after config start
+  pub objects : begun.space.objects ≤ length config.files + length start
+
 -- a walk has come to a place of a history, and each item before it is good
-pub record IsWalked (config : Config) (lines : List TraceLine) (items : List Item) (place : ℕ) (walk : Walk) : Type 0 where
-  pub progress : IsProgress lines (take place items) walk.progress
-  pub opened : walk.space.config ≡ config
-  pub space : walk.space.space ≡ after config (journal_of (take place items))
-  pub objects : walk.space.space.objects ≤ length config.files + walk.progress.version
-  pub room : length config.files + length lines < 2 ^ 32 - 1
-  pub good : AreGood config lines items place
+pub record IsWalked (case : Case) (place : ℕ) (walk : Walk) : Type 0 where
+  pub progress : IsProgress case.lines.now (take place case.items.now) walk.progress
+  pub opened : walk.space.config ≡ case.config.now
+  pub space : walk.space.space ≡ after case.config.now (case.start.now ++ journal_of (take place case.items.now))
+  pub objects : walk.space.space.objects ≤ length case.config.now.files + length case.start.now + walk.progress.version
+  pub room : length case.config.now.files + length case.start.now + length case.lines.now < 2 ^ 32 - 1
+  pub numbered : AreNumbered case.lines.now
+  pub threads : All (λ line. line.thread < MOST_THREADS) case.lines.now
+  pub good : AreGood case.config.now case.start.now case.lines.now case.items.now place
 
 -- a history was refused rightly, or memory ran out
-abbrev pub IsTold : Config → List TraceLine → List Item → CheckFault → Type 0
-IsTold config lines items (faults.Bad bad) = IsRefused config lines items bad
-IsTold config lines items faults.NoMemory = Unit {0}
+abbrev pub IsToldRightly : Case → CheckFault → Type 0
+IsToldRightly case (faults.Bad bad) = IsRefused case.config.now case.start.now case.lines.now case.items.now bad
+IsToldRightly case faults.NoMemory = Unit {0}

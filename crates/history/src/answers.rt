@@ -18,8 +18,9 @@ pub enum Answer {
     Nothing,
 }
 
-/// The first item of a history that is bad, or its end, where lines are left: its place, counted from 0, and what was expected there
-/// and what was found.
+/// The first item of a history that is bad, or its end, where lines are left: its place, counted from 1, what was expected there and what
+/// was found. Nothing is expected where the item cannot stand there; else what is expected is the right answer, and not what was found.
+/// At the end nothing is found, and the right answer to the next line of the lowest caller that has lines left is expected.
 #[derive(Debug, Drop)]
 pub struct BadEntry {
     pub place: u64,

@@ -1,21 +1,31 @@
 //! Whether a history is legal and of a trace, found in one pass over its items.
-ghost use Rattle.std.specs.Prelude.{◌≡◌, ◌+◌, ◌-◌, ◌^◌, ◌<◌, ◌≤◌, Err, List, All, length, IfOk, IfErr, OnOk};
+ghost use Rattle.std.specs.Prelude.{◌≡◌, ◌+◌, ◌-◌, ◌^◌, ◌<◌, ◌≤◌, ◌↔◌, Err, List, [], All, IsTrue, length, take, IfOk, IfErr, OnOk};
 ghost use Rattle.mm_types.specs.Config.{IsValidConfig};
+ghost use Rattle.trace_reader.specs.Values.{AreNumbered};
 ghost use Rattle.trace_reader.specs.declared.limits.TheConstants.{MOST_LINES};
 ghost use Rattle.history.specs.declared.answers.BadEntry.{BadEntry};
 ghost use Rattle.history.specs.declared.callers.TheConstants.{MOST_THREADS};
 ghost use Rattle.history.specs.declared.items.Item.{Item};
-ghost use Rattle.history.specs.Histories.{IsLegalHistory};
-ghost use Rattle.history.specs.Checking.{answer_to, IsRefused};
-ghost use Rattle.history.specs.Walks.{shown, space_after_line, IsWalked, IsTold};
+ghost use Rattle.history.specs.Histories.{CanStand, IsLegalHistory, IsMade, asks_for, call_of, read_of};
+ghost use Rattle.history.specs.Checking.{answer_in, answer_to, next_line, IsRefused};
+ghost use Rattle.history.specs.Walks.{shown, space_after_line, HasBegun, IsWalked, IsToldRightly};
 
 use crate::answers::{Answer, BadEntry, CheckFault, Expected};
-use crate::items::{History, Item};
+use crate::items::{Content, History, Item};
 use crate::progress::Progress;
-use mm_types::NoMemory;
+use mm_types::{Call, Config, Entry, NoMemory};
 use std::alloc::Global;
 use sys_calls::PlainSpace;
 use trace_reader::{Op, Trace, TraceLine};
+
+/// What is judged: the items of a history, against the lines of a space of this configuration, which began with some entries.
+#[derive(Clone, Copy)]
+pub(crate) struct Case<'a> {
+    pub(crate) config: &'a Config,
+    pub(crate) start: &'a [Entry],
+    pub(crate) lines: &'a [TraceLine],
+    pub(crate) items: &'a [Item],
+}
 
 /// A walk over a history: how far the callers are and the address space, after some items.
 #[derive(Drop)]
@@ -30,77 +40,155 @@ pub fn check(alloc: Global, trace: &Trace, history: &History) -> Result<(), Chec
     requires valid { IsValidConfig trace.now.config }
     requires few { length trace.now.lines ≤ MOST_LINES }
     requires threads { All (λ line. line.thread < MOST_THREADS) trace.now.lines }
-    ensures legal { OnOk result (IsLegalHistory trace.now.config trace.now.lines history.now) }
-    ensures refused { (bad : BadEntry) → result ≡ Err (CheckFault.Bad bad) → IsRefused trace.now.config trace.now.lines history.now bad }
+    requires numbered { AreNumbered trace.now.lines }
+    ensures legal { OnOk result (IsLegalHistory trace.now.config [] trace.now.lines history.now) }
+    ensures refused { (bad : BadEntry) → result ≡ Err (CheckFault.Bad bad)
+        → IsRefused trace.now.config [] trace.now.lines history.now bad }
 {
-    let items = history.items();
-    let mut walk = Walk::new(alloc, trace)?;
-    for place in 0..items.len() {
-        walk.judge(alloc, trace, items, place)?;
+    check_after(alloc, &trace.config, &[], trace.lines.items(), history)
+}
+
+/// Judges a history of a space that began with some entries, as `check` does one of a space that began empty.
+pub fn check_after(
+    alloc: Global,
+    config: &Config,
+    start: &[Entry],
+    lines: &[TraceLine],
+    history: &History,
+) -> Result<(), CheckFault>
+    requires valid { IsValidConfig config.now }
+    requires begun { length start.now ≤ 2 ^ 31 }
+    requires few { length lines.now ≤ MOST_LINES }
+    requires threads { All (λ line. line.thread < MOST_THREADS) lines.now }
+    requires numbered { AreNumbered lines.now }
+    ensures legal { OnOk result (IsLegalHistory config.now start.now lines.now history.now) }
+    ensures refused { (bad : BadEntry) → result ≡ Err (CheckFault.Bad bad)
+        → IsRefused config.now start.now lines.now history.now bad }
+{
+    let case = Case {
+        config,
+        start,
+        lines,
+        items: history.items(),
+    };
+    let mut walk = Walk::new(alloc, &case)?;
+    for place in 0..case.items.len() {
+        walk.judge(alloc, &case, place)?;
     }
-    walk.end(alloc, trace, items)
+    walk.end(alloc, &case)
 }
 
 impl<'a> Walk<'a> {
     /// Before the first item.
-    fn new(alloc: Global, trace: &'a Trace) -> Result<Walk<'a>, NoMemory>
-        requires valid { IsValidConfig trace.now.config }
-        requires few { length trace.now.lines ≤ MOST_LINES }
-        requires threads { All (λ line. line.thread < MOST_THREADS) trace.now.lines }
-        ensures { IfOk result (λ walk. (items : List Item) → IsWalked trace.now.config trace.now.lines items 0 walk) }
+    fn new(alloc: Global, case: &Case<'a>) -> Result<Walk<'a>, NoMemory>
+        requires valid { IsValidConfig case.now.config.now }
+        requires begun { length case.now.start.now ≤ 2 ^ 31 }
+        requires few { length case.now.lines.now ≤ MOST_LINES }
+        requires threads { All (λ line. line.thread < MOST_THREADS) case.now.lines.now }
+        requires numbered { AreNumbered case.now.lines.now }
+        ensures { IfOk result (IsWalked case.now 0) }
     {
         Ok(Walk {
-            progress: Progress::new(alloc, trace.lines.items())?,
-            space: PlainSpace::new(alloc, &trace.config)?,
+            progress: Progress::new(alloc, case.lines)?,
+            space: begun(alloc, case.config, case.start)?,
         })
     }
 
     /// Judges the next item, which stands at this place.
-    fn judge(
-        &mut self,
-        alloc: Global,
-        trace: &Trace,
-        items: &[Item],
-        place: usize,
-    ) -> Result<(), CheckFault>
-        requires within { place < length items.now }
-        requires walked { IsWalked trace.now.config trace.now.lines items.now place self.old }
-        ensures ok { OnOk result (IsWalked trace.now.config trace.now.lines items.now (place + 1) self.new) }
-        ensures refused { IfErr result (IsTold trace.now.config trace.now.lines items.now) }
+    fn judge(&mut self, alloc: Global, case: &Case<'_>, place: usize) -> Result<(), CheckFault>
+        requires within { place < length case.now.items.now }
+        requires walked { IsWalked case.now place self.old }
+        ensures ok { OnOk result (IsWalked case.now (place + 1) self.new) }
+        ensures refused { IfErr result (IsToldRightly case.now) }
     {
-        let item = &items[place];
-        let line = self
-            .progress
-            .next_line(trace.lines.items(), item.caller as usize);
-        let stands = self.progress.can_stand(line, item);
-        let expected = run_line(&mut self.space, line);
-        if stands && expected.is_in(self.space.list(), &item.content) {
-            self.progress.pass(item);
-            return Ok(());
+        let item = &case.items[place];
+        let line = self.progress.next_line(case.lines, item.caller as usize);
+        if !self.can_stand(case, place, item, line) {
+            return Err(CheckFault::Bad(BadEntry {
+                place: place as u64 + 1,
+                expected: Answer::Nothing,
+                found: Answer::of(alloc, &item.content)?,
+            }));
         }
-        Err(CheckFault::Bad(BadEntry {
-            place: place as u64,
-            expected: expected.answer(alloc, self.space.list())?,
-            found: Answer::of(alloc, &item.content)?,
-        }))
+        let expected = run_line(&mut self.space, line);
+        if !expected.is_in(self.space.list(), &item.content) {
+            return Err(CheckFault::Bad(BadEntry {
+                place: place as u64 + 1,
+                expected: expected.answer(alloc, self.space.list())?,
+                found: Answer::of(alloc, &item.content)?,
+            }));
+        }
+        self.progress.pass(item);
+        Ok(())
+    }
+
+    /// Whether an item can stand at a place, where this is the next line of its caller.
+    fn can_stand(&self, case: &Case<'_>, place: usize, item: &Item, line: Option<TraceLine>) -> bool
+        requires walked { IsWalked case.now place self.now }
+        requires next { line ≡ next_line case.now.lines.now (take place case.now.items.now) item.now.caller }
+        ensures { IsTrue result ↔ CanStand case.now.config.now case.now.start.now case.now.lines.now
+            (take place case.now.items.now) item.now }
+    {
+        self.progress.can_stand(line, item)
+            && is_made(&self.space, &item.content)
+            && self.progress.is_told(case.lines, line)
     }
 
     /// Judges the end of the items.
-    fn end(&mut self, alloc: Global, trace: &Trace, items: &[Item]) -> Result<(), CheckFault>
-        requires { IsWalked trace.now.config trace.now.lines items.now (length items.now) self.old }
-        ensures legal { OnOk result (IsLegalHistory trace.now.config trace.now.lines items.now) }
-        ensures refused { IfErr result (IsTold trace.now.config trace.now.lines items.now) }
+    fn end(&mut self, alloc: Global, case: &Case<'_>) -> Result<(), CheckFault>
+        requires { IsWalked case.now (length case.now.items.now) self.old }
+        ensures legal { OnOk result (IsLegalHistory case.now.config.now case.now.start.now case.now.lines.now case.now.items.now) }
+        ensures refused { IfErr result (IsToldRightly case.now) }
     {
         let Some(caller) = self.progress.unfinished() else {
             return Ok(());
         };
-        let line = self.progress.next_line(trace.lines.items(), caller);
+        let line = self.progress.next_line(case.lines, caller);
         let expected = run_line(&mut self.space, line);
         Err(CheckFault::Bad(BadEntry {
-            place: items.len() as u64,
+            place: case.items.len() as u64 + 1,
             expected: expected.answer(alloc, self.space.list())?,
             found: Answer::Nothing,
         }))
+    }
+}
+
+/// The address space after the entries that it begins with. Fails only where memory runs out.
+fn begun<'a>(alloc: Global, config: &'a Config, start: &[Entry]) -> Result<PlainSpace<'a>, NoMemory>
+    requires valid { IsValidConfig config.now }
+    requires few { length start.now ≤ 2 ^ 31 }
+    ensures { IfOk result (HasBegun config.now start.now) }
+{
+    let mut space = PlainSpace::new(alloc, config)?;
+    for entry in start {
+        space.call(&entry.call);
+    }
+    Ok(space)
+}
+
+/// Whether what a content was asked to do makes its call over an address space, if it is a call.
+fn is_made(space: &PlainSpace<'_>, content: &Content) -> bool
+    ensures { IsTrue result ↔ IsMade space.now.config space.now.space content.now }
+{
+    match content {
+        Content::Called(call, _) => makes(space, call),
+        Content::Fault { .. } | Content::List(_) => true,
+    }
+}
+
+/// Whether what asks for a call makes it over an address space: a touch is made by a fault that grows.
+#[tactic(auto, unfolding(crate::specs::Histories::call_of, crate::specs::Histories::asks_for))]
+fn makes(space: &PlainSpace<'_>, call: &Call) -> bool
+    ensures { IsTrue result ↔ (call_of space.now.config space.now.space (asks_for call.now) ≡ Some call.now) }
+{
+    match call {
+        Call::Touch { page, access } => space.grows(*page, *access),
+        Call::Mmap(_)
+        | Call::Munmap { .. }
+        | Call::Mprotect { .. }
+        | Call::Mremap { .. }
+        | Call::Brk { .. }
+        | Call::Mseal { .. } => true,
     }
 }
 
@@ -115,9 +203,36 @@ fn run_line(space: &mut PlainSpace<'_>, line: Option<TraceLine>) -> Expected
     let Some(line) = line else {
         return Expected::Nothing;
     };
-    match line.op {
-        Op::Call(call) => Expected::Call(call, space.call(&call)),
+    match made_call(space, line.op) {
+        Some(call) => Expected::Call(call, space.call(&call)),
+        None => read_by(space, line.op),
+    }
+}
+
+/// The call that an operation makes over an address space, if it makes one: a fault that grows touches its page.
+#[tactic(auto, unfolding(crate::specs::Histories::call_of))]
+fn made_call(space: &PlainSpace<'_>, op: Op) -> Option<Call>
+    ensures { result ≡ call_of space.now.config space.now.space op }
+{
+    match op {
+        Op::Call(call) => Some(call),
+        Op::Fault { page, access } => {
+            if space.grows(page, access) {
+                Some(Call::Touch { page, access })
+            } else {
+                None
+            }
+        }
+        Op::Maps | Op::Fork { .. } => None,
+    }
+}
+
+/// What an operation reads over an address space, where it makes no call.
+fn read_by(space: &PlainSpace<'_>, op: Op) -> Expected
+    ensures { shown space.now.space.areas result ≡ answer_in (read_of space.now.config space.now.space op) }
+{
+    match op {
         Op::Fault { page, access } => Expected::Fault(space.verdict(page, access)),
-        Op::Maps => Expected::List,
+        Op::Call(_) | Op::Maps | Op::Fork { .. } => Expected::List,
     }
 }

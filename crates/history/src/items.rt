@@ -1,5 +1,5 @@
 ghost use Rattle.std.specs.Prelude.{◌≡◌, ◌↔◌, IsTrue, IsSomeAnd};
-ghost use Rattle.history.specs.Histories.{is_call, op_of};
+ghost use Rattle.history.specs.Histories.{is_call, read_as, asks_for, op_of};
 
 use crate::same::same_call;
 use mm_types::{Access, AreaList, Call, Page, Reply, Verdict};
@@ -39,31 +39,50 @@ impl Item {
 
     /// Whether there is a line, and it asks for this.
     pub(crate) fn answers(&self, line: Option<TraceLine>) -> bool
-        ensures { IsTrue result ↔ IsSomeAnd line (λ line. line.op ≡ op_of self.now.content) }
+        ensures { IsTrue result ↔ IsSomeAnd line (λ line. read_as line.op ≡ op_of self.now.content) }
     {
         match line {
-            Some(line) => self.is_asked(&line.op),
+            Some(line) => self.content.is_asked(&line.op),
             None => false,
         }
     }
+}
 
+impl Content {
     /// Whether an operation asks for this.
     fn is_asked(&self, op: &Op) -> bool
-        ensures { IsTrue result ↔ (op.now ≡ op_of self.now.content) }
+        ensures { IsTrue result ↔ (read_as op.now ≡ op_of self.now) }
     {
-        match (op, &self.content) {
-            (Op::Call(wanted), Content::Called(call, _)) => same_call(wanted, call),
-            (
-                Op::Fault { page, access },
-                Content::Fault {
-                    page: found,
-                    access: made,
-                    ..
-                },
-            ) => { page == found && access == made }
-            (Op::Maps, Content::List(_)) => true,
-            _ => false,
+        match self {
+            Content::Called(call, _) => asks_for(op, call),
+            Content::Fault { page, access, .. } => is_fault(op, *page, *access),
+            Content::List(_) => matches!(op, Op::Maps | Op::Fork { .. }),
         }
+    }
+}
+
+/// Whether an operation asks for a call: a touch of a page is asked for by a fault.
+#[tactic(auto, unfolding(crate::specs::Histories::asks_for))]
+fn asks_for(op: &Op, call: &Call) -> bool
+    ensures { IsTrue result ↔ (read_as op.now ≡ asks_for call.now) }
+{
+    match (op, call) {
+        (_, Call::Touch { page, access }) => is_fault(op, *page, *access),
+        (Op::Call(wanted), _) => same_call(wanted, call),
+        _ => false,
+    }
+}
+
+/// Whether an operation is this fault.
+fn is_fault(op: &Op, page: Page, access: Access) -> bool
+    ensures { IsTrue result ↔ (read_as op.now ≡ Op.Fault page access) }
+{
+    match op {
+        Op::Fault {
+            page: wanted,
+            access: made,
+        } => *wanted == page && *made == access,
+        Op::Call(_) | Op::Maps | Op::Fork { .. } => false,
     }
 }
 

@@ -4,32 +4,36 @@
 ghost use Rattle.std.specs.Prelude.{◌≡◌, ℕ, List, [], ◌++◌, map, take, slice_get, filter, nat_eq, true, false, All, IsSortedByKey, Some};
 ghost use Rattle.std.specs.List.Sorted.{IsStableByKey};
 ghost use Rattle.std.specs.Ordering.{nat_cmp};
+ghost use Rattle.mm_types.specs.declared.call.Entry.{Entry};
 ghost use Rattle.mm_types.specs.declared.config.Config.{Config};
+ghost use Rattle.trace_reader.specs.Values.{IsLineValue, AreNumbered, AreNamesRight};
 ghost use Rattle.history.specs.declared.answers.BadEntry.{BadEntry};
 ghost use Rattle.history.specs.declared.items.Item.{Item};
 ghost use Rattle.trace_reader.specs.declared.trace.TraceLine.{TraceLine};
 ghost use Rattle.area_rules.specs.Tables.{AddressSpace};
 ghost use Rattle.area_rules.specs.Steps.{opening, after};
-ghost use Rattle.history.specs.Histories.{occurs, caller_of, asks_call, journal_of, line_of, IsLegalHistory, serial_history, space_after_all, sort_by_caller, leading_reads, after_reads, answered_by, answered};
+ghost use Rattle.history.specs.Histories.{occurs, caller_of, AskThemselves, makes_call, journal_of, line_of, IsLegalHistory, serial_history, space_after_all, sort_by_caller, leading_reads, after_reads, answered_by, answered};
 ghost use Rattle.history.specs.Checking.{IsRefused};
 
 /// The history of a trace in the order of its lines goes version by version: the reads before a call, by caller, and
-/// then the call. Each of its items answers the line that it stands with, and it ends in the address space after all
-/// lines.
+/// then the call. Each of its items answers the line that it stands with, where each line that names a call is what asks
+/// for it, and it ends in the address space after all lines.
 pub fn serial_history_by_version()
     ensures items { (config : Config) (lines : List TraceLine)
         → serial_history config lines ≡ map (λ pair. pair.1) (answered config lines (opening config) 0 [] lines) }
     ensures lines { (config : Config) (lines : List TraceLine) (place : ℕ) (pair : TraceLine × Item)
-        → slice_get (answered config lines (opening config) 0 [] lines) place ≡ Some pair
+        → AskThemselves lines → slice_get (answered config lines (opening config) 0 [] lines) place ≡ Some pair
         → line_of lines (take place (serial_history config lines)) pair.1 ≡ Some pair.0 }
     ensures space { (config : Config) (lines : List TraceLine)
         → after config (journal_of (serial_history config lines)) ≡ space_after_all config (opening config) lines }
     ensures groups { (config : Config) (trace : List TraceLine) (space : AddressSpace) (version : ℕ) (pending : List TraceLine)
         (lines : List TraceLine) → answered config trace space version pending lines
-        ≡ map (answered_by config trace space version) (sort_by_caller trace (pending ++ leading_reads lines))
-        ++ answered config trace space version [] (after_reads lines) }
-    ensures parts { (lines : List TraceLine) → leading_reads lines ++ after_reads lines ≡ lines }
-    ensures reads { (lines : List TraceLine) → All (λ line. asks_call line.op ≡ false) (leading_reads lines) }
+        ≡ map (answered_by config trace space version) (sort_by_caller trace (pending ++ leading_reads config space lines))
+        ++ answered config trace space version [] (after_reads config space lines) }
+    ensures parts { (config : Config) (space : AddressSpace) (lines : List TraceLine)
+        → leading_reads config space lines ++ after_reads config space lines ≡ lines }
+    ensures reads { (config : Config) (space : AddressSpace) (lines : List TraceLine)
+        → All (λ line. makes_call config space line.op ≡ false) (leading_reads config space lines) }
 {}
 
 /// A list of lines is the old one sorted by caller where it is sorted by caller and the lines of each caller are those of
@@ -46,13 +50,20 @@ pub fn sort_by_caller_is_stable()
         → new ≡ sort_by_caller trace old }
 {}
 
-/// The lines of a trace, run in their order, make a legal history of the trace.
+/// The lines of a trace, run in their order, make a legal history of the trace, where each line that names a call is what asks for it, the
+/// numbers of lines rise, and what a line names is an earlier call.
 pub fn serial_history_is_legal()
-    ensures { (config : Config) (lines : List TraceLine) → IsLegalHistory config lines (serial_history config lines) }
+    ensures { (config : Config) (lines : List TraceLine) → AskThemselves lines → AreNumbered lines → AreNamesRight lines
+        → IsLegalHistory config [] lines (serial_history config lines) }
 {}
 
 /// A history that is refused is not legal, so `check` accepts exactly the legal histories.
 pub fn refused_is_not_legal()
-    ensures { (config : Config) (lines : List TraceLine) (items : List Item) (bad : BadEntry) → IsRefused config lines items bad
-        → IsLegalHistory config lines items → ⊥ }
+    ensures { (config : Config) (start : List Entry) (lines : List TraceLine) (items : List Item) (bad : BadEntry)
+        → IsRefused config start lines items bad → IsLegalHistory config start lines items → ⊥ }
+{}
+
+/// Lines that a trace has, whose calls are no touches, ask for the calls that they name.
+pub fn lines_of_a_trace_ask_for_themselves()
+    ensures { (lines : List TraceLine) → All IsLineValue lines → AskThemselves lines }
 {}

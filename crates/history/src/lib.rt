@@ -19,16 +19,16 @@ mod tests;
 
 pub use answers::{Answer, BadEntry, CheckFault};
 pub use callers::{Callers, MOST_THREADS};
-pub use checking::check;
+pub use checking::{check, check_after};
 pub use gathering::gather;
 pub use items::{Content, History, Item};
 pub use labelling::label;
 pub use laws::{
-    refused_is_not_legal, serial_history_by_version, serial_history_is_legal,
-    sort_by_caller_is_stable,
+    lines_of_a_trace_ask_for_themselves, refused_is_not_legal, serial_history_by_version,
+    serial_history_is_legal, sort_by_caller_is_stable,
 };
 pub use places::places_by_caller;
 pub use run_laws::{
     callers_share_the_lines, labels_make_the_serial_history, no_lines_past_the_callers,
-    one_operation_more, run_makes_a_legal_history,
+    one_operation_more, run_makes_a_legal_history, touches_that_grew_are_made,
 };

@@ -1,12 +1,15 @@
 //! How far the callers of a trace are in a history.
-ghost use Rattle.std.specs.Prelude.{ℕ, ◌≡◌, ◌+◌, ◌<◌, ◌≤◌, ◌-◌, ◌^◌, ◌↔◌, List, [], length, All, IsTrue, IfOk, MatchOption, slice_index, slice_set, if◌then◌else◌};
+ghost use Rattle.std.specs.Prelude.{ℕ, ◌≡◌, ◌≢◌, ◌+◌, ◌<◌, ◌≤◌, ◌-◌, ◌^◌, ◌↔◌, List, [], length, All, IsTrue, IfOk, IfSome, IfNone, Contains, MatchOption, slice_index, slice_set, if◌then◌else◌};
 ghost use Rattle.trace_reader.specs.declared.limits.TheConstants.{MOST_LINES};
+ghost use Rattle.trace_reader.specs.Values.{AreNumbered};
 ghost use Rattle.history.specs.declared.callers.TheConstants.{MOST_THREADS};
 ghost use Rattle.history.specs.declared.items.Item.{Item};
 ghost use Rattle.history.specs.Histories.{is_call};
 ghost use Rattle.history.specs.Checking.{next_line};
-ghost use Rattle.history.specs.Walks.{IsProgress, IsNext, HasNoneLeft, IsLowestLeft};
+ghost use Rattle.history.specs.Histories.{StandsAmong};
+ghost use Rattle.history.specs.Walks.{IsProgress, IsNext, IsTold, HasNoneLeft, IsLowestLeft};
 
+use crate::callers::Callers;
 use crate::items::Item;
 use crate::places::places_by_caller;
 use mm_types::NoMemory;
@@ -16,6 +19,7 @@ use trace_reader::TraceLine;
 /// How far the callers of a trace are after some items of a history.
 #[derive(Drop)]
 pub(crate) struct Progress {
+    pub(crate) callers: Callers,
     /// The places of the lines of each caller.
     pub(crate) places: Vec<Vec<u32>>,
     /// How many lines of each caller are answered.
@@ -36,6 +40,7 @@ impl Progress {
         let places = places_by_caller(alloc, lines)?;
         let answered = vec![in alloc; 0usize; places.len()]?;
         Ok(Progress {
+            callers: Callers::of(lines),
             places,
             answered,
             version: 0,
@@ -67,6 +72,38 @@ impl Progress {
         item.version == version && (is_call || self.lowest <= item.caller) && item.answers(line)
     }
 
+    /// Whether the line that a line names, if it names one, is answered.
+    pub(crate) fn is_told(&self, lines: &[TraceLine], line: Option<TraceLine>) -> bool
+        requires threads { All (λ line. line.thread < MOST_THREADS) lines.now }
+        requires numbered { AreNumbered lines.now }
+        ensures { (before : List Item) → IsProgress lines.now before self.now → IsTrue result ↔ IsTold lines.now before line }
+    {
+        let Some(line) = line else {
+            return true;
+        };
+        match line.after {
+            Some(number) => self.is_answered(lines, number),
+            None => true,
+        }
+    }
+
+    /// Whether the line of this number is answered, if there is one.
+    fn is_answered(&self, lines: &[TraceLine], number: u64) -> bool
+        requires threads { All (λ line. line.thread < MOST_THREADS) lines.now }
+        requires numbered { AreNumbered lines.now }
+        ensures { (before : List Item) → IsProgress lines.now before self.now
+            → IsTrue result ↔ StandsAmong lines.now before number }
+    {
+        let Some(line) = line_of_number(lines, number) else {
+            return true;
+        };
+        let caller = self.callers.caller(line.thread) as usize;
+        match self.next_line(lines, caller) {
+            Some(next) => number < next.number,
+            None => true,
+        }
+    }
+
     /// Counts an item that can stand next.
     pub(crate) fn pass(&mut self, item: &Item)
         requires caller { item.now.caller < length self.old.answered.items }
@@ -74,6 +111,7 @@ impl Progress {
         ensures answered { self.new.answered.items
             ≡ slice_set self.old.answered.items item.now.caller (slice_index self.old.answered.items item.now.caller + 1) }
         ensures places { self.new.places ≡ self.old.places }
+        ensures callers { self.new.callers ≡ self.old.callers }
         ensures version { self.new.version ≡ item.now.version }
         ensures lowest { self.new.lowest ≡ (if is_call item.now.content then 0 else item.now.caller) }
     {
@@ -93,6 +131,23 @@ impl Progress {
                 return Some(caller);
             }
         }
+        None
+    }
+}
+
+/// The line of a number, if there is one, found by halving.
+fn line_of_number(lines: &[TraceLine], number: u64) -> Option<TraceLine>
+    requires { AreNumbered lines.now }
+    ensures found { IfSome result (λ line. Contains lines.now line × (line.number ≡ number)) }
+    ensures none { IfNone result (All (λ line. line.number ≢ number) lines.now) }
+{
+    let place = lines.partition_point(|line| line.number < number);
+    let Some(line) = lines.get(place).copied() else {
+        return None;
+    };
+    if line.number == number {
+        Some(line)
+    } else {
         None
     }
 }

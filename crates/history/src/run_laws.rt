@@ -4,11 +4,11 @@ ghost use Rattle.std.specs.Prelude.{◌≡◌, ◌<◌, ◌≤◌, ◌^◌, ℕ,
 ghost use Rattle.mm_types.specs.declared.call.Entry.{Entry};
 ghost use Rattle.mm_types.specs.declared.call.Seen.{Seen};
 ghost use Rattle.mm_types.specs.declared.config.Config.{Config};
-ghost use Rattle.trace_reader.specs.declared.trace.Op.TheVariants as ops;
 ghost use Rattle.trace_reader.specs.declared.trace.TraceLine.{TraceLine};
+ghost use Rattle.trace_reader.specs.Values.{AreNumbered, AreNamesRight};
 ghost use Rattle.area_rules.specs.Journals.{calls_by, version_of};
-ghost use Rattle.history.specs.Histories.{caller_of, lines_of, op_of, journal_of, IsLegalHistory, serial_history};
-ghost use Rattle.history.specs.Runs.{content_of, own_of, ops_of, history_of, IsRun};
+ghost use Rattle.history.specs.Histories.{caller_of, lines_of, asks_for, op_of, journal_of, IsLegalHistory, serial_history};
+ghost use Rattle.history.specs.Runs.{content_of, own_of, ops_of, history_of, HasGrown, AreMade, IsLegalAfter, IsRun};
 ghost use Rattle.history.specs.Labels.{label_of, IsSerialRun};
 
 /// What a caller did, after one operation more: a call at the end of the journal adds that call, a read of the whole journal adds that read,
@@ -16,7 +16,7 @@ ghost use Rattle.history.specs.Labels.{label_of, IsSerialRun};
 pub fn one_operation_more()
     ensures call { (old rest : List Entry) (log : List Seen) (entry : Entry) (caller : ℕ) → calls_by caller rest ≡ []
         → All (λ read. version_of read ≤ length old) log → entry.caller ≡ caller
-        → ops_of (own_of caller ((old ++ rest) ++ entry ∷ []) log) ≡ ops_of (own_of caller old log) ++ ops.Call entry.call ∷ [] }
+        → ops_of (own_of caller ((old ++ rest) ++ entry ∷ []) log) ≡ ops_of (own_of caller old log) ++ asks_for entry.call ∷ [] }
     ensures read { (old rest : List Entry) (log : List Seen) (read : Seen) (caller : ℕ) → calls_by caller rest ≡ []
         → All (λ read. version_of read ≤ length old) log → version_of read ≡ length (old ++ rest)
         → ops_of (own_of caller (old ++ rest) (log ++ read ∷ [])) ≡ ops_of (own_of caller old log) ++ op_of (content_of read) ∷ [] }
@@ -39,10 +39,18 @@ pub fn callers_share_the_lines()
 
 /// The journal and the logs of a finished run, gathered, are a legal history of its lines, whose journal is the run's.
 pub fn run_makes_a_legal_history()
-    ensures history { (config : Config) (lines : List TraceLine) (callers : ℕ) (journal : List Entry) (logs : List (List Seen))
-        → IsRun config lines callers journal logs → callers ≤ 2 ^ 32 → IsLegalHistory config lines (history_of journal logs) }
-    ensures journal { (config : Config) (lines : List TraceLine) (callers : ℕ) (journal : List Entry) (logs : List (List Seen))
-        → IsRun config lines callers journal logs → callers ≤ 2 ^ 32 → journal_of (history_of journal logs) ≡ journal }
+    ensures history { (config : Config) (start : List Entry) (lines : List TraceLine) (callers : ℕ) (journal : List Entry)
+        (logs : List (List Seen)) → IsRun config start lines callers journal logs → callers ≤ 2 ^ 32 → AreNumbered lines → AreNamesRight lines
+        → IsLegalHistory config start lines (history_of journal logs) }
+    ensures journal { (config : Config) (start : List Entry) (lines : List TraceLine) (callers : ℕ) (journal : List Entry)
+        (logs : List (List Seen)) → IsRun config start lines callers journal logs → callers ≤ 2 ^ 32
+        → journal_of (history_of journal logs) ≡ journal }
+{}
+
+/// In a legal journal the operation of each entry makes its call at its place, where each touch of a page grew an area.
+pub fn touches_that_grew_are_made()
+    ensures { (config : Config) (start : List Entry) (journal : List Entry) → IsLegalAfter config start journal → All HasGrown journal
+        → AreMade config start journal }
 {}
 
 /// Where one caller ran all lines of a trace, one after the other, its history with the callers of the lines is the history of the trace in

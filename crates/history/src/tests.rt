@@ -1,4 +1,7 @@
 //! Gathering, labelling and checking, against lists worked out by hand.
+ghost use Rattle.std.specs.Bool.{OnTrue};
+ghost use Rattle.trace_reader.specs.Values.{AreNumbered};
+
 use crate::{Answer, CheckFault, Content, History, Item, MOST_THREADS, check, gather, label};
 use mm_types::{
     Access, AreaList, Attr, Call, Config, Entry, Files, MAP_ANONYMOUS, MAP_PRIVATE, MmapArgs, Page,
@@ -77,7 +80,12 @@ fn two_logs_are_gathered(rt: HostRuntime) -> Result<(), Fail> {
 }
 
 fn line(number: u64, thread: u32, op: Op) -> TraceLine {
-    TraceLine { number, thread, op }
+    TraceLine {
+        number,
+        thread,
+        op,
+        after: None,
+    }
 }
 
 fn fault_line(number: u64, thread: u32, page: u64) -> TraceLine {
@@ -255,6 +263,18 @@ fn kind_of(answer: &Answer) -> Kind {
     }
 }
 
+/// Whether the numbers of lines rise.
+fn are_numbered(lines: &[TraceLine]) -> bool
+    ensures { OnTrue result (AreNumbered lines.now) }
+{
+    for place in 1..lines.len() {
+        if lines[place].number <= lines[place - 1].number {
+            return false;
+        }
+    }
+    true
+}
+
 /// The place of the bad entry of a history of the small trace, if it has one, with what was expected there and what was found.
 fn bad_entry(
     rt: &(impl Abort + AllocGlobal),
@@ -265,6 +285,7 @@ fn bad_entry(
     let lines = trace.lines.items();
     assert!(rt; lines.len() <= 4);
     assert!(rt; lines.iter().all(|line| line.thread < MOST_THREADS as u32));
+    assert!(rt; are_numbered(lines));
     match check(rt.alloc(), &trace, &History::of(items)) {
         Ok(()) => Ok(None),
         Err(CheckFault::Bad(bad)) => Ok(Some((
@@ -288,12 +309,12 @@ fn wrong_items_are_named(rt: HostRuntime) -> Result<(), Fail> {
     let mut items = small_history(rt.alloc())?;
     assert_eq!(rt; items.len(), 4);
     items[2].content = answered_fault(Verdict::MapErr);
-    let wanted = (2, Kind::Served, Kind::NotServed);
+    let wanted = (3, Kind::Served, Kind::NotServed);
     assert_eq!(rt; bad_entry(&rt, items)?, Some(wanted));
 
     let mut items = small_history(rt.alloc())?;
     items.truncate(3);
-    let wanted = (3, Kind::Call, Kind::Nothing);
+    let wanted = (4, Kind::Call, Kind::Nothing);
     assert_eq!(rt; bad_entry(&rt, items)?, Some(wanted));
     Ok(())
 }
@@ -303,13 +324,13 @@ fn other_orders_are_refused(rt: HostRuntime) -> Result<(), Fail> {
     let mut items = small_history(rt.alloc())?;
     assert_eq!(rt; items.len(), 4);
     items.swap(0, 3);
-    let wanted = (0, Kind::NotServed, Kind::Call);
+    let wanted = (1, Kind::Nothing, Kind::Call);
     assert_eq!(rt; bad_entry(&rt, items)?, Some(wanted));
 
     let mut items = small_history(rt.alloc())?;
     assert_eq!(rt; items.len(), 4);
     items.swap(1, 2);
-    let wanted = (2, Kind::List, Kind::List);
+    let wanted = (3, Kind::Nothing, Kind::List);
     assert_eq!(rt; bad_entry(&rt, items)?, Some(wanted));
     Ok(())
 }

@@ -1,7 +1,21 @@
--- When a source or a sink may answer an error, by its count of faults before and after the call.
-use Rattle.std.specs.Prelude.{◌≡◌, ℕ, ◌+◌, ◌-◌, ◌^◌, ◌≤◌, min, Bool, true, false, Option, IfSome, Result, OnOk, OnErr, IsErrOf}
+-- What a clause sees of a source or a sink, and when either may answer an error, by its count of faults before and after the call.
+use Rattle.std.specs.Prelude.{◌≡◌, ℕ, ◌+◌, ◌-◌, ◌^◌, ◌≤◌, min, Bool, true, false, List, Option, IfSome, Result, OnOk, OnErr, IsErrOf}
 use Rattle.io_edge.specs.declared.fault.GiveFault.{GiveFault}
 use Rattle.io_edge.specs.declared.fault.GiveFault.TheVariants.{Failed, NoMemory}
+
+-- what a source tells: the bytes that are left to read, where it tells them, how often it has failed, up to 2^64 - 1, and whether its last
+-- call failed, where it tells that
+pub record SourceView : Type 0 where
+  pub left : Option (List ℕ)
+  pub faults : ℕ
+  pub just_failed : Option Bool
+
+-- what a sink tells: the bytes that were written, where it tells them, how often it has failed, up to 2^64 - 1, and whether its last call
+-- failed, where it tells that; to run out of memory is no failure
+pub record SinkView : Type 0 where
+  pub written : Option (List ℕ)
+  pub faults : ℕ
+  pub just_failed : Option Bool
 
 -- a count with one more, up to the most that 64 bits hold
 abbrev pub counted : ℕ → ℕ

@@ -54,11 +54,7 @@ impl MemSource {
 }
 
 impl Source for MemSource {
-    ghost left = { λ source. Some source.bytes };
-
-    ghost faults = { λ source. source.faults };
-
-    ghost just_failed = { λ source. Some source.just_failed };
+    ghost seen = { λ source. record { left = Some source.bytes; faults = source.faults; just_failed = Some source.just_failed } };
 
     /// Fails at a call in the list. Else moves as many bytes as the piece holds or all that are left, and at
     /// most `MOST_AT_A_CALL`.
@@ -126,11 +122,7 @@ impl MemSink {
 }
 
 impl Sink for MemSink {
-    ghost written = { λ sink. Some sink.bytes };
-
-    ghost faults = { λ sink. sink.faults };
-
-    ghost just_failed = { λ sink. Some sink.just_failed };
+    ghost seen = { λ sink. record { written = Some sink.bytes; faults = sink.faults; just_failed = Some sink.just_failed } };
 
     /// Fails at a call in the list. Else takes the piece, or of a longer one its first `MOST_AT_A_CALL` bytes, or
     /// answers that it is out of memory and takes nothing.

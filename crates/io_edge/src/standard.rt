@@ -52,11 +52,7 @@ impl<I: Read + Drop> StdSource<I> {
 }
 
 impl<I: Read + Drop> Source for StdSource<I> {
-    ghost left = { λ source. I.remaining source.end };
-
-    ghost faults = { λ source. source.faults };
-
-    ghost just_failed = { λ source. Some source.just_failed };
+    ghost seen = { λ source. record { left = I.remaining source.end; faults = source.faults; just_failed = Some source.just_failed } };
 
     /// One read, which is tried again as often as a signal interrupts it. Each other error is one fault.
     fn take(&mut self, into: &mut [u8]) -> Result<usize, Failed>
@@ -125,11 +121,7 @@ impl<W: Write + Drop> StdSink<W> {
 }
 
 impl<W: Write + Drop> Sink for StdSink<W> {
-    ghost written = { λ sink. W.contents sink.end };
-
-    ghost faults = { λ sink. sink.faults };
-
-    ghost just_failed = { λ sink. Some sink.just_failed };
+    ghost seen = { λ sink. record { written = W.contents sink.end; faults = sink.faults; just_failed = Some sink.just_failed } };
 
     /// One write, which is tried again as often as a signal interrupts it. Each other error, and a write of no byte of a
     /// piece that is not empty, is one fault.

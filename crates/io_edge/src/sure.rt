@@ -35,11 +35,7 @@ impl SureSource {
 }
 
 impl Source for SureSource {
-    ghost left = { λ source. Some source };
-
-    ghost faults = { λ _. 0 };
-
-    ghost just_failed = { λ _. Some false };
+    ghost seen = { λ source. record { left = Some source; faults = 0; just_failed = Some false } };
 
     /// Moves as many bytes as the piece holds, or all that are left.
     fn take(&mut self, into: &mut [u8]) -> Result<usize, Failed>
@@ -87,11 +83,7 @@ impl SureSink {
 }
 
 impl Sink for SureSink {
-    ghost written = { λ sink. Some sink };
-
-    ghost faults = { λ _. 0 };
-
-    ghost just_failed = { λ _. Some false };
+    ghost seen = { λ sink. record { written = Some sink; faults = 0; just_failed = Some false } };
 
     /// Takes the whole piece, or answers that it is out of memory and takes nothing.
     fn give(&mut self, piece: &[u8]) -> Result<usize, GiveFault>

@@ -1,5 +1,5 @@
 -- For `spliced_words` and `gap_in`: the words of some of the items of a node.
-use Rattle.std.proofs.Common.{ℕ, suc, ◌≡◌, ◌≢◌, ◌<◌, ◌≤◌, ◌+◌, ◌-◌, ◌*◌, Bool, true, false, List, [], ◌∷◌, ◌++◌, length, take, drop, get_or, replicate, max, refl, sym, ap, subst, ◌∙◌, arith, length-append, append_assoc}
+use Rattle.std.proofs.Common.{ℕ, suc, ◌≡◌, ◌≢◌, ◌<◌, ◌≤◌, ◌+◌, ◌-◌, ◌*◌, Bool, true, false, List, [], ◌∷◌, ◌++◌, length, take, drop, get_or, replicate, max, refl, sym, ap, subst, ◌∙◌, ◌⊎◌, inl, inr, arith, length-append, append_assoc}
 use Rattle.std.proofs.lemmas.List.{take_at, drop_at, length-take-le, length-drop}
 use Rattle.std.proofs.lemmas.Grind.{flat_map-append}
 use Rattle.std.specs.List.{flat_map}
@@ -188,6 +188,18 @@ fits_of false fewest count words wide most_items is w m low high =
     let a : 3 * fewest ≤ words = subst (λ (n : ℕ). n * fewest ≤ words) w low in
     let b : words ≤ 3 * 10 = subst (λ (n : ℕ). words ≤ n * 10) w (subst (λ (n : ℕ). words ≤ wide * n) m high) in
     record { most = omega arith; least = omega arith }
+
+-- and where the words are too few or too many, so are the items
+pub misfits_of : (leaf : Bool) (fewest count words wide most_items : ℕ) → words ≡ width_of leaf * count → wide ≡ width_of leaf → most_items ≡ most leaf
+    → (words < wide * fewest) ⊎ (wide * most_items < words) → (most leaf < count) ⊎ (count < fewest)
+misfits_of true fewest count words wide most_items is w m (inl low) =
+    let a : words < 2 * fewest = subst (λ (n : ℕ). words < n * fewest) w low in inr (omega arith)
+misfits_of false fewest count words wide most_items is w m (inl low) =
+    let a : words < 3 * fewest = subst (λ (n : ℕ). words < n * fewest) w low in inr (omega arith)
+misfits_of true fewest count words wide most_items is w m (inr high) =
+    let a : 2 * 16 < words = subst (λ (n : ℕ). n * 16 < words) w (subst (λ (n : ℕ). wide * n < words) m high) in inl (omega arith)
+misfits_of false fewest count words wide most_items is w m (inr high) =
+    let a : 3 * 10 < words = subst (λ (n : ℕ). n * 10 < words) w (subst (λ (n : ℕ). wide * n < words) m high) in inl (omega arith)
 
 -- new items have few words
 pub few_words : (leaf : Bool) (count : ℕ) → count ≤ 40 → width_of leaf * count ≤ 120

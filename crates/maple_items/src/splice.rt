@@ -1,6 +1,6 @@
 //! Nodes with some of their items replaced, from words to words.
 
-ghost use Rattle.std.specs.Prelude.{◌≡◌, ◌≤◌, ◌*◌, length, take, slice_range, IfSome};
+ghost use Rattle.std.specs.Prelude.{◌≡◌, ◌<◌, ◌≤◌, ◌*◌, ◌⊎◌, length, take, slice_range, IfSome, IfNone};
 ghost use Rattle.std.specs.List.{flat_map};
 ghost use Rattle.maple_node.specs.Nodes.{items_of, words_of, item_words, most, end_of, Ascends, gap_of};
 ghost use Rattle.maple_items.specs.Splices.{upto, beyond, spliced};
@@ -54,8 +54,8 @@ fn parts_of(leaf: bool, words: &[u64; 32], end: u64, lo: u64, hi: u64) -> Parts
     }
 }
 
-/// The words of a node, which ends at a page, with new items in the place of those between two pages. None where it has no room for
-/// them, or would have fewer than so many items.
+/// The words of a node, which ends at a page, with new items in the place of those between two pages. None exactly where it has no
+/// room for them, or would have fewer than so many items.
 pub fn spliced_words(
     leaf: bool,
     words: &[u64; 32],
@@ -72,6 +72,8 @@ pub fn spliced_words(
     ensures words { IfSome result (λ made. made ≡ words_of leaf (spliced lo hi new.now (items_of leaf words.now))) }
     ensures most { IfSome result (λ _. length (spliced lo hi new.now (items_of leaf words.now)) ≤ most leaf) }
     ensures least { IfSome result (λ _. fewest ≤ length (spliced lo hi new.now (items_of leaf words.now))) }
+    ensures none { IfNone result ((most leaf < length (spliced lo hi new.now (items_of leaf words.now)))
+        ⊎ (length (spliced lo hi new.now (items_of leaf words.now)) < fewest)) }
 {
     let width = width_of(leaf);
     let Parts { before, past, used } = parts_of(leaf, words, end, lo, hi);

@@ -1,27 +1,36 @@
 -- For `Space::close` and `gather_logs`: the logs of the passes, and the passes in the journal.
-use Rattle.std.proofs.Common.{ℕ, ◌≡◌, ◌≤◌, ◌<◌, List, [], ◌∷◌, ◌++◌, length, map, Option, IfSome, All, refl, sym, ap, subst, arith, ◌∙◌}
+use Rattle.std.proofs.Common.{ℕ, ◌≡◌, ◌≤◌, ◌<◌, List, [], ◌∷◌, ◌++◌, length, map, All, refl, sym, ap, subst, arith, ◌∙◌}
 use Rattle.std.proofs.lemmas.List.{length-append, length-map, map-append, get_or_past}
 use Rattle.std.proofs.lemmas.Option.{slice_get_within, get_or_from_slice_get}
 use Rattle.mm_types.specs.declared.area.Record.{Record}
 use Rattle.mm_types.specs.declared.call.Entry.{Entry}
 use Rattle.mm_types.specs.declared.call.Seen.{Seen}
-use Rattle.mm_types.specs.declared.config.Config.{Config}
 use Rattle.area_rules.specs.Journals.{calls_by}
 use Rattle.area_rules.specs.Steps.{IsLegalJournal}
 use Rattle.lock_core.specs.Facts.{list_after}
-use Rattle.atomic_table.specs.Seated.{TableId}
-use Rattle.fault_path.specs.Passes.{PassView, ArePasses, config}
+use Rattle.fault_path.specs.Passes.{PassView, ViewedTable, SitsAt, IsLater, node_size}
 use Rattle.mm_space.specs.Closing.{IsIn, Closes}
-use Rattle.mm_space.specs.Names.{Within}
+use Rattle.lock_core.specs.Core.{StartsWith}
+use Rattle.mm_space.specs.Names.{SpaceId, IsViewOf, IsPassOf, ArePasses, Within, since}
 
--- a pass is of the table, with its configuration
-abbrev pub IsAt : TableId → Config → PassView → Type 0
-IsAt name settings pass = (pass.reader.seat.table_id ≡ name) × (config pass ≡ settings)
+-- a pass of a space, later, sits at the space's tables
+pub sits_later : (name : SpaceId) (viewed : ViewedTable) (old new : PassView) → IsViewOf name viewed → IsPassOf name old → IsLater old new
+    → SitsAt viewed new
+sits_later name viewed old new view of later = record {
+  table = later.table ∙ of.table ∙ sym view.0;
+  nodes = later.nodes ∙ of.nodes ∙ sym view.1;
+  size = later.size ∙ of.size ∙ ap (node_size name.config) (sym view.3) ∙ ap (λ c. node_size c viewed.callers) (sym view.2);
+  config_is = later.config_is ∙ of.config_is ∙ sym view.2;
+}
 
-pub at_same : (last : Option PassView) (name other : TableId) (settings same : Config) → name ≡ other → settings ≡ same
-    → IfSome last (IsAt name settings) → IfSome last (IsAt other same)
-at_same last name other settings same names configs at =
-    subst (λ n. IfSome last (IsAt n same)) names (subst (λ s. IfSome last (IsAt name s)) configs at)
+-- and stays there
+pub sits_on : (viewed : ViewedTable) (old new : PassView) → SitsAt viewed old → IsLater old new → SitsAt viewed new
+sits_on viewed old new sits later = record {
+  table = later.table ∙ sits.table;
+  nodes = later.nodes ∙ sits.nodes;
+  size = later.size ∙ sits.size;
+  config_is = later.config_is ∙ sits.config_is;
+}
 
 -- there are no more logs than passes so far
 pub few_logs : {X : Type 0} (logs : List X) (f : X → List Seen) (last passes : List PassView)
@@ -46,20 +55,20 @@ regathered later logs last passes pass next gives is same =
     ∙ sym (map-append (λ (p : PassView). p.log) passes (pass ∷ []))
 
 -- what closing all passes results in
-pub closes : (name walked : TableId) (settings : Config) (most : List ℕ) (passes : List PassView) (journal kept : List Entry)
-    (logs : List (List Seen)) (list : List Record)
-    → ArePasses name walked settings most passes → journal ≡ kept → IsLegalJournal settings kept → list ≡ list_after settings kept
-    → logs ≡ map (λ p. p.log) passes → All (IsIn settings kept) passes → Within most kept
-    → Closes settings passes (record { journal = journal; logs = logs; list = list })
-closes name walked settings most passes journal kept logs list are journal_is legal list_is logs_are lie within = subst
-    (λ (entries : List Entry). Closes settings passes (record { journal = entries; logs = logs; list = list }))
+pub closes : (name : SpaceId) (passes : List PassView) (journal kept : List Entry) (logs : List (List Seen)) (list : List Record)
+    → ArePasses name passes → journal ≡ kept → IsLegalJournal name.config kept → list ≡ list_after name.config kept
+    → logs ≡ map (λ p. p.log) passes → All (IsIn name.config kept) passes → StartsWith kept name.before → Within name.operations (since name.before kept)
+    → Closes name passes (record { journal = journal; logs = logs; list = list })
+closes name passes journal kept logs list are journal_is legal list_is logs_are lie begins within = subst
+    (λ (entries : List Entry). Closes name passes (record { journal = entries; logs = logs; list = list }))
     (sym journal_is)
     (record {
+      begins = begins;
       legal = legal;
       list = list_is;
       logs = logs_are;
       each = λ place pass at.
-          subst (IsIn settings kept) (get_or_from_slice_get passes place pass pass at) (lie place pass (slice_get_within passes place pass at));
+          subst (IsIn name.config kept) (get_or_from_slice_get passes place pass pass at) (lie place pass (slice_get_within passes place pass at));
       others = λ other past. nobody other past;
     })
   where
@@ -67,9 +76,9 @@ closes name walked settings most passes journal kept logs list are journal_is le
     empty [] none = refl
     empty (x ∷ xs) none = absurd (omega (arith, none))
 
-    nobody : (other : ℕ) → length passes ≤ other → calls_by other kept ≡ []
+    nobody : (other : ℕ) → length passes ≤ other → calls_by other (since name.before kept) ≡ []
     nobody other past =
         let all = are.all in
-        let none = get_or_past most other 0 (omega (arith, all, past)) in
+        let none = get_or_past name.operations other 0 (omega (arith, all, past)) in
         let count = within other in
-        empty (calls_by other kept) (omega (arith, none, count))
+        empty (calls_by other (since name.before kept)) (omega (arith, none, count))

@@ -1,7 +1,8 @@
 //! What closing a space does with its passes.
 ghost use Rattle.std.specs.Prelude.{◌≡◌, ◌≤◌, ◌<◌, ◌++◌, length, map, vec_len, vec_capacity, option_to_list, All, IfSome};
-ghost use Rattle.fault_path.specs.Passes.{config, IsPassOf, IsLater, ArePasses};
+ghost use Rattle.fault_path.specs.Passes.{SitsAt, IsLater};
 ghost use Rattle.mm_space.specs.Closing.{IsIn};
+ghost use Rattle.mm_space.specs.Names.{IsViewOf, IsPassOf, ArePasses};
 
 use crate::name::SpaceName;
 use crate::named::Named;
@@ -15,13 +16,13 @@ pub(crate) fn gather_logs<N: SpaceName>(
     passes: Vec<Pass>,
     logs: Vec<Vec<Seen>>,
 ) -> Vec<Vec<Seen>>
-    requires view { view.now.table ≡ N.table }
-    requires passes { ArePasses N.table N.nodes N.config N.operations passes.items }
+    requires view { IsViewOf N.name view.now }
+    requires passes { ArePasses N.name passes.items }
     requires empty { vec_len logs ≡ 0 }
     requires room { length passes.items ≤ vec_capacity logs }
     ensures state { state.new ≡ state.old }
     ensures logs { map (λ log. log.items) result.items ≡ map (λ pass. pass.log) passes.items }
-    ensures each { All (IsIn N.config state.old.journal) passes.items }
+    ensures each { All (IsIn N.name.config state.old.journal) passes.items }
 {
     let mut logs = logs;
     let mut last: Option<Pass> = None;
@@ -37,11 +38,11 @@ pub(crate) fn gather_logs<N: SpaceName>(
 
 /// A pass that has seen the whole journal of the state.
 fn settle<N: SpaceName>(state: &mut Named<N>, pass: Pass) -> Pass
-    requires { IsPassOf N.table N.nodes N.config N.operations pass }
+    requires { IsPassOf N.name pass }
     ensures state { state.new ≡ state.old }
     ensures later { IsLater pass result }
     ensures log { result.log ≡ pass.log }
-    ensures lies { IsIn N.config state.old.journal pass }
+    ensures lies { IsIn N.name.config state.old.journal pass }
 {
     let mut pass = pass;
     state.meet(&mut pass.reader);
@@ -50,8 +51,8 @@ fn settle<N: SpaceName>(state: &mut Named<N>, pass: Pass) -> Pass
 
 /// Joins the last pass, if there is one, into the next, and adds its log to the logs.
 fn join_next(view: &FaultView, last: Option<Pass>, next: Pass, logs: &mut Vec<Vec<Seen>>) -> Pass
-    requires table { next.reader.seat.table_id ≡ view.now.table }
-    requires last { IfSome last (λ pass. (pass.reader.seat.table_id ≡ view.now.table) × (config pass ≡ config next)) }
+    requires next { SitsAt view.now next }
+    requires last { IfSome last (SitsAt view.now) }
     requires room { vec_len logs.old < vec_capacity logs.old }
     ensures later { IsLater next result }
     ensures log { result.log ≡ next.log }

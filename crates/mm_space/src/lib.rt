@@ -4,12 +4,15 @@
 
 mod closed;
 mod closing;
+mod laws;
 mod name;
 mod named;
 mod ready;
 mod space;
 
 pub use closed::Closed;
+pub use fault_path::Note;
+pub use laws::faults_lie_behind_what_was_heard;
 pub use name::SpaceName;
 pub use named::Named;
 pub use ready::Ready;

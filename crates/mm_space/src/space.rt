@@ -1,21 +1,22 @@
 //! The space that callers share.
-ghost use Rattle.std.specs.Prelude.{◌≡◌, ◌≤◌, ◌<◌, ◌+◌, List, length, vec_len, vec_capacity, IfOk, OnErr};
+ghost use Rattle.std.specs.Prelude.{◌≡◌, ◌≤◌, ◌<◌, ◌+◌, ◌-◌, ◌++◌, ◌∷◌, [], List, length, vec_len, vec_capacity, IfOk, OnErr};
 ghost use Rattle.mm_types.specs.declared.area.Record.{Record};
 ghost use Rattle.mm_types.specs.declared.call.Seen.TheVariants.{Fault, Maps};
-ghost use Rattle.area_rules.specs.Verdicts.{verdict};
-ghost use Rattle.lock_core.specs.Facts.{list_after};
-ghost use Rattle.fault_path.specs.Passes.{seen_by, made_by, looks_of, walker, IsPassOf, IsLater, ArePasses, AreFresh};
+ghost use Rattle.area_rules.specs.Journals.{IsReadRight};
+ghost use Rattle.fault_path.specs.Passes.{config, seen_by, looks_of, walker, IsLater};
 ghost use Rattle.fault_path.specs.Faults.{WalksOnce};
 ghost use Rattle.mm_space.specs.declared.space.Path.TheVariants.{Slow};
-ghost use Rattle.mm_space.specs.Spaces.{Calls, Reads, DoesNothing, LooksOnce, IsWay};
+ghost use Rattle.mm_space.specs.Names.{IsViewOf, IsPassOf, ArePasses};
+ghost use Rattle.mm_space.specs.Spaces.{Calls, Reads, DoesNothing, LooksOnce, IsWay, IsDone, Finds, faulted_of, Tells, Hears};
 ghost use Rattle.mm_space.specs.Closing.{Closes};
+ghost use Rattle.mm_space.specs.Opening.{AreOpened};
 
 use crate::closed::Closed;
 use crate::closing::gather_logs;
 use crate::name::SpaceName;
 use crate::named::Named;
 use crate::ready::Ready;
-use fault_path::{Fast, FaultView, Miss, Pass};
+use fault_path::{Fast, FaultView, Miss, Note, Pass};
 use mm_types::{Access, Call, NoMemory, Page, Reply, Seen, Verdict};
 use mmap_lock::MmapLock;
 use std::alloc::Global;
@@ -43,6 +44,15 @@ pub struct Faulted {
     pub version: u64,
 }
 
+/// What is found for a fault.
+#[derive(Clone, Copy)]
+enum Found {
+    /// It grows no area, and is in no log yet.
+    Answered(Faulted),
+    /// It grew an area, and its touch is in the journal.
+    Entered(Faulted),
+}
+
 /// An address space that callers share by reference, each with a pass of its own.
 #[derive(Drop)]
 pub struct Space<N: SpaceName> {
@@ -50,16 +60,16 @@ pub struct Space<N: SpaceName> {
     state: MmapLock<Named<N>>,
     /// Empty, with room for the log of each caller.
     logs: Vec<Vec<Seen>>,
-    ghost viewed: { (view.table ≡ N.table) × (view.nodes ≡ N.nodes) × (view.config ≡ N.config) × (view.callers ≡ length N.operations) },
+    ghost viewed: { IsViewOf N.name view },
     ghost empty: { vec_len logs ≡ 0 },
-    ghost room: { length N.operations ≤ vec_capacity logs },
+    ghost room: { length N.name.operations ≤ vec_capacity logs },
 }
 
 impl<N: SpaceName> Space<N> {
     /// Opens the space, with a fresh pass for each caller, in order. No memory is taken.
     pub fn open(ready: Ready) -> (Space<N>, Vec<Pass>)
-        requires name { (ready.table ≡ N.table) × (ready.nodes ≡ N.nodes) × (ready.config ≡ N.config) × (ready.operations ≡ N.operations) }
-        ensures { AreFresh N.table N.nodes N.config N.operations result.1.items }
+        requires name { ready ≡ N.name }
+        ensures { AreOpened N.name result.1.items }
     {
         let Ready {
             view,
@@ -77,18 +87,19 @@ impl<N: SpaceName> Space<N> {
 
     /// The view of the space's tables that faults look at.
     pub fn view(&self) -> &FaultView
-        ensures { (result.now.table ≡ N.table) × (result.now.nodes ≡ N.nodes) × (result.now.config ≡ N.config) × (result.now.callers ≡ length N.operations) }
+        ensures { IsViewOf N.name result.now }
     {
         &self.view
     }
 
     /// Makes a call with a pass of this space, under the lock.
     pub fn call<R: Wait>(&self, rt: &R, pass: &mut Pass, call: &Call) -> Called
-        requires pass { IsPassOf N.table N.nodes N.config N.operations pass.old }
+        requires pass { IsPassOf N.name pass.old }
         requires left { 0 < pass.old.left }
-        ensures pass { IsPassOf N.table N.nodes N.config N.operations pass.new }
+        ensures pass { IsPassOf N.name pass.new }
         ensures later { IsLater pass.old pass.new }
         ensures call { Calls pass.old pass.new call.now result.reply result.version }
+        ensures looks { looks_of pass.new ≡ looks_of pass.old + 1 }
     {
         let mut guard = self.state.take(rt);
         let state = guard.value();
@@ -100,87 +111,93 @@ impl<N: SpaceName> Space<N> {
         }
     }
 
-    /// The verdict on a fault. It is looked for without the lock first, which waits for nobody. Where that misses, it is the
-    /// verdict over the list at the look that the pass makes under the lock.
+    /// A fault: the verdict, as one operation. It is looked for without the lock first, which waits for nobody. Where that misses, it
+    /// is the verdict over the list under the lock. A fault that grows an area in that list is entered in the journal, as a touch, and
+    /// is in no log; any other is in the log, and makes no entry.
     pub fn fault<R: Wait>(&self, rt: &R, pass: &mut Pass, page: Page, access: Access) -> Faulted
-        requires pass { IsPassOf N.table N.nodes N.config N.operations pass.old }
+        requires pass { IsPassOf N.name pass.old }
         requires left { 0 < pass.old.left }
-        ensures pass { IsPassOf N.table N.nodes N.config N.operations pass.new }
+        ensures pass { IsPassOf N.name pass.new }
         ensures later { IsLater pass.old pass.new }
-        ensures read { Reads pass.old pass.new (Fault result.version page access result.verdict) }
+        ensures done { IsDone page access pass.old pass.new result }
         ensures walk { WalksOnce (walker pass.old) (walker pass.new) }
         ensures way { IsWay page.0 access pass.old pass.new result.verdict result.version result.path }
     {
-        let faulted = self.find_verdict(rt, pass, page, access);
-        pass.facts();
-        pass.note(Seen::Fault {
-            version: faulted.version,
-            page,
-            access,
-            verdict: faulted.verdict,
-        });
-        faulted
-    }
-
-    /// The verdict on a fault, which is in no log yet: that without the lock, or where it misses that under the lock.
-    fn find_verdict<R: Wait>(&self, rt: &R, pass: &mut Pass, page: Page, access: Access) -> Faulted
-        requires pass { IsPassOf N.table N.nodes N.config N.operations pass.old }
-        ensures pass { IsPassOf N.table N.nodes N.config N.operations pass.new }
-        ensures later { IsLater pass.old pass.new }
-        ensures same { pass.new ≡ record pass.old { reader = pass.new.reader; nodes = pass.new.nodes } }
-        ensures own { made_by pass.new ≡ made_by pass.old }
-        ensures version { result.version ≡ length (seen_by pass.new) }
-        ensures verdict { result.verdict ≡ verdict N.config (list_after N.config (seen_by pass.new)) page.0 access }
-        ensures walk { WalksOnce (walker pass.old) (walker pass.new) }
-        ensures way { IsWay page.0 access pass.old pass.new result.verdict result.version result.path }
-    {
-        match self.view.fault_fast(pass, page, access) {
-            Fast::Answer { verdict, version } => Faulted {
-                verdict,
-                path: Path::Fast,
-                version,
-            },
-            Fast::Miss(miss) => self.fault_slow(rt, pass, page, access, miss),
+        match self.find(rt, pass, page, access) {
+            Found::Entered(faulted) => faulted,
+            Found::Answered(faulted) => {
+                note(pass, page, access, faulted);
+                faulted
+            }
         }
     }
 
-    /// The verdict on a fault that missed, under the lock: over the list at the look that the pass makes there.
-    fn fault_slow<R: Wait>(
+    /// What is found for a fault: without the lock, or where it misses under the lock.
+    fn find<R: Wait>(&self, rt: &R, pass: &mut Pass, page: Page, access: Access) -> Found
+        requires pass { IsPassOf N.name pass.old }
+        requires left { 0 < pass.old.left }
+        ensures pass { IsPassOf N.name pass.new }
+        ensures later { IsLater pass.old pass.new }
+        ensures found { Finds page access pass.old pass.new result }
+        ensures walk { WalksOnce (walker pass.old) (walker pass.new) }
+        ensures way { IsWay page.0 access pass.old pass.new (faulted_of result).verdict (faulted_of result).version (faulted_of result).path }
+    {
+        match self.view.fault_fast(pass, page, access) {
+            Fast::Answer { verdict, version } => Found::Answered(Faulted {
+                verdict,
+                path: Path::Fast,
+                version,
+            }),
+            Fast::Miss(miss) => self.find_locked(rt, pass, page, access, miss),
+        }
+    }
+
+    /// What is found under the lock for a fault that missed: it grows an area exactly where it does so in the list there. In either
+    /// case the pass looks once.
+    fn find_locked<R: Wait>(
         &self,
         rt: &R,
         pass: &mut Pass,
         page: Page,
         access: Access,
         miss: Miss,
-    ) -> Faulted
-        requires pass { IsPassOf N.table N.nodes N.config N.operations pass.old }
-        ensures pass { IsPassOf N.table N.nodes N.config N.operations pass.new }
+    ) -> Found
+        requires pass { IsPassOf N.name pass.old }
+        requires left { 0 < pass.old.left }
+        ensures pass { IsPassOf N.name pass.new }
         ensures later { IsLater pass.old pass.new }
-        ensures same { pass.new ≡ record pass.old { reader = pass.new.reader } }
-        ensures own { made_by pass.new ≡ made_by pass.old }
+        ensures found { Finds page access pass.old pass.new result }
+        ensures nodes { pass.new.nodes ≡ pass.old.nodes }
         ensures look { LooksOnce pass.old.reader pass.new.reader }
-        ensures version { result.version ≡ length (seen_by pass.new) }
-        ensures verdict { result.verdict ≡ verdict N.config (list_after N.config (seen_by pass.new)) page.0 access }
-        ensures path { result.path ≡ Slow miss }
+        ensures path { (faulted_of result).path ≡ Slow miss }
     {
         let mut guard = self.state.take(rt);
         let state = guard.value();
+        let path = Path::Slow(miss);
+        if state.grows(page, access) {
+            pass.spend();
+            let area = state.touch(rt, &mut pass.reader, page, access);
+            return Found::Entered(Faulted {
+                verdict: Verdict::Served { area, index: 0 },
+                path,
+                version: pass.version(),
+            });
+        }
         state.meet(&mut pass.reader);
         let verdict = state.verdict(page, access);
-        let version = pass.version();
-        Faulted {
+        Found::Answered(Faulted {
             verdict,
-            path: Path::Slow(miss),
-            version,
-        }
+            path,
+            version: pass.version(),
+        })
     }
 
     /// Reads the list of areas under the lock, and answers how many entries the journal had then. Refused where memory for
     /// the copy runs out: then no operation is taken.
     pub fn maps<R: Wait>(&self, rt: &R, alloc: Global, pass: &mut Pass) -> Result<u64, NoMemory>
-        requires pass { IsPassOf N.table N.nodes N.config N.operations pass.old }
+        requires pass { IsPassOf N.name pass.old }
         requires left { 0 < pass.old.left }
-        ensures pass { IsPassOf N.table N.nodes N.config N.operations pass.new }
+        ensures pass { IsPassOf N.name pass.new }
         ensures later { IsLater pass.old pass.new }
         ensures read { IfOk result (λ version. (list : List Record) × Reads pass.old pass.new (Maps version list)) }
         ensures looks { IfOk result (λ version. looks_of pass.new ≡ looks_of pass.old + 1) }
@@ -195,10 +212,34 @@ impl<N: SpaceName> Space<N> {
         Ok(version)
     }
 
+    /// A note of what a pass has seen, for another caller. It is one operation.
+    pub fn tell(&self, pass: &mut Pass) -> Note
+        requires pass { IsPassOf N.name pass.old }
+        requires left { 0 < pass.old.left }
+        ensures pass { IsPassOf N.name pass.new }
+        ensures later { IsLater pass.old pass.new }
+        ensures told { Tells pass.old pass.new }
+        ensures note { (result.table ≡ N.name.table) × (result.config ≡ N.name.config) × (result.seen ≡ seen_by pass.old) }
+    {
+        pass.spend();
+        self.view.tell(pass)
+    }
+
+    /// Hears a note: the pass has then seen the longer of both lists, each of which begins it.
+    pub fn hear(&self, pass: &mut Pass, note: Note)
+        requires pass { IsPassOf N.name pass.old }
+        requires note { (note.table ≡ N.name.table) × (note.config ≡ N.name.config) }
+        ensures pass { IsPassOf N.name pass.new }
+        ensures later { IsLater pass.old pass.new }
+        ensures heard { Hears pass.old note.seen pass.new }
+    {
+        self.view.hear(pass, note);
+    }
+
     /// Closes the space with all its passes, each in its caller's place. No memory is taken.
     pub fn close(self, passes: Vec<Pass>) -> Closed
-        requires { ArePasses N.table N.nodes N.config N.operations passes.items }
-        ensures { Closes N.config passes.items result }
+        requires { ArePasses N.name passes.items }
+        ensures { Closes N.name passes.items result }
     {
         let Space { view, state, logs } = self;
         let mut state = state.into_inner();
@@ -206,4 +247,20 @@ impl<N: SpaceName> Space<N> {
         let (journal, list) = state.finish();
         Closed::new(journal, logs, list)
     }
+}
+
+/// Adds a fault that was answered to the log.
+fn note(pass: &mut Pass, page: Page, access: Access, faulted: Faulted)
+    requires left { 0 < pass.old.left }
+    requires right { IsReadRight (config pass.old) (seen_by pass.old) (Fault faulted.version page access faulted.verdict) }
+    requires version { faulted.version ≡ length (seen_by pass.old) }
+    ensures { pass.new ≡ record pass.old { log = pass.old.log ++ Fault faulted.version page access faulted.verdict ∷ []; left = pass.old.left - 1 } }
+{
+    pass.facts();
+    pass.note(Seen::Fault {
+        version: faulted.version,
+        page,
+        access,
+        verdict: faulted.verdict,
+    });
 }

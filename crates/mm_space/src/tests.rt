@@ -1,5 +1,6 @@
 //! Runs of a space, by one caller and by four at once.
 
+mod asking;
 mod operations;
 mod playing;
 mod tables;

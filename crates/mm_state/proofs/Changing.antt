@@ -13,6 +13,7 @@ use Rattle.mm_types.specs.declared.area.Record.{Record}
 use Rattle.mm_types.specs.Packed.{packed}
 use Rattle.lock_core.specs.declared.stage.SlotState.{SlotState}
 use Rattle.lock_core.specs.Core.{slot_at, free_slot, detached_row}
+use Rattle.lock_core.specs.Rows.{is_detached}
 use Rattle.split_merge.specs.declared.plan.Change.{Change}
 use Rattle.split_merge.specs.declared.plan.Change.TheVariants.{Detach, Alter, Add}
 use Rattle.split_merge.specs.Plans.{olds_of, news_of, starts_alike, without}
@@ -27,15 +28,12 @@ use Rattle.area_tree.specs.declared.shown.Shown.{Shown}
 use Rattle.area_tree.specs.AreaTrees.{AreaTreeView, shown_of, areas_of, areas_shown, times_shown}
 use Rattle.mm_state.specs.declared.board.Board.{Board}
 use Rattle.mm_state.specs.Shelves.{ShowsIt, Hangs}
+use Rattle.mm_state.specs.States.{MarksChanged, HaveLeft}
 use Rattle.mm_state.specs.Boards.{adds, weigh, IsBeside, after_leaving, Moves, Carries, IsSane, IsShown, IsStill, IsChanging, IsSameTree}
-use Rattle.mm_state.proofs.Rows.{packed_apart, not_packed}
+use Rattle.mm_state.proofs.Rows.{packed_attached, packed_apart, not_packed}
 use Rattle.mm_state.proofs.Hanging.{hangs_permuted, alone, IsAlone, self, left_more, detached, altered, added, free_is_none}
 use Rattle.mm_state.proofs.Writing.{hangs_out}
 use Rattle.mm_state.proofs.InOrder.{weigh_map}
-
--- a slot that changed shows another row
-abbrev pub Marks : List SlotState → List SlotState → Type 0
-Marks old new = (slot : ℕ) → (slot_at new slot).lock_seq ≢ (slot_at old slot).lock_seq → (slot_at new slot).row ≢ (slot_at old slot).row
 
 -- the free slots are as they were
 abbrev pub Unused : List SlotState → List SlotState → List ℕ → Type 0
@@ -49,8 +47,8 @@ beside_beside first second = record {
   seq = second.seq ∙ first.seq;
 }
 
-marks_more : (old states : List SlotState) (slot : ℕ) (state : SlotState) → slot < length states → Marks old states
-    → state.row ≢ (slot_at old slot).row → Marks old (set states slot state)
+marks_more : (old states : List SlotState) (slot : ℕ) (state : SlotState) → slot < length states → MarksChanged old states
+    → state.row ≢ (slot_at old slot).row → MarksChanged old (set states slot state)
 marks_more old states slot state within marks differs other = by (cases_eq slot other)
   where
     by : ((slot ≡ other) ⊎ (slot ≢ other)) → (slot_at (set states slot state) other).lock_seq ≢ (slot_at old other).lock_seq
@@ -66,6 +64,36 @@ unused_more : (old states : List SlotState) (slot : ℕ) (state : SlotState) (fr
 unused_more old states slot state free left none fewer unused other some =
     get_or-set_other states slot other state free_slot (λ same. absurd (omega (arith, ap (λ n. times n left) same, none, some)))
     ∙ unused other (omega (arith, fewer other, some))
+
+-- no test is both
+both_ways : (test : Bool) → test ≡ true → test ≡ false → ⊥
+both_ways test is other = let two : true ≡ false = sym is ∙ other in cc
+
+-- what left is left still and as it was, after one slot changed that is none of these
+waits_more : (old states : List SlotState) (slot : ℕ) (state : SlotState) (before between after : List Leaving)
+    → ((l : Leaving) → Contains before l → Contains between l × (slot_at states l.slot ≡ slot_at old l.slot))
+    → ((l : Leaving) → Contains between l → Contains after l) → times_left slot between ≡ 0
+    → (l : Leaving) → Contains before l → Contains after l × (slot_at (set states slot state) l.slot ≡ slot_at old l.slot)
+waits_more old states slot state before between after waits more none l member =
+    let was = waits l member in
+    let some = get_or-le-sum_by (λ (m : Leaving). one_at slot m.slot) between was.0.0 l was.0.1 in
+    let there = ap (λ (m : Leaving). one_at slot m.slot) was.0.2 in (
+      more l was.0,
+      get_or-set_other states slot l.slot state free_slot (λ same. absurd (omega (arith, some, there, none, self slot, ap (one_at slot) same))) ∙ was.1,
+    )
+
+-- what has left has left still, and so has the slot that changed, if it shows no area
+gone_more : (old states : List SlotState) (slot : ℕ) (state : SlotState) (tree : ℕ) (between after : List Leaving) → HaveLeft tree between old states
+    → ((l : Leaving) → Contains between l → Contains after l) → (is_detached state.row ≡ true → Contains after (record { slot = slot; tree = tree }))
+    → slot < length states → HaveLeft tree after old (set states slot state)
+gone_more old states slot state tree between after gone more here within other = by (cases_eq slot other)
+  where
+    by : ((slot ≡ other) ⊎ (slot ≢ other)) → is_detached (slot_at old other).row ≡ false → is_detached (slot_at (set states slot state) other).row ≡ true
+        → Contains after (record { slot = other; tree = tree })
+    by (inl same) was is = subst (λ n. Contains after (record { slot = n; tree = tree })) same
+        (here (ap (λ (s : SlotState). is_detached s.row) (sym (ap (slot_at (set states slot state)) (sym same) ∙ get_or-set_same states slot state free_slot within)) ∙ is))
+    by (inr apart) was is = more (record { slot = other; tree = tree })
+        (gone other was (ap (λ (s : SlotState). is_detached s.row) (sym (get_or-set_other states slot other state free_slot (λ same. apart (sym same)))) ∙ is))
 
 -- a tree that changed but for its pairs, and changes so again
 pub tree_step : (first second third : AreaTreeView) → IsSameTree first second → IsSameTree second third → IsSameTree first third
@@ -168,6 +196,10 @@ detach_step start board after done tree area changing member (slot, changes, out
   few_moved = omega (arith, ap length moved, changing.few_moved);
   marks = rw changes.written.slots (marks_more (slots start.writer) (slots board.writer) slot state within changing.marks
       (λ same. not_packed detached_row area refl (same ∙ ap (λ (s : SlotState). s.row) (sym was) ∙ shows)));
+  waits = rw changes.written.slots (waits_more (slots start.writer) (slots board.writer) slot state start.slots.left board.slots.left after.slots.left changing.waits more
+      one.taken.not_left);
+  gone = rw changes.written.slots (gone_more (slots start.writer) (slots board.writer) slot state tree board.slots.left after.slots.left changing.gone more
+      (λ is. among leaving (0, omega arith, refl)) within);
 }
   where
     seq : ℕ
@@ -181,6 +213,13 @@ detach_step start board after done tree area changing member (slot, changes, out
 
     state : SlotState
     state = record { lock_seq = seq; row = detached_row }
+
+    among : (l : Leaving) → Contains (leaving ∷ board.slots.left) l → Contains after.slots.left l
+    among l member = subst (λ (s : SlotSet). Contains s.left l) (sym set_is)
+        (Contains-permutation (leaving ∷ board.slots.left) (after_leaving board.slots slot tree).left l (left_more board.slots slot tree) member)
+
+    more : (l : Leaving) → Contains board.slots.left l → Contains after.slots.left l
+    more l member = among l (Contains-append_right (leaving ∷ []) board.slots.left l member)
 
     is : IsOut (shown_of board.areas) (shown_of after.areas) (shown_of after.areas) slot area
     is = gone_out (shown_of board.areas) (shown_of after.areas) slot area out
@@ -302,6 +341,10 @@ alter_step start board after done tree area changed changing member sane (slot, 
   few_moved = omega (arith, m.few, changing.few_moved);
   marks = rw changes.written.slots (marks_more (slots start.writer) (slots board.writer) slot state within changing.marks
       (λ same. packed_apart area changed sane.0 sane.1 sane.2 (sym (same ∙ ap (λ (s : SlotState). s.row) (sym was) ∙ shows))));
+  waits = rw changes.written.slots (waits_more (slots start.writer) (slots board.writer) slot state start.slots.left board.slots.left after.slots.left changing.waits more
+      one.taken.not_left);
+  gone = rw changes.written.slots (gone_more (slots start.writer) (slots board.writer) slot state tree board.slots.left after.slots.left changing.gone more
+      (λ is. absurd (both_ways (is_detached (packed changed)) is (packed_attached changed))) within);
 }
   where
     seq : ℕ
@@ -318,6 +361,9 @@ alter_step start board after done tree area changed changing member sane (slot, 
 
     state : SlotState
     state = record { lock_seq = seq; row = packed changed }
+
+    more : (l : Leaving) → Contains board.slots.left l → Contains after.slots.left l
+    more l member = subst (λ (s : SlotSet). Contains s.left l) (sym set_is) member
 
     m : IsMoved board after rest slot area changed
     m = is_moved board after slot area changed moves
@@ -370,7 +416,7 @@ add_step start board after done tree area changing (slot, changes, tree_is, move
       (λ k d within place member. get_or-set_other (slots board.writer) slot place state free_slot
       (not_shown slot (shown_of board.areas) (get_or (without (olds_of done) (areas_of start.areas)) k d) none place member)
       ∙ changing.still k d within place member));
-  unused = rw changes.written.slots (unused_more (slots start.writer) (slots board.writer) slot state board.slots.free after.slots.free taken_out
+  unused = rw changes.written.slots (unused_more (slots start.writer) (slots board.writer) slot state board.slots.free after.slots.free was_free.0
       (λ other. omega (arith, ap (λ (s : SlotSet). times other s.free) set_is, sum_by_push (one_at other) after.slots.free slot)) changing.unused);
   free = omega (arith, changing.free, ap (λ (s : SlotSet). length s.free) set_is, length-append after.slots.free (slot ∷ []), sum_by-cons adds (Add area) done);
   leaving = subst (λ (left : List Leaving). All (λ (l : Leaving). l.tree ≤ tree) left) (ap (λ (s : SlotSet). s.left) set_is) changing.leaving;
@@ -379,6 +425,10 @@ add_step start board after done tree area changing (slot, changes, tree_is, move
   few_moved = omega (arith, ap length moved, length-append board.moved.items (now ∷ []), changing.few_moved);
   marks = rw changes.written.slots (marks_more (slots start.writer) (slots board.writer) slot state within changing.marks
       (λ same. not_packed (slot_at (slots board.writer) slot).row area (changing.hangs.others slot free.1) (ap (λ (s : SlotState). s.row) was ∙ sym same)));
+  waits = rw changes.written.slots (waits_more (slots start.writer) (slots board.writer) slot state start.slots.left board.slots.left after.slots.left changing.waits more
+      was_free.1);
+  gone = rw changes.written.slots (gone_more (slots start.writer) (slots board.writer) slot state tree board.slots.left after.slots.left changing.gone more
+      (λ is. absurd (both_ways (is_detached (packed area)) is (packed_attached area))) within);
 }
   where
     seq : ℕ
@@ -407,14 +457,18 @@ add_step start board after done tree area changing (slot, changes, tree_is, move
     freed : times slot board.slots.free ≡ times slot after.slots.free + 1
     freed = omega (arith, ap (λ (s : SlotSet). times slot s.free) set_is, sum_by_push (one_at slot) after.slots.free slot, self slot)
 
-    taken_out : times slot after.slots.free ≡ 0
-    taken_out = by (cases_lt slot board.slots.count) (changing.hangs.once slot)
+    more : (l : Leaving) → Contains board.slots.left l → Contains after.slots.left l
+    more l member = subst (λ (left : List Leaving). Contains left l) (ap (λ (s : SlotSet). s.left) set_is) member
+
+    was_free : (times slot after.slots.free ≡ 0) × (times_left slot board.slots.left ≡ 0)
+    was_free = by (cases_lt slot board.slots.count) (changing.hangs.once slot)
       where
         by : ((slot < board.slots.count) ⊎ (board.slots.count ≤ slot))
             → times_shown slot (shown_of board.areas ++ board.moved.items) + times slot board.slots.free + times_left slot board.slots.left ≡ (if nat_lt slot board.slots.count then 1 else 0)
-            → times slot after.slots.free ≡ 0
+            → (times slot after.slots.free ≡ 0) × (times_left slot board.slots.left ≡ 0)
         by (inl below) once =
-            let bit : ◌≡◌ {A = ℕ} (if nat_lt slot board.slots.count then 1 else 0) 1 = grind (arith, nat_tests, below) in omega (arith, once, bit, freed)
+            let bit : ◌≡◌ {A = ℕ} (if nat_lt slot board.slots.count then 1 else 0) 1 = grind (arith, nat_tests, below) in
+            (omega (arith, once, bit, freed), omega (arith, once, bit, freed))
         by (inr above) once = absurd (omega (arith, free.0, above))
 
     was : slot_at (slots board.writer) slot ≡ slot_at (slots start.writer) slot
@@ -459,4 +513,6 @@ none_changed board tree mine hangs empty leaving ascend = record {
   moved_room = refl;
   few_moved = omega (arith, ap length empty);
   marks = λ slot rose same. rose refl;
+  waits = λ leaving member. (member, refl);
+  gone = λ slot was is. absurd (both_ways (is_detached (slot_at (slots board.writer) slot).row) is was);
 }

@@ -1,5 +1,5 @@
 -- For all calls of `Board`: how slots hang together, step by step.
-use Rattle.std.proofs.Common.{◌≡◌, ◌≢◌, ◌≤◌, ◌<◌, ◌+◌, ℕ, true, nat_lt, not, List, [], ◌∷◌, ◌++◌, length, get_or, set, sum_by, All, refl, sym, ap, ◌∙◌, subst, ◌⊎◌, inl, inr, arith, if◌then◌else◌, length-append}
+use Rattle.std.proofs.Common.{◌≡◌, ◌≢◌, ◌≤◌, ◌<◌, ◌+◌, ℕ, true, nat_lt, nat_le, not, List, [], ◌∷◌, ◌++◌, length, get_or, set, sum_by, All, refl, sym, ap, ◌∙◌, subst, ◌⊎◌, inl, inr, arith, if◌then◌else◌, length-append}
 use Rattle.std.specs.List.{Contains}
 use Rattle.std.specs.List.Sorted.{IsPermutation}
 use Rattle.std.proofs.lemmas.Bool.{cases_eq, cases_lt, cond-true, cond-false}
@@ -14,6 +14,7 @@ use Rattle.lock_core.specs.declared.stage.SlotState.{SlotState}
 use Rattle.lock_core.specs.Core.{slot_at, free_slot, detached_row}
 use Rattle.lock_core.specs.Rows.{is_detached, attached_weight}
 use Rattle.lock_core.proofs.Weighing.{attached-set}
+use Rattle.split_merge.proofs.Counting.{contains_filter}
 use Rattle.area_slots.specs.declared.leaving.Leaving.{Leaving}
 use Rattle.area_slots.specs.Slots.{SlotSet, IsTaken, one_at, times, times_left, left_by, gone_by, gone_after, slots_of}
 use Rattle.area_slots.proofs.Counting.{times-slots_of}
@@ -292,8 +293,8 @@ parted_left tree left = IsPermutation-filter_both (left_by tree) (λ (l : Leavin
 
 -- what left by a tree is free again
 pub seen_freed : (slots after : SlotSet) (tree : ℕ)
-    → after ≡ record slots { free = slots.free ++ slots_of (gone_by tree slots.left); left = gone_after tree slots.left } → IsFreed slots after
-seen_freed slots after tree is = subst (IsFreed slots) (sym is) record {
+    → after ≡ record slots { free = slots.free ++ slots_of (gone_by tree slots.left); left = gone_after tree slots.left } → IsFreed tree slots after
+seen_freed slots after tree is = subst (IsFreed tree slots) (sym is) record {
   count = refl;
   sum = omega (
     arith,
@@ -310,21 +311,26 @@ seen_freed slots after tree is = subst (IsFreed slots) (sym is) record {
     sum_by-IsPermutation (λ (l : Leaving). one_at slot l.slot) slots.left (gone_by tree slots.left ++ gone_after tree slots.left) (parted_left tree slots.left),
   );
   leaving = λ last all. All-filter (λ (l : Leaving). not (left_by tree l)) (λ (l : Leaving). l.tree ≤ last) slots.left all;
+  waits = λ leaving member later. contains_filter (λ (l : Leaving). not (left_by tree l)) slots.left leaving member (left_later tree leaving.tree later);
 }
+  where
+    left_later : (settled later : ℕ) → settled < later → not (nat_le later settled) ≡ true
+    left_later settled later above = grind (arith, nat_tests)
 
-pub freed_freed : (first second third : SlotSet) → IsFreed first second → IsFreed second third → IsFreed first third
-freed_freed first second third one two = record {
+-- slots that were freed twice, by trees up to a third
+pub freed_freed : (first second third : SlotSet) (settled between later : ℕ) → IsFreed settled first second → IsFreed between second third → settled ≤ later → between ≤ later
+    → IsFreed later first third
+freed_freed first second third settled between later one two upto too = record {
   count = two.count ∙ one.count;
   sum = two.sum ∙ one.sum;
   each = λ slot. two.each slot ∙ one.each slot;
   leaving = λ last all. two.leaving last (one.leaving last all);
+  waits = λ leaving member above. two.waits leaving (one.waits leaving member (omega (arith, upto, above))) (omega (arith, too, above));
 }
 
-pub none_freed : (slots : SlotSet) → IsFreed slots slots
-none_freed slots = record { count = refl; sum = refl; each = λ slot. refl; leaving = λ last all. all }
-
-pub hangs_freed : (states : List SlotState) (shown : List Shown) (slots after : SlotSet) → IsFreed slots after → Hangs states shown slots → Hangs states shown after
-hangs_freed states shown slots after freed hangs = record {
+pub hangs_freed : (states : List SlotState) (shown : List Shown) (settled : ℕ) (slots after : SlotSet) → IsFreed settled slots after → Hangs states shown slots
+    → Hangs states shown after
+hangs_freed states shown settled slots after freed hangs = record {
   sized = hangs.sized ∙ sym freed.count;
   counted = omega (arith, hangs.counted, freed.sum, freed.count);
   once = λ slot. subst (λ count. times_shown slot shown + times slot after.free + times_left slot after.left ≡ (if nat_lt slot count then 1 else 0)) (sym freed.count)

@@ -6,9 +6,12 @@ pub mod Weights
 pub mod Changing
 pub mod Carrying
 pub mod Readying
+pub mod Scanning
+pub mod Resting
 pub mod Staying
 pub mod Telling
 pub mod Sane
 pub mod Opening
 pub mod Entering
+pub mod Made
 pub mod Storing

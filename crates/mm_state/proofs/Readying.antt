@@ -1,16 +1,18 @@
 -- For `Board::enter`: the tree before and after a call.
-use Rattle.std.proofs.Common.{ℕ, ◌≡◌, ◌<◌, ◌≤◌, ◌+◌, ◌*◌, List, [], ◌++◌, append-nil, length, sum_by, All, sym, ap, subst, ◌∙◌, arith, get_or, ◌⊎◌, inl, inr}
+use Rattle.std.proofs.Common.{ℕ, ◌≡◌, ◌<◌, ◌≤◌, ◌+◌, ◌*◌, List, [], ◌∷◌, ◌++◌, append-nil, length, sum_by, All, sym, ap, subst, ◌∙◌, arith, get_or, ◌⊎◌, inl, inr}
 use Rattle.std.specs.List.Sorted.{IsPermutation}
-use Rattle.std.proofs.lemmas.List.Sums.{get_or-le-sum_by}
+use Rattle.std.proofs.lemmas.List.Sums.{get_or-le-sum_by, sum_by-cons}
 use Rattle.std.proofs.lemmas.List.Sorted.{sum_by-IsPermutation}
 use Rattle.std.proofs.lemmas.List.Elements.{All-weaker}
 use Rattle.std.proofs.lemmas.Bool.{cases_lt}
+use Rattle.std.proofs.lemmas.List.{length-map}
 use Rattle.mm_types.specs.declared.area.Record.{Record}
 use Rattle.mm_types.specs.Packed.{packed}
 use Rattle.lock_core.specs.declared.stage.SlotState.{SlotState}
 use Rattle.lock_core.specs.Rows.{Exactly}
 use Rattle.area_slots.specs.Slots.{SlotSet, one_at}
 use Rattle.split_merge.specs.declared.plan.Change.{Change}
+use Rattle.split_merge.specs.declared.plan.Change.TheVariants.{Detach, Alter, Add}
 use Rattle.split_merge.specs.Plans.{news_of, applied, IsPlanOf}
 use Rattle.split_merge.proofs.Counting.{length-applied}
 use Rattle.vma_lock.specs.Seats.{slots}
@@ -18,7 +20,7 @@ use Rattle.area_tree.specs.declared.shown.Shown.{Shown}
 use Rattle.area_tree.specs.AreaTrees.{AreaTreeView, shown_of, areas_of, AreasRise}
 use Rattle.mm_state.specs.declared.board.Board.{Board}
 use Rattle.mm_state.specs.Shelves.{Hangs}
-use Rattle.mm_state.specs.Boards.{IsAtRest, IsReadied, IsChanging, CanHold, weigh}
+use Rattle.mm_state.specs.Boards.{adds, adds_of, CanFree, IsFreed, IsAtRest, IsReadied, IsChanging, CanHold, weigh}
 use Rattle.mm_state.proofs.InOrder.{weigh_map, same_order, can_hold}
 use Rattle.mm_state.proofs.Weights.{applied_weighs}
 use Rattle.mm_state.proofs.Hanging.{hangs_freed, none_above, at_most_once, self}
@@ -32,7 +34,7 @@ pub record IsPrepared (old board : Board) : Type 0 where
 pub prepared : (old board : Board) (changes : List Change) → IsAtRest old → IsReadied old board changes → IsPrepared old board
 prepared old board changes rest ready = record {
   hangs = subst (λ (list : List Shown). Hangs (slots old.writer) list board.slots) (sym list)
-      (hangs_freed (slots old.writer) (shown_of old.areas) old.slots board.slots ready.slots rest.hangs);
+      (hangs_freed (slots old.writer) (shown_of old.areas) board.areas.tree.settled old.slots board.slots ready.slots rest.hangs);
   moved = moved;
   leaving = ready.slots.leaving (board.areas.tree.number + 1) (All-weaker (λ leaving. leaving.tree ≤ old.areas.tree.number) (λ leaving. leaving.tree ≤ board.areas.tree.number + 1)
       (λ leaving upto. omega (arith, upto, ap (λ (t : AreaTreeView). t.tree.number) ready.areas)) old.slots.left rest.tree.leaving);
@@ -43,6 +45,13 @@ prepared old board changes rest ready = record {
 
     list : shown_of board.areas ++ board.moved.items ≡ shown_of old.areas
     list = ap (λ (l : List Shown). shown_of board.areas ++ l) moved ∙ append-nil (shown_of board.areas) ∙ ap shown_of ready.areas
+
+-- the changes add no more areas than they bring
+adds_few : (changes : List Change) → adds_of changes ≤ length (news_of changes)
+adds_few [] = omega arith
+adds_few (Detach old ∷ changes) = omega (arith, sum_by-cons adds (Detach old) changes, adds_few changes)
+adds_few (Alter old new ∷ changes) = omega (arith, sum_by-cons adds (Alter old new) changes, adds_few changes)
+adds_few (Add new ∷ changes) = omega (arith, sum_by-cons adds (Add new) changes, adds_few changes)
 
 -- slots that show areas are slots of the table
 slots_below : (states : List SlotState) (shown : List Shown) (set : SlotSet) → Hangs states shown set → All (λ s. s.slot < set.count) shown
@@ -89,3 +98,28 @@ module _ (start board : Board) (changes : List Change) (tree : ℕ) (changing : 
 -- a plan brings no more areas than the list then has
 pub news_few : (changes : List Change) (areas : List Record) → length (news_of changes) ≤ length (applied changes areas)
 news_few changes areas = omega (arith, length-applied changes areas)
+
+-- Once no reader is left in a tree up to the present one, so many slots are free that a plan's list has one for each of its areas.
+pub slots_suffice : (board : Board) (changes : List Change) → IsAtRest board → length (areas_of board.areas) ≤ board.areas.tree.areas
+    → length (applied changes (areas_of board.areas)) ≤ board.areas.tree.areas → CanFree board.areas board.slots (adds_of changes)
+slots_suffice board changes rest few few_after = record {
+  left = rest.tree.leaving;
+  enough = omega (
+    arith,
+    rest.hangs.counted,
+    rest.records,
+    few,
+    few_after,
+    length-map (shown_of board.areas) (λ (s : Shown). s.area),
+    adds_few changes,
+    news_few changes (areas_of board.areas),
+  );
+}
+
+-- so many can be free after others became so
+pub can_free : (areas later : AreaTreeView) (set after : SlotSet) (settled wanted : ℕ) → CanFree areas set wanted → later.tree.number ≡ areas.tree.number
+    → IsFreed settled set after → CanFree later after wanted
+can_free areas later set after settled wanted can same freed = record {
+  left = subst (λ n. All (λ leaving. leaving.tree ≤ n) after.left) (sym same) (freed.leaving areas.tree.number can.left);
+  enough = omega (arith, can.enough, freed.sum);
+}

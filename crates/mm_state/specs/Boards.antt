@@ -1,5 +1,5 @@
 -- The board: the table with its writer, the tree of areas, and which slots are free. No contract of a public function cites these.
-use Rattle.std.specs.Prelude.{ℕ, ◌≡◌, ◌≢◌, ◌≤◌, ◌<◌, ◌+◌, ◌*◌, ◌^◌, true, false, if◌then◌else◌, List, [], ◌∷◌, ◌++◌, length, slice_set, sum_by, All, Contains, None, ◌⊎◌}
+use Rattle.std.specs.Prelude.{ℕ, ◌≡◌, ◌≢◌, ◌≤◌, ◌<◌, ◌+◌, ◌*◌, ◌^◌, true, false, if◌then◌else◌, List, [], ◌∷◌, ◌++◌, length, slice_set, sum_by, All, Contains, ◌⊎◌}
 use Rattle.std.specs.List.Sorted.{IsPermutation}
 use Rattle.std.specs.Vec.{vec_capacity}
 use Rattle.mm_types.specs.Config.{slots_for}
@@ -16,6 +16,7 @@ use Rattle.split_merge.specs.declared.plan.Change.{Change}
 use Rattle.split_merge.specs.declared.plan.Change.TheVariants.{Detach, Alter, Add}
 use Rattle.split_merge.specs.Plans.{olds_of, news_of, without, applied, IsPlanOf, IsReal}
 use Rattle.sys_map.specs.BinarySearch.{BeginsAscend}
+use Rattle.area_slots.specs.declared.leaving.Leaving.{Leaving}
 use Rattle.area_slots.specs.Slots.{SlotSet, gone_by, gone_after, times, times_left}
 use Rattle.vma_lock.specs.declared.view.View.{View}
 use Rattle.vma_lock.specs.Seats.{config_of, slots_of, Writes, sight, journal, slots, IsOpen, IsClosed}
@@ -23,6 +24,7 @@ use Rattle.area_tree.specs.declared.shown.Shown.{Shown}
 use Rattle.area_tree.specs.AreaTrees.{AreaTreeView, shown_of, areas_of, times_shown, AreasRise}
 use Rattle.mm_state.specs.declared.board.Board.{Board}
 use Rattle.mm_state.specs.Shelves.{Hangs}
+use Rattle.mm_state.specs.States.{MarksChanged, KeepsSlots, KeepsLeft, HaveLeft}
 
 -- how many areas a change adds
 abbrev pub adds : Change → ℕ
@@ -34,12 +36,23 @@ adds (Add new) = 1
 abbrev pub adds_of : List Change → ℕ
 adds_of changes = sum_by adds changes
 
--- some of the slots that left are free
-pub record IsFreed (old new : SlotSet) : Type 0 where
+-- some of the slots that left by a tree are free, and those that left after it are left still
+pub record IsFreed (settled : ℕ) (old new : SlotSet) : Type 0 where
   pub count : new.count ≡ old.count
   pub sum : length new.free + length new.left ≡ length old.free + length old.left
   pub each : (slot : ℕ) → times slot new.free + times_left slot new.left ≡ times slot old.free + times_left slot old.left
   pub leaving : (tree : ℕ) → All (λ leaving. leaving.tree ≤ tree) old.left → All (λ leaving. leaving.tree ≤ tree) new.left
+  pub waits : (leaving : Leaving) → Contains old.left leaving → settled < leaving.tree → Contains new.left leaving
+
+-- A tree of areas with its slots, of which so many can be free: each that left did so with a tree up to the present one, and is free
+-- once this one is settled.
+pub record CanFree (areas : AreaTreeView) (set : SlotSet) (wanted : ℕ) : Type 0 where
+  pub left : All (λ leaving. leaving.tree ≤ areas.tree.number) set.left
+  pub enough : wanted ≤ length set.free + length set.left
+
+-- scans of the pins of readers changed the tree of areas alone in what they found
+abbrev pub IsScanned : AreaTreeView → AreaTreeView → Type 0
+IsScanned old new = new ≡ record old { tree = record old.tree { settled = new.tree.settled; scans = new.tree.scans; pins = new.tree.pins } }
 
 -- the areas are in a tree as before but for its pairs, with other records
 abbrev pub IsSameTree : AreaTreeView → AreaTreeView → Type 0
@@ -145,8 +158,10 @@ pub record IsChanging (start board : Board) (done : List Change) (tree : ℕ) : 
   pub same : IsSameTree start.areas board.areas
   pub moved_room : vec_capacity board.moved ≡ vec_capacity start.moved
   pub few_moved : length board.moved.items ≤ length (news_of done)
-  pub marks : (slot : ℕ) → (slot_at (slots board.writer) slot).lock_seq ≢ (slot_at (slots start.writer) slot).lock_seq
-      → (slot_at (slots board.writer) slot).row ≢ (slot_at (slots start.writer) slot).row
+  pub marks : MarksChanged (slots start.writer) (slots board.writer)
+  pub waits : (leaving : Leaving) → Contains start.slots.left leaving
+      → Contains board.slots.left leaving × (slot_at (slots board.writer) leaving.slot ≡ slot_at (slots start.writer) leaving.slot)
+  pub gone : HaveLeft tree board.slots.left (slots start.writer) (slots board.writer)
 
 -- a record whose words say which it is
 pub record IsPackable (area : Record) : Type 0 where
@@ -176,16 +191,15 @@ pub record IsReadied (old new : Board) (changes : List Change) : Type 0 where
   pub table : new.table ≡ old.table
   pub writer : new.writer ≡ old.writer
   pub moved : new.moved ≡ old.moved
-  pub areas : new.areas ≡ record old.areas { tree = record old.areas.tree { changed = new.areas.tree.changed; roomy = true; settled = new.areas.tree.settled } }
-  pub slots : IsFreed old.slots new.slots
+  pub areas : new.areas ≡ record old.areas { tree = record old.areas.tree { changed = new.areas.tree.changed; roomy = true; settled = new.areas.tree.settled; scans = new.areas.tree.scans; pins = new.areas.tree.pins } }
+  pub slots : IsFreed new.areas.tree.settled old.slots new.slots
   pub free : adds_of changes ≤ length new.slots.free
 
--- between two calls no call is open and the writer has no turn
+-- between two calls no call is open
 pub record IsAtRest (board : Board) : Type 0 where
   pub table : Writes board.writer board.table
   pub config : (sight board.writer).config ≡ config_of board.table
   pub closed : IsClosed board.writer
-  pub turn : (sight board.writer).turn ≡ None
   pub count : board.slots.count ≡ slots_of board.table
   pub records : board.slots.count ≡ slots_for board.areas.tree.areas
   pub hangs : Hangs (slots board.writer) (shown_of board.areas) board.slots
@@ -202,3 +216,17 @@ pub record IsEntered (board : Board) (changes : List Change) (entry : Entry) : T
   pub packable : All IsPackable (areas_of board.areas)
   pub few_after : length (applied changes (areas_of board.areas)) ≤ (config_of board.table).areas
   pub rise_after : AreasRise (page_of (config_of board.table).limit) 0 (applied changes (areas_of board.areas))
+
+-- A call's plan made its list of the areas, and its entry stands last in the journal. A slot that was marked shows another row, an
+-- area of both lists keeps its slot, a slot that left after the settled tree is as it was, and one whose area went left with the
+-- new tree.
+pub record IsCarriedOut (old new : Board) (changes : List Change) (entry : Entry) : Type 0 where
+  pub entered : journal new.writer ≡ journal old.writer ++ entry ∷ []
+  pub areas : areas_of new.areas ≡ applied changes (areas_of old.areas)
+  pub bounds : new.areas.bounds ≡ old.areas.bounds
+  pub most : new.areas.tree.areas ≡ old.areas.tree.areas
+  pub nodes : new.areas.tree.table ≡ old.areas.tree.table
+  pub marks : MarksChanged (slots old.writer) (slots new.writer)
+  pub stays : KeepsSlots (areas_of old.areas) (applied changes (areas_of old.areas)) (slots old.writer) (slots new.writer)
+  pub waits : KeepsLeft new.areas.tree.settled old.slots.left new.slots.left (slots old.writer) (slots new.writer)
+  pub gone : HaveLeft new.areas.tree.number new.slots.left (slots old.writer) (slots new.writer)

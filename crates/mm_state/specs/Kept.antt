@@ -1,12 +1,12 @@
 -- What the fields of the state behind the mmap lock keep.
-use Rattle.std.specs.Prelude.{◌≡◌, ◌≤◌, ◌^◌, length}
+use Rattle.std.specs.Prelude.{◌≡◌, ◌≤◌, ◌^◌, length, None}
 use Rattle.std.specs.Vec.{vec_capacity}
 use Rattle.mm_types.specs.Config.{IsValidConfig}
 use Rattle.area_rules.specs.Placement.{bounds_of}
 use Rattle.area_rules.specs.Tables.{space_of}
 use Rattle.area_rules.specs.Steps.{after, IsLegalJournal}
 use Rattle.split_merge.specs.Plans.{IsKept, IsFresh}
-use Rattle.vma_lock.specs.Seats.{config_of, table_of, journal, slots}
+use Rattle.vma_lock.specs.Seats.{config_of, table_of, sight, journal, slots}
 use Rattle.mm_state.specs.declared.state.MmState.TheInside.{Inside}
 use Rattle.mm_state.specs.Boards.{IsAtRest}
 use Rattle.area_tree.specs.AreaTrees.{areas_of}
@@ -17,18 +17,23 @@ abbrev pub state_of : Inside → StateView
 state_of state = record {
   table = table_of state.board.table;
   config = state.config;
+  seq = (sight state.board.writer).desk.seq;
+  turn = (sight state.board.writer).turn;
   slots = slots state.board.writer;
+  left = state.board.slots.left;
   journal = state.journal.items;
   room = state.room;
   nodes = state.board.areas.tree.table;
   number = state.board.areas.tree.number;
   pairs = state.board.areas.tree.shown;
+  settled = state.board.areas.tree.settled;
 }
 
--- The board is at rest, its table has this configuration, which is valid, and its writer has seen this journal, which is
--- legal and has room. The areas and the counters are those after the journal, and the plan is fresh.
+-- The board is at rest and its writer has no turn. Its table has this configuration, which is valid, and its writer has seen this
+-- journal, which is legal and has room. The areas and the counters are those after the journal, and the plan is fresh.
 pub record IsState (state : Inside) : Type 0 where
   pub rest : IsAtRest state.board
+  pub turn : (sight state.board.writer).turn ≡ None
   pub settings : config_of state.board.table ≡ state.config
   pub valid : IsValidConfig state.config
   pub journal : journal state.board.writer ≡ state.journal.items

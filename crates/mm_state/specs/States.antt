@@ -1,5 +1,5 @@
 -- What contracts see of the state behind the mmap lock.
-use Rattle.std.specs.Prelude.{ℕ, ◌≡◌, List, map, Contains}
+use Rattle.std.specs.Prelude.{ℕ, ◌≡◌, ◌≢◌, ◌<◌, true, false, Option, List, map, Contains}
 use Rattle.mm_types.specs.declared.area.Record.{Record}
 use Rattle.mm_types.specs.declared.call.Entry.{Entry}
 use Rattle.mm_types.specs.declared.config.Config.{Config}
@@ -7,21 +7,28 @@ use Rattle.lock_core.specs.declared.stage.SlotState.{SlotState}
 use Rattle.lock_core.specs.Facts.{list_after}
 use Rattle.mm_types.specs.Packed.{packed}
 use Rattle.lock_core.specs.Core.{slot_at}
+use Rattle.lock_core.specs.Rows.{is_detached}
+use Rattle.area_slots.specs.declared.leaving.Leaving.{Leaving}
 use Rattle.maple_node.specs.Trees.{Pair}
 use Rattle.atomic_table.specs.Seated.{TableId}
 use Rattle.area_tree.specs.AreaTrees.{span_of}
 
--- The state behind the mmap lock as contracts see it: its table and configuration, the slots as they are, the journal, and for
--- how many entries it has room; the table of the nodes of its trees, and the number and the pairs of the present tree.
+-- The state behind the mmap lock as contracts see it: its table and configuration, the sequence, whose turn the writer has, the
+-- slots as they are, those that left and with which tree, the journal, and for how many entries it has room; the table of the nodes
+-- of its trees, the number and the pairs of the present tree, and the greatest tree that is settled.
 pub record StateView : Type 0 where
   pub table : TableId
   pub config : Config
+  pub seq : ℕ
+  pub turn : Option ℕ
   pub slots : List SlotState
+  pub left : List Leaving
   pub journal : List Entry
   pub room : ℕ
   pub nodes : TableId
   pub number : ℕ
   pub pairs : List Pair
+  pub settled : ℕ
 
 -- the list of areas after the journal
 abbrev pub list_of : StateView → List Record
@@ -40,3 +47,17 @@ pub record ArePairsOf (slots : List SlotState) (areas : List Record) (pairs : Li
 abbrev pub KeepsSlots : (before after : List Record) → (old new : List SlotState) → Type 0
 KeepsSlots before after old new = (slot : ℕ) (area : Record) → Contains before area → Contains after area → (slot_at old slot).row ≡ packed area
     → slot_at new slot ≡ slot_at old slot
+
+-- a slot that was marked shows another row
+abbrev pub MarksChanged : List SlotState → List SlotState → Type 0
+MarksChanged old new = (slot : ℕ) → (slot_at new slot).lock_seq ≢ (slot_at old slot).lock_seq → (slot_at new slot).row ≢ (slot_at old slot).row
+
+-- a slot that left after the settled tree is left still, and is as it was
+abbrev pub KeepsLeft : (settled : ℕ) → (before after : List Leaving) → (old new : List SlotState) → Type 0
+KeepsLeft settled before after old new = (leaving : Leaving) → Contains before leaving → settled < leaving.tree
+    → Contains after leaving × (slot_at new leaving.slot ≡ slot_at old leaving.slot)
+
+-- a slot that showed an area and shows none has left with this tree
+abbrev pub HaveLeft : (tree : ℕ) → (left : List Leaving) → (old new : List SlotState) → Type 0
+HaveLeft tree left old new = (slot : ℕ) → is_detached (slot_at old slot).row ≡ false → is_detached (slot_at new slot).row ≡ true
+    → Contains left (record { slot = slot; tree = tree })

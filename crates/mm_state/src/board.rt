@@ -9,11 +9,10 @@ ghost use Rattle.lock_core.specs.declared.stage.Stage.TheVariants.{Out};
 ghost use Rattle.lock_core.specs.Core.{slot_at, StartsWith};
 ghost use Rattle.split_merge.specs.Plans.{olds_of, news_of, applied, IsPlanOf};
 ghost use Rattle.split_merge.specs.declared.plan.Change.TheVariants.{Detach, Alter, Add};
-ghost use Rattle.vma_lock.specs.Seats.{config_of, slots_of, IsOf, Writes, view, seen, stage, HasTurn, sight, journal, slots, IsOpen};
+ghost use Rattle.vma_lock.specs.Seats.{config_of, slots_of, IsOf, Writes, view, seen, stage, HasTurn, sight, journal, slots, IsOpen, MayEnter};
 ghost use Rattle.vma_lock.specs.Views.{opened_view, look_at};
 ghost use Rattle.area_tree.specs.AreaTrees.{areas_of};
-ghost use Rattle.mm_state.specs.Boards.{IsWritten, CanChange, Carries, IsSane, IsChanging, IsAtRest, IsReadied, IsEntered, adds, adds_of};
-ghost use Rattle.mm_state.specs.States.{KeepsSlots};
+ghost use Rattle.mm_state.specs.Boards.{IsWritten, CanChange, Carries, IsSane, IsChanging, IsAtRest, IsReadied, IsEntered, IsCarriedOut, adds, adds_of, CanFree};
 ghost use Rattle.span_tree.specs.SpanTrees.{IsFreshWriter};
 
 use crate::spans::{count_adds, store_moved, wait_for_slots};
@@ -21,6 +20,7 @@ use area_slots::AreaSlots;
 use area_tree::{AreaTree, Shown};
 use mm_types::{Config, Entry, NoMemory, Record, Slot, pack, slots_for};
 use node_slots::NodeWriter;
+use span_tree::OpenCall;
 use split_merge::Change;
 use std::alloc::Global;
 use std::sync::Wait;
@@ -39,6 +39,21 @@ pub(crate) struct Board {
     pub(crate) slots: AreaSlots,
     /// The areas that the open call brings at other pages than their slots showed before, until the tree has them.
     pub(crate) moved: Vec<Shown>,
+}
+
+/// The writer's seat in an open call.
+#[derive(Drop)]
+struct Opened<'a> {
+    writer: &'a WriterSeat,
+}
+
+impl OpenCall for Opened<'_> {
+    ghost use Rattle.std.specs.Prelude.{length};
+    ghost use Rattle.vma_lock.specs.Seats.{IsOpen, journal};
+
+    ghost is_open = { λ call. IsOpen call.writer.now };
+
+    ghost calls = { λ call. length (journal call.writer.now) };
 }
 
 /// Marks a slot, once no reader holds it, and writes its row.
@@ -86,7 +101,8 @@ impl Board {
         ensures none { IfOk result (λ board. areas_of board.areas ≡ []) }
         ensures bounds { IfOk result (λ board. (board.areas.bounds ≡ bounds_of config.now) × (board.areas.tree.areas ≡ config.now.areas)) }
         ensures writer { IfOk result (λ board. (board.writer ≡ writer) × (config_of board.table ≡ (sight writer).config)) }
-        ensures tree { IfOk result (λ board. (board.areas.tree.table ≡ nodes.desk.seat.table_id) × (board.areas.tree.number ≡ 0) × (board.areas.tree.shown ≡ [])) }
+        ensures tree { IfOk result (λ board. (board.areas.tree.table ≡ nodes.desk.seat.table_id) × (board.areas.tree.number ≡ 0) × (board.areas.tree.shown ≡ [])
+            × (board.areas.tree.settled ≡ 0) × (board.slots.left ≡ [])) }
     {
         let table = writer.table()?;
         Ok(Board {
@@ -98,14 +114,18 @@ impl Board {
         })
     }
 
-    /// A reader meets the writer.
+    /// A reader meets the writer, who has no turn.
     pub(crate) fn meet(&mut self, seat: &mut ReaderSeat)
         requires rest { IsAtRest self.old }
         requires table { IsOf seat.old self.old.table }
+        requires turn { (sight self.old.writer).turn ≡ None }
         requires free { stage seat.old ≡ Out }
         ensures rest { IsAtRest self.new }
         ensures table { (self.new.table ≡ self.old.table) × IsOf seat.new self.new.table }
-        ensures same { (slots self.new.writer ≡ slots self.old.writer) × (journal self.new.writer ≡ journal self.old.writer) × (self.new.areas ≡ self.old.areas) }
+        ensures turn { (sight self.new.writer).turn ≡ None }
+        ensures seq { (sight self.new.writer).desk.seq ≡ (sight self.old.writer).desk.seq }
+        ensures same { (slots self.new.writer ≡ slots self.old.writer) × (journal self.new.writer ≡ journal self.old.writer) × (self.new.areas ≡ self.old.areas)
+            × (self.new.slots ≡ self.old.slots) }
         ensures view { (found : ℕ) × (found / 2 ≡ length (journal self.old.writer) + 1)
             × (view seat.new ≡ look_at (view seat.old) found (journal self.old.writer) Out) }
         ensures later { StartsWith (journal self.old.writer) (seen seat.old) }
@@ -114,7 +134,7 @@ impl Board {
         self.table.meet(&mut self.writer, seat);
     }
 
-    /// Makes a call by a plan of the list, with the turn of a reader, publishes the tree after it, and enters it in the journal.
+    /// Makes a call by a plan of the list, with the turn of a reader, which it has again afterwards.
     pub(crate) fn enter<R: Wait>(
         &mut self,
         rt: &R,
@@ -124,26 +144,38 @@ impl Board {
     )
         requires rest { IsAtRest self.old }
         requires table { IsOf seat.old self.old.table }
-        requires turn { HasTurn seat.old × (entry.caller ≡ (view seat.old).caller) }
+        requires turn { HasTurn seat.old × (entry.caller ≡ (view seat.old).caller) × ((sight self.old.writer).turn ≡ None) }
         requires free { stage seat.old ≡ Out }
         requires room { length (journal self.old.writer) < 2 ^ 31 }
         requires plan { IsEntered self.old changes.now entry }
         ensures rest { IsAtRest self.new }
         ensures table { (self.new.table ≡ self.old.table) × IsOf seat.new self.new.table }
-        ensures journal { journal self.new.writer ≡ journal self.old.writer ++ entry ∷ [] }
-        ensures areas { areas_of self.new.areas ≡ applied changes.now (areas_of self.old.areas) }
-        ensures bounds { (self.new.areas.bounds ≡ self.old.areas.bounds) × (self.new.areas.tree.areas ≡ self.old.areas.tree.areas) }
+        ensures turn { (sight self.new.writer).turn ≡ None }
+        ensures done { IsCarriedOut self.old self.new changes.now entry }
         ensures view { (found : ℕ) × (found / 2 ≡ length (journal self.new.writer) + 1)
             × (view seat.new ≡ look_at (view seat.old) found (journal self.new.writer) Out) }
         ensures later { StartsWith (journal self.old.writer) (seen seat.old) }
         ensures own { calls_by (view seat.old).caller (journal self.old.writer) ≡ calls_by (view seat.old).caller (seen seat.old) }
-        ensures marks { (slot : ℕ) → (slot_at (slots self.new.writer) slot).lock_seq ≢ (slot_at (slots self.old.writer) slot).lock_seq
-            → (slot_at (slots self.new.writer) slot).row ≢ (slot_at (slots self.old.writer) slot).row }
-        ensures stays { KeepsSlots (areas_of self.old.areas) (applied changes.now (areas_of self.old.areas)) (slots self.old.writer) (slots self.new.writer) }
-        ensures nodes { self.new.areas.tree.table ≡ self.old.areas.tree.table }
     {
-        self.make_ready(rt, changes);
         self.table.lend(&mut self.writer, seat);
+        self.carry_out(rt, changes, entry);
+        self.table.meet(&mut self.writer, seat);
+    }
+
+    /// Makes a call by a plan of the list, with the turn that the writer has or for nobody who has a seat, publishes the tree
+    /// after it, and enters it in the journal.
+    pub(crate) fn carry_out<R: Wait>(&mut self, rt: &R, changes: &[Change], entry: Entry)
+        requires rest { IsAtRest self.old }
+        requires turn { MayEnter entry (sight self.old.writer).turn }
+        requires room { length (journal self.old.writer) < 2 ^ 31 }
+        requires plan { IsEntered self.old changes.now entry }
+        ensures rest { IsAtRest self.new }
+        ensures table { self.new.table ≡ self.old.table }
+        ensures turn { (sight self.new.writer).turn ≡ (sight self.old.writer).turn }
+        ensures done { IsCarriedOut self.old self.new changes.now entry }
+    {
+        self.areas.facts();
+        self.make_ready(rt, changes);
         self.table.begin(&mut self.writer);
         let tree = self.writer.version() + 1;
         self.change_all(rt, changes, tree);
@@ -151,12 +183,12 @@ impl Board {
         self.areas.facts();
         self.publish_areas();
         self.table.end(&mut self.writer, entry);
-        self.table.meet(&mut self.writer, seat);
     }
 
     /// Prepares the tree, and waits until as many slots are free as the changes need.
     fn make_ready<R: Wait>(&mut self, rt: &R, changes: &[Change])
-        requires { self.old.areas.tree.changed ≡ false }
+        requires still { self.old.areas.tree.changed ≡ false }
+        requires enough { CanFree self.old.areas self.old.slots (adds_of changes.now) }
         ensures ready { IsReadied self.old self.new changes.now }
         ensures shown { self.old.areas.tree.shown ≡ self.old.areas.tree.pairs }
     {
@@ -169,6 +201,7 @@ impl Board {
     /// present tree is that of the journal.
     fn publish_areas(&mut self)
         requires open_call { IsOpen self.old.writer }
+        requires calls { length (journal self.old.writer) ≡ self.old.areas.tree.number }
         requires roomy { self.old.areas.tree.roomy ≡ true }
         requires number { self.old.areas.tree.number < 2 ^ 40 - 1 }
         ensures same { self.new ≡ record self.old { areas = self.new.areas } }
@@ -181,8 +214,11 @@ impl Board {
             settled = self.new.areas.tree.settled;
           };
         } }
+        ensures settled { self.old.areas.tree.settled ≤ self.new.areas.tree.settled }
     {
-        self.areas.publish();
+        self.areas.publish(&Opened {
+            writer: &self.writer,
+        });
     }
 
     /// Carries out the changes of a plan, from the last on, but for the areas that come to other pages, which have moved. What

@@ -1,8 +1,9 @@
 //! Slots that are free again, and areas that moved, as a call needs them.
-ghost use Rattle.std.specs.Prelude.{◌≡◌, ◌≤◌, ◌++◌, [], length, vec_capacity, IsPermutation};
+ghost use Rattle.std.specs.Prelude.{◌≡◌, ◌≤◌, ◌+◌, ◌++◌, [], true, false, length, vec_capacity, IsPermutation};
+ghost use Rattle.node_slots.specs.Seats.{HasOpen};
 ghost use Rattle.area_slots.specs.Slots.{slots_of, gone_by, gone_after};
 ghost use Rattle.area_tree.specs.AreaTrees.{shown_of};
-ghost use Rattle.mm_state.specs.Boards.{adds_of, IsFreed, CanStore, IsSameTree};
+ghost use Rattle.mm_state.specs.Boards.{adds_of, CanFree, IsFreed, IsScanned, CanStore, IsSameTree};
 
 use area_slots::AreaSlots;
 use area_tree::{AreaTree, Shown};
@@ -33,23 +34,42 @@ fn free_settled(areas: &AreaTree, slots: &mut AreaSlots)
     slots.seen(areas.settled());
 }
 
-/// Scans until so many slots are free, which waits for the readers of the trees with which others left.
+/// Scans, frees what is settled then, and answers whether so many slots are free. Where they are not, it found a reader inside.
+fn scan_for(areas: &mut AreaTree, slots: &mut AreaSlots, wanted: usize) -> bool
+    requires { CanFree areas.old slots.old wanted }
+    ensures areas { IsScanned areas.old areas.new }
+    ensures scans { areas.new.tree.scans ≡ areas.old.tree.scans + length areas.old.tree.pins }
+    ensures settled { areas.old.tree.settled ≤ areas.new.tree.settled }
+    ensures slots { IsFreed areas.new.tree.settled slots.old slots.new }
+    ensures free { result ≡ true → wanted ≤ length slots.new.free }
+    ensures inside { result ≡ false → HasOpen areas.new.tree.pins }
+{
+    areas.scan();
+    free_settled(areas, slots);
+    slots.count_free() >= wanted
+}
+
+/// Waits until so many slots are free, for readers alone: once none is inside, so many are.
 pub(crate) fn wait_for_slots<R: Wait>(
     rt: &R,
     areas: &mut AreaTree,
     slots: &mut AreaSlots,
     wanted: usize,
 )
-    ensures areas { areas.new ≡ record areas.old { tree = record areas.old.tree { settled = areas.new.tree.settled } } }
-    ensures slots { IsFreed slots.old slots.new }
+    requires { CanFree areas.old slots.old wanted }
+    ensures areas { IsScanned areas.old areas.new }
+    ensures settled { areas.old.tree.settled ≤ areas.new.tree.settled }
+    ensures slots { IsFreed areas.new.tree.settled slots.old slots.new }
     ensures free { wanted ≤ length slots.new.free }
 {
+    free_settled(areas, slots);
+    if slots.count_free() >= wanted {
+        return;
+    }
     for _ in rt.forever() {
-        free_settled(areas, slots);
-        if slots.count_free() >= wanted {
+        if scan_for(areas, slots, wanted) {
             return;
         }
-        areas.scan();
         thread::yield_now();
     }
     unreachable!()

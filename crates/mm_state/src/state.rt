@@ -1,11 +1,13 @@
 //! The state behind the mmap lock.
-ghost use Rattle.std.specs.Prelude.{◌≡◌, ◌≢◌, ◌≤◌, ◌<◌, ◌+◌, ◌/◌, ◌^◌, ◌++◌, ◌∷◌, [], ℕ, IfOk, length, replicate, None};
+ghost use Rattle.std.specs.Prelude.{◌≡◌, ◌≤◌, ◌<◌, ◌+◌, ◌/◌, ◌%◌, ◌^◌, ◌++◌, ◌∷◌, [], ℕ, false, IfOk, All, length, replicate, None};
 ghost use Rattle.mm_types.specs.Config.{IsValidConfig};
 ghost use Rattle.area_rules.specs.Journals.{calls_by};
 ghost use Rattle.area_rules.specs.Steps.{step, after, IsLegalJournal};
+ghost use Rattle.area_rules.specs.Growing.{grows};
 ghost use Rattle.area_rules.specs.Verdicts.{verdict};
 ghost use Rattle.lock_core.specs.declared.stage.Stage.TheVariants.{Out};
-ghost use Rattle.lock_core.specs.Core.{free_slot, slot_at, StartsWith};
+ghost use Rattle.lock_core.specs.Core.{free_slot, StartsWith};
+ghost use Rattle.lock_core.specs.Rows.{Exactly};
 ghost use Rattle.vma_lock.specs.Views.{slot_count, opened_view, look_at};
 ghost use Rattle.span_tree.specs.SpanTrees.{IsFreshWriter};
 ghost use Rattle.vma_lock.specs.Seats.{view, seen, stage, sight, HasTurn};
@@ -18,7 +20,7 @@ use std::alloc::Global;
 use std::marker::Model;
 use std::sync::Wait;
 use sys_calls::plan_call;
-use sys_map::verdict;
+use sys_map::{grows, verdict};
 use vma_lock::{ReaderSeat, WriterSeat};
 
 /// The state behind the mmap lock. All memory of its calls is taken when it is made.
@@ -47,7 +49,7 @@ impl Model for MmState {
 }
 
 impl MmState {
-    ghost use Rattle.mm_state.specs.States.{list_of, ArePairsOf, KeepsSlots};
+    ghost use Rattle.mm_state.specs.States.{list_of, ArePairsOf, MarksChanged, KeepsSlots, KeepsLeft, HaveLeft};
 
     /// The state of a new table, of which the writer is given, with room for so many entries. Its trees stand in a new table of
     /// nodes, of which the writer is given: it has the rows and the slots for so many areas.
@@ -65,12 +67,16 @@ impl MmState {
         ensures { IfOk result (λ state. state ≡ record {
           table = writer.seat.table_id;
           config = config;
+          seq = 2;
+          turn = None;
           slots = replicate (slot_count config) free_slot;
+          left = [];
           journal = [];
           room = entries;
           nodes = nodes.desk.seat.table_id;
           number = 0;
           pairs = [];
+          settled = 0;
         }) }
     {
         let board = Board::new(alloc, &config, writer, nodes)?;
@@ -107,10 +113,13 @@ impl MmState {
         ensures later { StartsWith self.old.journal (seen seat.old) }
         ensures own { calls_by (view seat.old).caller self.old.journal ≡ calls_by (view seat.old).caller (seen seat.old) }
         // a slot whose mark rose shows another row than before
-        ensures marks { (slot : ℕ) → (slot_at self.new.slots slot).lock_seq ≢ (slot_at self.old.slots slot).lock_seq
-            → (slot_at self.new.slots slot).row ≢ (slot_at self.old.slots slot).row }
+        ensures marks { MarksChanged self.old.slots self.new.slots }
         // an area that is in the list before and after keeps its slot, which is not marked
         ensures stays { KeepsSlots (list_of self.old) (list_of self.new) self.old.slots self.new.slots }
+        // a slot that left is used again only once its tree is settled
+        ensures waits { KeepsLeft self.new.settled self.old.left self.new.left self.old.slots self.new.slots }
+        // a slot whose area the call took away left with the tree after the call
+        ensures gone { HaveLeft self.new.number self.new.left self.old.slots self.new.slots }
     {
         let called = plan_call(
             &self.config,
@@ -131,6 +140,42 @@ impl MmState {
         called.reply
     }
 
+    /// Makes a call of nobody who has a seat, and enters it in the journal. It waits as `apply` does.
+    pub fn apply_before<R: Wait>(&mut self, rt: &R, caller: u32, call: &Call) -> Reply
+        requires room { length self.old.journal < self.old.room }
+        requires nobody { 64 ≤ caller }
+        ensures entry { self.new.journal ≡ self.old.journal ++ record { caller = caller; call = call.now; reply = result } ∷ [] }
+        ensures same { (self.new.table ≡ self.old.table) × (self.new.config ≡ self.old.config) × (self.new.room ≡ self.old.room) }
+        ensures nodes { self.new.nodes ≡ self.old.nodes }
+        ensures reply { result ≡ (step self.old.config (after self.old.config self.old.journal) call.now).reply }
+        // a slot whose mark rose shows another row than before
+        ensures marks { MarksChanged self.old.slots self.new.slots }
+        // an area that is in the list before and after keeps its slot, which is not marked
+        ensures stays { KeepsSlots (list_of self.old) (list_of self.new) self.old.slots self.new.slots }
+        // a slot that left is used again only once its tree is settled
+        ensures waits { KeepsLeft self.new.settled self.old.left self.new.left self.old.slots self.new.slots }
+        // a slot whose area the call took away left with the tree after the call
+        ensures gone { HaveLeft self.new.number self.new.left self.old.slots self.new.slots }
+    {
+        let called = plan_call(
+            &self.config,
+            self.counters,
+            &self.board.areas,
+            call,
+            &mut self.plan,
+        );
+        let entry = Entry {
+            caller,
+            call: *call,
+            reply: called.reply,
+        };
+        self.board.carry_out(rt, self.plan.changes(), entry);
+        self.plan.clear();
+        self.counters = called.counters;
+        self.journal.push_reserved(entry);
+        called.reply
+    }
+
     /// A reader that holds no slot sees the whole journal, by one look.
     pub fn meet(&mut self, seat: &mut ReaderSeat)
         requires table { seat.old.seat.table_id ≡ self.old.table }
@@ -144,8 +189,16 @@ impl MmState {
         self.board.meet(seat);
     }
 
+    /// Whether a fault grows an area, which only a call may do.
+    pub fn grows(&self, page: Page, access: Access) -> bool
+        ensures { result ≡ grows self.now.config (list_of self.now) page.0 access }
+    {
+        grows(&self.config, &self.board.areas, page, access)
+    }
+
     /// The verdict on a fault that grows no area.
     pub fn verdict(&self, page: Page, access: Access) -> Verdict
+        requires { grows self.now.config (list_of self.now) page.0 access ≡ false }
         ensures { result ≡ verdict self.now.config (list_of self.now) page.0 access }
     {
         verdict(&self.config, &self.board.areas, page, access)
@@ -175,13 +228,18 @@ impl MmState {
         (self.journal, board.areas.into_list())
     }
 
-    /// What the type keeps: the journal is legal, and within its room. The present tree is that of the journal, and its pairs are
-    /// those of the areas in order, each with the slot that shows its area.
+    /// What the type keeps: no call is open and the writer has no turn, the journal is legal, and within its room, and the rows show
+    /// exactly its list. The present tree is that of the journal, and its pairs are those of the areas in order, each with the slot
+    /// that shows its area. Slots left with trees up to the present one.
     pub fn facts(&self)
+        ensures even { self.now.seq % 2 ≡ 0 }
+        ensures turn { self.now.turn ≡ None }
         ensures legal { IsLegalJournal self.now.config self.now.journal }
         ensures room { length self.now.journal ≤ self.now.room }
+        ensures rows { Exactly self.now.slots (list_of self.now) }
         ensures tree { self.now.number ≡ length self.now.journal }
         ensures pairs { ArePairsOf self.now.slots (list_of self.now) self.now.pairs }
+        ensures left { All (λ leaving. leaving.tree ≤ self.now.number) self.now.left }
     {
         self.board.areas.facts();
     }

@@ -2,4 +2,5 @@
 
 mod bench;
 mod calls;
+mod generator;
 mod kinds;

@@ -9,6 +9,7 @@ pub mod Storing
 pub mod Filling
 pub mod Leasts
 pub mod Listing
+pub mod Gone
 pub mod Writers
 pub mod Leaves
 pub mod Seated

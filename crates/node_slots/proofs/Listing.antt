@@ -140,6 +140,7 @@ left_lists rows one free left firsts desk kept within gone early since =
       most = omega (arith, since);
       leaves = λ _. since;
       waits = λ out. absurd (both_ways (has_row desk.tree one.row.0) out (kept.present one.row.0 within gone early));
+      past = λ out. absurd (both_ways (has_row desk.tree one.row.0) out (kept.present one.row.0 within gone early));
     } in
     record {
       sized = kept.sized;
@@ -216,7 +217,7 @@ scan_lists rows reader found free left firsts desk kept = record {
   free_is = λ row some. scan_free desk reader found row (kept.free_is row some);
   present = kept.present;
   taken = λ row within gone late. scan_free desk reader found row (kept.taken row within gone late);
-  queue = λ place there. let is = kept.queue place there in record { some = is.some; most = is.most; leaves = is.leaves; waits = is.waits };
+  queue = λ place there. let is = kept.queue place there in record { some = is.some; most = is.most; leaves = is.leaves; waits = is.waits; past = is.past };
   order = kept.order;
 }
 
@@ -270,6 +271,7 @@ publish_lists rows number new free left firsts desk kept next sized gone all =
               | inl here ↦ since_left desk.tree (next_tree desk number new) desk.since row old here out ∙ next ∙ sym (is.leaves here)
               | inr was_out ↦ since_same desk.tree (next_tree desk number new) desk.since row was_out ∙ is.waits was_out
             ];
+            past = λ _. omega (arith, is.most, next);
           };
       order = kept.order;
     }
@@ -450,7 +452,7 @@ fill_lists rows row words free left firsts view kept = record {
   free_is = kept.free_is;
   present = kept.present;
   taken = kept.taken;
-  queue = λ place there. let is = kept.queue place there in record { some = is.some; most = is.most; leaves = is.leaves; waits = is.waits };
+  queue = λ place there. let is = kept.queue place there in record { some = is.some; most = is.most; leaves = is.leaves; waits = is.waits; past = is.past };
   order = kept.order;
 }
 
@@ -464,6 +466,16 @@ waiting_after rows passed free left firsts desk kept after row waits =
     let is : IsLeft desk (left_at left place.0) = kept.queue place.0 place.1 in
     let out : has_row desk.tree (left_at left place.0).row.0 ≡ false = ap (has_row desk.tree) place.2 ∙ not-true (has_row desk.tree row) parts.1 in
     omega (arith, after (omega (arith, place.1)), kept.order 0 place.0 (omega arith) place.1, is.waits out, ap (since_at desk.since) place.2)
+
+-- a row that waits was left out by the present tree or one before it
+pub waiting_past : (rows : ℕ) (free : List Row) (left : List Left) (firsts : List ℕ) (desk : Desk) → RowsKept rows free left firsts desk
+    → (row : ℕ) → (nat_lt 0 (times row (left_numbers left)) && not (has_row desk.tree row)) ≡ true → since_at desk.since row ≤ desk.tree.number
+waiting_past rows free left firsts desk kept row waits =
+    let parts = and_parts (nat_lt 0 (times row (left_numbers left))) (not (has_row desk.tree row)) waits in
+    let place = left_place left row (ltb-true 0 (times row (left_numbers left)) parts.0) in
+    let is : IsLeft desk (left_at left place.0) = kept.queue place.0 place.1 in
+    let out : has_row desk.tree (left_at left place.0).row.0 ≡ false = ap (has_row desk.tree) place.2 ∙ not-true (has_row desk.tree row) parts.1 in
+    omega (arith, is.past out, is.waits out, ap (since_at desk.since) place.2)
 
 -- a tree before which every row that waits was left out is before the tree that leaves the first of the queue out
 pub settled_greatest : (rows tree : ℕ) (free : List Row) (left : List Left) (firsts : List ℕ) (desk : Desk) → RowsKept rows free left firsts desk

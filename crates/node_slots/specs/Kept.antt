@@ -78,12 +78,14 @@ left_at left place = slice_index_or left place no_left
 abbrev pub first_at : List ℕ → ℕ → ℕ
 first_at firsts row = slice_index_or firsts row 0
 
--- what is so of a row that was left: it leaves at the next publish, or it waits since the tree that left it out
+-- what is so of a row that was left: it leaves at the next publish, or it waits since the tree that left it out, which is the
+-- present one or one before it
 pub record IsLeft (desk : Desk) (left : Left) : Type 0 where
   pub some : 1 ≤ left.since
   pub most : left.since ≤ desk.tree.number + 1
   pub leaves : has_row desk.tree left.row.0 ≡ true → left.since ≡ desk.tree.number + 1
   pub waits : has_row desk.tree left.row.0 ≡ false → since_at desk.since left.row.0 ≡ left.since
+  pub past : has_row desk.tree left.row.0 ≡ false → left.since ≤ desk.tree.number
 
 -- What the writer's lists keep. A row is at most once free or left. A free row is free by the grace protocol. Each other row is of
 -- the present tree, or it was taken since the last publish: then it is free by the protocol, and the next tree is the first that

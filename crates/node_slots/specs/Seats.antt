@@ -1,5 +1,5 @@
 -- What contracts see of a table and of its seats.
-use Rattle.std.specs.Prelude.{ℕ, ◌≡◌, ◌+◌, ◌%◌, Bool, true, not, ◌&&◌, if◌then◌else◌, nat_eq, nat_lt, List, Some}
+use Rattle.std.specs.Prelude.{ℕ, ◌≡◌, ◌+◌, ◌%◌, Bool, true, not, ◌&&◌, if◌then◌else◌, nat_eq, nat_lt, List, map, slice_index_or, Some}
 use Rattle.std.specs.Arc.{arc_value}
 use Rattle.grace_core.specs.Core as grace
 use Rattle.grace_core.specs.Core.{times, has_row}
@@ -85,6 +85,18 @@ is_present writer row = has_row (desk writer).tree row
 -- whether a row waits: it was left, and is not of the present tree
 abbrev pub is_waiting : NodeWriter → ℕ → Bool
 is_waiting writer row = nat_lt 0 (times row (left_of writer)) && not (is_present writer row)
+
+-- the pins that the scans of each reader found last
+abbrev pub pins_of : NodeWriter → List ℕ
+pins_of writer = map (λ clearing. clearing.pin) (desk writer).clearings
+
+-- these pins are those of readers that are closed
+abbrev pub AreOut : List ℕ → Type 0
+AreOut pins = (reader : ℕ) → slice_index_or pins reader 0 % 2 ≡ 0
+
+-- one of these pins is that of a reader that is open
+abbrev pub HasOpen : List ℕ → Type 0
+HasOpen pins = (reader : ℕ) × (slice_index_or pins reader 0 % 2 ≡ 1)
 
 -- whether a row is neither in the free list nor left
 abbrev pub is_kept : NodeWriter → ℕ → Bool

@@ -7,7 +7,7 @@ ghost use Rattle.maple_node.specs.Trees.{tree_of, IsLayout};
 ghost use Rattle.node_slots.specs.Trees.{shown_rows};
 ghost use Rattle.node_slots.specs.Views.{fill_at, publish_at, scan_from};
 ghost use Rattle.node_slots.specs.Kept.{left_at};
-ghost use Rattle.node_slots.specs.Seats.{size_of, Writes, sight, desk, row_count, free_of, left_of, is_present, is_waiting, is_kept, is_taken, count_of, next_root, next_shown, ReachesNewRows};
+ghost use Rattle.node_slots.specs.Seats.{size_of, Writes, sight, desk, row_count, free_of, left_of, is_present, is_waiting, is_kept, is_taken, count_of, next_root, next_shown, pins_of, AreOut, ReachesNewRows};
 
 use crate::left::Left;
 use crate::seats::{NodeTable, NodeWriter};
@@ -118,6 +118,8 @@ impl NodeTable {
             × (free_of writer.new ≡ free_of writer.old ++ rows) × (left_of writer.old ≡ rows ++ left_of writer.new) }
         ensures rest { (row : ℕ) → is_waiting writer.new row ≡ true
             → least (desk writer.new).tree.number (desk writer.new).clearings < since_at (desk writer.new).since row }
+        // once it finds every reader closed, no row waits
+        ensures gone { AreOut (pins_of writer.new) → (row : ℕ) → is_waiting writer.new row ≡ false }
     {
         self.scan_pins(&mut writer.desk);
         let passed = least(writer.desk.root.tree, writer.desk.clearings.as_slice());

@@ -13,7 +13,7 @@ use Rattle.node_slots.specs.declared.seats.NodeTable.{NodeTable}
 use Rattle.node_slots.specs.declared.seats.NodeWriter.{NodeWriter}
 use Rattle.node_slots.specs.declared.tree.Tree.{Tree}
 use Rattle.node_slots.specs.Trees.{first_root, empty_row, first_tree, grace_tree}
-use Rattle.node_slots.specs.Seats.{Writes, desk, row_count, is_present}
+use Rattle.node_slots.specs.Seats.{Writes, desk, row_count, is_present, pins_of}
 use Rattle.node_slots.specs.Built.{IsBlank, pairs_now}
 use Rattle.node_slots.proofs.Starting.{first_has, first_else}
 use Rattle.maple_write.proofs.Blanks.{blank_new}
@@ -112,6 +112,8 @@ pub fresh_view : (areas : ℕ) (writer : NodeWriter) (nodes : NodeTable) (tree :
       shown = [];
       changed = false;
       roomy = false;
+      scans = 0;
+      pins = pins_of writer;
     }
 fresh_view areas writer nodes tree limit fresh writes root height same =
     let pairs = fresh_pairs areas writer tree fresh root height in
@@ -119,4 +121,5 @@ fresh_view areas writer nodes tree limit fresh writes root height same =
     let settled = fresh_settled areas writer fresh in
     let table = sym writes.same in
     let end = ap (λ (p : Page). p.0) same in
+    let looks = ap (λ (v : NodeView). v.scans) fresh.view in
     cc

@@ -1,13 +1,17 @@
--- For `scan_once`, `wait_for_rows` and `SpanTree::scan`: what scans leave as it is.
-use Rattle.std.proofs.Common.{ℕ, ◌≡◌, ◌<◌, ◌+◌, ◌∙◌, true, not, ◌&&◌, cond, nat_eq, nat_lt, List, [], ◌∷◌, ◌++◌, refl, sym, ap, subst, arith}
+-- For `scan_once`, `scan_for`, `wait_for_rows` and `SpanTree::scan`: what scans change, and what they leave as it is.
+use Rattle.std.proofs.Common.{ℕ, zero, suc, ◌≡◌, ◌<◌, ◌+◌, ◌%◌, ◌∙◌, ◌⊎◌, inl, inr, true, not, ◌&&◌, cond, nat_eq, nat_lt, List, [], ◌∷◌, ◌++◌, length, map, refl, sym, ap, subst, arith}
 use Rattle.std.proofs.lemmas.Bool.{and_parts, and_from, ltb-true, lt-ltb}
+use Rattle.std.proofs.lemmas.Bool.Decides.{eqb_tells}
+use Rattle.std.proofs.lemmas.List.{length-map}
 use Rattle.std.proofs.lemmas.List.Sums.{sum_by-append}
+use Rattle.std.proofs.lemmas.Nat.{mod_below}
+use Rattle.grace_core.specs.declared.clearing.Clearing.{Clearing}
 use Rattle.grace_core.specs.Core.{times, has_row}
 use Rattle.node_slots.specs.declared.view.NodeView.{NodeView}
 use Rattle.node_slots.specs.declared.seats.NodeWriter.{NodeWriter}
 use Rattle.node_slots.specs.Views.{scan_at, scan_from}
-use Rattle.node_slots.specs.Seats.{sight, free_of, left_of, row_count, is_present}
-use Rattle.span_tree.specs.Rows.{IsSameTree, Scans}
+use Rattle.node_slots.specs.Seats.{sight, desk, free_of, left_of, row_count, is_present, pins_of, AreOut, HasOpen}
+use Rattle.span_tree.specs.Rows.{IsSameTree, Scans, IsScanned}
 
 -- scans of pins change what is known of readers alone
 pub same_scanned : (reader : ℕ) (pins : List ℕ) (view : NodeView) → IsSameTree view (scan_from reader pins view)
@@ -65,3 +69,43 @@ scan_scans old new pins rows view freed left =
           (lt-ltb 0 (times row (left_of old)) (omega (arith, here, less row)))
           (subst (λ t. not (has_row t row) ≡ true) same.tree parts.1);
     }
+
+-- there is a pin for each reader
+pub pins_long : (writer : NodeWriter) → length (pins_of writer) ≡ (sight writer).size.readers
+pins_long writer =
+    length-map (desk writer).clearings (λ (found : Clearing). found.pin) ∙ ap (λ (l : List Clearing). length l) writer.desk.kept.clearings_are
+    ∙ writer.desk.kept.readers ∙ sym (ap (λ s. s.readers) writer.desk.kept.size_is)
+
+pub pins_same : (old new : NodeWriter) → Scans old new → length (pins_of new) ≡ length (pins_of old)
+pins_same old new scans = pins_long new ∙ ap (λ s. s.readers) scans.same.size ∙ sym (pins_long old)
+
+-- each look at a pin is counted
+looks : (reader : ℕ) (pins : List ℕ) (view : NodeView) → (scan_from reader pins view).scans ≡ view.scans + length pins
+looks reader [] view = omega arith
+looks reader (found ∷ pins) view = let rest = looks (reader + 1) pins (scan_at view reader found) in omega (arith, rest)
+
+pub scan_looks : (old new : NodeWriter) (pins : List ℕ) → sight new ≡ scan_from 0 pins (sight old) → length pins ≡ (sight old).size.readers
+    → IsScanned old new
+scan_looks old new pins view long = ap (λ (v : NodeView). v.scans) view ∙ looks 0 pins (sight old)
+    ∙ ap (λ n. (sight old).scans + n) (long ∙ sym (pins_long old))
+
+-- every pin is even, or one is odd
+even_or_odd : (pin : ℕ) → (pin % 2 ≡ 0) ⊎ (pin % 2 ≡ 1)
+even_or_odd pin = let small = mod_below pin 2 (omega arith) in elim (eqb_tells (pin % 2) 0) [
+  | inl even ↦ inl even.1
+  | inr odd ↦ inr (omega (arith, small, odd.1))
+]
+
+first_even : (pin : ℕ) (pins : List ℕ) → pin % 2 ≡ 0 → AreOut pins → AreOut (pin ∷ pins)
+first_even pin pins even out zero = even
+first_even pin pins even out (suc reader) = out reader
+
+pub out_or_open : (pins : List ℕ) → AreOut pins ⊎ HasOpen pins
+out_or_open [] = inl (λ reader. refl)
+out_or_open (pin ∷ pins) = elim (even_or_odd pin) [
+  | inr odd ↦ inr (0, odd)
+  | inl even ↦ elim (out_or_open pins) [
+    | inl out ↦ inl (first_even pin pins even out)
+    | inr some ↦ inr (suc some.0, some.1)
+  ]
+]

@@ -1,5 +1,5 @@
 -- For `SpanTree::scan`, `SpanTree::prepare` and others: what the fields keep.
-use Rattle.std.proofs.Common.{ℕ, ◌≡◌, ◌<◌, ◌≤◌, ◌+◌, ◌*◌, ◌∙◌, true, List, [], ◌∷◌, replicate, arith, inl, inr, refl, sym, ap, subst}
+use Rattle.std.proofs.Common.{ℕ, ◌≡◌, ◌<◌, ◌≤◌, ◌+◌, ◌*◌, ◌∙◌, true, false, List, [], ◌∷◌, replicate, arith, inl, inr, refl, sym, ap, subst}
 use Rattle.grace_core.specs.Core.{since_at, row_at}
 use Rattle.maple_node.specs.declared.root.Root.{Root}
 use Rattle.maple_node.specs.Trees.{Pair, IsFirst}
@@ -9,12 +9,12 @@ use Rattle.node_slots.specs.declared.tree.Tree.{Tree}
 use Rattle.node_slots.specs.Seats.{Writes, sight, desk, is_waiting, row_count}
 use Rattle.node_slots.specs.Built.{IsBuilt, IsWriters, words_at, built, built_rows, pairs_now}
 use Rattle.span_tree.specs.declared.tree.SpanTree.TheInside.{Inside}
-use Rattle.span_tree.specs.SpanTrees.{ArePairs}
+use Rattle.span_tree.specs.SpanTrees.{ArePairs, enough}
 use Rattle.span_tree.specs.Kept.{IsSpanTree}
-use Rattle.span_tree.specs.Rows.{Scans, settled_of}
+use Rattle.span_tree.specs.Rows.{Scans, Suffices, settled_of}
 use Rattle.span_tree.proofs.Waits.{wait-most, wait-greatest}
 use Rattle.span_tree.proofs.Pairs.{layout-pairs}
-use Rattle.span_tree.proofs.Counts.{waiting_within}
+use Rattle.span_tree.proofs.Counts.{waiting_within, rest_free}
 use Rattle.span_tree.proofs.Writing.{shown_same, present_same, spare_more, settled_more, settled_below, pairs_same, scanned_built, scanned_writers}
 
 -- scans keep what the fields keep
@@ -41,6 +41,15 @@ scanned_kept fields new writes scans kept =
       built = λ roomy. scanned_built old new fields.tree scans (kept.built roomy);
       room = λ roomy. let more = spare_more old new scans.same.tree sized scans.waits in omega (arith, more, kept.room roomy);
     }
+
+-- and once no row waits, enough rows are free, if the tree that is built is the present one
+pub scanned_free : (fields : Inside) → IsSpanTree fields → fields.changed ≡ false → Suffices fields.writer (enough fields.areas)
+scanned_free fields kept still later scans none =
+    let old : NodeWriter = fields.writer in
+    rest_free later fields.tree fields.areas (scanned_writers old later fields.tree scans kept.tree)
+    (ap (λ s. s.rows) scans.same.size ∙ kept.rows)
+    (rw (pairs_same old later fields.tree scans.same.words) kept.few_pairs) kept.few_areas
+    (λ row. present_same old later scans.same.tree row ∙ kept.rest still row ∙ sym (scans.kept row)) none
 
 -- and settle more
 pub scanned_settled : (old new : NodeWriter) → Scans old new → settled_of old ≤ settled_of new

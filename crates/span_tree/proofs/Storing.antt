@@ -1,6 +1,7 @@
 -- For `SpanTree::store` and `SpanTree::prepare`: what a store leaves as it is.
-use Rattle.std.proofs.Common.{ℕ, ◌≡◌, ◌≤◌, ◌∙◌, Bool, true, length, List, arith, sym, ap, inl}
+use Rattle.std.proofs.Common.{ℕ, ◌≡◌, ◌≤◌, ◌∙◌, Bool, true, length, map, List, arith, sym, ap, inl}
 use Rattle.mm_types.specs.declared.area.Page.{Page}
+use Rattle.grace_core.specs.declared.clearing.Clearing.{Clearing}
 use Rattle.grace_core.specs.Core.{since_at}
 use Rattle.maple_node.specs.Trees.{Pair}
 use Rattle.node_slots.specs.declared.view.NodeView.{NodeView}
@@ -81,4 +82,6 @@ stored_view fields new tree pairs stores limit is =
     let settled = stored_settled fields.writer new stores in
     let shown = stored_shown fields.writer new stores in
     let number = ap (λ (p : Page). p.0) limit in
+    let looks = ap (λ (v : NodeView). v.scans) stores.seen in
+    let pins = ap (λ (v : NodeView). map (λ (found : Clearing). found.pin) v.known.desk.clearings) stores.seen in
     cc

@@ -1,6 +1,6 @@
 -- For `SpanTree::settled`, `SpanTree::scan` and others: the greatest tree that is settled.
-use Rattle.std.proofs.Common.{ℕ, zero, suc, ◌≡◌, ◌<◌, ◌≤◌, ◌-◌, Bool, true, min, arith, inl, inr, ◌∙◌, ap}
-use Rattle.std.proofs.lemmas.Bool.{cases_Bool, cond-true, cond-false, cases_lt}
+use Rattle.std.proofs.Common.{ℕ, zero, suc, ◌≡◌, ◌<◌, ◌≤◌, ◌-◌, Bool, true, false, min, arith, inl, inr, ◌∙◌, ap}
+use Rattle.std.proofs.lemmas.Bool.{cases_Bool, cond-true, cond-false, cases_lt, both_ways}
 use Rattle.span_tree.specs.Rows.{least_wait}
 
 -- it is at most the present tree
@@ -50,3 +50,10 @@ wait-greatest waits since number (suc n) x most each =
       )
       | inr out ↦ omega (arith, rest, cond-false (waits n) (min (since n - 1) (least_wait waits since number n)) (least_wait waits since number n) out)
     ]
+
+-- where no row waits it is the present tree
+pub wait-none : (waits : ℕ → Bool) (since : ℕ → ℕ) (number n : ℕ) → ((row : ℕ) → waits row ≡ false) → least_wait waits since number n ≡ number
+wait-none waits since number n none =
+    let most = wait-most waits since number n in
+    let least = wait-greatest waits since number n number (omega arith) (λ row _ is. absurd (both_ways (waits row) (none row) is)) in
+    omega (arith, most, least)

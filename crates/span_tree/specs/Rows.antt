@@ -1,11 +1,11 @@
 -- What the rows of a writer's table are for, counted, and what stays so while pins are scanned.
-use Rattle.std.specs.Prelude.{ℕ, zero, suc, ◌≡◌, ◌+◌, ◌-◌, min, Bool, true, not, ◌&&◌, if◌then◌else◌, List}
+use Rattle.std.specs.Prelude.{ℕ, zero, suc, ◌≡◌, ◌≤◌, ◌+◌, ◌-◌, min, Bool, true, false, not, ◌&&◌, if◌then◌else◌, List, length}
 use Rattle.grace_core.specs.Core.{since_at}
 use Rattle.maple_node.specs.Levels.{at_of}
 use Rattle.maple_node.specs.Trees.{Pair, pairs_of, tree_of}
 use Rattle.node_slots.specs.declared.view.NodeView.{NodeView}
 use Rattle.node_slots.specs.declared.seats.NodeWriter.{NodeWriter}
-use Rattle.node_slots.specs.Seats.{sight, desk, row_count, is_present, is_waiting, is_kept, count_of}
+use Rattle.node_slots.specs.Seats.{sight, desk, row_count, is_present, is_waiting, is_kept, count_of, free_of, pins_of}
 
 -- the sum of what each number below a limit gives
 unfoldable pub sum_below : (ℕ → ℕ) → ℕ → ℕ
@@ -42,8 +42,20 @@ pub record IsSameTree (old new : NodeView) : Type 0 where
   pub words : new.known.desk.words ≡ old.known.desk.words
   pub since : new.known.desk.since ≡ old.known.desk.since
 
+-- a scan looked at the pin of each reader once
+abbrev pub IsScanned : NodeWriter → NodeWriter → Type 0
+IsScanned old new = (sight new).scans ≡ (sight old).scans + length (pins_of old)
+
+-- no row waits
+abbrev pub NoneWaits : NodeWriter → Type 0
+NoneWaits writer = (row : ℕ) → is_waiting writer row ≡ false
+
 -- between two times of a writer there were only scans: rows that waited may have become free, and nothing else changed
 pub record Scans (old new : NodeWriter) : Type 0 where
   pub same : IsSameTree (sight old) (sight new)
   pub kept : (row : ℕ) → is_kept new row ≡ is_kept old row
   pub waits : (row : ℕ) → is_waiting new row ≡ true → is_waiting old row ≡ true
+
+-- so many rows are free once no row waits, after scans alone
+abbrev pub Suffices : NodeWriter → ℕ → Type 0
+Suffices writer rows = (later : NodeWriter) → Scans writer later → NoneWaits later → rows ≤ length (free_of later)

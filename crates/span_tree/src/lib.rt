@@ -3,10 +3,12 @@
 //! for walks without a lock. Rows that readers may still read are waited for before a call, never within one.
 #![tactic(auto)]
 
+mod call;
 mod laws;
 mod tree;
 mod waiting;
 
+pub use call::OpenCall;
 pub use laws::{pairs_are_apart, rows_suffice};
 pub use tree::SpanTree;
 

@@ -3,10 +3,12 @@ ghost use Rattle.std.specs.Prelude.{◌≡◌, ◌≤◌, ◌<◌, ◌+◌, ◌-
 ghost use Rattle.mm_types.specs.Config.{slots_for};
 ghost use Rattle.maple_node.specs.Words.{slot_word};
 ghost use Rattle.maple_items.specs.Pairs.{overwritten};
+ghost use Rattle.node_slots.specs.Seats.{pins_of, AreOut};
 ghost use Rattle.span_tree.specs.SpanTrees.{IsFreshWriter, ArePairs};
 
 mod searching;
 
+use crate::call::OpenCall;
 use crate::waiting::{scan_once, wait_for_rows};
 use maple_write::{publish_tree, store};
 use mm_types::{NoMemory, Page, Slot, Span};
@@ -60,6 +62,8 @@ impl SpanTree {
           shown = [];
           changed = false;
           roomy = false;
+          scans = 0;
+          pins = pins_of writer;
         }) }
     {
         let nodes = writer.table()?;
@@ -74,11 +78,12 @@ impl SpanTree {
         })
     }
 
-    /// Scans until enough rows are free for all stores up to the next publish, which waits for readers. Where tree 0 is present,
+    /// Scans until enough rows are free for all stores up to the next publish, which waits for readers alone: once none is inside,
+    /// enough are. Where tree 0 is present,
     /// which has no entries, a tree of one gap is built.
     pub fn prepare<R: Wait>(&mut self, rt: &R)
         requires { self.old.changed ≡ false }
-        ensures view { self.new ≡ record self.old { changed = nat_eq self.old.number 0; roomy = true; settled = self.new.settled } }
+        ensures view { self.new ≡ record self.old { changed = nat_eq self.old.number 0; roomy = true; settled = self.new.settled; scans = self.new.scans; pins = self.new.pins } }
         ensures settled { self.old.settled ≤ self.new.settled }
         ensures shown { self.old.shown ≡ self.old.pairs }
     {
@@ -106,8 +111,10 @@ impl SpanTree {
         self.changed = true;
     }
 
-    /// Publishes the tree: it is the present one, with the next number.
-    pub fn publish(&mut self)
+    /// Publishes the tree in an open call: it is the present one, with the next number. So many calls ended before this one as trees
+    /// were published, so none is published twice in a call, and none between two calls.
+    pub fn publish<C: OpenCall>(&mut self, call: &C)
+        requires call { C.is_open call.now × (C.calls call.now ≡ self.old.number) }
         requires roomy { self.old.roomy ≡ true }
         requires number { self.old.number < 2 ^ 40 - 1 }
         ensures view { self.new ≡ record self.old {
@@ -139,14 +146,18 @@ impl SpanTree {
     pub fn facts(&self)
         ensures pairs { ArePairs (slots_for self.now.areas) self.now.limit 0 self.now.pairs }
         ensures few { length self.now.pairs ≤ self.now.areas }
+        ensures readers { 1 ≤ length self.now.pins }
     {
         let _areas = self.areas;
     }
 
-    /// Scans every pin once: rows that no reader may read any more are free again.
+    /// Looks at the pin of each reader once: rows that no reader may read any more are free again.
     pub fn scan(&mut self)
-        ensures view { self.new ≡ record self.old { settled = self.new.settled } }
+        ensures view { self.new ≡ record self.old { settled = self.new.settled; scans = self.old.scans + length self.old.pins; pins = self.new.pins } }
         ensures settled { self.old.settled ≤ self.new.settled }
+        ensures readers { length self.new.pins ≡ length self.old.pins }
+        // once it finds every reader closed, every tree is settled
+        ensures gone { AreOut self.new.pins → self.new.settled ≡ self.new.number }
     {
         scan_once(&self.nodes, &mut self.writer);
     }

@@ -3,13 +3,14 @@ use Rattle.std.proofs.Common.{◌≡◌, ◌⊎◌, ℕ, ◌+◌, ◌≤◌, Lis
 use Rattle.trace_reader.specs.declared.fault.Cause.{Cause}
 use Rattle.trace_reader.specs.declared.fault.Cause.TheVariants.{TooMany}
 use Rattle.trace_reader.specs.declared.fault.TraceFault.{TraceFault}
+use Rattle.trace_reader.specs.declared.limits.TheConstants.{LINE_LIMIT}
 use Rattle.trace_reader.specs.Causes.{◌>>=◌}
 use Rattle.trace_reader.specs.Lines.{trace_limit}
 use Rattle.trace_reader.specs.RawLines.{raw_lines}
 use Rattle.trace_reader.specs.Words.{words_of}
 use Rattle.trace_reader.proofs.Beginnings.{IsLimited, lines_leave-front, lines_leave-within}
 use Rattle.trace_reader.proofs.FirstBad.{lines_leave-Err}
-use Rattle.trace_reader.proofs.LineTests.{text_of-long}
+use Rattle.trace_reader.proofs.LineTests.{text_within-past}
 use Rattle.std.specs.Prelude.{nat_lt, if◌then◌else◌}
 use Rattle.step_script.specs.declared.script.Script.{Script}
 use Rattle.step_script.specs.declared.script.TheConstants.{MOST_LINES}
@@ -30,17 +31,17 @@ unfolding script_of
 script_of-Err bytes first e = by_lines bytes first (after_lines None (raw_lines bytes)) refl e
 
 -- the lines of a script are limited
-after_line-limited : IsLimited after_line
+after_line-limited : IsLimited trace_limit after_line
 unfolding after_line
-after_line-limited before line long =
+after_line-limited before line past =
     ap (λ (r : Result (List ℕ) Cause). r >>= λ text. (after_text before line.number text (words_of text)
-    >>= λ next. if nat_lt MOST_LINES line.number then Err TooMany else Ok next)) (text_of-long line long)
+    >>= λ next. if nat_lt MOST_LINES line.number then Err TooMany else Ok next)) (text_within-past LINE_LIMIT trace_limit line past)
 
 -- so one byte more than the limit settles the output
 pub output-front : (bytes : List ℕ) → script_output (take (trace_limit + 1) bytes) ≡ script_output bytes
 unfolding script_output script_of
 output-front bytes = ap (λ (read : Result (Option Script) TraceFault). output_of (whole read))
-    (lines_leave-front after_line after_line-limited None bytes)
+    (lines_leave-front trace_limit after_line after_line-limited None bytes)
 
 was_read : (read : Result (Option Script) TraceFault) (text : List ℕ) → output_of (whole read) ≡ Ok text
     → (script : Option Script) × (read ≡ Ok script)
@@ -52,4 +53,4 @@ pub output-within : (bytes text : List ℕ) → script_output bytes ≡ Ok text 
 unfolding script_output script_of
 output-within bytes text is =
     let read = was_read (after_lines None (raw_lines bytes)) text is in
-    lines_leave-within after_line after_line-limited None read.0 bytes read.1
+    lines_leave-within trace_limit after_line after_line-limited None read.0 bytes read.1

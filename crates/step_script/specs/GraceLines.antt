@@ -21,12 +21,16 @@ root_of readers words = do
   r ← reader_of readers words
   Ok (events.Root r)
 
--- `word R W`
-unfoldable pub word_of : ℕ → ℕ → List (List ℕ) → Result GraceEvent Cause
-word_of readers rows (reader ∷ row ∷ []) = do
+-- the load of a word that these words ask for
+unfoldable pub word : ℕ → ℕ → List ℕ → List ℕ → Result GraceEvent Cause
+word readers rows reader row = do
   r ← index_of readers reader
   w ← index_of rows row
   Ok (events.Word r (record { 0 = w }))
+
+-- `word R W`
+unfoldable pub word_of : ℕ → ℕ → List (List ℕ) → Result GraceEvent Cause
+word_of readers rows (reader ∷ row ∷ []) = word readers rows reader row
 word_of readers rows _ = Err Arity
 
 -- `close R`
@@ -35,12 +39,16 @@ close_of readers words = do
   r ← reader_of readers words
   Ok (events.Close r)
 
+-- the fill of these words
+unfoldable pub fill : ℕ → List ℕ → List ℕ → Result GraceEvent Cause
+fill rows row value = do
+  w ← index_of rows row
+  x ← number value
+  Ok (events.Fill (record { 0 = w }) x)
+
 -- `fill W X`
 unfoldable pub fill_of : ℕ → List (List ℕ) → Result GraceEvent Cause
-fill_of rows (row ∷ word ∷ []) = do
-  w ← index_of rows row
-  x ← number word
-  Ok (events.Fill (record { 0 = w }) x)
+fill_of rows (row ∷ value ∷ []) = fill rows row value
 fill_of rows _ = Err Arity
 
 -- rows, each a word

@@ -20,20 +20,28 @@ unfoldable pub is_header : List (List ℕ) → Bool
 is_header (name ∷ version ∷ []) = bytes_eq name (codes "vmasteps") && bytes_eq version (codes "1")
 is_header _ = false
 
--- `lock READERS SLOTS`, from the words after `lock`: a script without events
-unfoldable pub lock_of : List (List ℕ) → Result Script Cause
-lock_of (readers ∷ slots ∷ []) = do
+-- a script of the lock core without events, of so many readers and slots
+unfoldable pub lock : List ℕ → List ℕ → Result Script Cause
+lock readers slots = do
   r ← count_of readers
   k ← count_of slots
   Ok (Lock (record { readers = r; slots = k; lines = [] }))
+
+-- `lock READERS SLOTS`, from the words after `lock`
+unfoldable pub lock_of : List (List ℕ) → Result Script Cause
+lock_of (readers ∷ slots ∷ []) = lock readers slots
 lock_of _ = Err Arity
 
--- `grace READERS ROWS`, from the words after `grace`: a script without events
-unfoldable pub grace_of : List (List ℕ) → Result Script Cause
-grace_of (readers ∷ rows ∷ []) = do
+-- a script of the grace core without events, of so many readers and rows
+unfoldable pub grace : List ℕ → List ℕ → Result Script Cause
+grace readers rows = do
   r ← count_of readers
   w ← count_of rows
   Ok (Grace (record { readers = r; rows = w; lines = [] }))
+
+-- `grace READERS ROWS`, from the words after `grace`
+unfoldable pub grace_of : List (List ℕ) → Result Script Cause
+grace_of (readers ∷ rows ∷ []) = grace readers rows
 grace_of _ = Err Arity
 
 -- the line that names the core, from its name and the words after it

@@ -10,12 +10,16 @@ use Rattle.trace_reader.specs.Fields.{number}
 use Rattle.trace_reader.specs.Words.{text_after_words}
 use Rattle.step_script.specs.Fields.{index_of, caller_of, reader_of}
 
--- `add R K`
-unfoldable pub add_of : ℕ → ℕ → List (List ℕ) → Result LockEvent Cause
-add_of readers slots (reader ∷ slot ∷ []) = do
+-- the add of these words
+unfoldable pub add : ℕ → ℕ → List ℕ → List ℕ → Result LockEvent Cause
+add readers slots reader slot = do
   r ← index_of readers reader
   k ← index_of slots slot
   Ok (Add r (record { 0 = k }))
+
+-- `add R K`
+unfoldable pub add_of : ℕ → ℕ → List (List ℕ) → Result LockEvent Cause
+add_of readers slots (reader ∷ slot ∷ []) = add readers slots reader slot
 add_of readers slots _ = Err Arity
 
 -- `look R`
@@ -24,12 +28,16 @@ look_of readers words = do
   r ← reader_of readers words
   Ok (Look r)
 
+-- the read of a field that these words ask for
+unfoldable pub field : ℕ → List ℕ → List ℕ → Result LockEvent Cause
+field readers reader place = do
+  r ← index_of readers reader
+  i ← index_of 4 place
+  Ok (Field r i)
+
 -- `field R I`
 unfoldable pub field_of : ℕ → List (List ℕ) → Result LockEvent Cause
-field_of readers (reader ∷ field ∷ []) = do
-  r ← index_of readers reader
-  i ← index_of 4 field
-  Ok (Field r i)
+field_of readers (reader ∷ place ∷ []) = field readers reader place
 field_of readers _ = Err Arity
 
 -- `sub R`
@@ -63,12 +71,16 @@ unfoldable pub store_of : ℕ → List (List ℕ) → Result LockEvent Cause
 store_of slots (slot ∷ field ∷ word ∷ []) = store slots slot field word
 store_of slots _ = Err Arity
 
--- `end T CALL`, where the call is what follows two words of the line's text
-unfoldable pub end_of : List ℕ → List (List ℕ) → Result LockEvent Cause
-end_of text (caller ∷ name ∷ more) = do
+-- the end of a call of this caller, where the call is what follows two words of the line's text
+unfoldable pub end_by : List ℕ → List ℕ → Result LockEvent Cause
+end_by text caller = do
   t ← caller_of caller
   call ← call_of (text_after_words 2 text)
   Ok (End t call)
+
+-- `end T CALL`
+unfoldable pub end_of : List ℕ → List (List ℕ) → Result LockEvent Cause
+end_of text (caller ∷ name ∷ more) = end_by text caller
 end_of text _ = Err Arity
 
 -- the event of this name, in a line of this text

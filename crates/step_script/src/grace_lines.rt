@@ -2,7 +2,7 @@
 
 ghost use Rattle.std.specs.Prelude.{◌<◌, All, IfOk, map};
 ghost use Rattle.trace_reader.specs.Reading.{Gives};
-ghost use Rattle.step_script.specs.GraceLines.{open_of, root_of, word_of, close_of, fill_of, rows_of, publish_of, scan_of, grace_event};
+ghost use Rattle.step_script.specs.GraceLines.{open_of, root_of, word, word_of, close_of, fill, fill_of, rows_of, publish_of, scan_of, grace_event};
 ghost use Rattle.step_script.specs.Values.{IsGraceEvent};
 
 use crate::fields::{index_of, reader_of};
@@ -29,18 +29,27 @@ fn root_of(words: &[&str], readers: u32, rows: u32) -> Result<GraceEvent, CallEr
     Ok(GraceEvent::Root(reader_of(words, readers)?))
 }
 
+/// The load of a word that these words ask for.
+#[tactic(auto, unfolding(crate::specs::GraceLines::word))]
+fn word(reader: &str, row: &str, readers: u32, rows: u32) -> Result<GraceEvent, CallError>
+    ensures value { Gives (λ event. event) result (word readers rows reader.now row.now) }
+    ensures fits { IfOk result (IsGraceEvent readers rows) }
+{
+    let reader = index_of(reader, readers)?;
+    let row = index_of(row, rows)?;
+    Ok(GraceEvent::Word(reader, Row(row)))
+}
+
 /// `word R W`.
 #[tactic(auto, unfolding(crate::specs::GraceLines::word_of))]
 fn word_of(words: &[&str], readers: u32, rows: u32) -> Result<GraceEvent, CallError>
     ensures value { Gives (λ event. event) result (word_of readers rows (map (λ word. word.now) words.now)) }
     ensures fits { IfOk result (IsGraceEvent readers rows) }
 {
-    let [reader, row] = words else {
-        return Err(CallError::Bad(Cause::Arity));
-    };
-    let reader = index_of(reader, readers)?;
-    let row = index_of(row, rows)?;
-    Ok(GraceEvent::Word(reader, Row(row)))
+    match words {
+        [reader, row] => word(reader, row, readers, rows),
+        _ => Err(CallError::Bad(Cause::Arity)),
+    }
 }
 
 /// `close R`.
@@ -52,18 +61,27 @@ fn close_of(words: &[&str], readers: u32, rows: u32) -> Result<GraceEvent, CallE
     Ok(GraceEvent::Close(reader_of(words, readers)?))
 }
 
+/// The fill of these words.
+#[tactic(auto, unfolding(crate::specs::GraceLines::fill))]
+fn fill(row: &str, value: &str, readers: u32, rows: u32) -> Result<GraceEvent, CallError>
+    ensures value { Gives (λ event. event) result (fill rows row.now value.now) }
+    ensures fits { IfOk result (IsGraceEvent readers rows) }
+{
+    let row = index_of(row, rows)?;
+    let value = number(value)?;
+    Ok(GraceEvent::Fill(Row(row), value))
+}
+
 /// `fill W X`.
 #[tactic(auto, unfolding(crate::specs::GraceLines::fill_of))]
 fn fill_of(words: &[&str], readers: u32, rows: u32) -> Result<GraceEvent, CallError>
     ensures value { Gives (λ event. event) result (fill_of rows (map (λ word. word.now) words.now)) }
     ensures fits { IfOk result (IsGraceEvent readers rows) }
 {
-    let [row, word] = words else {
-        return Err(CallError::Bad(Cause::Arity));
-    };
-    let row = index_of(row, rows)?;
-    let word = number(word)?;
-    Ok(GraceEvent::Fill(Row(row), word))
+    match words {
+        [row, value] => fill(row, value, readers, rows),
+        _ => Err(CallError::Bad(Cause::Arity)),
+    }
 }
 
 /// Rows, each a word.

@@ -2,7 +2,7 @@
 
 ghost use Rattle.std.specs.Prelude.{◌≡◌, ◌+◌, ◌≤◌, IfOk, map};
 ghost use Rattle.trace_reader.specs.Reading.{Gives, line_view};
-ghost use Rattle.step_script.specs.Lines.{is_header, lock_of, grace_of, core_of, with_lock_line, with_grace_line, with_words, after_first, after_words, after_text, after_line};
+ghost use Rattle.step_script.specs.Lines.{is_header, lock, lock_of, grace, grace_of, core_of, with_lock_line, with_grace_line, with_words, after_first, after_words, after_text, after_line};
 ghost use Rattle.step_script.specs.Values.{IsLockScript, IsGraceScript, IsScript, IsSoFar};
 
 use crate::fields::count_of;
@@ -130,15 +130,12 @@ fn core_of(alloc: Global, name: &str, words: &[&str]) -> Result<Script, CallErro
     }
 }
 
-/// `lock READERS SLOTS`, from the words after the first.
-#[tactic(auto, unfolding(crate::specs::Lines::lock_of))]
-fn lock_of(alloc: Global, words: &[&str]) -> Result<Script, CallError>
-    ensures value { Gives (λ next. next) result (lock_of (map (λ word. word.now) words.now)) }
+/// A script of the lock core without events, of so many readers and slots.
+#[tactic(auto, unfolding(crate::specs::Lines::lock))]
+fn lock(alloc: Global, readers: &str, slots: &str) -> Result<Script, CallError>
+    ensures value { Gives (λ next. next) result (lock readers.now slots.now) }
     ensures fits { IfOk result (IsScript 1) }
 {
-    let [readers, slots] = words else {
-        return Err(CallError::Bad(Cause::Arity));
-    };
     let readers = count_of(readers)?;
     let slots = count_of(slots)?;
     Ok(Script::Lock(LockScript {
@@ -148,15 +145,24 @@ fn lock_of(alloc: Global, words: &[&str]) -> Result<Script, CallError>
     }))
 }
 
-/// `grace READERS ROWS`, from the words after the first.
-#[tactic(auto, unfolding(crate::specs::Lines::grace_of))]
-fn grace_of(alloc: Global, words: &[&str]) -> Result<Script, CallError>
-    ensures value { Gives (λ next. next) result (grace_of (map (λ word. word.now) words.now)) }
+/// `lock READERS SLOTS`, from the words after the first.
+#[tactic(auto, unfolding(crate::specs::Lines::lock_of))]
+fn lock_of(alloc: Global, words: &[&str]) -> Result<Script, CallError>
+    ensures value { Gives (λ next. next) result (lock_of (map (λ word. word.now) words.now)) }
     ensures fits { IfOk result (IsScript 1) }
 {
-    let [readers, rows] = words else {
-        return Err(CallError::Bad(Cause::Arity));
-    };
+    match words {
+        [readers, slots] => lock(alloc, readers, slots),
+        _ => Err(CallError::Bad(Cause::Arity)),
+    }
+}
+
+/// A script of the grace core without events, of so many readers and rows.
+#[tactic(auto, unfolding(crate::specs::Lines::grace))]
+fn grace(alloc: Global, readers: &str, rows: &str) -> Result<Script, CallError>
+    ensures value { Gives (λ next. next) result (grace readers.now rows.now) }
+    ensures fits { IfOk result (IsScript 1) }
+{
     let readers = count_of(readers)?;
     let rows = count_of(rows)?;
     Ok(Script::Grace(GraceScript {
@@ -164,6 +170,18 @@ fn grace_of(alloc: Global, words: &[&str]) -> Result<Script, CallError>
         rows,
         lines: GraceLines::new(alloc),
     }))
+}
+
+/// `grace READERS ROWS`, from the words after the first.
+#[tactic(auto, unfolding(crate::specs::Lines::grace_of))]
+fn grace_of(alloc: Global, words: &[&str]) -> Result<Script, CallError>
+    ensures value { Gives (λ next. next) result (grace_of (map (λ word. word.now) words.now)) }
+    ensures fits { IfOk result (IsScript 1) }
+{
+    match words {
+        [readers, rows] => grace(alloc, readers, rows),
+        _ => Err(CallError::Bad(Cause::Arity)),
+    }
 }
 
 /// A script of the lock core with one line more.

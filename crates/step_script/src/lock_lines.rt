@@ -2,7 +2,7 @@
 
 ghost use Rattle.std.specs.Prelude.{IfOk, map};
 ghost use Rattle.trace_reader.specs.Reading.{Gives};
-ghost use Rattle.step_script.specs.LockLines.{add_of, look_of, field_of, sub_of, begin_of, mark_of, store, store_of, end_of, lock_event};
+ghost use Rattle.step_script.specs.LockLines.{add, add_of, look_of, field, field_of, sub_of, begin_of, mark_of, store, store_of, end_by, end_of, lock_event};
 ghost use Rattle.step_script.specs.Values.{IsLockEvent};
 
 use crate::fields::{caller_of, index_of, reader_of};
@@ -17,18 +17,27 @@ const FIELDS: u32 = 4;
 /// The words before the call of an `end`.
 const WORDS_BEFORE_CALL: usize = 2;
 
+/// The add of these words.
+#[tactic(auto, unfolding(crate::specs::LockLines::add))]
+fn add(reader: &str, slot: &str, readers: u32, slots: u32) -> Result<LockEvent, CallError>
+    ensures value { Gives (λ event. event) result (add readers slots reader.now slot.now) }
+    ensures fits { IfOk result (IsLockEvent readers slots) }
+{
+    let reader = index_of(reader, readers)?;
+    let slot = index_of(slot, slots)?;
+    Ok(LockEvent::Add(reader, Slot(slot)))
+}
+
 /// `add R K`.
 #[tactic(auto, unfolding(crate::specs::LockLines::add_of))]
 fn add_of(words: &[&str], readers: u32, slots: u32) -> Result<LockEvent, CallError>
     ensures value { Gives (λ event. event) result (add_of readers slots (map (λ word. word.now) words.now)) }
     ensures fits { IfOk result (IsLockEvent readers slots) }
 {
-    let [reader, slot] = words else {
-        return Err(CallError::Bad(Cause::Arity));
-    };
-    let reader = index_of(reader, readers)?;
-    let slot = index_of(slot, slots)?;
-    Ok(LockEvent::Add(reader, Slot(slot)))
+    match words {
+        [reader, slot] => add(reader, slot, readers, slots),
+        _ => Err(CallError::Bad(Cause::Arity)),
+    }
 }
 
 /// `look R`.
@@ -40,18 +49,27 @@ fn look_of(words: &[&str], readers: u32, slots: u32) -> Result<LockEvent, CallEr
     Ok(LockEvent::Look(reader_of(words, readers)?))
 }
 
+/// The read of a field that these words ask for.
+#[tactic(auto, unfolding(crate::specs::LockLines::field))]
+fn field(reader: &str, place: &str, readers: u32, slots: u32) -> Result<LockEvent, CallError>
+    ensures value { Gives (λ event. event) result (field readers reader.now place.now) }
+    ensures fits { IfOk result (IsLockEvent readers slots) }
+{
+    let reader = index_of(reader, readers)?;
+    let place = index_of(place, FIELDS)?;
+    Ok(LockEvent::Field(reader, place))
+}
+
 /// `field R I`.
 #[tactic(auto, unfolding(crate::specs::LockLines::field_of))]
 fn field_of(words: &[&str], readers: u32, slots: u32) -> Result<LockEvent, CallError>
     ensures value { Gives (λ event. event) result (field_of readers (map (λ word. word.now) words.now)) }
     ensures fits { IfOk result (IsLockEvent readers slots) }
 {
-    let [reader, field] = words else {
-        return Err(CallError::Bad(Cause::Arity));
-    };
-    let reader = index_of(reader, readers)?;
-    let field = index_of(field, FIELDS)?;
-    Ok(LockEvent::Field(reader, field))
+    match words {
+        [reader, place] => field(reader, place, readers, slots),
+        _ => Err(CallError::Bad(Cause::Arity)),
+    }
 }
 
 /// `sub R`.
@@ -117,7 +135,24 @@ fn store_of(words: &[&str], readers: u32, slots: u32) -> Result<LockEvent, CallE
     }
 }
 
-/// `end T CALL`, where the call is what follows two words of the line's text.
+/// The end of a call of this caller, where the call is what follows two words of the line's text.
+#[tactic(auto, unfolding(crate::specs::LockLines::end_by))]
+fn end_by(
+    alloc: Global,
+    text: &str,
+    caller: &str,
+    readers: u32,
+    slots: u32,
+) -> Result<LockEvent, CallError>
+    ensures value { Gives (λ event. event) result (end_by text.now caller.now) }
+    ensures fits { IfOk result (IsLockEvent readers slots) }
+{
+    let caller = caller_of(caller)?;
+    let call = call_of(alloc, text_after_words(text, WORDS_BEFORE_CALL))?;
+    Ok(LockEvent::End(caller, call))
+}
+
+/// `end T CALL`.
 #[tactic(auto, unfolding(crate::specs::LockLines::end_of))]
 fn end_of(
     alloc: Global,
@@ -129,12 +164,10 @@ fn end_of(
     ensures value { Gives (λ event. event) result (end_of text.now (map (λ word. word.now) words.now)) }
     ensures fits { IfOk result (IsLockEvent readers slots) }
 {
-    let [caller, _, ..] = words else {
-        return Err(CallError::Bad(Cause::Arity));
-    };
-    let caller = caller_of(caller)?;
-    let call = call_of(alloc, text_after_words(text, WORDS_BEFORE_CALL))?;
-    Ok(LockEvent::End(caller, call))
+    match words {
+        [caller, _, ..] => end_by(alloc, text, caller, readers, slots),
+        _ => Err(CallError::Bad(Cause::Arity)),
+    }
 }
 
 /// The event of this name, in a line of this text.

@@ -1,4 +1,4 @@
--- For `front_is_enough` and `traces_fit`: one byte more than the limit is enough to read a trace.
+-- For `front_is_enough` and `traces_fit`: one byte more than the limit of a file is enough to read it.
 use Rattle.std.proofs.Common.{◌≡◌, ℕ, zero, suc, ◌+◌, ◌-◌, ◌<◌, ◌≤◌, Bool, true, false, nat_eq, nat_lt, List, [], ◌∷◌, length, take, drop, Result, Ok, Err, if◌then◌else◌, refl, sym, ap, ◌∙◌, inl, inr, arith}
 use Rattle.std.specs.List.{position_or_len, before_first, after_first}
 use Rattle.std.proofs.lemmas.Bool.{cases_lt, lt-ltb, or_right}
@@ -12,45 +12,38 @@ use Rattle.trace_reader.specs.declared.limits.TheConstants.{LINE_LIMIT}
 use Rattle.trace_reader.specs.declared.trace.Trace.{Trace}
 use Rattle.trace_reader.specs.Causes.{◌>>=◌}
 use Rattle.trace_reader.specs.Grammar.{fault, nothing, at_line, lines_leave, lines_read, whole, trace_of}
-use Rattle.trace_reader.specs.Lines.{SoFar, trace_limit, is_too_long, after_text, after_line}
+use Rattle.trace_reader.specs.Lines.{SoFar, trace_limit, with_header, after_words, after_line}
 use Rattle.trace_reader.specs.RawLines.{RawLine, raw_line, raw_lines, is_newline, lines_from}
 use Rattle.trace_reader.specs.Words.{words_of}
-use Rattle.trace_reader.proofs.LineTests.{text_of-long}
+use Rattle.trace_reader.proofs.LineTests.{text_within-past}
 use Rattle.trace_reader.proofs.RawPieces.{lines_from-newline, lines_from-none}
 use Rattle.trace_reader.proofs.WordParts.{position_or_len-le}
 
--- a line whose newline would be past the limit stops the reading
-past_limit : (line : RawLine) → trace_limit < line.start + length line.text + 1 → is_too_long line ≡ true
-unfolding is_too_long
-past_limit line past = or_right (nat_lt LINE_LIMIT (length line.text))
-    (nat_lt trace_limit (line.start + length line.text + 1))
-    (lt-ltb trace_limit (line.start + length line.text + 1) past)
+-- a step that refuses each line whose newline would be past the limit, for that cause
+abbrev pub IsLimited : {S : Type 0} → ℕ → (S → RawLine → Result S Cause) → Type 0
+IsLimited {S} limit step = (before : S) (line : RawLine) → limit < line.start + length line.text + 1 → step before line ≡ Err TooLong
 
--- a step that refuses each line that is too long, for that cause
-abbrev pub IsLimited : {S : Type 0} → (S → RawLine → Result S Cause) → Type 0
-IsLimited {S} step = (before : S) (line : RawLine) → is_too_long line ≡ true → step before line ≡ Err TooLong
-
-stops : {S : Type 0} (step : S → RawLine → Result S Cause) (limited : IsLimited step) (before : S) (line : RawLine) (more : List RawLine)
-    → trace_limit < line.start + length line.text + 1
+stops : {S : Type 0} (limit : ℕ) (step : S → RawLine → Result S Cause) (limited : IsLimited limit step) (before : S) (line : RawLine) (more : List RawLine)
+    → limit < line.start + length line.text + 1
     → lines_leave step before (line ∷ more) ≡ Err (fault line.number TooLong)
-stops {S} step limited before line more past =
-    ap (λ (r : Result S Cause). at_line line.number r (λ next. lines_leave step next more)) (limited before line (past_limit line past))
+stops {S} limit step limited before line more past =
+    ap (λ (r : Result S Cause). at_line line.number r (λ next. lines_leave step next more)) (limited before line past)
 
 -- bytes that hold no newline up to the limit stop it in their first line
-stops_in_first : {S : Type 0} (step : S → RawLine → Result S Cause) (limited : IsLimited step) (before : S) (number start : ℕ) (bytes : List ℕ) → 0 < length bytes
-    → trace_limit < start + position_or_len is_newline bytes + 1
+stops_in_first : {S : Type 0} (limit : ℕ) (step : S → RawLine → Result S Cause) (limited : IsLimited limit step) (before : S) (number start : ℕ) (bytes : List ℕ) → 0 < length bytes
+    → limit < start + position_or_len is_newline bytes + 1
     → lines_leave step before (lines_from number start bytes) ≡ Err (fault number TooLong)
-stops_in_first step limited before number start bytes some past =
+stops_in_first limit step limited before number start bytes some past =
     let n = position_or_len is_newline bytes in
     elim (cases_lt n (length bytes)) [
       | inl within ↦
           let len : length (take n bytes) ≡ n = length-take-le n bytes (omega arith) in
           let more = lines_from (number + 1) (start + n + 1) (after_first is_newline bytes) in
           ap (lines_leave step before) (lines_from-newline number start bytes within)
-          ∙ stops step limited before (raw_line number start (before_first is_newline bytes) true) more (omega (arith, len))
+          ∙ stops limit step limited before (raw_line number start (before_first is_newline bytes) true) more (omega (arith, len))
       | inr none ↦
           ap (lines_leave step before) (lines_from-none number start bytes some none)
-          ∙ stops step limited before (raw_line number start bytes false) [] (omega (arith, position_or_len-le is_newline bytes))
+          ∙ stops limit step limited before (raw_line number start bytes false) [] (omega (arith, position_or_len-le is_newline bytes))
     ]
 
 -- the first newline of a beginning is that of the whole, where it is there
@@ -110,54 +103,55 @@ settled_line step m number start bytes short within later = λ before.
     ∙ ap (lines_leave step before) (sym (lines_from-newline number start bytes (omega arith)))
 
 -- where it ends past the limit, or not at all, both stop in it
-settled_stop : {S : Type 0} (step : S → RawLine → Result S Cause) (limited : IsLimited step) (m number start : ℕ) (bytes : List ℕ) → 0 < m → m ≤ length bytes → m + start ≡ trace_limit + 1
+settled_stop : {S : Type 0} (limit : ℕ) (step : S → RawLine → Result S Cause) (limited : IsLimited limit step) (m number start : ℕ) (bytes : List ℕ) → 0 < m → m ≤ length bytes → m + start ≡ limit + 1
     → m ≤ position_or_len is_newline bytes + 1
     → IsSettled step m number start bytes
 unfolding IsSettled
-settled_stop step limited m number start bytes some short sum past = λ before.
+settled_stop limit step limited m number start bytes some short sum past = λ before.
     let len : length (take m bytes) ≡ m = length-take-le m bytes short in
     let place : m ≤ position_or_len is_newline (take m bytes) + 1 =
     elim (cases_lt (position_or_len is_newline bytes) m) [
       | inl within ↦ omega (arith, place_in_front m bytes within short)
       | inr none ↦ omega (arith, no_place_in_front m bytes none short)
     ] in
-    stops_in_first step limited before number start (take m bytes) (omega (arith, len)) (omega arith)
-    ∙ sym (stops_in_first step limited before number start bytes (omega arith) (omega arith))
+    stops_in_first limit step limited before number start (take m bytes) (omega (arith, len)) (omega arith)
+    ∙ sym (stops_in_first limit step limited before number start bytes (omega arith) (omega arith))
 
-settled : {S : Type 0} (step : S → RawLine → Result S Cause) (limited : IsLimited step) (fuel m number start : ℕ) (bytes : List ℕ) → length bytes ≤ fuel → start ≤ trace_limit
-    → m + start ≡ trace_limit + 1 → IsSettled step m number start bytes
+settled : {S : Type 0} (limit : ℕ) (step : S → RawLine → Result S Cause) (limited : IsLimited limit step) (fuel m number start : ℕ) (bytes : List ℕ) → length bytes ≤ fuel → start ≤ limit
+    → m + start ≡ limit + 1 → IsSettled step m number start bytes
 unfolding IsSettled
-settled step limited zero m number start bytes few low sum = λ before. ap
+settled limit step limited zero m number start bytes few low sum = λ before. ap
     (λ (bs : List ℕ). lines_leave step before (lines_from number start bs)) (take_all m bytes (omega arith))
-settled step limited (suc fuel) m number start bytes few low sum =
+settled limit step limited (suc fuel) m number start bytes few low sum =
     let n = position_or_len is_newline bytes in
     elim (cases_lt m (length bytes)) [
       | inl long ↦ elim (cases_lt (n + 1) m) [
         | inl within ↦ settled_line step m number start bytes (omega arith) (omega arith)
-            (settled step limited fuel (m - (n + 1)) (number + 1) (start + n + 1) (after_first is_newline bytes)
+            (settled limit step limited fuel (m - (n + 1)) (number + 1) (start + n + 1) (after_first is_newline bytes)
             (omega (arith, length-drop (n + 1) bytes)) (omega arith) (omega arith))
-        | inr past ↦ settled_stop step limited m number start bytes (omega arith) (omega arith) sum past
+        | inr past ↦ settled_stop limit step limited m number start bytes (omega arith) (omega arith) sum past
       ]
       | inr short ↦ λ before. ap (λ (bs : List ℕ). lines_leave step before (lines_from number start bs))
           (take_all m bytes short)
     ]
 
 -- one byte more than the limit settles what lines leave
-pub lines_leave-front : {S : Type 0} (step : S → RawLine → Result S Cause) (limited : IsLimited step) (before : S) (bytes : List ℕ)
-    → lines_leave step before (raw_lines (take (trace_limit + 1) bytes)) ≡ lines_leave step before (raw_lines bytes)
+pub lines_leave-front : {S : Type 0} (limit : ℕ) (step : S → RawLine → Result S Cause) (limited : IsLimited limit step) (before : S) (bytes : List ℕ)
+    → lines_leave step before (raw_lines (take (limit + 1) bytes)) ≡ lines_leave step before (raw_lines bytes)
 unfolding IsSettled
-lines_leave-front step limited before bytes =
-    settled step limited (length bytes) (trace_limit + 1) 1 0 bytes (omega arith) (omega arith) (omega arith) before
+lines_leave-front limit step limited before bytes =
+    settled limit step limited (length bytes) (limit + 1) 1 0 bytes (omega arith) (omega arith) (omega arith) before
 
 -- the lines of a trace are limited
-after_line-limited : IsLimited after_line
+after_line-limited : IsLimited trace_limit after_line
 unfolding after_line
-after_line-limited before line long =
-    ap (λ (r : Result (List ℕ) Cause). r >>= λ text. after_text before line.number text (words_of text)) (text_of-long line long)
+after_line-limited before line past =
+    ap (λ (r : Result (List ℕ) Cause). r >>= λ text. if nat_eq line.number 1 then with_header before (words_of text)
+    else after_words before line.number text (words_of text)) (text_within-past LINE_LIMIT trace_limit line past)
 
 lines_read-front : (bytes : List ℕ) → lines_read (take (trace_limit + 1) bytes) ≡ lines_read bytes
 unfolding lines_read
-lines_read-front bytes = lines_leave-front after_line after_line-limited nothing bytes
+lines_read-front bytes = lines_leave-front trace_limit after_line after_line-limited nothing bytes
 
 none_in_front : (limit : ℕ) (bytes : List ℕ) → nat_eq (length (take (limit + 1) bytes)) 0 ≡ nat_eq (length bytes) 0
 none_in_front limit bytes = grind (arith, nat_tests, length-take (limit + 1) bytes)
@@ -177,21 +171,21 @@ at_line_read number (Ok next) rest x read = (next, read)
 at_line_read number (Err cause) rest x read = absurd cc
 
 -- lines that were all read end within the limit
-read_within : {S : Type 0} (step : S → RawLine → Result S Cause) (limited : IsLimited step) (fuel number start : ℕ) (bytes : List ℕ) (before read : S) → length bytes ≤ fuel → start ≤ trace_limit
-    → lines_leave step before (lines_from number start bytes) ≡ Ok read → start + length bytes ≤ trace_limit
-read_within step limited zero number start bytes before read few low all = omega arith
-read_within {S} step limited (suc fuel) number start bytes before read few low all =
+read_within : {S : Type 0} (limit : ℕ) (step : S → RawLine → Result S Cause) (limited : IsLimited limit step) (fuel number start : ℕ) (bytes : List ℕ) (before read : S) → length bytes ≤ fuel → start ≤ limit
+    → lines_leave step before (lines_from number start bytes) ≡ Ok read → start + length bytes ≤ limit
+read_within limit step limited zero number start bytes before read few low all = omega arith
+read_within {S} limit step limited (suc fuel) number start bytes before read few low all =
     let n = position_or_len is_newline bytes in
     elim (cases_lt 0 (length bytes)) [
-      | inl some ↦ elim (cases_lt trace_limit (start + n + 1)) [
-        | inl past ↦ absurd (ok_is_no_fault read (fault number TooLong) (sym all ∙ stops_in_first step limited before number start bytes some past))
+      | inl some ↦ elim (cases_lt limit (start + n + 1)) [
+        | inl past ↦ absurd (ok_is_no_fault read (fault number TooLong) (sym all ∙ stops_in_first limit step limited before number start bytes some past))
         | inr here ↦ elim (cases_lt n (length bytes)) [
           | inl within ↦
               let rest = lines_from (number + 1) (start + n + 1) (after_first is_newline bytes) in
               let line = raw_line number start (before_first is_newline bytes) true in
               let next = at_line_read number (step before line) (λ next. lines_leave step next rest) read
               (sym (ap (lines_leave step before) (lines_from-newline number start bytes within)) ∙ all) in
-              omega (arith, length-drop (n + 1) bytes, read_within step limited fuel (number + 1) (start + n + 1) (after_first is_newline bytes) next.0 read (omega (arith, length-drop (n + 1) bytes)) (omega arith) next.1)
+              omega (arith, length-drop (n + 1) bytes, read_within limit step limited fuel (number + 1) (start + n + 1) (after_first is_newline bytes) next.0 read (omega (arith, length-drop (n + 1) bytes)) (omega arith) next.1)
           | inr none ↦ omega arith
         ]
       ]
@@ -202,10 +196,10 @@ read_within {S} step limited (suc fuel) number start bytes before read few low a
     ok_is_no_fault read first same = cc
 
 -- the bytes of lines that were all read end within the limit
-pub lines_leave-within : {S : Type 0} (step : S → RawLine → Result S Cause) (limited : IsLimited step) (before read : S) (bytes : List ℕ)
-    → lines_leave step before (raw_lines bytes) ≡ Ok read → length bytes ≤ trace_limit
-lines_leave-within step limited before read bytes all =
-    omega (arith, read_within step limited (length bytes) 1 0 bytes before read (omega arith) (omega arith) all)
+pub lines_leave-within : {S : Type 0} (limit : ℕ) (step : S → RawLine → Result S Cause) (limited : IsLimited limit step) (before read : S) (bytes : List ℕ)
+    → lines_leave step before (raw_lines bytes) ≡ Ok read → length bytes ≤ limit
+lines_leave-within limit step limited before read bytes all =
+    omega (arith, read_within limit step limited (length bytes) 1 0 bytes before read (omega arith) (omega arith) all)
 
 whole_read : (r : Result SoFar TraceFault) (trace : Trace) → whole r ≡ Ok trace → (read : SoFar) × (r ≡ Ok read)
 whole_read (Ok read) trace is = (read, refl)
@@ -217,7 +211,7 @@ unfolding trace_of lines_read
 trace_within bytes trace is = elim (cases_lt 0 (length bytes)) [
   | inl some ↦
       let read = whole_read (lines_read bytes) trace (sym (ap (λ (t : Bool). if t then Err (fault 1 Header) else whole (lines_read bytes)) (is_some_length (length bytes) some)) ∙ is) in
-      lines_leave-within after_line after_line-limited nothing read.0 bytes read.1
+      lines_leave-within trace_limit after_line after_line-limited nothing read.0 bytes read.1
   | inr none ↦ omega arith
 ]
   where

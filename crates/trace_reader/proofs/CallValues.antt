@@ -1,22 +1,22 @@
 -- For `traces_fit`: the values of the calls and operations of a line fit their types.
-use Rattle.std.proofs.Common.{ℕ, ◌/◌, ◌^◌, ◌<◌, Bool, List, [], ◌∷◌, codes, bytes_eq, ℤ, Option, Some, None, Result, Ok, Err, IfOk, IfSome, if◌then◌else◌, arith}
+use Rattle.std.proofs.Common.{ℕ, ◌/◌, ◌^◌, ◌<◌, Bool, List, [], ◌∷◌, codes, bytes_eq, ℤ, Option, Some, None, Result, Ok, Err, ok_or, unwrap_or, IfOk, IfSome, if◌then◌else◌, arith}
 use Rattle.std.proofs.lemmas.Bool.{cond_both}
 use Rattle.mm_types.specs.declared.area.Access.{Access}
 use Rattle.mm_types.specs.declared.area.Prot.{Prot}
 use Rattle.mm_types.specs.declared.call.Call.{Call}
-use Rattle.mm_types.specs.declared.call.Call.TheVariants.{Mmap, Munmap, Mprotect, Mremap}
+use Rattle.mm_types.specs.declared.call.Call.TheVariants.{Mmap, Munmap, Mprotect, Mremap, Brk, Mseal}
 use Rattle.mm_types.specs.declared.config.TheConstants.{PAGE_SIZE}
-use Rattle.mm_types.specs.declared.flags.TheConstants.{MREMAP_FIXED}
 use Rattle.trace_reader.specs.declared.trace.Op.TheVariants as ops
-use Rattle.flag_table.specs.Tables.{mremap_flags}
+use Rattle.flag_table.specs.Tables.{map_flags, mremap_flags}
 use Rattle.trace_reader.specs.declared.fault.Cause.{Cause}
-use Rattle.trace_reader.specs.declared.fault.Cause.TheVariants.{Word, Arity}
+use Rattle.trace_reader.specs.declared.fault.Cause.TheVariants.{Word, Number}
 use Rattle.trace_reader.specs.Causes.{◌>>=◌}
-use Rattle.trace_reader.specs.Calls.{mmap, mmap_of, munmap_of, mprotect, mprotect_of, moved, number_if, mremap, mremap_of, call_named, fault_of, maps_of, called, op_named, op_of}
-use Rattle.mm_types.specs.Flags.{has_flag}
-use Rattle.trace_reader.specs.Fields.{number, mapped_descriptor, access, flags, mmap_flags, prot}
+use Rattle.trace_reader.specs.Calls.{mmap, mmap_of, munmap, munmap_of, mprotect, mprotect_of, number_if, mremap, mremap_of, brk_of, mseal, mseal_of, call_named}
+use Rattle.trace_reader.specs.Fields.{number, mapped_descriptor, access, flags, prot}
+use Rattle.trace_reader.specs.Numbers.{decimal_of, thread_of}
+use Rattle.trace_reader.specs.Operations.{fault, fault_of, maps_of, fork_of, called, op_named, op_of, line_named}
 use Rattle.trace_reader.specs.Values.{IsCallValue, IsOpValue}
-use Rattle.trace_reader.proofs.FieldValues.{IsWord, IsDescriptor, number-value, mapped_descriptor-value, mmap_flags-value, mremap_flags-value}
+use Rattle.trace_reader.proofs.FieldValues.{IsWord, IsDescriptor, ok_or-holds, number-value, decimal_of-value, thread_of-value, mapped_descriptor-value, map_flags-value, mremap_flags-value}
 
 abbrev IsFlags : ℕ → Type 0
 IsFlags bits = bits < 2 ^ 32
@@ -49,27 +49,28 @@ mprotect_fits (Err c) len allowed ha hl = tt
 mprotect_fits (Ok a) (Err c) allowed ha hl = tt
 mprotect_fits (Ok a) (Ok l) (Err c) ha hl = tt
 
-moved-value : (old old_len new_len bits : ℕ) (new : Option ℕ) → IsWord old → IsWord old_len → IsWord new_len
-    → IsFlags bits → IfSome new IsWord
-    → IfOk (moved old old_len new_len bits new) IsCallValue
-unfolding moved
-moved-value old old_len new_len bits None ho hl hn hf hw =
-    cond_both (has_flag bits MREMAP_FIXED) (Err Arity) (Ok (Mremap old old_len new_len bits 0))
-    (λ r. IfOk r IsCallValue) (λ _. tt) (λ _. (ho, hl, hn, hf, omega arith))
-moved-value old old_len new_len bits (Some new) ho hl hn hf hw =
-    cond_both (has_flag bits MREMAP_FIXED) (Ok (Mremap old old_len new_len bits new)) (Err Arity)
-    (λ r. IfOk r IsCallValue) (λ _. (ho, hl, hn, hf, hw)) (λ _. tt)
+new_or_none : (new : Option ℕ) → IfSome new IsWord → IsWord (unwrap_or new 0)
+new_or_none None h = omega arith
+new_or_none (Some new) h = h
 
 mremap_fits : (old old_len new_len bits : Result ℕ Cause) (new : Result (Option ℕ) Cause) → IfOk old IsWord
     → IfOk old_len IsWord → IfOk new_len IsWord → IfOk bits IsFlags
     → IfOk new (λ o. IfSome o IsWord)
-    → IfOk (old >>= λ o. old_len >>= λ l. new_len >>= λ n. bits >>= λ f. new >>= λ a. moved o l n f a) IsCallValue
-mremap_fits (Ok o) (Ok l) (Ok n) (Ok f) (Ok a) ho hl hn hf ha = moved-value o l n f a ho hl hn hf ha
+    → IfOk (old >>= λ o. old_len >>= λ l. new_len >>= λ n. bits >>= λ f. new >>= λ a.
+    Ok (Mremap o l n f (unwrap_or a 0))) IsCallValue
+mremap_fits (Ok o) (Ok l) (Ok n) (Ok f) (Ok a) ho hl hn hf ha = (ho, hl, hn, hf, new_or_none a ha)
 mremap_fits (Err c) old_len new_len bits new ho hl hn hf ha = tt
 mremap_fits (Ok o) (Err c) new_len bits new ho hl hn hf ha = tt
 mremap_fits (Ok o) (Ok l) (Err c) bits new ho hl hn hf ha = tt
 mremap_fits (Ok o) (Ok l) (Ok n) (Err c) new ho hl hn hf ha = tt
 mremap_fits (Ok o) (Ok l) (Ok n) (Ok f) (Err c) ho hl hn hf ha = tt
+
+mseal_fits : (addr len options : Result ℕ Cause) → IfOk addr IsWord → IfOk len IsWord → IfOk options IsWord
+    → IfOk (addr >>= λ a. len >>= λ l. options >>= λ f. Ok (Mseal a l f)) IsCallValue
+mseal_fits (Ok a) (Ok l) (Ok f) ha hl hf = (ha, hl, hf)
+mseal_fits (Err c) len options ha hl hf = tt
+mseal_fits (Ok a) (Err c) options ha hl hf = tt
+mseal_fits (Ok a) (Ok l) (Err c) ha hl hf = tt
 
 fault_fits : (addr : Result ℕ Cause) (wanted : Result Access Cause) → IfOk addr IsWord
     → IfOk (addr >>= λ a. wanted >>= λ w. Ok (ops.Fault (record { 0 = a / PAGE_SIZE }) w)) IsOpValue
@@ -81,12 +82,12 @@ fault_fits (Ok a) (Err c) ha = tt
 mmap_of-value : (words : List (List ℕ)) → IfOk (mmap_of words) IsCallValue
 unfolding mmap_of mmap
 mmap_of-value (addr ∷ len ∷ allowed ∷ kind ∷ fd ∷ offset ∷ []) =
-    mmap_fits (number addr) (number len) (prot allowed) (mmap_flags kind) (mapped_descriptor fd) (number offset)
-    (number-value addr) (number-value len) (mmap_flags-value kind) (mapped_descriptor-value fd) (number-value offset)
+    mmap_fits (number addr) (number len) (prot allowed) (flags map_flags kind) (mapped_descriptor fd) (number offset)
+    (number-value addr) (number-value len) (map_flags-value kind) (mapped_descriptor-value fd) (number-value offset)
 mmap_of-value _ = tt
 
 munmap_of-value : (words : List (List ℕ)) → IfOk (munmap_of words) IsCallValue
-unfolding munmap_of
+unfolding munmap_of munmap
 munmap_of-value (addr ∷ len ∷ []) = munmap_fits (number addr) (number len) (number-value addr) (number-value len)
 munmap_of-value _ = tt
 
@@ -118,6 +119,23 @@ mremap_of-value (old ∷ old_len ∷ new_len ∷ how ∷ []) = mremap-value old 
 mremap_of-value (old ∷ old_len ∷ new_len ∷ how ∷ new ∷ []) = mremap-value old old_len new_len how (Some new)
 mremap_of-value _ = tt
 
+-- what is read of one field
+of_field : {A : Type 0} (P : A → Type 0) (make : ℕ → A) → ((n : ℕ) → IsWord n → P (make n)) → (r : Result ℕ Cause) → IfOk r IsWord
+    → IfOk (r >>= λ n. Ok (make n)) P
+of_field P make h (Ok n) fits = h n fits
+of_field P make h (Err c) fits = tt
+
+brk_of-value : (words : List (List ℕ)) → IfOk (brk_of words) IsCallValue
+unfolding brk_of
+brk_of-value (addr ∷ []) = of_field IsCallValue Brk (λ n h. h) (number addr) (number-value addr)
+brk_of-value _ = tt
+
+mseal_of-value : (words : List (List ℕ)) → IfOk (mseal_of words) IsCallValue
+unfolding mseal_of mseal
+mseal_of-value (addr ∷ len ∷ options ∷ []) = mseal_fits (number addr) (number len) (number options)
+    (number-value addr) (number-value len) (number-value options)
+mseal_of-value _ = tt
+
 -- one of two readings
 either : {A : Type 0} (P : A → Type 0) (test : Bool) (x y : Result A Cause) → IfOk x P → IfOk y P
     → IfOk (if test then x else y) P
@@ -132,7 +150,7 @@ call_named-value name words =
     (either IsCallValue (bytes_eq name (codes "mremap")) (mremap_of words) (Err Word) (mremap_of-value words) tt)))
 
 fault_of-value : (words : List (List ℕ)) → IfOk (fault_of words) IsOpValue
-unfolding fault_of
+unfolding fault_of fault
 fault_of-value (addr ∷ wanted ∷ []) = fault_fits (number addr) (access wanted) (number-value addr)
 fault_of-value _ = tt
 
@@ -145,17 +163,32 @@ call_op : (r : Result Call Cause) → IfOk r IsCallValue → IfOk (r >>= λ call
 call_op (Ok call) h = h
 call_op (Err c) h = tt
 
-called-value : (name : List ℕ) (words : List (List ℕ)) → IfOk (called name words) IsOpValue
-unfolding called
-called-value name words = call_op (call_named name words) (call_named-value name words)
+fork_of-value : (words : List (List ℕ)) → IfOk (fork_of words) IsOpValue
+unfolding fork_of
+fork_of-value (child ∷ []) = forked (ok_or (thread_of child) Number) (ok_or-holds (λ n. n < 64) (thread_of child) Number (thread_of-value child))
+  where
+    forked : (r : Result ℕ Cause) → IfOk r (λ n. n < 64) → IfOk (r >>= λ c. Ok (ops.Fork c)) IsOpValue
+    forked (Ok c) h = h
+    forked (Err cause) h = tt
+fork_of-value _ = tt
 
 op_named-value : (name : List ℕ) (words : List (List ℕ)) → IfOk (op_named name words) IsOpValue
 unfolding op_named
 op_named-value name words =
     either IsOpValue (bytes_eq name (codes "fault")) (fault_of words) _ (fault_of-value words)
-    (either IsOpValue (bytes_eq name (codes "maps")) (maps_of words) _ (maps_of-value words) (called-value name words))
+    (either IsOpValue (bytes_eq name (codes "maps")) (maps_of words) _ (maps_of-value words)
+    (either IsOpValue (bytes_eq name (codes "fork")) (fork_of words) _ (fork_of-value words)
+    (either IsOpValue (bytes_eq name (codes "brk")) (called (brk_of words)) _ (call_op (brk_of words) (brk_of-value words))
+    (either IsOpValue (bytes_eq name (codes "mseal")) (called (mseal_of words)) _ (call_op (mseal_of words) (mseal_of-value words))
+    (call_op (call_named name words) (call_named-value name words))))))
 
 pub op_of-value : (words : List (List ℕ)) → IfOk (op_of words) IsOpValue
 unfolding op_of
 op_of-value [] = tt
 op_of-value (name ∷ words) = op_named-value name words
+
+pub line_named-value : (word : Option (List ℕ)) → IfOk (line_named word) (λ after. IfSome after IsWord)
+unfolding line_named
+line_named-value None = tt
+line_named-value (Some word) = of_field (λ after. IfSome after IsWord) Some (λ n h. h) (ok_or (decimal_of word) Number)
+    (ok_or-holds IsWord (decimal_of word) Number (decimal_of-value word))

@@ -4,8 +4,7 @@ use Rattle.std.proofs.lemmas.Bool.{cond_both, and_parts, leb-true, eqb-true}
 use Rattle.std.proofs.lemmas.Int.{ints}
 use Rattle.std.proofs.lemmas.Nat.{and_le_r}
 use Rattle.mm_types.specs.declared.config.TheConstants.{PAGE_SIZE, ADDRESS_LIMIT}
-use Rattle.mm_types.specs.declared.flags.TheConstants.{MAP_GROWSDOWN}
-use Rattle.mm_types.specs.Flags.{has_flag}
+use Rattle.mm_types.specs.Config.{IsBound}
 use Rattle.flag_table.specs.Laws.{IsSound}
 use Rattle.flag_table.specs.Reading.{reading}
 use Rattle.flag_table.specs.Tables.{Table, map_flags, mremap_flags, bits_of}
@@ -15,9 +14,9 @@ use Rattle.flag_table.proofs.Texts.{HasRows-reading}
 use Rattle.trace_reader.specs.declared.fault.Cause.{Cause}
 use Rattle.trace_reader.specs.declared.fault.Cause.TheVariants.{Number, Flag}
 use Rattle.trace_reader.specs.Causes.{◌>>=◌}
-use Rattle.trace_reader.specs.Fields.{number, number_in, bound, descriptor, mapped_descriptor, or_flag, flags, mmap_flags}
+use Rattle.trace_reader.specs.Fields.{number, number_in, bound, descriptor, mapped_descriptor, or_flag, flags}
 use Rattle.trace_reader.specs.declared.limits.TheConstants.{GREATEST_THREAD}
-use Rattle.trace_reader.specs.Numbers.{digits_of, number_of, thread_of}
+use Rattle.trace_reader.specs.Numbers.{digits_of, number_of, decimal_of, thread_of}
 use Rattle.trace_reader.proofs.Digits.{digits_of-Some}
 
 -- what holds of an option's value, where there is one
@@ -54,6 +53,9 @@ number_of-value word = cond_both _ (digits_of 16 16 (drop 2 word)) (digits_of 10
     (digits_of-Some 16 16 (drop 2 word) n (omega arith) e).fits))
     (λ _. some_from IsWord (digits_of 10 20 word) (λ n e. (digits_of-Some 10 20 word n (omega arith) e).fits))
 
+pub decimal_of-value : (word : List ℕ) → IfSome (decimal_of word) IsWord
+decimal_of-value word = some_from IsWord (digits_of 10 20 word) (λ n e. (digits_of-Some 10 20 word n (omega arith) e).fits)
+
 pub number-value : (word : List ℕ) → IfOk (number word) IsWord
 unfolding number
 number-value word = ok_or-holds IsWord (number_of word) Number (number_of-value word)
@@ -68,14 +70,9 @@ number_in-value low high word = tested IsWord (λ n. (low ≤ n) × (n ≤ high)
     )) (number word) (number-value word)
 
 -- an address that may bound the memory
-pub record IsLimit (address : ℕ) : Type 0 where
-  pub aligned : address % PAGE_SIZE ≡ 0
-  pub above_zero : PAGE_SIZE ≤ address
-  pub within : address ≤ ADDRESS_LIMIT
-
-is_limit : (address : ℕ) → (nat_eq (address % PAGE_SIZE) 0 &&
-    (nat_le PAGE_SIZE address && nat_le address ADDRESS_LIMIT)) ≡ true → IsLimit address
-is_limit address e =
+is_bound : (address : ℕ) → (nat_eq (address % PAGE_SIZE) 0 &&
+    (nat_le PAGE_SIZE address && nat_le address ADDRESS_LIMIT)) ≡ true → IsBound address
+is_bound address e =
     let first = and_parts (nat_eq (address % PAGE_SIZE) 0)
     (nat_le PAGE_SIZE address && nat_le address ADDRESS_LIMIT) e in
     let rest = and_parts (nat_le PAGE_SIZE address) (nat_le address ADDRESS_LIMIT) first.1 in
@@ -86,11 +83,11 @@ is_limit address e =
       within = leb-true address ADDRESS_LIMIT rest.1;
     }
 
-pub bound-value : (word : List ℕ) → IfOk (bound word) IsLimit
+pub bound-value : (word : List ℕ) → IfOk (bound word) IsBound
 unfolding bound
-bound-value word = tested IsWord IsLimit (λ n. nat_eq (n % PAGE_SIZE) 0 &&
+bound-value word = tested IsWord IsBound (λ n. nat_eq (n % PAGE_SIZE) 0 &&
     (nat_le PAGE_SIZE n && nat_le n ADDRESS_LIMIT)) Number
-    (λ n fits e. is_limit n e) (number word) (number-value word)
+    (λ n fits e. is_bound n e) (number word) (number-value word)
 
 -- a descriptor, or -1
 abbrev pub IsDescriptor : ℤ → Type 0
@@ -128,15 +125,8 @@ small_mremap : bits_of mremap_flags.rows < 2 ^ 32
 unfolding mremap_flags
 small_mremap = lit< tt
 
-pub mmap_flags-value : (word : List ℕ) → IfOk (mmap_flags word) (λ bits. bits < 2 ^ 32)
-unfolding mmap_flags
-mmap_flags-value word = allowed (flags map_flags word) (flags-value map_flags word map_is_sound small_map)
-  where
-    allowed : (r : Result ℕ Cause) → IfOk r (λ bits. bits < 2 ^ 32)
-        → IfOk (r >>= λ bits. if has_flag bits MAP_GROWSDOWN then Err Flag else Ok bits) (λ bits. bits < 2 ^ 32)
-    allowed (Ok bits) small = cond_both (has_flag bits MAP_GROWSDOWN) (Err Flag) (Ok bits) (λ r. IfOk r (λ bits. bits < 2 ^ 32))
-        (λ _. tt) (λ _. small)
-    allowed (Err cause) small = tt
+pub map_flags-value : (word : List ℕ) → IfOk (flags map_flags word) (λ bits. bits < 2 ^ 32)
+map_flags-value word = flags-value map_flags word map_is_sound small_map
 
 pub mremap_flags-value : (word : List ℕ) → IfOk (flags mremap_flags word) (λ bits. bits < 2 ^ 32)
 mremap_flags-value word = flags-value mremap_flags word mremap_is_sound small_mremap

@@ -5,6 +5,8 @@ pub mod TraceValues
 pub mod WordParts
 pub mod Paths
 pub mod LineTests
+pub mod Notes
+pub mod LineAdded
 pub mod RawPieces
 pub mod RawReading
 pub mod RawLaws

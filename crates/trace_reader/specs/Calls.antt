@@ -1,17 +1,15 @@
--- What the words after the thread of a line ask for.
-use Rattle.std.specs.Prelude.{ℕ, ◌/◌, List, [], ◌∷◌, codes, bytes_eq, Option, Some, None, Result, Ok, Err, if◌then◌else◌}
+-- The calls that the words of a line ask for.
+use Rattle.std.specs.Prelude.{ℕ, Bool, true, not, List, [], ◌∷◌, length, codes, bytes_eq, nat_eq, Option, Some, None, unwrap_or, Result, Ok, Err, if◌then◌else◌}
 use Rattle.mm_types.specs.declared.call.Call.{Call}
-use Rattle.mm_types.specs.declared.call.Call.TheVariants.{Mmap, Munmap, Mprotect, Mremap}
-use Rattle.mm_types.specs.declared.config.TheConstants.{PAGE_SIZE}
+use Rattle.mm_types.specs.declared.call.Call.TheVariants.{Mmap, Munmap, Mprotect, Mremap, Brk, Mseal}
 use Rattle.mm_types.specs.declared.flags.TheConstants.{MREMAP_FIXED}
-use Rattle.trace_reader.specs.declared.trace.Op.{Op}
-use Rattle.trace_reader.specs.declared.trace.Op.TheVariants as ops
 use Rattle.mm_types.specs.Flags.{has_flag}
-use Rattle.flag_table.specs.Tables.{mremap_flags}
+use Rattle.flag_table.specs.Tables.{map_flags, mremap_flags}
 use Rattle.trace_reader.specs.declared.fault.Cause.{Cause}
 use Rattle.trace_reader.specs.declared.fault.Cause.TheVariants.{Word, Arity}
+use Rattle.trace_reader.specs.declared.calls.TheConstants.{WORDS_WITH_NEW}
 use Rattle.trace_reader.specs.Causes.{◌>>=◌}
-use Rattle.trace_reader.specs.Fields.{number, mapped_descriptor, access, flags, mmap_flags, prot}
+use Rattle.trace_reader.specs.Fields.{number, mapped_descriptor, flags, prot}
 use Rattle.trace_reader.specs.Words.{words_of}
 
 -- the mmap(2) of these words
@@ -20,7 +18,7 @@ mmap addr len allowed options fd offset = do
   a ← number addr
   l ← number len
   p ← prot allowed
-  f ← mmap_flags options
+  f ← flags map_flags options
   d ← mapped_descriptor fd
   o ← number offset
   Ok (Mmap (record { addr = a; len = l; prot = p; flags = f; fd = d; offset = o }))
@@ -30,12 +28,16 @@ unfoldable pub mmap_of : List (List ℕ) → Result Call Cause
 mmap_of (addr ∷ len ∷ allowed ∷ options ∷ fd ∷ offset ∷ []) = mmap addr len allowed options fd offset
 mmap_of _ = Err Arity
 
--- `munmap ADDR LEN`
-unfoldable pub munmap_of : List (List ℕ) → Result Call Cause
-munmap_of (addr ∷ len ∷ []) = do
+-- the munmap(2) of these words
+unfoldable pub munmap : List ℕ → List ℕ → Result Call Cause
+munmap addr len = do
   a ← number addr
   l ← number len
   Ok (Munmap a l)
+
+-- `munmap ADDR LEN`
+unfoldable pub munmap_of : List (List ℕ) → Result Call Cause
+munmap_of (addr ∷ len ∷ []) = munmap addr len
 munmap_of _ = Err Arity
 
 -- the mprotect(2) of these words
@@ -51,13 +53,6 @@ unfoldable pub mprotect_of : List (List ℕ) → Result Call Cause
 mprotect_of (addr ∷ len ∷ allowed ∷ []) = mprotect addr len allowed
 mprotect_of _ = Err Arity
 
--- an mremap(2): NEW is there exactly where the flags have MREMAP_FIXED, and is 0 in the call where it is not there
-unfoldable pub moved : ℕ → ℕ → ℕ → ℕ → Option ℕ → Result Call Cause
-moved old old_len new_len bits None =
-    if has_flag bits MREMAP_FIXED then Err Arity else Ok (Mremap old old_len new_len bits 0)
-moved old old_len new_len bits (Some new) =
-    if has_flag bits MREMAP_FIXED then Ok (Mremap old old_len new_len bits new) else Err Arity
-
 -- a number, where its word is there
 unfoldable pub number_if : Option (List ℕ) → Result (Option ℕ) Cause
 number_if None = Ok None
@@ -65,7 +60,7 @@ number_if (Some word) = do
   n ← number word
   Ok (Some n)
 
--- the mremap(2) of these words
+-- the mremap(2) of these words, where a NEW that is not there is 0
 unfoldable pub mremap : List ℕ → List ℕ → List ℕ → List ℕ → Option (List ℕ) → Result Call Cause
 mremap old old_len new_len options new = do
   o ← number old
@@ -73,13 +68,33 @@ mremap old old_len new_len options new = do
   n ← number new_len
   f ← flags mremap_flags options
   a ← number_if new
-  moved o l n f a
+  Ok (Mremap o l n f (unwrap_or a 0))
 
 -- `mremap OLD OLDLEN NEWLEN FLAGS`, or with a fifth word NEW
 unfoldable pub mremap_of : List (List ℕ) → Result Call Cause
 mremap_of (old ∷ old_len ∷ new_len ∷ options ∷ []) = mremap old old_len new_len options None
 mremap_of (old ∷ old_len ∷ new_len ∷ options ∷ new ∷ []) = mremap old old_len new_len options (Some new)
 mremap_of _ = Err Arity
+
+-- `brk ADDR`
+unfoldable pub brk_of : List (List ℕ) → Result Call Cause
+brk_of (addr ∷ []) = do
+  a ← number addr
+  Ok (Brk a)
+brk_of _ = Err Arity
+
+-- the mseal(2) of these words, all of them numbers
+unfoldable pub mseal : List ℕ → List ℕ → List ℕ → Result Call Cause
+mseal addr len options = do
+  a ← number addr
+  l ← number len
+  f ← number options
+  Ok (Mseal a l f)
+
+-- `mseal ADDR LEN FLAGS`
+unfoldable pub mseal_of : List (List ℕ) → Result Call Cause
+mseal_of (addr ∷ len ∷ options ∷ []) = mseal addr len options
+mseal_of _ = Err Arity
 
 -- the call of one of the four names, from the words after it
 unfoldable pub call_named : List ℕ → List (List ℕ) → Result Call Cause
@@ -88,41 +103,19 @@ call_named name words = if bytes_eq name (codes "mmap") then mmap_of words
     else (if bytes_eq name (codes "mprotect") then mprotect_of words
     else (if bytes_eq name (codes "mremap") then mremap_of words else Err Word)))
 
+-- of the words of an mremap(2) with its name NEW is the sixth: it is there exactly where the flags have MREMAP_FIXED
+unfoldable pub has_its_new : Call → List (List ℕ) → Bool
+has_its_new (Mremap old old_len new_len bits new) words =
+    if has_flag bits MREMAP_FIXED then nat_eq (length words) WORDS_WITH_NEW else not (nat_eq (length words) WORDS_WITH_NEW)
+has_its_new _ words = true
+
 -- the words of a call: its name, and the words of its form
 unfoldable pub call_of_words : List (List ℕ) → Result Call Cause
 call_of_words [] = Err Arity
-call_of_words (name ∷ words) = call_named name words
+call_of_words (name ∷ words) = do
+  call ← call_named name words
+  if has_its_new call (name ∷ words) then Ok call else Err Arity
 
 -- the text of a call, as it stands after a thread
 unfoldable pub call_of : List ℕ → Result Call Cause
 call_of text = call_of_words (words_of text)
-
--- `fault ADDR A`: the page of the address, and the access
-unfoldable pub fault_of : List (List ℕ) → Result Op Cause
-fault_of (addr ∷ wanted ∷ []) = do
-  a ← number addr
-  w ← access wanted
-  Ok (ops.Fault (record { 0 = a / PAGE_SIZE }) w)
-fault_of _ = Err Arity
-
--- `maps`
-unfoldable pub maps_of : List (List ℕ) → Result Op Cause
-maps_of [] = Ok ops.Maps
-maps_of _ = Err Arity
-
--- the operation that a call is
-unfoldable pub called : List ℕ → List (List ℕ) → Result Op Cause
-called name words = do
-  call ← call_named name words
-  Ok (ops.Call call)
-
--- the operation of this name, from the words after it: a fault, a read of the list of areas, or a call
-unfoldable pub op_named : List ℕ → List (List ℕ) → Result Op Cause
-op_named name words = if bytes_eq name (codes "fault") then fault_of words
-    else (if bytes_eq name (codes "maps") then maps_of words
-    else called name words)
-
--- the words after a thread: the name of an operation, and the words of its form
-unfoldable pub op_of : List (List ℕ) → Result Op Cause
-op_of [] = Err Arity
-op_of (name ∷ words) = op_named name words

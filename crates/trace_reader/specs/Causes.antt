@@ -1,9 +1,9 @@
 -- The causes for which a line is bad, and how the first of them is found.
 use Rattle.std.specs.Prelude.{ℕ, List, codes, Option, Some, None, Result, Ok, Err}
 use Rattle.trace_reader.specs.declared.fault.Cause.{Cause}
-use Rattle.trace_reader.specs.declared.fault.Cause.TheVariants.{Header, TooLong, Word, Number, Flag, Arity, Thread, TooMany, FileTwice, Utf8, NoEnd}
+use Rattle.trace_reader.specs.declared.fault.Cause.TheVariants.{Header, TooLong, Word, Number, Flag, Arity, Thread, TooMany, FileTwice, Utf8, NoEnd, After, Child, MapsLine, MapsOrder, NotOurs}
 
--- the number of a cause
+-- the number of a cause; none has the number 12
 abbrev pub cause_number : Cause → ℕ
 cause_number Header = 1
 cause_number TooLong = 2
@@ -16,6 +16,11 @@ cause_number TooMany = 8
 cause_number FileTwice = 9
 cause_number Utf8 = 10
 cause_number NoEnd = 11
+cause_number After = 13
+cause_number Child = 14
+cause_number MapsLine = 15
+cause_number MapsOrder = 16
+cause_number NotOurs = 17
 
 -- the name of a cause
 abbrev pub cause_name : Cause → List ℕ
@@ -30,6 +35,11 @@ cause_name TooMany = codes "TooMany"
 cause_name FileTwice = codes "FileTwice"
 cause_name Utf8 = codes "Utf8"
 cause_name NoEnd = codes "NoEnd"
+cause_name After = codes "After"
+cause_name Child = codes "Child"
+cause_name MapsLine = codes "MapsLine"
+cause_name MapsOrder = codes "MapsOrder"
+cause_name NotOurs = codes "NotOurs"
 
 -- one reading and then another, unless the first has a cause
 infixl 10 ◌>>=◌

@@ -6,10 +6,10 @@ use Rattle.mm_types.specs.declared.area.Access.{Access}
 use Rattle.mm_types.specs.declared.area.Access.TheVariants.{Read, Write, Exec}
 use Rattle.mm_types.specs.declared.area.Prot.{Prot}
 use Rattle.mm_types.specs.declared.config.TheConstants.{PAGE_SIZE, ADDRESS_LIMIT}
-use Rattle.mm_types.specs.declared.flags.TheConstants.{PROT_READ, PROT_WRITE, PROT_EXEC, MAP_GROWSDOWN}
+use Rattle.mm_types.specs.declared.flags.TheConstants.{PROT_READ, PROT_WRITE, PROT_EXEC}
 use Rattle.mm_types.specs.Flags.{has_flag}
 use Rattle.flag_table.specs.Reading.{reading}
-use Rattle.flag_table.specs.Tables.{Table, prot_flags, map_flags}
+use Rattle.flag_table.specs.Tables.{Table, prot_flags}
 use Rattle.flag_table.specs.declared.fault.NameFault.{NameFault}
 use Rattle.trace_reader.specs.declared.fault.Cause.{Cause}
 use Rattle.trace_reader.specs.declared.fault.Cause.TheVariants.{Word, Number, Flag}
@@ -74,12 +74,6 @@ or_flag (Err fault) = Err Flag
 -- flags of a table
 unfoldable pub flags : Table → List ℕ → Result ℕ Cause
 flags table word = or_flag (reading table word)
-
--- flags of mmap(2); the grammar does not have the name MAP_GROWSDOWN yet, so it is an unknown name
-unfoldable pub mmap_flags : List ℕ → Result ℕ Cause
-mmap_flags word = do
-  bits ← flags map_flags word
-  if has_flag bits MAP_GROWSDOWN then Err Flag else Ok bits
 
 -- the accesses that bits allow
 unfoldable pub prot_of_bits : ℕ → Prot

@@ -1,7 +1,10 @@
 -- Which trace bytes are, or else which line is bad first and for which cause.
 use Rattle.std.specs.Prelude.{ℕ, List, [], ◌∷◌, length, nat_eq, None, Result, Ok, Err, unwrap_or, if◌then◌else◌}
 use Rattle.mm_types.specs.declared.config.Config.{Config}
+use Rattle.mm_types.specs.declared.config.TheConstants.{ADDRESS_LIMIT, WIDE_LIMIT}
 use Rattle.mm_types.specs.Config.{default_config}
+use Rattle.trace_reader.specs.declared.builder.Version.{Version}
+use Rattle.trace_reader.specs.declared.builder.Version.TheVariants.{Narrow, Wide}
 use Rattle.trace_reader.specs.declared.fault.Cause.{Cause}
 use Rattle.trace_reader.specs.declared.fault.Cause.TheVariants.{Header}
 use Rattle.trace_reader.specs.declared.fault.TraceFault.{TraceFault}
@@ -15,7 +18,18 @@ fault line cause = record { line = line; cause = cause }
 
 -- before the first line
 abbrev pub nothing : SoFar
-nothing = record { areas = None; top = None; min = None; files = []; lines = []; maps = 0 }
+nothing = record {
+  version = Narrow;
+  areas = None;
+  top = None;
+  min = None;
+  heap = None;
+  files = [];
+  lines = [];
+  children = [];
+  maps = 0;
+  named = 0;
+}
 
 -- what follows a line that was read, or the number of the bad line and its cause
 abbrev pub at_line : {A B : Type 0} → ℕ → Result A Cause → (A → Result B TraceFault) → Result B TraceFault
@@ -35,13 +49,20 @@ after_lines so_far lines = lines_leave after_line so_far lines
 unfoldable pub lines_read : List ℕ → Result SoFar TraceFault
 lines_read bytes = after_lines nothing (raw_lines bytes)
 
+-- the address at which user memory ends
+abbrev pub address_limit : Version → ℕ
+address_limit Narrow = ADDRESS_LIMIT
+address_limit Wide = WIDE_LIMIT
+
 -- the configuration: what was named, and else the default
 unfoldable pub config_of : SoFar → Config
 config_of so_far = let default = default_config so_far.files in
     record default {
       min = unwrap_or so_far.min default.min;
       top = unwrap_or so_far.top default.top;
+      limit = address_limit so_far.version;
       areas = unwrap_or so_far.areas default.areas;
+      heap = unwrap_or so_far.heap default.heap;
     }
 
 -- the trace of what was read

@@ -4,9 +4,10 @@ pub mod Words
 pub mod Numbers
 pub mod Fields
 pub mod Calls
+pub mod Operations
 pub mod Settings
+pub mod Values
 pub mod Lines
 pub mod Grammar
 pub mod Laws
 pub mod Reading
-pub mod Values

@@ -1,7 +1,8 @@
 -- The numbers of a trace.
-use Rattle.std.specs.Prelude.{ℕ, ◌^◌, ◌&&◌, List, length, drop, codes, nat_eq, nat_lt, nat_le, Option, Some, None, option_and_then, if◌then◌else◌}
-use Rattle.std.specs.Char.{is_digit}
+use Rattle.std.specs.Prelude.{ℕ, ◌^◌, ◌&&◌, ◌||◌, Bool, List, length, drop, codes, nat_eq, nat_lt, nat_le, Option, Some, None, option_and_then, if◌then◌else◌}
+use Rattle.std.specs.Char.{is_digit, is_ascii_digit}
 use Rattle.std.specs.List.{list_all, starts_with}
+use Rattle.std.specs.Str.{byte}
 use Rattle.std.specs.Str.Parse.{digits_value}
 use Rattle.trace_reader.specs.declared.limits.TheConstants.{GREATEST_THREAD}
 
@@ -23,3 +24,11 @@ decimal_of word = digits_of 10 20 word
 -- the thread that a word is: 1 to 20 decimal digits with a value of at most 63
 unfoldable pub thread_of : List ℕ → Option ℕ
 thread_of word = option_and_then (λ n. if nat_le n GREATEST_THREAD then Some n else None) (digits_of 10 20 word)
+
+-- a digit of lower-case hexadecimal
+unfoldable pub is_lower_digit : ℕ → Bool
+is_lower_digit c = is_ascii_digit c || nat_le (byte "a") c && nat_le c (byte "f")
+
+-- the number that a word of lower-case hexadecimal digits is: 1 to so many of them and nothing else
+unfoldable pub lower_hexadecimal_of : ℕ → List ℕ → Option ℕ
+lower_hexadecimal_of most word = if list_all is_lower_digit word then digits_of 16 most word else None

@@ -1,7 +1,11 @@
--- The lines of a trace as they stand in its bytes.
-use Rattle.std.specs.Prelude.{ℕ, ◌+◌, Bool, true, false, List, [], ◌∷◌, length, nat_eq, if◌then◌else◌}
+-- The lines of a file as they stand in its bytes.
+use Rattle.std.specs.Prelude.{ℕ, ◌+◌, Bool, true, false, not, ◌||◌, List, [], ◌∷◌, length, nat_eq, nat_lt, Result, Ok, if◌then◌else◌}
 use Rattle.std.specs.List.{slice_split}
-use Rattle.std.specs.Str.{byte}
+use Rattle.std.specs.Str.{byte, is_utf8}
+use Rattle.mm_types.specs.Rows.{first_row}
+use Rattle.trace_reader.specs.declared.fault.Cause.{Cause}
+use Rattle.trace_reader.specs.declared.fault.Cause.TheVariants.{TooLong, Utf8, NoEnd}
+use Rattle.trace_reader.specs.Causes.{unless}
 
 -- A line: its number, counted from 1, its bytes without the newline, the offset of its first byte, and whether a newline
 -- ends it.
@@ -31,6 +35,16 @@ lines_of_pieces number start (text ∷ next ∷ pieces) = raw_line number start 
 unfoldable pub lines_from : ℕ → ℕ → List ℕ → List RawLine
 lines_from number start bytes = lines_of_pieces number start (slice_split is_newline bytes)
 
--- the lines of a trace
+-- the lines of a file
 abbrev pub raw_lines : List ℕ → List RawLine
 raw_lines bytes = lines_from 1 0 bytes
+
+-- more bytes than a line may have, or a newline past the limit of the file
+unfoldable pub is_longer_than : ℕ → ℕ → RawLine → Bool
+is_longer_than line_limit file_limit line = nat_lt line_limit (length line.text) || nat_lt file_limit (line.start + length line.text + 1)
+
+-- the text of a line whose bytes pass the first three tests: it is not too long, ends, and is UTF-8
+unfoldable pub text_within : ℕ → ℕ → RawLine → Result (List ℕ) Cause
+text_within line_limit file_limit line = unless
+    (first_row ((is_longer_than line_limit file_limit line, TooLong) ∷ (not line.ended, NoEnd) ∷ (not (is_utf8 line.text), Utf8) ∷ []))
+    (Ok line.text)

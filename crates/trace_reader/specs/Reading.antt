@@ -41,12 +41,16 @@ line_view line = record { number = line.number; text = line.text.now; start = li
 -- what a builder holds
 abbrev pub so_far : TraceBuilder → SoFar
 so_far builder = record {
+  version = builder.version;
   areas = builder.areas;
   top = builder.top;
   min = builder.min;
+  heap = builder.heap;
   files = builder.files.items;
   lines = builder.lines.items;
+  children = builder.children.items;
   maps = builder.maps;
+  named = builder.named;
 }
 
 -- what was answered to lines, of which the first bad one has its number

@@ -1,4 +1,4 @@
--- The lines before the first one with a thread: `limit`, `top`, `min` and `file`.
+-- The lines before the first one with a thread: `limit`, `top`, `min`, `heap` and `file`.
 use Rattle.std.specs.Prelude.{ℕ, List, [], ◌∷◌, codes, bytes_eq, Result, Ok, Err, if◌then◌else◌}
 use Rattle.std.specs.Str.{byte}
 use Rattle.mm_types.specs.declared.config.TheConstants.{MOST_AREAS}
@@ -19,7 +19,7 @@ unfoldable pub limit_of : List (List ℕ) → Result ℕ Cause
 limit_of [] = Err Arity
 limit_of (what ∷ words) = if bytes_eq what (codes "areas") then areas_of words else Err Word
 
--- `top A` or `min A`, from the words after the first
+-- `top A`, `min A` or `heap A`, from the words after the first
 unfoldable pub bound_of : List (List ℕ) → Result ℕ Cause
 bound_of (address ∷ []) = bound address
 bound_of _ = Err Arity

@@ -1,38 +1,55 @@
 //! A trace while its lines are read.
 
-ghost use Rattle.std.specs.Prelude.{◌≡◌, ◌&&◌, map};
-ghost use Rattle.trace_reader.specs.Grammar.{nothing, trace_so_far};
-ghost use Rattle.trace_reader.specs.Lines.{is_maps, is_header, is_comment, begins_with_digit, has_descriptor, with_line, with_limit, with_top, with_min, with_file, after_operation, after_setting, after_first, after_words, after_text, after_line};
+ghost use Rattle.std.specs.Prelude.{◌≡◌, map, is_some, nat_eq};
+ghost use Rattle.std.specs.List.{list_any};
+ghost use Rattle.trace_reader.specs.Grammar.{nothing, address_limit, trace_so_far};
+ghost use Rattle.trace_reader.specs.Lines.{version_numbered, version_of, is_comment, begins_with_digit, has_child, is_told, may_name, may_fork, names_rightly, forks_rightly, is_full, has_descriptor, with_header, with_line, with_limit, with_top, with_min, with_heap, with_file, after_setting, after_words, after_line};
 ghost use Rattle.trace_reader.specs.Reading.{Gives, line_view, so_far};
+ghost use Rattle.trace_reader.specs.Values.{is_call_op, is_maps, child_of};
 
-use crate::calls::op_of;
 use crate::fault::{CallError, Cause};
-use crate::limits::{MOST_LINES, MOST_MAPS};
+use crate::limits::{MOST_FORKS, MOST_LINES, MOST_MAPS, MOST_NAMED};
 use crate::lines::{RawLine, text_of};
-use crate::numbers::thread_of;
+use crate::operations::line_of;
 use crate::settings::{bound_of, file_of, limit_of};
 use crate::trace::{Lines, Op, Trace, TraceLine};
 use crate::words::{text_after_words, words_of};
-use mm_types::{Config, FileRow, Files, MOST_FILES};
+use mm_types::{ADDRESS_LIMIT, Config, FileRow, Files, MOST_FILES, WIDE_LIMIT};
 use std::alloc::Global;
 
 /// The words of a `file` line before its path.
 const WORDS_BEFORE_PATH: usize = 6;
 
+/// The version of a trace, which says how wide its addresses are.
+#[derive(Clone, Copy, Debug, PartialEq, Eq)]
+pub(crate) enum Version {
+    /// `vmatrace 1`: user memory ends at `ADDRESS_LIMIT`.
+    Narrow,
+    /// `vmatrace 2`: user memory ends at `WIDE_LIMIT`.
+    Wide,
+}
+
 /// What the lines so far say.
 #[derive(Debug, Drop)]
 pub(crate) struct TraceBuilder {
+    version: Version,
     /// What `limit areas` set.
     areas: Option<u32>,
     /// What `top` set, in bytes.
     top: Option<u64>,
     /// What `min` set, in bytes.
     min: Option<u64>,
+    /// What `heap` set, in bytes.
+    heap: Option<u64>,
     files: Vec<FileRow>,
     /// The lines with a thread.
     lines: Vec<TraceLine>,
+    /// The children that the lines fork.
+    children: Vec<u32>,
     /// How many of the lines are `maps`.
     maps: usize,
+    /// How many of the lines name a line.
+    named: usize,
 }
 
 impl TraceBuilder {
@@ -41,48 +58,48 @@ impl TraceBuilder {
         ensures { so_far result ≡ nothing }
     {
         TraceBuilder {
+            version: Version::Narrow,
             areas: None,
             top: None,
             min: None,
+            heap: None,
             files: Vec::new(alloc),
             lines: Vec::new(alloc),
+            children: Vec::new(alloc),
             maps: 0,
+            named: 0,
         }
     }
 
-    /// Adds a line.
+    /// Adds a line, of which the first is the header. Its bytes are tested before its words.
     #[tactic(auto, unfolding(crate::specs::Lines::after_line))]
     pub(crate) fn add(&mut self, alloc: Global, line: &RawLine) -> Result<(), CallError>
         ensures { Gives (λ _. so_far self.new) result (after_line (so_far self.old) (line_view line.now)) }
     {
         let text = text_of(line)?;
         let words = words_of(alloc, text)?;
-        self.add_text(alloc, line.number, text, words.as_slice())
-    }
-
-    /// Adds a line, of which the first is the header.
-    #[tactic(auto, unfolding(crate::specs::Lines::after_text))]
-    fn add_text(
-        &mut self,
-        alloc: Global,
-        number: u64,
-        text: &str,
-        words: &[&str],
-    ) -> Result<(), CallError>
-        ensures { Gives (λ _. so_far self.new) result
-            (after_text (so_far self.old) number text.now (map (λ word. word.now) words.now)) }
-    {
-        if number != 1 {
-            return self.add_words(alloc, number, text, words);
-        }
-        if is_header(words) {
-            Ok(())
+        if line.number == 1 {
+            self.set_version(words.as_slice())
         } else {
-            Err(CallError::Bad(Cause::Header))
+            self.add_words(alloc, line.number, text, words.as_slice())
         }
     }
 
-    /// Adds a line after the header, unless it has no words.
+    /// Adds the header.
+    #[tactic(auto, unfolding(crate::specs::Lines::with_header))]
+    fn set_version(&mut self, words: &[&str]) -> Result<(), CallError>
+        ensures { Gives (λ _. so_far self.new) result (with_header (so_far self.old) (map (λ word. word.now) words.now)) }
+    {
+        match version_of(words) {
+            Some(version) => {
+                self.version = version;
+                Ok(())
+            }
+            None => Err(CallError::Bad(Cause::Header)),
+        }
+    }
+
+    /// Adds a line below the header, unless it has no words or is a comment.
     #[tactic(auto, unfolding(crate::specs::Lines::after_words))]
     fn add_words(
         &mut self,
@@ -94,68 +111,84 @@ impl TraceBuilder {
         ensures { Gives (λ _. so_far self.new) result
             (after_words (so_far self.old) number text.now (map (λ word. word.now) words.now)) }
     {
-        match words {
-            [] => Ok(()),
-            [first, rest @ ..] => self.add_first(alloc, number, text, first, rest),
-        }
-    }
-
-    /// Adds a line by its first word, unless it is a comment.
-    #[tactic(auto, unfolding(crate::specs::Lines::after_first))]
-    fn add_first(
-        &mut self,
-        alloc: Global,
-        number: u64,
-        text: &str,
-        first: &str,
-        words: &[&str],
-    ) -> Result<(), CallError>
-        ensures { Gives (λ _. so_far self.new) result
-            (after_first (so_far self.old) number text.now first.now (map (λ word. word.now) words.now)) }
-    {
+        let [first, words @ ..] = words else {
+            return Ok(());
+        };
         if is_comment(first) {
             return Ok(());
         }
         if begins_with_digit(first) {
-            self.add_operation(alloc, number, first, words)
+            let line = line_of(alloc, number, first, words)?;
+            self.add_line(line)
         } else {
             self.add_setting(alloc, text, first, words)
         }
     }
 
-    /// Adds a line with a thread.
-    #[tactic(auto, unfolding(crate::specs::Lines::after_operation))]
-    fn add_operation(
-        &mut self,
-        alloc: Global,
-        number: u64,
-        first: &str,
-        words: &[&str],
-    ) -> Result<(), CallError>
-        ensures { Gives (λ _. so_far self.new) result
-            (after_operation (so_far self.old) number first.now (map (λ word. word.now) words.now)) }
-    {
-        let Some(thread) = thread_of(first) else {
-            return Err(CallError::Bad(Cause::Thread));
-        };
-        let op = op_of(alloc, words)?;
-        self.add_line(TraceLine { number, thread, op })
-    }
-
-    /// Adds what a line with a thread asks for.
-    #[tactic(auto, unfolding(crate::specs::Lines::with_line))]
+    /// Adds a line with a thread, by its last tests in their order: the line that it names, the child, and how many there may be.
+    #[tactic(auto, unfolding(crate::specs::Lines::with_line, crate::specs::Lines::with_one, crate::specs::Lines::is_full))]
     fn add_line(&mut self, line: TraceLine) -> Result<(), CallError>
         ensures { Gives (λ _. so_far self.new) result (with_line (so_far self.old) line) }
     {
-        let is_maps = is_maps(&line.op);
-        if MOST_LINES <= self.lines.len() || (is_maps && MOST_MAPS <= self.maps) {
+        if !self.names_rightly(&line) {
+            return Err(CallError::Bad(Cause::After));
+        }
+        if !self.forks_rightly(&line) {
+            return Err(CallError::Bad(Cause::Child));
+        }
+        if self.is_full(&line) {
             return Err(CallError::Bad(Cause::TooMany));
         }
+        if let Op::Fork { child } = line.op {
+            self.children.push(child)?;
+        }
         self.lines.push(line)?;
-        if is_maps {
+        if is_maps(&line.op) {
             self.maps += 1;
         }
+        if line.after.is_some() {
+            self.named += 1;
+        }
         Ok(())
+    }
+
+    /// Whether a line names a line that it may name, where it names one.
+    #[tactic(auto, unfolding(crate::specs::Lines::names_rightly, crate::specs::Lines::may_name))]
+    fn names_rightly(&self, line: &TraceLine) -> bool
+        ensures { result ≡ names_rightly (so_far self.now) line.now }
+    {
+        let Some(number) = line.after else {
+            return true;
+        };
+        let children = self.children.as_slice();
+        !has_child(children, line.thread)
+            && has_told(self.lines.as_slice(), children, line.thread, number)
+    }
+
+    /// Whether a line forks a child that its thread may fork, where it forks.
+    #[tactic(auto, unfolding(crate::specs::Lines::forks_rightly, crate::specs::Lines::may_fork))]
+    fn forks_rightly(&self, line: &TraceLine) -> bool
+        ensures { result ≡ forks_rightly (so_far self.now) line.now }
+    {
+        let Op::Fork { child } = line.op else {
+            return true;
+        };
+        let children = self.children.as_slice();
+        !has_child(children, line.thread)
+            && child != line.thread
+            && !has_child(children, child)
+            && !has_thread(self.lines.as_slice(), child)
+    }
+
+    /// Whether there are as many lines as a trace may have, or as many of those that read the list, name a line or fork.
+    #[tactic(auto, unfolding(crate::specs::Lines::is_full))]
+    fn is_full(&self, line: &TraceLine) -> bool
+        ensures { result ≡ is_full (so_far self.now) line.now }
+    {
+        MOST_LINES <= self.lines.len()
+            || (is_maps(&line.op) && MOST_MAPS <= self.maps)
+            || (line.after.is_some() && MOST_NAMED <= self.named)
+            || (forks(&line.op) && MOST_FORKS <= self.children.len())
     }
 
     /// Adds a line that stands before the first with a thread.
@@ -177,6 +210,7 @@ impl TraceBuilder {
             "limit" => self.set_limit(words),
             "top" => self.set_top(words),
             "min" => self.set_min(words),
+            "heap" => self.set_heap(words),
             "file" => {
                 let path = text_after_words(text, WORDS_BEFORE_PATH);
                 self.add_file(file_of(alloc, words, path)?)
@@ -222,6 +256,18 @@ impl TraceBuilder {
         Ok(())
     }
 
+    /// Sets the address at which the heap begins, once.
+    #[tactic(auto, unfolding(crate::specs::Lines::with_heap))]
+    fn set_heap(&mut self, words: &[&str]) -> Result<(), CallError>
+        ensures { Gives (λ _. so_far self.new) result (with_heap (so_far self.old) (map (λ word. word.now) words.now)) }
+    {
+        if self.heap.is_some() {
+            return Err(CallError::Bad(Cause::Word));
+        }
+        self.heap = Some(bound_of(words)?);
+        Ok(())
+    }
+
     /// Adds a file.
     #[tactic(auto, unfolding(crate::specs::Lines::with_file))]
     fn add_file(&mut self, file: FileRow) -> Result<(), CallError>
@@ -245,7 +291,9 @@ impl TraceBuilder {
         let mut config = Config::with_files(Files::of(self.files));
         config.min = self.min.unwrap_or(config.min);
         config.top = self.top.unwrap_or(config.top);
+        config.limit = address_limit(self.version);
         config.areas = self.areas.unwrap_or(config.areas);
+        config.heap = self.heap.unwrap_or(config.heap);
         Trace {
             config,
             lines: Lines::of(self.lines),
@@ -253,14 +301,36 @@ impl TraceBuilder {
     }
 }
 
-/// Whether the words are those of the first line.
-#[tactic(auto, unfolding(crate::specs::Lines::is_header))]
-fn is_header(words: &[&str]) -> bool
-    ensures { result ≡ is_header (map (λ word. word.now) words.now) }
+/// The version that the words of the first line name: `vmatrace 1` or `vmatrace 2`.
+#[tactic(auto, unfolding(crate::specs::Lines::version_of))]
+fn version_of(words: &[&str]) -> Option<Version>
+    ensures { result ≡ version_of (map (λ word. word.now) words.now) }
 {
     match words {
-        [name, version] => *name == "vmatrace" && *version == "1",
-        _ => false,
+        [name, number] if *name == "vmatrace" => version_numbered(number),
+        _ => None,
+    }
+}
+
+/// The version of this number.
+#[tactic(auto, unfolding(crate::specs::Lines::version_numbered))]
+fn version_numbered(word: &str) -> Option<Version>
+    ensures { result ≡ version_numbered word.now }
+{
+    match word {
+        "1" => Some(Version::Narrow),
+        "2" => Some(Version::Wide),
+        _ => None,
+    }
+}
+
+/// The address at which user memory ends, in bytes.
+fn address_limit(version: Version) -> u64
+    ensures { result ≡ address_limit version }
+{
+    match version {
+        Version::Narrow => ADDRESS_LIMIT,
+        Version::Wide => WIDE_LIMIT,
     }
 }
 
@@ -291,6 +361,53 @@ fn is_maps(op: &Op) -> bool
     ensures { result ≡ is_maps op.now }
 {
     matches!(op, Op::Maps)
+}
+
+/// Whether an operation is a call.
+fn is_call_op(op: &Op) -> bool
+    ensures { result ≡ is_call_op op.now }
+{
+    matches!(op, Op::Call(_))
+}
+
+/// Whether an operation forks.
+fn forks(op: &Op) -> bool
+    ensures { result ≡ is_some (child_of op.now) }
+{
+    matches!(op, Op::Fork { .. })
+}
+
+/// Whether a thread is one of the children.
+fn has_child(children: &[u32], thread: u32) -> bool
+    ensures { result ≡ has_child children.now thread }
+{
+    children.iter().any(|child| *child == thread)
+}
+
+/// Whether a line is of this thread.
+fn has_thread(lines: &[TraceLine], thread: u32) -> bool
+    ensures { result ≡ list_any (λ line. nat_eq line.thread thread) lines.now }
+{
+    lines.iter().any(|line| line.thread == thread)
+}
+
+/// Whether the line of this number is one that a line of this thread may name.
+fn has_told(lines: &[TraceLine], children: &[u32], thread: u32, number: u64) -> bool
+    ensures { result ≡ list_any (is_told children.now thread number) lines.now }
+{
+    lines
+        .iter()
+        .any(|other| is_told(children, thread, number, other))
+}
+
+/// Whether a line has this number, is a call, and is of another thread than this one that is no child.
+fn is_told(children: &[u32], thread: u32, number: u64, other: &TraceLine) -> bool
+    ensures { result ≡ is_told children.now thread number other.now }
+{
+    other.number == number
+        && is_call_op(&other.op)
+        && other.thread != thread
+        && !has_child(children, other.thread)
 }
 
 /// Whether one of the files has this descriptor.

@@ -1,16 +1,18 @@
-//! What the words after the thread of a line ask for.
+//! The calls that the words of a line ask for.
 
-ghost use Rattle.std.specs.Prelude.{map, option_copied};
-ghost use Rattle.trace_reader.specs.Calls.{mmap, mmap_of, munmap_of, mprotect, mprotect_of, number_if, mremap, mremap_of, moved, call_named, call_of_words, call_of, fault_of, maps_of, called, op_named, op_of};
+ghost use Rattle.std.specs.Prelude.{◌≡◌, map, option_copied};
+ghost use Rattle.trace_reader.specs.Calls.{mmap, mmap_of, munmap, munmap_of, mprotect, mprotect_of, number_if, mremap, mremap_of, brk_of, mseal, mseal_of, call_named, has_its_new, call_of_words, call_of};
 ghost use Rattle.trace_reader.specs.Reading.{Gives};
 
 use crate::fault::{CallError, Cause};
-use crate::fields::{access, flags, mapped_descriptor, mmap_flags, number, prot};
-use crate::trace::Op;
+use crate::fields::{flags, mapped_descriptor, number, prot};
 use crate::words::words_of;
-use flag_table::mremap_table;
-use mm_types::{Call, MREMAP_FIXED, MmapArgs, PAGE_SIZE, Page, has_flag};
+use flag_table::{map_table, mremap_table};
+use mm_types::{Call, MREMAP_FIXED, MmapArgs, has_flag};
 use std::alloc::Global;
+
+/// The words of an mremap(2) with a new address, its name among them.
+const WORDS_WITH_NEW: usize = 6;
 
 /// The mmap(2) of these words.
 #[tactic(auto, unfolding(crate::specs::Calls::mmap))]
@@ -29,7 +31,7 @@ fn mmap(
         addr: number(addr)?,
         len: number(len)?,
         prot: prot(alloc, allowed)?,
-        flags: mmap_flags(alloc, options)?,
+        flags: flags(alloc, &map_table(), options)?,
         fd: mapped_descriptor(fd)?,
         offset: number(offset)?,
     }))
@@ -48,18 +50,26 @@ fn mmap_of(alloc: Global, words: &[&str]) -> Result<Call, CallError>
     }
 }
 
-/// `munmap ADDR LEN` of munmap(2).
-#[tactic(auto, unfolding(crate::specs::Calls::munmap_of))]
-fn munmap_of(words: &[&str]) -> Result<Call, CallError>
-    ensures { Gives (λ call. call) result (munmap_of (map (λ word. word.now) words.now)) }
+/// The munmap(2) of these words.
+#[tactic(auto, unfolding(crate::specs::Calls::munmap))]
+fn munmap(addr: &str, len: &str) -> Result<Call, CallError>
+    ensures { Gives (λ call. call) result (munmap addr.now len.now) }
 {
-    let [addr, len] = words else {
-        return Err(CallError::Bad(Cause::Arity));
-    };
     Ok(Call::Munmap {
         addr: number(addr)?,
         len: number(len)?,
     })
+}
+
+/// `munmap ADDR LEN`.
+#[tactic(auto, unfolding(crate::specs::Calls::munmap_of))]
+fn munmap_of(words: &[&str]) -> Result<Call, CallError>
+    ensures { Gives (λ call. call) result (munmap_of (map (λ word. word.now) words.now)) }
+{
+    match words {
+        [addr, len] => munmap(addr, len),
+        _ => Err(CallError::Bad(Cause::Arity)),
+    }
 }
 
 /// The mprotect(2) of these words.
@@ -85,29 +95,6 @@ fn mprotect_of(alloc: Global, words: &[&str]) -> Result<Call, CallError>
     }
 }
 
-/// The mremap(2) of these arguments: a new address stands exactly where the flags have `MREMAP_FIXED`.
-#[tactic(auto, unfolding(crate::specs::Calls::moved))]
-fn moved(
-    old: u64,
-    old_len: u64,
-    new_len: u64,
-    flags: u32,
-    new: Option<u64>,
-) -> Result<Call, CallError>
-    ensures { Gives (λ call. call) result (moved old old_len new_len flags new) }
-{
-    if has_flag(flags, MREMAP_FIXED) != new.is_some() {
-        return Err(CallError::Bad(Cause::Arity));
-    }
-    Ok(Call::Mremap {
-        old,
-        old_len,
-        new_len,
-        flags,
-        new: new.unwrap_or(0),
-    })
-}
-
 /// A number, where its word is there.
 #[tactic(auto, unfolding(crate::specs::Calls::number_if))]
 fn number_if(word: Option<&str>) -> Result<Option<u64>, CallError>
@@ -119,7 +106,7 @@ fn number_if(word: Option<&str>) -> Result<Option<u64>, CallError>
     }
 }
 
-/// The mremap(2) of these words.
+/// The mremap(2) of these words, where a NEW that is not there is 0.
 #[tactic(auto, unfolding(crate::specs::Calls::mremap))]
 fn mremap(
     alloc: Global,
@@ -136,7 +123,13 @@ fn mremap(
     let new_len = number(new_len)?;
     let flags = flags(alloc, &mremap_table(), options)?;
     let new = number_if(new)?;
-    moved(old, old_len, new_len, flags, new)
+    Ok(Call::Mremap {
+        old,
+        old_len,
+        new_len,
+        flags,
+        new: new.unwrap_or(0),
+    })
 }
 
 /// `mremap OLD OLDLEN NEWLEN FLAGS`, or with a fifth word NEW.
@@ -158,9 +151,45 @@ fn mremap_of(alloc: Global, words: &[&str]) -> Result<Call, CallError>
     }
 }
 
+/// `brk ADDR` of brk(2).
+#[tactic(auto, unfolding(crate::specs::Calls::brk_of))]
+pub(crate) fn brk_of(words: &[&str]) -> Result<Call, CallError>
+    ensures { Gives (λ call. call) result (brk_of (map (λ word. word.now) words.now)) }
+{
+    let [addr] = words else {
+        return Err(CallError::Bad(Cause::Arity));
+    };
+    Ok(Call::Brk {
+        addr: number(addr)?,
+    })
+}
+
+/// The mseal(2) of these words, all of them numbers.
+#[tactic(auto, unfolding(crate::specs::Calls::mseal))]
+fn mseal(addr: &str, len: &str, options: &str) -> Result<Call, CallError>
+    ensures { Gives (λ call. call) result (mseal addr.now len.now options.now) }
+{
+    Ok(Call::Mseal {
+        addr: number(addr)?,
+        len: number(len)?,
+        flags: number(options)?,
+    })
+}
+
+/// `mseal ADDR LEN FLAGS`.
+#[tactic(auto, unfolding(crate::specs::Calls::mseal_of))]
+pub(crate) fn mseal_of(words: &[&str]) -> Result<Call, CallError>
+    ensures { Gives (λ call. call) result (mseal_of (map (λ word. word.now) words.now)) }
+{
+    match words {
+        [addr, len, options] => mseal(addr, len, options),
+        _ => Err(CallError::Bad(Cause::Arity)),
+    }
+}
+
 /// The call of one of the four names, from the words after it.
 #[tactic(auto, unfolding(crate::specs::Calls::call_named))]
-fn call_named(alloc: Global, name: &str, words: &[&str]) -> Result<Call, CallError>
+pub(crate) fn call_named(alloc: Global, name: &str, words: &[&str]) -> Result<Call, CallError>
     ensures { Gives (λ call. call) result (call_named name.now (map (λ word. word.now) words.now)) }
 {
     match name {
@@ -172,6 +201,19 @@ fn call_named(alloc: Global, name: &str, words: &[&str]) -> Result<Call, CallErr
     }
 }
 
+/// Whether an mremap(2) of these words, its name among them, has NEW exactly where its flags have `MREMAP_FIXED`.
+#[tactic(auto, unfolding(crate::specs::Calls::has_its_new))]
+pub(crate) fn has_its_new(call: &Call, words: &[&str]) -> bool
+    ensures { result ≡ has_its_new call.now (map (λ word. word.now) words.now) }
+{
+    match call {
+        Call::Mremap { flags, .. } => {
+            has_flag(*flags, MREMAP_FIXED) == (words.len() == WORDS_WITH_NEW)
+        }
+        _ => true,
+    }
+}
+
 /// The words of a call: its name, and the words of its form.
 #[tactic(auto, unfolding(crate::specs::Calls::call_of_words))]
 fn call_of_words(alloc: Global, words: &[&str]) -> Result<Call, CallError>
@@ -180,71 +222,20 @@ fn call_of_words(alloc: Global, words: &[&str]) -> Result<Call, CallError>
     let [name, rest @ ..] = words else {
         return Err(CallError::Bad(Cause::Arity));
     };
-    call_named(alloc, name, rest)
+    let call = call_named(alloc, name, rest)?;
+    if has_its_new(&call, words) {
+        Ok(call)
+    } else {
+        Err(CallError::Bad(Cause::Arity))
+    }
 }
 
-/// The call that a text asks for, as it stands after the thread of a trace line: `munmap 0x1000 4096`.
+/// The call that a text asks for, one of mmap(2), munmap(2), mprotect(2) and mremap(2), as it stands after the thread of a trace
+/// line: `munmap 0x1000 4096`. Any other name is `Cause::Word`.
 #[tactic(auto, unfolding(crate::specs::Calls::call_of))]
 pub fn call_of(alloc: Global, text: &str) -> Result<Call, CallError>
     ensures { Gives (λ call. call) result (call_of text.now) }
 {
     let words = words_of(alloc, text)?;
     call_of_words(alloc, words.as_slice())
-}
-
-/// `fault ADDR A`: an access to the page of the address.
-#[tactic(auto, unfolding(crate::specs::Calls::fault_of))]
-fn fault_of(words: &[&str]) -> Result<Op, CallError>
-    ensures { Gives (λ op. op) result (fault_of (map (λ word. word.now) words.now)) }
-{
-    let [addr, wanted] = words else {
-        return Err(CallError::Bad(Cause::Arity));
-    };
-    Ok(Op::Fault {
-        page: Page(number(addr)? / PAGE_SIZE),
-        access: access(wanted)?,
-    })
-}
-
-/// `maps`: a read of the list of areas.
-#[tactic(auto, unfolding(crate::specs::Calls::maps_of))]
-fn maps_of(words: &[&str]) -> Result<Op, CallError>
-    ensures { Gives (λ op. op) result (maps_of (map (λ word. word.now) words.now)) }
-{
-    if words.is_empty() {
-        Ok(Op::Maps)
-    } else {
-        Err(CallError::Bad(Cause::Arity))
-    }
-}
-
-/// The operation that a call is.
-#[tactic(auto, unfolding(crate::specs::Calls::called))]
-fn called(alloc: Global, name: &str, words: &[&str]) -> Result<Op, CallError>
-    ensures { Gives (λ op. op) result (called name.now (map (λ word. word.now) words.now)) }
-{
-    Ok(Op::Call(call_named(alloc, name, words)?))
-}
-
-/// The operation of this name, from the words after it.
-#[tactic(auto, unfolding(crate::specs::Calls::op_named))]
-fn op_named(alloc: Global, name: &str, words: &[&str]) -> Result<Op, CallError>
-    ensures { Gives (λ op. op) result (op_named name.now (map (λ word. word.now) words.now)) }
-{
-    match name {
-        "fault" => fault_of(words),
-        "maps" => maps_of(words),
-        _ => called(alloc, name, words),
-    }
-}
-
-/// What the words after a thread ask for: the name of an operation, and the words of its form.
-#[tactic(auto, unfolding(crate::specs::Calls::op_of))]
-pub(crate) fn op_of(alloc: Global, words: &[&str]) -> Result<Op, CallError>
-    ensures { Gives (λ op. op) result (op_of (map (λ word. word.now) words.now)) }
-{
-    let [name, rest @ ..] = words else {
-        return Err(CallError::Bad(Cause::Arity));
-    };
-    op_named(alloc, name, rest)
 }

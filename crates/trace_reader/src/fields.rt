@@ -2,16 +2,15 @@
 
 ghost use Rattle.std.specs.Prelude.{◌≡◌, ◌≤◌, IfOk};
 ghost use Rattle.flag_table.specs.Tables.{prot_flags};
-ghost use Rattle.trace_reader.specs.Fields.{number, number_in, bound, descriptor, mapped_descriptor, device_part, device, mode, access, flags, mmap_flags, prot_of_bits, prot};
+ghost use Rattle.trace_reader.specs.Fields.{number, number_in, bound, descriptor, mapped_descriptor, device_part, device, mode, access, flags, prot_of_bits, prot};
 ghost use Rattle.trace_reader.specs.Reading.{Gives};
 
 use crate::fault::{CallError, Cause};
 use crate::limits::{MAJOR_DIGITS, MINOR_DIGITS};
 use crate::numbers::{digits_of, number_of};
-use flag_table::{FlagTable, NameFault, map_table, prot_table};
+use flag_table::{FlagTable, NameFault, prot_table};
 use mm_types::{
-    ADDRESS_LIMIT, Access, MAP_GROWSDOWN, PAGE_SIZE, PROT_EXEC, PROT_READ, PROT_WRITE, Prot,
-    has_flag,
+    ADDRESS_LIMIT, Access, PAGE_SIZE, PROT_EXEC, PROT_READ, PROT_WRITE, Prot, has_flag,
 };
 use std::alloc::Global;
 
@@ -134,19 +133,6 @@ pub(crate) fn flags<const N: usize>(
         Ok(bits) => Ok(bits),
         Err(NameFault::NoMemory) => Err(CallError::NoMemory),
         Err(_) => Err(CallError::Bad(Cause::Flag)),
-    }
-}
-
-/// Flags of mmap(2). The grammar of a trace does not have the name `MAP_GROWSDOWN` yet, so it is an unknown name there.
-#[tactic(auto, unfolding(crate::specs::Fields::mmap_flags))]
-pub(crate) fn mmap_flags(alloc: Global, word: &str) -> Result<u32, CallError>
-    ensures { Gives (λ bits. bits) result (mmap_flags word.now) }
-{
-    let bits = flags(alloc, &map_table(), word)?;
-    if has_flag(bits, MAP_GROWSDOWN) {
-        Err(CallError::Bad(Cause::Flag))
-    } else {
-        Ok(bits)
     }
 }
 

@@ -8,7 +8,7 @@ ghost use Rattle.trace_reader.specs.RawLines.{raw_lines};
 ghost use Rattle.trace_reader.specs.Values.{IsTraceValue};
 ghost use Rattle.trace_reader.specs.declared.fault.Cause.TheVariants.{Header};
 ghost use Rattle.trace_reader.specs.declared.fault.TraceFault.{TraceFault};
-ghost use Rattle.trace_reader.specs.declared.limits.TheConstants.{LINE_LIMIT, TRACE_LIMIT, MOST_LINES, MOST_MAPS, GREATEST_THREAD, MOST_FILE_BYTES, MAJOR_DIGITS, MINOR_DIGITS};
+ghost use Rattle.trace_reader.specs.declared.limits.TheConstants.{LINE_LIMIT, TRACE_LIMIT, MOST_LINES, MOST_MAPS, MOST_NAMED, MOST_FORKS, GREATEST_THREAD, MOST_FILE_BYTES, MAJOR_DIGITS, MINOR_DIGITS};
 ghost use Rattle.trace_reader.specs.declared.trace.Trace.{Trace};
 
 /// The lines of a trace are its bytes, cut after each newline and numbered from 1. The line that is named in place of
@@ -31,13 +31,15 @@ pub fn traces_fit()
     ensures within { (bytes : List ℕ) (trace : Trace) → trace_of bytes ≡ Ok trace → length bytes ≤ trace_limit }
 {}
 
-/// The limits: 4,096 bytes of a line, 2^26 of a trace, 1,000,000 lines with a thread, and 64 that read the list of areas;
-/// thread 63, files of 2^63 - 1 bytes, and 3 and 5 digits of the halves of a device number.
+/// The limits: 4,096 bytes of a line, 2^26 of a trace, 1,000,000 lines with a thread, of which 64 read the list of areas, 1,000
+/// name a line and 8 fork; thread 63, files of 2^63 - 1 bytes, and 3 and 5 digits of the halves of a device number.
 pub fn trace_limits()
     ensures line { LINE_LIMIT ≡ 4096 }
     ensures trace { TRACE_LIMIT ≡ 67108864 }
     ensures lines { MOST_LINES ≡ 1000000 }
     ensures maps { MOST_MAPS ≡ 64 }
+    ensures named { MOST_NAMED ≡ 1000 }
+    ensures forks { MOST_FORKS ≡ 8 }
     ensures thread { GREATEST_THREAD ≡ 63 }
     ensures size { MOST_FILE_BYTES ≡ 2 ^ 63 - 1 }
     ensures major { MAJOR_DIGITS ≡ 3 }

@@ -12,6 +12,12 @@ pub const MOST_LINES: usize = 1_000_000;
 /// The most lines that read the list of areas.
 pub const MOST_MAPS: usize = 64;
 
+/// The most lines that name a line.
+pub const MOST_NAMED: usize = 1000;
+
+/// The most lines that fork.
+pub const MOST_FORKS: usize = 8;
+
 /// The greatest thread.
 pub(crate) const GREATEST_THREAD: u64 = 63;
 

@@ -1,21 +1,21 @@
-//! The lines of a trace as they stand in its bytes.
+//! The lines of a file as they stand in its bytes.
 
 ghost use Rattle.std.specs.Prelude.{◌≡◌, ◌<◌, ◌+◌, ◌-◌, ◌∷◌, length};
-ghost use Rattle.trace_reader.specs.Lines.{is_too_long, text_of};
-ghost use Rattle.trace_reader.specs.RawLines.{lines_from};
+ghost use Rattle.trace_reader.specs.Lines.{text_of};
+ghost use Rattle.trace_reader.specs.RawLines.{lines_from, is_longer_than, text_within};
 ghost use Rattle.trace_reader.specs.Reading.{Gives, line_view};
 
 use crate::fault::{CallError, Cause};
 use crate::limits::{LINE_LIMIT, TRACE_LIMIT};
 
-/// A line of a trace, as it stands in its bytes.
+/// A line of a file, as it stands in its bytes.
 #[derive(Clone, Copy, Debug)]
 pub struct RawLine<'a> {
     /// Its number, counted from 1.
     pub number: u64,
     /// Its bytes, without the newline.
     pub text: &'a [u8],
-    /// The offset of its first byte in the trace.
+    /// The offset of its first byte in the file.
     pub start: usize,
     /// Whether a newline ends it.
     pub ended: bool,
@@ -51,21 +51,26 @@ pub fn first_line(bytes: &[u8], number: u64, start: usize) -> (RawLine<'_>, &[u8
     }
 }
 
-/// Whether a line has too many bytes, or its newline would be past the limit of a trace.
-#[tactic(auto, unfolding(crate::specs::Lines::is_too_long, crate::specs::Lines::trace_limit))]
-fn is_too_long(line: &RawLine) -> bool
-    ensures { result ≡ is_too_long (line_view line.now) }
+/// Whether a line has too many bytes, or its newline would be past the limit of the file.
+#[tactic(auto, unfolding(crate::specs::RawLines::is_longer_than))]
+fn is_longer_than(line: &RawLine, line_limit: usize, file_limit: usize) -> bool
+    ensures { result ≡ is_longer_than line_limit file_limit (line_view line.now) }
 {
     let len = line.text.len();
-    LINE_LIMIT < len || TRACE_LIMIT.saturating_sub(line.start) <= len
+    line_limit < len || file_limit.saturating_sub(line.start) <= len
 }
 
-/// The text of a line that is not too long, ends and is UTF-8; else the cause of the first of these tests that fails.
-#[tactic(auto, unfolding(crate::specs::Lines::text_of))]
-pub fn text_of<'a>(line: &RawLine<'a>) -> Result<&'a str, CallError>
-    ensures { Gives (λ text. text.now) result (text_of (line_view line.now)) }
+/// The text of a line of at most `line_limit` bytes, its newline not counted, that ends within the first `file_limit` bytes of its
+/// file and is UTF-8. Else the cause of the first of these tests that fails: `TooLong`, `NoEnd` or `Utf8`.
+#[tactic(auto, unfolding(crate::specs::RawLines::text_within))]
+pub fn text_within<'a>(
+    line: &RawLine<'a>,
+    line_limit: usize,
+    file_limit: usize,
+) -> Result<&'a str, CallError>
+    ensures { Gives (λ text. text.now) result (text_within line_limit file_limit (line_view line.now)) }
 {
-    if is_too_long(line) {
+    if is_longer_than(line, line_limit, file_limit) {
         return Err(CallError::Bad(Cause::TooLong));
     }
     if !line.ended {
@@ -75,4 +80,12 @@ pub fn text_of<'a>(line: &RawLine<'a>) -> Result<&'a str, CallError>
         Ok(text) => Ok(text),
         Err(_) => Err(CallError::Bad(Cause::Utf8)),
     }
+}
+
+/// The text of a line of a trace: `text_within` its limits, `LINE_LIMIT` and `TRACE_LIMIT`.
+#[tactic(auto, unfolding(crate::specs::Lines::trace_limit))]
+pub fn text_of<'a>(line: &RawLine<'a>) -> Result<&'a str, CallError>
+    ensures { Gives (λ text. text.now) result (text_of (line_view line.now)) }
+{
+    text_within(line, LINE_LIMIT, TRACE_LIMIT)
 }

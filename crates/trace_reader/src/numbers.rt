@@ -3,7 +3,7 @@
 ghost use Rattle.std.specs.Prelude.{◌≡◌, ◌≤◌};
 ghost use Rattle.std.specs.Char.{is_digit};
 ghost use Rattle.std.specs.List.{list_all};
-ghost use Rattle.trace_reader.specs.Numbers.{decimal_of, digits_of, number_of, thread_of};
+ghost use Rattle.trace_reader.specs.Numbers.{decimal_of, digits_of, is_lower_digit, lower_hexadecimal_of, number_of, thread_of};
 
 use crate::limits::GREATEST_THREAD;
 
@@ -38,9 +38,38 @@ pub fn thread_of(word: &str) -> Option<u32>
     }
 }
 
-/// The value below 2^64 that at least one and at most so many digits of a base spell.
+/// The number that a word of lower-case hexadecimal digits is: 1 to `most` of them and nothing else, with a value below 2^64.
+/// There is none for any other word.
+#[tactic(auto, unfolding(crate::specs::Numbers::lower_hexadecimal_of))]
+pub fn lower_hexadecimal_of(word: &str, most: usize) -> Option<u64>
+    ensures { result ≡ lower_hexadecimal_of most word.now }
+{
+    if are_lower_digits(word) {
+        digits_of(word, 16, most)
+    } else {
+        None
+    }
+}
+
+/// Whether every byte is a digit of lower-case hexadecimal.
+fn are_lower_digits(word: &str) -> bool
+    ensures { result ≡ list_all is_lower_digit word.now }
+{
+    word.as_bytes().iter().all(|byte| is_lower_digit(*byte))
+}
+
+/// Whether a byte is a digit of lower-case hexadecimal.
+#[tactic(auto, unfolding(crate::specs::Numbers::is_lower_digit))]
+fn is_lower_digit(byte: u8) -> bool
+    ensures { result ≡ is_lower_digit byte }
+{
+    matches!(byte, b'0'..=b'9' | b'a'..=b'f')
+}
+
+/// The value below 2^64 that at least one and at most `most` digits of a base, of either case, spell. There is none where the
+/// word is anything else.
 #[tactic(auto, unfolding(crate::specs::Numbers::digits_of))]
-pub(crate) fn digits_of(word: &str, base: u32, most: usize) -> Option<u64>
+pub fn digits_of(word: &str, base: u32, most: usize) -> Option<u64>
     requires low { 2 ≤ base }
     requires high { base ≤ 36 }
     ensures { result ≡ digits_of base most word.now }

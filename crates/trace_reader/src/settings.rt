@@ -1,4 +1,4 @@
-//! The lines before the first one with a thread: `limit`, `top`, `min` and `file`.
+//! The lines before the first one with a thread: `limit`, `top`, `min`, `heap` and `file`.
 
 ghost use Rattle.std.specs.Prelude.{◌≡◌, IfOk, map};
 ghost use Rattle.trace_reader.specs.Settings.{areas_of, limit_of, bound_of, unescaped, file_row, file_of};
@@ -36,7 +36,7 @@ pub(crate) fn limit_of(words: &[&str]) -> Result<u32, CallError>
     }
 }
 
-/// `top A` or `min A`, an address in bytes, from the words after the first.
+/// `top A`, `min A` or `heap A`, an address in bytes, from the words after the first.
 #[tactic(auto, unfolding(crate::specs::Settings::bound_of))]
 pub(crate) fn bound_of(words: &[&str]) -> Result<u64, CallError>
     ensures { Gives (λ address. address) result (bound_of (map (λ word. word.now) words.now)) }

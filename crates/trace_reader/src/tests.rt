@@ -1,8 +1,8 @@
 use super::*;
 use crate::trace::{Op, TraceLine};
 use mm_types::{
-    Access, Call, FileRow, MAP_FIXED, MAP_PRIVATE, MREMAP_FIXED, MREMAP_MAYMOVE, MmapArgs, Page,
-    Prot,
+    Access, Call, FileRow, MAP_ANONYMOUS, MAP_FIXED, MAP_GROWSDOWN, MAP_PRIVATE, MAP_SHARED,
+    MREMAP_FIXED, MREMAP_MAYMOVE, MmapArgs, Page, Prot,
 };
 use std::alloc::Global;
 use std::test::Fail;
@@ -28,7 +28,8 @@ fn the_header_comes_first(rt: HostRuntime) -> Result<(), Fail> {
     for (cause, text) in [
         (Cause::Header, ""),
         (Cause::Header, "\n"),
-        (Cause::Header, "vmatrace 2\n"),
+        (Cause::Header, "vmatrace 3\n"),
+        (Cause::Header, "vmasteps 1\n"),
         (Cause::Header, "vmatrace 1 1\n"),
         (Cause::Header, "vmatrace 1\r\n"),
         (Cause::Header, "\u{feff}vmatrace 1\n"),
@@ -42,7 +43,7 @@ fn the_header_comes_first(rt: HostRuntime) -> Result<(), Fail> {
             "{text}"
         );
     }
-    for text in ["vmatrace 1\n", " \tvmatrace \t 1\t\n"] {
+    for text in ["vmatrace 1\n", "vmatrace 2\n", " \tvmatrace \t 1\t\n"] {
         assert_eq!(rt; refusal(rt.alloc(), text.as_bytes())?, None, "{text}");
     }
     Ok(())
@@ -59,7 +60,7 @@ fn the_first_bad_line_is_named(rt: HostRuntime) -> Result<(), Fail> {
         (3, Cause::Word, "top 4096\ntop 4096\n"),
         (2, Cause::Arity, "0\n"),
         (2, Cause::Arity, "limit\n"),
-        (2, Cause::Word, "0 brk 4096\n"),
+        (2, Cause::Word, "0 touch 4096\n"),
         (2, Cause::Word, "0 maps\r\n"),
         (2, Cause::Arity, "0 maps \r\n"),
         (2, Cause::Word, "limit pages x\n"),
@@ -80,7 +81,7 @@ fn the_first_bad_line_is_named(rt: HostRuntime) -> Result<(), Fail> {
         (
             2,
             Cause::Flag,
-            "0 mmap 0 1 PROT_READ MAP_PRIVATE|MAP_GROWSDOWN -2 0\n",
+            "0 mmap 0 1 PROT_READ MAP_PRIVATE|MAP_GROWSUP -2 0\n",
         ),
         (2, Cause::Word, "0 fault 0 rw\n"),
         (2, Cause::Word, "file 3 x 1 0:0 1 a\n"),
@@ -92,6 +93,108 @@ fn the_first_bad_line_is_named(rt: HostRuntime) -> Result<(), Fail> {
             "file 3 r 1 0:0 1 a\nfile 3 r 1 0:0 1 b\n",
         ),
         (3, Cause::NoEnd, "0 maps\n0 maps"),
+    ] {
+        let bytes = with_header(rt.alloc(), text.as_bytes())?;
+        let wanted = TraceFault { line, cause };
+        assert_eq!(rt;
+            refusal(rt.alloc(), bytes.as_slice())?,
+            Some(wanted),
+            "{text}"
+        );
+    }
+    Ok(())
+}
+
+#[test]
+fn heaps_and_seals_have_their_form(rt: HostRuntime) -> Result<(), Fail> {
+    for (line, cause, text) in [
+        (3, Cause::Word, "heap 4096\nheap 4096\n"),
+        (3, Cause::Word, "0 maps\nheap 4096\n"),
+        (2, Cause::Number, "heap 0\n"),
+        (2, Cause::Number, "heap 0x800000000000\n"),
+        (2, Cause::Arity, "heap 4096 after=1\n"),
+        (2, Cause::Arity, "0 brk\n"),
+        (2, Cause::Arity, "0 mseal 4096 4096\n"),
+        (2, Cause::Number, "0 mseal 4096 4096 PROT_NONE\n"),
+    ] {
+        let bytes = with_header(rt.alloc(), text.as_bytes())?;
+        let wanted = TraceFault { line, cause };
+        assert_eq!(rt;
+            refusal(rt.alloc(), bytes.as_slice())?,
+            Some(wanted),
+            "{text}"
+        );
+    }
+    Ok(())
+}
+
+/// Two calls, of threads 0 and 1, on lines 2 and 3.
+const TWO_CALLS: &str = "0 munmap 4096 4096\n1 brk 4096\n";
+
+/// Two calls and a fork, of thread 0, of child 7 on line 4.
+const CALLS_AND_FORK: &str = "0 munmap 4096 4096\n1 brk 4096\n0 fork 7\n";
+
+#[test]
+fn only_a_call_above_of_another_thread_is_named(rt: HostRuntime) -> Result<(), Fail> {
+    for (lines, rest, answer) in [
+        (TWO_CALLS, "1 fault 0 r after=2\n", None),
+        (TWO_CALLS, "0 maps after=00000000000000000003\n", None),
+        (TWO_CALLS, "0 fork 7 after=3\n", None),
+        (TWO_CALLS, "0 mremap 1 2 3 0 after=3\n", None),
+        (TWO_CALLS, "0 maps after=4\n", Some((4, Cause::After))),
+        (TWO_CALLS, "0 maps after=2\n", Some((4, Cause::After))),
+        (TWO_CALLS, "2 maps after=1\n", Some((4, Cause::After))),
+        (TWO_CALLS, "0 maps after=x\n", Some((4, Cause::Number))),
+        (TWO_CALLS, "0 maps after=\n", Some((4, Cause::Number))),
+        (TWO_CALLS, "0 maps after=0x3\n", Some((4, Cause::Number))),
+        (
+            TWO_CALLS,
+            "0 maps after=3 after=3\n",
+            Some((4, Cause::Arity)),
+        ),
+        (
+            TWO_CALLS,
+            "0 mremap 1 2 3 MREMAP_FIXED after=x\n",
+            Some((4, Cause::Number)),
+        ),
+        (
+            TWO_CALLS,
+            "0 mremap 1 2 3 MREMAP_FIXED after=4\n",
+            Some((4, Cause::Arity)),
+        ),
+        (TWO_CALLS, "0 after=3\n", Some((4, Cause::Word))),
+        (CALLS_AND_FORK, "1 maps after=4\n", Some((5, Cause::After))),
+        (CALLS_AND_FORK, "7 maps after=3\n", Some((5, Cause::After))),
+        (
+            CALLS_AND_FORK,
+            "7 brk 0\n0 maps after=5\n",
+            Some((6, Cause::After)),
+        ),
+    ] {
+        let mut bytes = with_header(rt.alloc(), lines.as_bytes())?;
+        bytes.extend_from_slice(rest.as_bytes())?;
+        let wanted = answer.map(|(line, cause)| TraceFault { line, cause });
+        assert_eq!(rt; refusal(rt.alloc(), bytes.as_slice())?, wanted, "{rest}");
+    }
+    Ok(())
+}
+
+#[test]
+fn a_child_is_new(rt: HostRuntime) -> Result<(), Fail> {
+    for (line, cause, text) in [
+        (2, Cause::Child, "0 fork 0\n"),
+        (2, Cause::Number, "0 fork 64\n"),
+        (2, Cause::Arity, "0 fork\n"),
+        (3, Cause::Child, "1 maps\n0 fork 1\n"),
+        (3, Cause::Child, "0 fork 1\n0 fork 1\n"),
+        (3, Cause::Child, "0 fork 1\n2 fork 1\n"),
+        (3, Cause::Child, "0 fork 1\n1 fork 2\n"),
+        (
+            10,
+            Cause::TooMany,
+            "0 fork 1\n0 fork 2\n0 fork 3\n0 fork 4\n0 fork 5\n0 fork 6\n0 fork 7\n0 fork 8\n0 fork 9\n",
+        ),
+        (3, Cause::NoEnd, "0 fork 1\n1 maps"),
     ] {
         let bytes = with_header(rt.alloc(), text.as_bytes())?;
         let wanted = TraceFault { line, cause };
@@ -158,12 +261,13 @@ fn is_file(
 
 #[test]
 fn settings_are_read(rt: HostRuntime) -> Result<(), Fail> {
-    let text = "vmatrace 1\n# no `limit` here\nmin 65536\n \ttop\t0x7FFFf7000000 \n\
-        file 3 rw 9223372036854775807 fff:FFFFF 0xF\t /tmp/a  b\\012c \\01 \nfile 0 r 0 0:0 0 x\n";
+    let text = "vmatrace 2\n# no `limit` here\nmin 65536\n \ttop\t0x7FFFf7000000 \nheap 8192\n\
+        file 3 rw 9223372036854775807 fff:FFFFF 0xF\t /tmp/a  b\\012c \\01 \nfile 0 r 0 0:0 0 x after=2\n";
     let trace = read(rt.alloc(), text.as_bytes())?;
     assert_eq!(rt; trace.config.min, 65536);
     assert_eq!(rt; trace.config.top, 0x7fff_f700_0000);
-    assert_eq!(rt; trace.config.limit, 0x7fff_ffff_f000);
+    assert_eq!(rt; trace.config.limit, 0xff_ffff_ffff_f000);
+    assert_eq!(rt; trace.config.heap, 8192);
     assert_eq!(rt; trace.config.areas, 65530);
     assert!(rt; trace.lines.items().is_empty());
     let [first, second] = trace.config.files.items() else {
@@ -180,7 +284,15 @@ fn settings_are_read(rt: HostRuntime) -> Result<(), Fail> {
             path
         )
     );
-    assert!(rt; is_file(second, 0, (true, false), 0, (0, 0, 0), "x"));
+    assert!(rt; is_file(second, 0, (true, false), 0, (0, 0, 0), "x after=2"));
+    Ok(())
+}
+
+#[test]
+fn a_plain_trace_has_the_defaults(rt: HostRuntime) -> Result<(), Fail> {
+    let trace = read(rt.alloc(), b"vmatrace 1\n")?;
+    assert_eq!(rt; trace.config.limit, 0x7fff_ffff_f000);
+    assert_eq!(rt; trace.config.heap, 0);
     Ok(())
 }
 
@@ -197,7 +309,7 @@ fn operations_are_read(rt: HostRuntime) -> Result<(), Fail> {
     let text = "vmatrace 1\n63 mmap 0xABCdef 8192 PROT_READ|PROT_EXEC MAP_FIXED|MAP_PRIVATE 3 0\n\
         00\tmunmap\t0 18446744073709551615\n0 mprotect 0 1 PROT_NONE\n\
         1 mremap 4096 1 2 MREMAP_MAYMOVE\n1 mremap 4096 1 2 MREMAP_MAYMOVE|MREMAP_FIXED 8192\n\
-        0 fault 18446744073709551615 x\n2 maps\n";
+        0 fault 18446744073709551615 x\n2 maps\n0 brk 0x1001\n1 mseal 1 2 3\n2 fork 04\n";
     let trace = read(rt.alloc(), text.as_bytes())?;
     let args = MmapArgs {
         addr: 0xab_cdef,
@@ -250,8 +362,35 @@ fn operations_are_read(rt: HostRuntime) -> Result<(), Fail> {
             },
         ),
         (2, Op::Maps),
+        (0, Op::Call(Call::Brk { addr: 4097 })),
+        (
+            1,
+            Op::Call(Call::Mseal {
+                addr: 1,
+                len: 2,
+                flags: 3,
+            }),
+        ),
+        (2, Op::Fork { child: 4 }),
     ];
     assert!(rt; are_ops(trace.lines.items(), &ops));
+    Ok(())
+}
+
+#[test]
+fn growing_and_named_lines_are_read(rt: HostRuntime) -> Result<(), Fail> {
+    let text = "vmatrace 1\n\
+        0 mmap 0 1 PROT_READ MAP_SHARED|MAP_ANONYMOUS|MAP_GROWSDOWN -1 0\n1 maps after=2\n";
+    let trace = read(rt.alloc(), text.as_bytes())?;
+    let [first, second] = trace.lines.items() else {
+        return Err("there are two lines".into());
+    };
+    let Op::Call(Call::Mmap(args)) = first.op else {
+        return Err("the first maps".into());
+    };
+    assert_eq!(rt; args.flags, MAP_SHARED | MAP_ANONYMOUS | MAP_GROWSDOWN);
+    assert_eq!(rt; first.after, None);
+    assert_eq!(rt; second.after, Some(2));
     Ok(())
 }
 
@@ -269,12 +408,24 @@ fn parts_are_read_alone(rt: HostRuntime) -> Result<(), Fail> {
     ] {
         assert_eq!(rt; number_of(word), number, "{word}");
     }
+    for (word, number) in [
+        ("00ff", Some(255)),
+        ("fF", None),
+        ("", None),
+        ("12345", None),
+    ] {
+        assert_eq!(rt; lower_hexadecimal_of(word, 4), number, "{word}");
+    }
     let call = Call::Munmap { addr: 7, len: 8 };
     assert_eq!(rt; call_of(rt.alloc(), " munmap 7 8 ")?, call);
     for (text, cause) in [
         ("", Cause::Arity),
         ("maps", Cause::Word),
         ("munmap 7 x", Cause::Number),
+        ("brk 7", Cause::Word),
+        ("munmap 7 8 after=2", Cause::Arity),
+        ("mremap 1 2 3 0 after=2", Cause::Number),
+        ("mremap 1 2 3 0 4", Cause::Arity),
     ] {
         assert_eq!(rt;
             call_of(rt.alloc(), text),
@@ -282,7 +433,12 @@ fn parts_are_read_alone(rt: HostRuntime) -> Result<(), Fail> {
             "{text}"
         );
     }
-    for (number, name, cause) in [(1, "Header", Cause::Header), (11, "NoEnd", Cause::NoEnd)] {
+    for (number, name, cause) in [
+        (1, "Header", Cause::Header),
+        (11, "NoEnd", Cause::NoEnd),
+        (13, "After", Cause::After),
+        (17, "NotOurs", Cause::NotOurs),
+    ] {
         assert_eq!(rt; cause.number(), number);
         assert_eq!(rt; cause.name(), name);
     }

@@ -9,14 +9,18 @@ pub enum Op {
     Call(Call),
     Fault { page: Page, access: Access },
     Maps,
+    /// A child space, which begins with what its parent has then (fork(2)). `child` is the number of its one thread.
+    Fork { child: u32 },
 }
 
-/// A line of a trace: its number, counted from 1, its thread, and what it asks for.
+/// A line of a trace: its number, counted from 1, its thread, what it asks for, and the number of the line that it comes after,
+/// where it names one.
 #[derive(Clone, Copy, Debug, PartialEq, Eq)]
 pub struct TraceLine {
     pub number: u64,
     pub thread: u32,
     pub op: Op,
+    pub after: Option<u64>,
 }
 
 /// A trace: the configuration that it names, with its files, and its lines with a thread in their order.

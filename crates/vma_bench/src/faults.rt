@@ -1,6 +1,6 @@
 //! The space, its areas, and the threads that fault at them.
 ghost use Rattle.std.specs.Prelude.{◌≡◌, IfSome, sum};
-ghost use Rattle.fault_path.specs.Passes.{IsPassOf, ArePasses};
+ghost use Rattle.mm_space.specs.Names.{IsPassOf, ArePasses};
 
 use fault_path::{Fast, Pass};
 use mm_space::{Ready, Space, SpaceName};
@@ -20,15 +20,26 @@ const FIRST: u64 = 0x1_0000;
 /// Where the other thread maps and unmaps a page.
 const ELSEWHERE: u64 = 0x7000_0000_0000;
 
+/// At which areas a thread faults.
+#[derive(Clone, Copy, Debug, PartialEq, Eq)]
+pub(crate) enum Reach {
+    /// All threads fault at the same areas.
+    Shared,
+    /// Each thread has as many areas of its own, one after the other, as the arenas of a program's threads lie.
+    Own,
+}
+
 /// What is to be done.
 #[derive(Clone, Copy, Debug)]
 pub(crate) struct Plan {
     /// The faults of each thread.
     count: u64,
     threads: u64,
+    /// The areas that each thread faults at.
     areas: u64,
     /// How often a page is mapped and unmapped elsewhere.
     calls: u64,
+    reach: Reach,
 }
 
 /// How many faults were answered without the lock, and how many missed.
@@ -44,22 +55,42 @@ struct Worker<N: SpaceName> {
     pass: Pass,
     told: Told,
     of: PhantomData<N>,
-    ghost mine: { IsPassOf N.table N.nodes N.config N.operations pass },
+    ghost mine: { IsPassOf N.name pass },
 }
 
 impl Plan {
     /// A plan within the limits.
-    pub(crate) fn new(count: u64, threads: u64, areas: u64, calls: u64) -> Option<Plan> {
-        let fits = (1..=62).contains(&threads) && (1..=65_000).contains(&areas);
-        if fits && calls <= 8_000_000 {
-            Some(Plan {
-                count,
-                threads,
-                areas,
-                calls,
-            })
-        } else {
-            None
+    pub(crate) fn new(
+        count: u64,
+        threads: u64,
+        areas: u64,
+        calls: u64,
+        reach: Reach,
+    ) -> Option<Plan> {
+        let plan = Plan {
+            count,
+            threads,
+            areas,
+            calls,
+            reach,
+        };
+        let fits = (1..=62).contains(&threads) && (1..=65_000).contains(&plan.all_areas());
+        (fits && calls <= 8_000_000).then_some(plan)
+    }
+
+    /// How many areas there are in all.
+    fn all_areas(&self) -> u64 {
+        match self.reach {
+            Reach::Shared => self.areas,
+            Reach::Own => self.areas.saturating_mul(self.threads),
+        }
+    }
+
+    /// The first area that a thread faults at. Threads count from 1.
+    fn first_area(&self, thread: u64) -> u64 {
+        match self.reach {
+            Reach::Shared => 0,
+            Reach::Own => self.areas.saturating_mul(thread.saturating_sub(1)),
         }
     }
 }
@@ -78,7 +109,10 @@ fn total(operations: &[u64]) -> Option<u64>
 /// How many operations each caller may make: the first maps, and all others make faults alone.
 fn operations_of(alloc: Global, plan: &Plan) -> Result<Vec<u64>, NoMemory> {
     let mut operations = Vec::new(alloc);
-    operations.push(plan.areas.saturating_add(plan.calls.saturating_mul(2)))?;
+    operations.push(
+        plan.all_areas()
+            .saturating_add(plan.calls.saturating_mul(2)),
+    )?;
     for _ in 0..plan.threads {
         operations.push(0)?;
     }
@@ -125,11 +159,11 @@ fn run<N: SpaceName + Send + Sync, R: Threads + Wait + Sync>(
     ready: Ready,
     plan: &Plan,
 ) -> Option<Told>
-    requires { (ready.table ≡ N.table) × (ready.nodes ≡ N.nodes) × (ready.config ≡ N.config) × (ready.operations ≡ N.operations) }
+    requires { ready ≡ N.name }
 {
     let (space, passes) = Space::<N>::open(ready);
     let mut workers = workers_of::<N>(alloc, passes)?;
-    map_areas(rt, &space, workers.first_mut()?, plan.areas);
+    map_areas(rt, &space, workers.first_mut()?, plan.all_areas());
     let threads = workers.len();
     let work = |place: usize, worker: &mut Worker<N>| {
         if place == 0 {
@@ -144,7 +178,7 @@ fn run<N: SpaceName + Send + Sync, R: Threads + Wait + Sync>(
 
 /// A worker for each pass.
 fn workers_of<N: SpaceName>(alloc: Global, passes: Vec<Pass>) -> Option<Vec<Worker<N>>>
-    requires { ArePasses N.table N.nodes N.config N.operations passes.items }
+    requires { ArePasses N.name passes.items }
 {
     let mut workers = Vec::with_capacity(alloc, passes.len()).ok()?;
     for pass in passes {
@@ -195,13 +229,14 @@ fn call_elsewhere<N: SpaceName, R: Wait>(
 }
 
 /// Makes the faults of a thread, at areas in no order.
-fn fault_all<N: SpaceName>(space: &Space<N>, worker: &mut Worker<N>, plan: &Plan, seed: u64) {
-    let mut number = seed;
+fn fault_all<N: SpaceName>(space: &Space<N>, worker: &mut Worker<N>, plan: &Plan, thread: u64) {
+    let first = plan.first_area(thread);
+    let mut number = thread;
     for _ in 0..plan.count {
         number = number
             .wrapping_mul(6364136223846793005)
             .wrapping_add(1442695040888963407);
-        let area = (number >> 33).checked_rem(plan.areas).unwrap_or(0);
+        let area = first.saturating_add((number >> 33).checked_rem(plan.areas).unwrap_or(0));
         let page = Page(area.saturating_mul(2).saturating_add(FIRST));
         match space
             .view()

@@ -1,12 +1,13 @@
 //! Faults of many threads in one address space, to be timed from outside: `vma_bench COUNT THREADS AREAS` maps AREAS pages that
 //! stand two apart, makes COUNT faults at them without the lock in each of THREADS threads, and writes how many were answered and
 //! how many missed. `vma_bench COUNT THREADS AREAS CALLS` has another thread map and unmap a page elsewhere meanwhile, so many times.
-//! There are 1 to 62 threads and 1 to 65,000 areas, and at most 8,000,000 calls. No contract says anything of what it writes.
+//! With the word `own` at the end each thread faults at AREAS areas of its own. There are 1 to 62 threads and 1 to 65,000 areas in
+//! all, and at most 8,000,000 calls. No contract says anything of what it writes.
 #![tactic(auto)]
 
 mod faults;
 
-use faults::{Plan, Told, measure};
+use faults::{Plan, Reach, Told, measure};
 use std::alloc::Global;
 use std::process::ExitCode;
 use std::rt::Env;
@@ -26,18 +27,26 @@ fn number(words: &[String], place: usize) -> Option<u64> {
     decimal_of(words.get(place)?.as_str())
 }
 
-/// What the words ask for. None where they are no numbers, or out of their limits.
+/// The word at the end for areas of each thread's own.
+const OWN: &str = "own";
+
+/// What the words ask for. None where they are no numbers, or out of their limits, or more than are asked for.
 fn plan_of(words: &[String]) -> Option<Plan> {
-    let calls = if words.len() == 3 {
-        0
-    } else {
-        number(words, 3)?
+    let (reach, numbers) = match words.split_last() {
+        Some((last, before)) if last.as_str() == OWN => (Reach::Own, before),
+        _ => (Reach::Shared, words),
+    };
+    let calls = match numbers.len() {
+        3 => 0,
+        4 => number(numbers, 3)?,
+        _ => return None,
     };
     Plan::new(
-        number(words, 0)?,
-        number(words, 1)?,
-        number(words, 2)?,
+        number(numbers, 0)?,
+        number(numbers, 1)?,
+        number(numbers, 2)?,
         calls,
+        reach,
     )
 }
 

@@ -1,6 +1,7 @@
 //! Spaces as a library: two callers that share one, and an area that a reader holds for the length of many calls elsewhere.
 ghost use Rattle.std.specs.Prelude.{◌≡◌, ◌∷◌, [], length, IfSome, IfOk, slice_get, Some};
-ghost use Rattle.fault_path.specs.Passes.{caller, IsPassOf, ArePasses};
+ghost use Rattle.fault_path.specs.Passes.{caller};
+ghost use Rattle.mm_space.specs.Names.{IsPassOf, ArePasses};
 
 use fault_path::Pass;
 use mm_space::{Closed, Path, Ready, Space, SpaceName};
@@ -50,7 +51,7 @@ fn both(passes: Vec<Pass>) -> Option<(Pass, Pass)>
 
 /// Maps a page elsewhere and unmaps it, in turn, as often as the pass may call.
 fn call_elsewhere<N: SpaceName, R: Wait>(rt: &R, space: &Space<N>, pass: &mut Pass)
-    requires { IsPassOf N.table N.nodes N.config N.operations pass.old }
+    requires { IsPassOf N.name pass.old }
 {
     for call in 0..CALLS {
         if pass.left() == 0 {
@@ -70,10 +71,10 @@ fn call_elsewhere<N: SpaceName, R: Wait>(rt: &R, space: &Space<N>, pass: &mut Pa
 
 /// The passes of a space again, each in its caller's place.
 fn all_of<N: SpaceName>(alloc: Global, one: Pass, other: Pass) -> Result<Vec<Pass>, NoMemory>
-    requires two { length N.operations ≡ 2 }
-    requires one { IsPassOf N.table N.nodes N.config N.operations one × (caller one ≡ 0) }
-    requires other { IsPassOf N.table N.nodes N.config N.operations other × (caller other ≡ 1) }
-    ensures { IfOk result (λ passes. ArePasses N.table N.nodes N.config N.operations passes.items) }
+    requires two { length N.name.operations ≡ 2 }
+    requires one { IsPassOf N.name one × (caller one ≡ 0) }
+    requires other { IsPassOf N.name other × (caller other ≡ 1) }
+    ensures { IfOk result (λ passes. ArePasses N.name passes.items) }
 {
     let mut passes = Vec::with_capacity(alloc, 2)?;
     passes.push(one)?;
@@ -100,7 +101,7 @@ fn share<N: SpaceName, R: Wait + Abort>(
     alloc: Global,
     ready: Ready,
 ) -> Result<Closed, NoMemory>
-    requires name { (ready.table ≡ N.table) × (ready.nodes ≡ N.nodes) × (ready.config ≡ N.config) × (ready.operations ≡ N.operations) }
+    requires name { ready ≡ N.name }
     requires two { ready.operations ≡ 2 ∷ 1 ∷ [] }
 {
     let (space, passes) = Space::<N>::open(ready);
@@ -132,7 +133,7 @@ fn an_area_is_held_through_many_calls(rt: HostRuntime) -> Result<(), Fail> {
 
 /// One caller maps a page and holds it, while the other makes all of its calls.
 fn hold_through<N: SpaceName, R: Wait + Abort>(rt: &R, ready: Ready)
-    requires name { (ready.table ≡ N.table) × (ready.nodes ≡ N.nodes) × (ready.config ≡ N.config) × (ready.operations ≡ N.operations) }
+    requires name { ready ≡ N.name }
     requires two { ready.operations ≡ 1 ∷ 200 ∷ [] }
 {
     let (space, passes) = Space::<N>::open(ready);

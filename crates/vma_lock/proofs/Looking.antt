@@ -1,5 +1,5 @@
 -- For `VmaTable::field` and `VmaTable::look`: look and field keep the rule of a table, and what they tell.
-use Rattle.std.proofs.Common.{ℕ, ◌≡◌, ◌≢◌, ◌<◌, ◌/◌, ◌∙◌, refl, sym, ap, subst, nat_eq, cond, List, length, map, get_or, set, Option, Some, arith}
+use Rattle.std.proofs.Common.{ℕ, ◌≡◌, ◌≢◌, ◌<◌, ◌/◌, ◌∙◌, refl, sym, ap, subst, nat_eq, true, cond, List, length, map, get_or, set, Option, Some, arith}
 use mathlib.Core.Option.{none}
 use Rattle.std.proofs.lemmas.Bool.{cond-true, cond-false, cond_both, eq-eqb, ne_eqb, eqb-false}
 use Rattle.std.proofs.lemmas.List.{set-get_or}
@@ -19,7 +19,7 @@ use Rattle.atomic_table.specs.Table.{State, Me, step, Allows, keeps}
 use Rattle.vma_lock.specs.declared.view.SeatKind.TheVariants.{Reads}
 use Rattle.vma_lock.specs.declared.view.SeenAt.{SeenAt}
 use Rattle.vma_lock.specs.declared.view.View.{View}
-use Rattle.vma_lock.specs.Views.{slot_count, reader_of, or_first, or_valid, look_at, field_at}
+use Rattle.vma_lock.specs.Views.{slot_count, reader_of, or_first, or_valid, holds_slot, look_at, field_at}
 use Rattle.vma_lock.specs.Words.{table_words, field_place}
 use Rattle.vma_lock.specs.Rule.{IsTraced, Fits, Shows}
 use Rattle.vma_lock.specs.Plays.{IsSettled, LooksAt, ReadsRow, looked, read}
@@ -34,11 +34,11 @@ words_loaded config state shows word = set-get_or state.words word 0 ∙ shows.w
 -- what so far was so of the seat's slot is so after a look, and the first validating look saw the list of which the row is
 traced_after : (config : Config) (core : Core) (added : Option (ℕ × ℕ)) (valid : Option SeenAt) (stage : Stage) → Facts config core
     → IsFound core.slots (held stage) → IsTraced config added valid stage
-    → IsTraced config added (or_valid added valid (record { seq = core.seq; seen = core.journal })) (stage_after core.seq core.slots stage)
+    → IsTraced config added (or_valid added valid (record { seq = core.seq; seen = core.journal; held = holds_slot stage })) (stage_after core.seq core.slots stage)
 traced_after config core added valid Out facts found traced = tt
 traced_after config core added valid Gone facts found traced = tt
 traced_after config core added valid (Holds slot at) facts found traced =
-    let now : SeenAt = record { seq = core.seq; seen = core.journal } in
+    let now : SeenAt = record { seq = core.seq; seen = core.journal; held = true } in
     let row : List ℕ = (slot_at core.slots slot).row in
     cond_both (nat_eq at core.seq) (Holds slot at) (Valid slot at row) (IsTraced config added (or_valid added valid now))
     (λ same. (traced.0, ap (λ a. or_valid a valid now) traced.0 ∙ cond-true (nat_eq at core.seq) valid (or_first valid now) same ∙ traced.1))
@@ -52,7 +52,7 @@ traced_after config core added valid (Holds slot at) facts found traced =
       ),
     ))
 traced_after config core added valid (Valid slot at row) facts found traced =
-    let now : SeenAt = record { seq = core.seq; seen = core.journal } in
+    let now : SeenAt = record { seq = core.seq; seen = core.journal; held = true } in
     let before : SeenAt = traced.1.0 in (
       traced.0,
       (
@@ -116,7 +116,7 @@ look_fits config state shows seat found view at reads is there =
       joined = starts_all core.journal;
       writer = λ writes. let e = sym reads ∙ writes in absurd (cc);
       free = λ other. absurd (other reads);
-      traced = subst (λ n. IsTraced config view.trace.added (or_valid view.trace.added view.trace.valid (record { seq = n; seen = core.journal })) (stage_after core.seq core.slots view.stage))
+      traced = subst (λ n. IsTraced config view.trace.added (or_valid view.trace.added view.trace.valid (record { seq = n; seen = core.journal; held = holds_slot view.stage })) (stage_after core.seq core.slots view.stage))
           (sym is) (traced_after config core view.trace.added view.trace.valid view.stage shows.facts there at.fits.traced);
     }
 

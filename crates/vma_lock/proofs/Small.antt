@@ -1,5 +1,5 @@
 -- For the small address space of the tests: what the rows show, and what a loop of tries leaves.
-use Rattle.std.proofs.Common.{ℕ, zero, suc, ◌≡◌, ◌≢◌, ◌<◌, ◌∙◌, inl, inr, refl, sym, ap, subst, true, List, [], ◌∷◌, ◌++◌, length, set, replicate, arith}
+use Rattle.std.proofs.Common.{ℕ, zero, suc, ◌≡◌, ◌<◌, ◌∙◌, inl, inr, refl, sym, ap, subst, true, List, [], ◌∷◌, ◌++◌, length, set, replicate, arith}
 use Rattle.std.specs.List.{sum_by}
 use Rattle.std.proofs.lemmas.Bool.{cond-true, cond-false}
 use Rattle.std.proofs.lemmas.List.{length-set, get_or-set_other}
@@ -16,16 +16,12 @@ use Rattle.area_rules.specs.Steps.{step, opening, after}
 use Rattle.area_rules.specs.Tables.{AddressSpace, Outcome}
 use Rattle.area_rules.proofs.Journals.{after-nil, after-push}
 use Rattle.lock_core.specs.declared.stage.SlotState.{SlotState}
-use Rattle.lock_core.specs.declared.stage.Stage.{Stage}
-use Rattle.lock_core.specs.declared.stage.Stage.TheVariants.{Holds}
 use Rattle.lock_core.specs.Facts.{list_after}
 use Rattle.lock_core.specs.Core.{slot_at, free_slot}
-use Rattle.lock_core.specs.Rows.{is_detached, IsRowOf, attached_weight, Exactly}
+use Rattle.lock_core.specs.Rows.{is_detached, attached_weight, Exactly}
 use Rattle.vma_lock.specs.declared.view.Desk.{Desk}
 use Rattle.vma_lock.specs.declared.view.View.{View}
 use Rattle.vma_lock.specs.Views.{begin_at, mark_at, try_at, write_at, lent_at, opened_view, slot_count}
-use Rattle.vma_lock.specs.Plays.{LooksAt}
-use Rattle.vma_lock.specs.Seats.{row_of}
 use Rattle.vma_lock.specs.Small.{IsSmall, AreFree, ShowsOne, IsMarking}
 
 -- free slots weigh nothing
@@ -61,16 +57,6 @@ shows_exactly slots list changed free some_slot (inr one_shown) weight =
 pub still_free : (slots : List SlotState) (changed : SlotState) → AreFree slots → AreFree (set slots 0 changed)
 still_free slots changed free slot apart =
     ap (λ (s : SlotState). is_detached s.row) (get_or-set_other slots 0 slot changed free_slot apart) ∙ free slot apart
-
--- a row that is read after the first validating look is right for the list that this look saw
-pub row_found : (config other : Config) (journal seen : List Entry) (seq slot found : ℕ) (before now : Stage) (row : List ℕ)
-    → LooksAt config journal seq before now → before ≡ Holds slot found → found ≢ seq → row ≡ row_of now → config ≡ other → seen ≡ journal
-    → IsRowOf (list_after other seen) row
-row_found config other journal seen seq slot found before now row looks holds apart is same sees =
-    let told = (subst (λ s. LooksAt config journal seq s now) holds looks).1 apart in
-    subst (λ c. IsRowOf (list_after c seen) row) same
-    (subst (λ (j : List Entry). IsRowOf (list_after config j) row) (sym sees)
-    (subst (IsRowOf (list_after config journal)) (sym (is ∙ ap row_of told.1)) told.3))
 
 -- a try that found readers changes nothing but what the writer knows of its tries
 pub trying_more : (old now new : View) (slot found : ℕ) → IsMarking old now → new ≡ try_at now slot found → IsMarking old new

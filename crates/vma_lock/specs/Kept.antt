@@ -3,9 +3,10 @@ use Rattle.std.specs.Prelude.{ℕ, ◌≡◌, ◌≤◌, ◌+◌, ◌-◌, ◌*�
 use Rattle.mm_types.specs.declared.call.Entry.{Entry}
 use Rattle.mm_types.specs.declared.config.Config.{Config}
 use Rattle.lock_core.specs.declared.stage.SlotState.{SlotState}
+use Rattle.lock_core.specs.declared.stage.Stage.TheVariants.{Out}
 use Rattle.lock_core.specs.Core.{held}
 use Rattle.atomic_table.specs.Table.{Me}
-use Rattle.vma_lock.specs.declared.view.SeatKind.TheVariants.{Reads, Writes}
+use Rattle.vma_lock.specs.declared.view.SeatKind.TheVariants.{Reads, Writes, Note}
 use Rattle.vma_lock.specs.declared.view.View.{View}
 use Rattle.vma_lock.specs.Views.{slot_count}
 
@@ -25,6 +26,13 @@ pub record ReaderKept (caller slot words : ℕ) (me : Me Entry View) : Type 0 wh
 -- what a reader's seat counts: its looks, up to the greatest number of 64 bits, and the entries that it has seen
 pub record ReaderCounts (looks version : ℕ) (me : Me Entry View) : Type 0 where
   pub looks_are : looks ≡ min me.0.trace.looks (2 ^ 64 - 1)
+  pub version_is : version ≡ length me.0.seen
+
+-- what a note keeps: it is one, holds nothing, and counts the entries that it has seen
+pub record NoteKept (version : ℕ) (me : Me Entry View) : Type 0 where
+  pub kind : me.0.kind ≡ Note
+  pub empty : me.1 ≡ []
+  pub stage : me.0.stage ≡ Out
   pub version_is : version ≡ length me.0.seen
 
 -- the mark word of a slot that no reader holds

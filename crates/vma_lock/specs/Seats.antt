@@ -10,6 +10,7 @@ use Rattle.lock_core.specs.Core.{held, slot_at, detached_row}
 use Rattle.atomic_table.specs.Seated.{TableId}
 use Rattle.vma_lock.specs.declared.view.View.{View}
 use Rattle.vma_lock.specs.declared.seats.ReaderSeat.{ReaderSeat}
+use Rattle.vma_lock.specs.declared.seats.NoteSeat.{NoteSeat}
 use Rattle.vma_lock.specs.declared.seats.WriterSeat.{WriterSeat}
 use Rattle.vma_lock.specs.declared.seats.VmaTable.{VmaTable}
 use Rattle.vma_lock.specs.Views.{slot_count, look_at, joined_at, returned_at}
@@ -30,6 +31,14 @@ slots_of table = slot_count (config_of table)
 -- the seat is of this table
 abbrev pub IsOf : ReaderSeat → VmaTable → Type 0
 IsOf seat table = seat.seat.table_id ≡ table_of table
+
+-- the note is of this table
+abbrev pub IsNoteOf : NoteSeat → VmaTable → Type 0
+IsNoteOf note table = note.seat.table_id ≡ table_of table
+
+-- what a note knows
+abbrev pub told : NoteSeat → View
+told note = note.seat.me.0
 
 -- the writer is of this table
 abbrev pub Writes : WriterSeat → VmaTable → Type 0

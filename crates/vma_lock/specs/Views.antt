@@ -1,11 +1,11 @@
 -- What a seat knows, and what each step makes of it.
-use Rattle.std.specs.Prelude.{ℕ, ◌+◌, if◌then◌else◌, nat_eq, List, [], ◌∷◌, ◌++◌, slice_index, slice_index_or, slice_set, replicate, Option, Some, None}
+use Rattle.std.specs.Prelude.{ℕ, ◌+◌, Bool, true, false, if◌then◌else◌, nat_eq, List, [], ◌∷◌, ◌++◌, slice_index, slice_index_or, slice_set, replicate, Option, Some, None}
 use Rattle.mm_types.specs.declared.call.Entry.{Entry}
 use Rattle.mm_types.specs.declared.config.Config.{Config}
 use Rattle.mm_types.specs.Config.{slots_for}
 use Rattle.lock_core.specs.declared.stage.SlotState.{SlotState}
 use Rattle.lock_core.specs.declared.stage.Stage.{Stage}
-use Rattle.lock_core.specs.declared.stage.Stage.TheVariants.{Out, Holds, Gone}
+use Rattle.lock_core.specs.declared.stage.Stage.TheVariants.{Out, Holds, Valid, Gone}
 use Rattle.lock_core.specs.Core.{Reader, slot_at, free_slot}
 use Rattle.lock_core.specs.Events.{longer}
 use Rattle.vma_lock.specs.declared.view.Desk.{Desk}
@@ -134,6 +134,13 @@ add_at view slot found = record view {
   trace = record view.trace { adds = view.trace.adds + 1; added = Some (slot, found); first = None; valid = None };
 }
 
+-- whether a seat that stands there holds a slot
+abbrev pub holds_slot : Stage → Bool
+holds_slot Out = false
+holds_slot (Holds slot found) = true
+holds_slot (Valid slot found row) = true
+holds_slot Gone = false
+
 -- look
 abbrev pub look_at : View → ℕ → List Entry → Stage → View
 look_at view found journal stage = record view {
@@ -144,8 +151,8 @@ look_at view found journal stage = record view {
   own = journal;
   trace = record view.trace {
     looks = view.trace.looks + 1;
-    first = or_first view.trace.first (record { seq = found; seen = journal });
-    valid = or_valid view.trace.added view.trace.valid (record { seq = found; seen = journal });
+    first = or_first view.trace.first (record { seq = found; seen = journal; held = holds_slot view.stage });
+    valid = or_valid view.trace.added view.trace.valid (record { seq = found; seen = journal; held = holds_slot view.stage });
   };
 }
 

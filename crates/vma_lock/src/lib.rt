@@ -3,16 +3,16 @@
 //! words and what the seats know always show one state of the protocol.
 #![tactic(auto)]
 
+mod notes;
 mod opening;
 mod reading;
 mod rule;
 mod seats;
 mod turns;
-mod uses;
 mod view;
 mod writing;
 
-pub use seats::{ReaderSeat, VmaTable, WriterSeat};
+pub use seats::{NoteSeat, ReaderSeat, VmaTable, WriterSeat};
 pub use view::{Desk, LastWords, SeatKind, SeenAt, Trace, View};
 pub use writing::ReadersLeft;
 

@@ -1,6 +1,6 @@
 ghost use Rattle.std.specs.Arc.{arc_value};
 ghost use Rattle.std.specs.Prelude.{◌≡◌};
-ghost use Rattle.vma_lock.specs.Kept.{IsSized, ReaderKept, ReaderCounts, WriterKept};
+ghost use Rattle.vma_lock.specs.Kept.{IsSized, ReaderKept, ReaderCounts, NoteKept, WriterKept};
 
 use crate::rule::Protocol;
 use crate::view::View;
@@ -28,6 +28,15 @@ pub struct ReaderSeat {
     pub(crate) version: u64,
     pub ghost kept: { ReaderKept caller slot seat.table_id.words seat.me },
     pub ghost counts: { ReaderCounts looks version seat.me },
+}
+
+/// A note of what a reader has seen. It can hold no slot, and has no turn.
+#[derive(Drop)]
+pub struct NoteSeat {
+    pub(crate) seat: Seat<Entry, View>,
+    /// How many entries it has seen.
+    pub(crate) version: u64,
+    pub ghost kept: { NoteKept version seat.me },
 }
 
 /// The one writer of a table.

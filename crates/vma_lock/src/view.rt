@@ -14,10 +14,11 @@ pub enum SeatKind {
     Spent,
 }
 
-/// What a look found: the sequence, and the journal.
+/// What a look found: the sequence, and the journal; and whether the seat held a slot at it.
 pub struct SeenAt {
     pub seq: u64,
     pub seen: LinkedList<Entry>,
+    pub held: bool,
 }
 
 /// The last four words that were read.

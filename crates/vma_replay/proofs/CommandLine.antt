@@ -14,7 +14,7 @@ use Rattle.clap.specs.Words.{matches_of, takes}
 use Rattle.clap.proofs.OnLiterals.{clap_on_literals}
 use Rattle.trace_reader.specs.Numbers.{decimal_of, digits_of}
 use Rattle.vma_replay.specs.declared.words.Job.{Job}
-use Rattle.vma_replay.specs.Jobs.{job_of_words, named_job, operation_count}
+use Rattle.vma_replay.specs.Jobs.{generate_words, job_of_words, named_job, operation_count}
 use Rattle.vma_replay.specs.CommandLine.{begins_with_dash, job_of_rows, words_command}
 
 -- a text that does not begin with `-`
@@ -147,19 +147,29 @@ three_taken t u v first second third = rw (
   no_short v third,
 ) refl
 
+-- two words, or more than three, are none of the accepted lists
+no_pair : (a b c d : Bool) (x : Option Job) → x ≡ None → (if a then x else if b then x else if c then x else if d then x else None) ≡ None
+no_pair true b c d x none = none
+no_pair false true c d x none = none
+no_pair false false true d x none = none
+no_pair false false false true x none = none
+no_pair false false false false x none = refl
+
 -- words that `clap` refuses name no job
 pub refused : (words : List (String Global)) → list_any begins_with_dash words ≡ false
     → (takes words_command (map string_bytes words) ≡ true → ⊥) → job_of_words words ≡ None
 unfolding named_job
 refused [] none refuses = refl
 refused (w ∷ []) none refuses = absurd (refuses (one_taken (string_bytes w) (neither (begins_with_dash w) false none).0))
-refused (w ∷ v ∷ []) none refuses = refl
+refused (w ∷ v ∷ []) none refuses = no_pair (bytes_eq (string_bytes w) (codes "serial")) (bytes_eq (string_bytes w) (codes "threads")) (bytes_eq (string_bytes w) (codes "steps"))
+    (bytes_eq (string_bytes w) (codes "generate")) None refl
 refused (w ∷ v ∷ u ∷ []) none refuses =
     let first = neither (begins_with_dash w) (list_any begins_with_dash (v ∷ u ∷ [])) none in
     let second = neither (begins_with_dash v) (list_any begins_with_dash (u ∷ [])) first.1 in
     let third = neither (begins_with_dash u) false second.1 in
     absurd (refuses (three_taken (string_bytes w) (string_bytes v) (string_bytes u) first.0 second.0 third.0))
-refused (w ∷ v ∷ u ∷ x ∷ ws) none refuses = refl
+refused (w ∷ v ∷ u ∷ x ∷ ws) none refuses = no_pair (bytes_eq (string_bytes w) (codes "serial")) (bytes_eq (string_bytes w) (codes "threads")) (bytes_eq (string_bytes w) (codes "steps"))
+    (bytes_eq (string_bytes w) (codes "generate")) None refl
 
 -- and so do words of which one begins with `-`
 not_dash_named : (name t : Text) → (slice_index name 0 == 45) ≡ false → (slice_index t 0 == 45) ≡ true → bytes_eq t name ≡ false
@@ -184,36 +194,43 @@ either : (a b : Bool) → (a || b) ≡ true → (a ≡ true) ⊎ (b ≡ true)
 either true b some = inl refl
 either false b some = inr some
 
+-- a first word that begins with `-` names no job, whatever follows
+first_dash : (name : Text) (rest : List Text) → (slice_index name 0 == 45) ≡ true → named_job name rest ≡ None
+unfolding named_job
+first_dash name rest dash = rw (
+  not_dash_named (codes "serial") name refl dash,
+  not_dash_named (codes "threads") name refl dash,
+  not_dash_named (codes "steps") name refl dash,
+  not_dash_named (codes "generate") name refl dash,
+) refl
+
+-- words after the first, of which one begins with `-`, name none with `generate`
+dash_after : (v : String Global) (ws : List (String Global)) → list_any begins_with_dash (v ∷ ws) ≡ true
+    → generate_words (map string_bytes (v ∷ ws)) ≡ None
+dash_after v [] dash = refl
+dash_after v (u ∷ []) dash = elim (either (begins_with_dash v) (list_any begins_with_dash (u ∷ [])) dash) [
+  | inl second ↦ rw (no_decimal (string_bytes v) second) refl
+  | inr last ↦ elim (either (begins_with_dash u) false last) [
+    | inl third ↦ rw (no_decimal (string_bytes u) third) (no_seed None refl (operation_count (string_bytes v)))
+    | inr none ↦ absurd (cc)
+  ]
+]
+  where
+    no_seed : (job : Option Job) → job ≡ None → (count : Option ℕ) → option_and_then (λ operations. job) count ≡ job
+    no_seed job is None = sym is
+    no_seed job is (Some count) = refl
+dash_after v (u ∷ x ∷ ws) dash = refl
+
 pub dash_refused : (words : List (String Global)) → list_any begins_with_dash words ≡ true → job_of_words words ≡ None
 unfolding named_job
 dash_refused [] dash = refl
 dash_refused (w ∷ []) dash = elim (either (begins_with_dash w) false dash) [
-  | inl first ↦ rw (
-    not_dash_named (codes "serial") (string_bytes w) refl first,
-    not_dash_named (codes "threads") (string_bytes w) refl first,
-    not_dash_named (codes "steps") (string_bytes w) refl first,
-  ) refl
+  | inl first ↦ first_dash (string_bytes w) [] first
   | inr none ↦ absurd (cc)
 ]
-dash_refused (w ∷ v ∷ []) dash = refl
-dash_refused (w ∷ v ∷ u ∷ []) dash = elim (either (begins_with_dash w) (list_any begins_with_dash (v ∷ u ∷ [])) dash) [
-  | inl first ↦ rw (not_dash_named (codes "generate") (string_bytes w) refl first) refl
-  | inr later ↦ elim (either (begins_with_dash v) (list_any begins_with_dash (u ∷ [])) later) [
-    | inl second ↦ rw (no_decimal (string_bytes v) second) (no_count None (bytes_eq (string_bytes w) (codes "generate")))
-    | inr last ↦ elim (either (begins_with_dash u) false last) [
-      | inl third ↦ rw (no_decimal (string_bytes u) third) (no_seed None refl (bytes_eq (string_bytes w) (codes "generate")) (operation_count (string_bytes v)))
-      | inr none ↦ absurd (cc)
-    ]
-  ]
+dash_refused (w ∷ v ∷ ws) dash = elim (either (begins_with_dash w) (list_any begins_with_dash (v ∷ ws)) dash) [
+  | inl first ↦ first_dash (string_bytes w) (map string_bytes (v ∷ ws)) first
+  | inr later ↦ rw (dash_after v ws later)
+      (no_pair (bytes_eq (string_bytes w) (codes "serial")) (bytes_eq (string_bytes w) (codes "threads")) (bytes_eq (string_bytes w) (codes "steps"))
+      (bytes_eq (string_bytes w) (codes "generate")) None refl)
 ]
-  where
-    no_count : (none : Option Job) (b : Bool) → (if b then none else none) ≡ none
-    no_count none true = refl
-    no_count none false = refl
-
-    no_seed : (none : Option Job) → none ≡ None → (b : Bool) (count : Option ℕ)
-        → (if b then option_and_then (λ operations. none) count else none) ≡ none
-    no_seed none is true None = sym is
-    no_seed none is true (Some count) = refl
-    no_seed none is false count = refl
-dash_refused (w ∷ v ∷ u ∷ x ∷ ws) dash = refl

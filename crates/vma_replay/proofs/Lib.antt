@@ -1,11 +1,10 @@
 pub mod Given
 pub mod Pieces
 pub mod Outputs
+pub mod Doing
 pub mod Taken
+pub mod Unrun
 pub mod CommandLine
 pub mod Telling
-pub mod Operations
-pub mod Workers
-pub mod ClosedRuns
 pub mod RunTexts
 pub mod Summaries

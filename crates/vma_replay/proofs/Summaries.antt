@@ -1,6 +1,5 @@
 -- For `give_summary`: what is counted of the run of a trace in the order of its lines is the summary of the trace.
 use Rattle.std.proofs.Common.{ℕ, ◌≡◌, ◌+◌, ◌∙◌, refl, sym, ap, subst, Bool, true, false, cond, if◌then◌else◌, List, [], ◌∷◌, ◌++◌, append-nil, length, map, count_by, slice_get, unwrap_or, Option, arith}
-use Rattle.std.specs.Io.KnownBytes.{Appends}
 use Rattle.std.proofs.lemmas.List.{length-map}
 use Rattle.std.proofs.lemmas.List.Sums.{sum_by-append, sum_by-cons, length-filter}
 use Rattle.mm_types.specs.declared.call.Entry.{Entry}
@@ -14,22 +13,19 @@ use Rattle.trace_reader.specs.declared.trace.TraceLine.{TraceLine}
 use Rattle.history.specs.declared.items.Content.{Content}
 use Rattle.history.specs.declared.items.Content.TheVariants as contents
 use Rattle.history.specs.declared.items.Item.{Item}
-use Rattle.history.specs.Histories.{caller_of, is_call, journal_of, op_of, gather, serial_history, goes_first}
+use Rattle.history.specs.Histories.{caller_of, is_call, journal_of, op_of, read_as, gather, serial_history, goes_first}
 use Rattle.history.specs.Runs.{content_of, entry_items, history_of, log_items, logs_items, ops_of, own_of, read_item}
 use Rattle.history.specs.Labels.{labelled, label_of, IsSerialRun}
 use Rattle.history.proofs.Labels.{label_is_serial}
 use Rattle.history.proofs.Placed.{count_calls}
 use Rattle.mm_space.specs.Closing.{ClosedView}
 use Rattle.gen_load.specs.Loads.{load_trace}
-use Rattle.vma_replay.specs.declared.status.Status.{Status}
-use Rattle.vma_replay.specs.declared.status.Status.TheVariants as statuses
 use Rattle.vma_replay.specs.declared.summary.Summary.{Summary}
 use Rattle.vma_replay.specs.declared.words.Mode.TheVariants as modes
 use Rattle.vma_replay.specs.Replaying.{IsRunOf}
-use Rattle.vma_replay.specs.Giving.{IsGiving, IsGivingSummary}
 use Rattle.vma_replay.specs.Summaries.{count_of, is_fault, is_refused, is_served, summary_of_trace, summary_text, text_of_summary}
 use Rattle.vma_replay.specs.Tallies.{tally_of}
-use Rattle.vma_replay.proofs.RunTexts.{list_of_run, none_given, serial_is, serial_own}
+use Rattle.vma_replay.proofs.RunTexts.{list_of_run, serial_is, serial_own}
 
 -- one element more
 count_cons : {X : Type 0} (is : X → Bool) (x : X) (xs : List X) → count_by is (x ∷ xs) ≡ cond (is x) 1 0 + count_by is xs
@@ -94,7 +90,7 @@ as_many config lines journal log run =
     ap length (serial_own config lines journal log run)
     ∙ sym (length-map (own_of 0 journal log) (λ (item : Item). op_of item.content))
     ∙ ap length run.done
-    ∙ length-map lines (λ (line : TraceLine). line.op)
+    ∙ length-map lines (λ (line : TraceLine). read_as line.op)
 
 -- so what is counted of the history of a trace is counted of the journal and of the log
 count_serial : (is : Content → Bool) (config : Config) (lines : List TraceLine) (journal : List Entry) (log : List Seen)
@@ -204,35 +200,3 @@ pub text_is_summary : (count seed : ℕ) (run : ClosedView) (text : List ℕ) �
     → run.list ≡ list_after (load_trace count seed).config run.journal → text ≡ text_of_summary (tally_of run) → text ≡ summary_text count seed
 unfolding summary_text
 text_is_summary count seed run text is list told = told ∙ ap text_of_summary (tally_is_summary (load_trace count seed) run is list)
-
--- nothing is given where memory runs out before there is a text
-pub gives_none : (count seed : ℕ) (old : Option (List ℕ)) (faults : ℕ) (last : Option Bool) (status : Status) (runs : List ClosedView)
-    → (status ≡ statuses.NoMemory) × (runs ≡ []) → IsGivingSummary count seed old old faults faults last status runs
-gives_none count seed old faults last status runs failed =
-    subst (λ (s : Status). IsGivingSummary count seed old old faults faults last s runs) (sym failed.0)
-    (refl, failed.1, 0, none_given old (summary_text count seed))
-
--- What giving the text of what is counted of a run results in: the summary was given, or a beginning of it.
-pub gives_summary : (count seed : ℕ) (run : ClosedView) (text : List ℕ) (old new : Option (List ℕ)) (before now : ℕ) (last : Option Bool) (runs : List ClosedView)
-    → IsRunOf modes.Serial (load_trace count seed) run → run.list ≡ list_after (load_trace count seed).config run.journal
-    → text ≡ text_of_summary (tally_of run) → runs ≡ run ∷ [] → IsGiving text old new before now last statuses.Done
-    → IsGivingSummary count seed old new before now last statuses.Done runs
-gives_summary count seed run text old new before now last runs is list told kept giving =
-    (giving.0, (run, kept, is, list, subst (λ (t : List ℕ). Appends old new t) (text_is_summary count seed run text is list told) giving.1))
-
-pub gives_beginning : (count seed : ℕ) (run : ClosedView) (text : List ℕ) (old new : Option (List ℕ)) (before now : ℕ) (last : Option Bool) (runs : List ClosedView)
-    → IsRunOf modes.Serial (load_trace count seed) run → run.list ≡ list_after (load_trace count seed).config run.journal
-    → text ≡ text_of_summary (tally_of run) → (status : Status) → (status ≡ statuses.Done → ⊥) → IsGiving text old new before now last status
-    → (answer : Status) → (answer ≡ status) × (runs ≡ []) → IsGivingSummary count seed old new before now last answer runs
-gives_beginning count seed run text old new before now last runs is list told status other giving answer failed =
-    subst (λ (s : Status). IsGivingSummary count seed old new before now last s runs) (sym failed.0)
-    (by_status status other (subst (λ (t : List ℕ). IsGiving t old new before now last status) (text_is_summary count seed run text is list told) giving))
-  where
-    by_status : (status : Status) → (status ≡ statuses.Done → ⊥) → IsGiving (summary_text count seed) old new before now last status
-        → IsGivingSummary count seed old new before now last status runs
-    by_status statuses.Done other giving = absurd (other refl)
-    by_status statuses.WriteFault other giving = (giving.0, giving.1, failed.1, giving.2, giving.3, giving.4)
-    by_status statuses.NoMemory other giving = (giving.0, failed.1, giving.1, giving.2)
-    by_status statuses.Words other giving = absurd giving
-    by_status (statuses.Trace line cause) other giving = absurd giving
-    by_status statuses.ReadFault other giving = absurd giving

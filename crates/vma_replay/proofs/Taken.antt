@@ -1,20 +1,22 @@
 -- Serves `read_source` and `run_source`: the bytes that were taken from a source, up to its end or past the limit, settle what it is read as.
-use Rattle.std.proofs.Common.{◌≡◌, ◌≤◌, ◌<◌, Bool, ℕ, ◌+◌, List, ◌++◌, length, take, Option, Some, None, Result, Ok, Err, IfSome, sym, ap, subst, ◌∙◌, inl, inr, arith, append-nil}
+use Rattle.std.proofs.Common.{◌≡◌, ◌≤◌, ◌<◌, ℕ, ◌+◌, List, ◌++◌, length, take, Option, Some, None, Result, Ok, Err, IfSome, sym, ap, subst, ◌∙◌, inl, inr, arith, append-nil}
 use Rattle.std.proofs.lemmas.Bool.{cases_lt}
 use Rattle.std.proofs.lemmas.List.{take-append-le}
 use Rattle.std.specs.Io.KnownBytes.{Consumes, IsAtEnd}
+use Rattle.io_edge.specs.Edge.{SourceView}
 use Rattle.trace_reader.specs.declared.fault.ReadError.{ReadError}
 use Rattle.trace_reader.specs.declared.fault.ReadError.TheVariants as reads
 use Rattle.trace_reader.specs.declared.fault.TraceFault.{TraceFault}
 use Rattle.trace_reader.specs.declared.trace.Trace.{Trace}
-use Rattle.trace_reader.specs.Grammar.{trace_of}
 use Rattle.trace_reader.specs.Lines.{trace_limit}
 use Rattle.trace_reader.specs.Reading.{GivesTrace}
 use Rattle.step_script.specs.Output.{script_output}
 use Rattle.step_script.specs.Reading.{IsFault}
 use Rattle.vma_replay.specs.declared.status.Status.{Status}
 use Rattle.vma_replay.specs.Replaying.{Takes}
+use Rattle.vma_replay.specs.Runnable.{first_unrun, or_fault, runnable, runnable_of}
 use Rattle.vma_replay.specs.Reading.{IsReading, IsTaking, refused_as}
+use Rattle.trace_reader.specs.Grammar.{trace_of}
 use Rattle.trace_reader.proofs.Beginnings.{trace_of-front, trace_within}
 use Rattle.step_script.proofs.Scripts.{output-front, output-within}
 
@@ -44,29 +46,40 @@ record IsBounded {Y : Type 0} (read : List ℕ → Result Y TraceFault) : Type 0
 
 -- so what was taken gives the answer of the whole
 settled : {Y : Type 0} (read : List ℕ → Result Y TraceFault) → IsBounded read → (old new : Option (List ℕ)) (bytes : List ℕ)
-    (answer : Result Y TraceFault) → Takes old new bytes → read bytes ≡ answer → IfSome old (λ input. read input ≡ answer)
+    (answer : Result Y TraceFault) → Takes trace_limit old new bytes → read bytes ≡ answer → IfSome old (λ input. read input ≡ answer)
 settled read bounded old new bytes answer taken e = taken_settles read trace_limit bounded.front old new bytes answer taken.moved taken.whole e
 
 -- where what was taken is read, the source gave it whole
-found_whole : {Y : Type 0} (read : List ℕ → Result Y TraceFault) → IsBounded read → (old new : Option (List ℕ)) (before now : ℕ) (last : Option Bool)
-    (bytes : List ℕ) (found : Y) → IsTaking old new before now last (Ok bytes) → read bytes ≡ Ok found
-    → IsReading read old new before now last (Ok found)
-found_whole read bounded old new before now last bytes found taken is =
-    (taken.0, (bytes, taken.1), taken.1.whole (bounded.within bytes found is), settled read bounded old new bytes (Ok found) taken.1 is)
+found_whole : {Y : Type 0} (read : List ℕ → Result Y TraceFault) → IsBounded read → (old new : SourceView) (bytes : List ℕ) (found : Y) → IsTaking trace_limit old new (Ok bytes) → read bytes ≡ Ok found
+    → IsReading read trace_limit old new (Ok found)
+found_whole read bounded old new bytes found taken is =
+    (taken.0, (bytes, taken.1), taken.1.whole (bounded.within bytes found is), settled read bounded old.left new.left bytes (Ok found) taken.1 is)
 
 -- where it is not, it has the source's first bad line, or memory ran out
-refused_first : {Y : Type 0} (read : List ℕ → Result Y TraceFault) → IsBounded read → (old new : Option (List ℕ)) (before now : ℕ) (last : Option Bool)
-    (bytes : List ℕ) (error : ReadError) (status : Status) → IsTaking old new before now last (Ok bytes) → IsFault error (read bytes)
-    → status ≡ refused_as error → IsReading read old new before now last (Err status)
-refused_first {Y} read bounded old new before now last bytes error status taken fault is =
-    subst (λ (s : Status). IsReading read old new before now last (Err s)) (sym is) (by_error error fault)
+refused_first : {Y : Type 0} (read : List ℕ → Result Y TraceFault) → IsBounded read → (old new : SourceView) (bytes : List ℕ) (error : ReadError) (status : Status) → IsTaking trace_limit old new (Ok bytes) → IsFault error (read bytes)
+    → status ≡ refused_as error → IsReading read trace_limit old new (Err status)
+refused_first {Y} read bounded old new bytes error status taken fault is =
+    subst (λ (s : Status). IsReading read trace_limit old new (Err s)) (sym is) (by_error error fault)
   where
-    by_error : (error : ReadError) → IsFault error (read bytes) → IsReading read old new before now last (Err (refused_as error))
-    by_error (reads.Bad first) fault = (taken.0, (bytes, taken.1), settled read bounded old new bytes (Err first) taken.1 fault)
+    by_error : (error : ReadError) → IsFault error (read bytes) → IsReading read trace_limit old new (Err (refused_as error))
+    by_error (reads.Bad first) fault = (taken.0, (bytes, taken.1), settled read bounded old.left new.left bytes (Err first) taken.1 fault)
     by_error reads.NoMemory fault = taken.0
 
-bounded_trace : IsBounded trace_of
-bounded_trace = record { front = trace_of-front; within = trace_within }
+-- what can be run was read
+was_read : (read : Result Trace TraceFault) (trace : Trace) → runnable read ≡ Ok trace → read ≡ Ok trace
+was_read (Ok found) trace is = by_fault (first_unrun found.lines) is
+  where
+    by_fault : (first : Option TraceFault) → or_fault found first ≡ Ok trace → or_fault found None ≡ Ok trace
+    by_fault None is = is
+    by_fault (Some first) is = absurd (cc)
+was_read (Err first) trace is = absurd (cc)
+
+bounded_trace : IsBounded runnable_of
+unfolding runnable_of
+bounded_trace = record {
+  front = λ bytes. ap runnable (trace_of-front bytes);
+  within = λ bytes trace is. trace_within bytes trace (was_read (trace_of bytes) trace is);
+}
 
 bounded_script : IsBounded script_output
 bounded_script = record { front = output-front; within = output-within }
@@ -77,22 +90,22 @@ trace_fault (reads.Bad first) read is = is
 trace_fault reads.NoMemory read is = is
 
 -- of traces
-pub reads_trace : (old new : Option (List ℕ)) (before now : ℕ) (last : Option Bool) (bytes : List ℕ) (trace : Trace)
-    → IsTaking old new before now last (Ok bytes) → trace_of bytes ≡ Ok trace → IsReading trace_of old new before now last (Ok trace)
-reads_trace = found_whole trace_of bounded_trace
+pub reads_trace : (old new : SourceView) (bytes : List ℕ) (trace : Trace)
+    → IsTaking trace_limit old new (Ok bytes) → runnable_of bytes ≡ Ok trace → IsReading runnable_of trace_limit old new (Ok trace)
+reads_trace = found_whole runnable_of bounded_trace
 
-pub reads_no_trace : (old new : Option (List ℕ)) (before now : ℕ) (last : Option Bool) (bytes : List ℕ) (error : ReadError) (status : Status)
-    → IsTaking old new before now last (Ok bytes) → GivesTrace (Err error) (trace_of bytes) → status ≡ refused_as error
-    → IsReading trace_of old new before now last (Err status)
-reads_no_trace old new before now last bytes error status taken given =
-    refused_first trace_of bounded_trace old new before now last bytes error status taken (trace_fault error (trace_of bytes) given)
+pub reads_no_trace : (old new : SourceView) (bytes : List ℕ) (error : ReadError) (status : Status)
+    → IsTaking trace_limit old new (Ok bytes) → GivesTrace (Err error) (runnable_of bytes) → status ≡ refused_as error
+    → IsReading runnable_of trace_limit old new (Err status)
+reads_no_trace old new bytes error status taken given =
+    refused_first runnable_of bounded_trace old new bytes error status taken (trace_fault error (runnable_of bytes) given)
 
 -- of scripts
-pub reads_script : (old new : Option (List ℕ)) (before now : ℕ) (last : Option Bool) (bytes text : List ℕ)
-    → IsTaking old new before now last (Ok bytes) → script_output bytes ≡ Ok text → IsReading script_output old new before now last (Ok text)
+pub reads_script : (old new : SourceView) (bytes text : List ℕ)
+    → IsTaking trace_limit old new (Ok bytes) → script_output bytes ≡ Ok text → IsReading script_output trace_limit old new (Ok text)
 reads_script = found_whole script_output bounded_script
 
-pub reads_no_script : (old new : Option (List ℕ)) (before now : ℕ) (last : Option Bool) (bytes : List ℕ) (error : ReadError) (status : Status)
-    → IsTaking old new before now last (Ok bytes) → IsFault error (script_output bytes) → status ≡ refused_as error
-    → IsReading script_output old new before now last (Err status)
+pub reads_no_script : (old new : SourceView) (bytes : List ℕ) (error : ReadError) (status : Status)
+    → IsTaking trace_limit old new (Ok bytes) → IsFault error (script_output bytes) → status ≡ refused_as error
+    → IsReading script_output trace_limit old new (Err status)
 reads_no_script = refused_first script_output bounded_script

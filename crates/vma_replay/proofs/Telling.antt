@@ -13,7 +13,7 @@ use Rattle.mm_types.specs.declared.config.Config.{Config}
 use Rattle.mm_types.specs.declared.files.FileRow.{FileRow}
 use Rattle.history.specs.declared.items.Item.{Item}
 use Rattle.trace_reader.specs.declared.trace.TraceLine.{TraceLine}
-use Rattle.history.specs.Histories.{lines_of, items_of, line_of, op_of, IsLegalHistory}
+use Rattle.history.specs.Histories.{lines_of, items_of, line_of, op_of, read_as, IsLegalHistory}
 use Rattle.vma_replay.specs.Output.{item_text, items_text}
 use Rattle.history.specs.CallerPlaces.{ArePlaces}
 
@@ -49,14 +49,14 @@ some_at f xs ys k y d same found =
     (within, cc)
 
 pub next_item : (config : Config) (lines : List TraceLine) (places : List (Vec ℕ Global)) (items : List Item) (index : ℕ) (item : Item)
-    → ArePlaces lines (length places) places → IsLegalHistory config lines items → slice_get items index ≡ Some item
+    → ArePlaces lines (length places) places → IsLegalHistory config [] lines items → slice_get items index ≡ Some item
     → Next lines places (take index items) item
 unfolding line_of
 next_item config lines places items index item are legal here =
     let before : List Item = take index items in
     let count : ℕ = length (items_of before item.caller) in
     let found : (line : TraceLine) × (line_of lines before item ≡ Some line) =
-    there (line_of lines before item) (λ line. line.op ≡ op_of item.content) (legal.stands index item here).next in
+    there (line_of lines before item) (λ line. read_as line.op ≡ op_of item.content) (legal.stands index item here).next in
     let caller : item.caller < length places = elim (cases_lt item.caller (length places)) [
       | inl within ↦ within
       | inr past ↦ absurd (none_at (lines_of lines item.caller) count found.0 (are.no_lines item.caller past) found.1)
@@ -135,7 +135,7 @@ pub record Here (files : List FileRow) (lines shown : List TraceLine) (places : 
 
 pub here : (config : Config) (files : List FileRow) (lines shown : List TraceLine) (places : List (Vec ℕ Global)) (items : List Item) (index : ℕ)
     (answered text : List ℕ) (item : Item)
-    → shown ≡ lines → ArePlaces lines (length places) places → IsLegalHistory config lines items
+    → shown ≡ lines → ArePlaces lines (length places) places → IsLegalHistory config [] lines items
     → Told files lines items (length places) index answered text
     → index < length items → item ≡ get_or items index item → Here files lines shown places items index answered text item
 here config files lines shown places items index answered text item same are legal told within is =

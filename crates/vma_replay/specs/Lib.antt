@@ -1,9 +1,8 @@
-pub mod Sharing
-pub mod Driving
 pub mod Output
 pub mod Statuses
 pub mod Jobs
 pub mod Summaries
+pub mod Runnable
 pub mod Replaying
 pub mod Reading
 pub mod Giving

@@ -1,8 +1,8 @@
 -- No public clause cites what stands here: what the functions result in that take bytes and read them as a trace or as a script.
-use Rattle.std.specs.Prelude.{ℕ, Bool, ◌≡◌, ◌+◌, List, Vec, Option, Result, Ok, Err, IfSome}
+use Rattle.std.specs.Prelude.{ℕ, ◌≡◌, ◌+◌, List, Vec, Result, Ok, Err, IfSome}
 use Rattle.std.specs.declared.alloc.Global.{Global}
 use Rattle.std.specs.Io.KnownBytes.{IsAtEnd}
-use Rattle.io_edge.specs.Edge.{FailedLast}
+use Rattle.io_edge.specs.Edge.{SourceView, FailedLast}
 use Rattle.trace_reader.specs.declared.fault.ReadError.{ReadError}
 use Rattle.trace_reader.specs.declared.fault.ReadError.TheVariants as reads
 use Rattle.trace_reader.specs.declared.fault.TraceFault.{TraceFault}
@@ -15,28 +15,29 @@ abbrev pub taken_bytes : Result (Vec ℕ Global) Status → Result (List ℕ) St
 taken_bytes (Ok bytes) = Ok bytes.items
 taken_bytes (Err status) = Err status
 
--- what taking bytes results in, by what the source had left and its count of faults, before and after, and whether its last call failed
-abbrev pub IsTaking : Option (List ℕ) → Option (List ℕ) → ℕ → ℕ → Option Bool → Result (List ℕ) Status → Type 0
-IsTaking old new before now last (Ok bytes) = (now ≡ before) × Takes old new bytes
-IsTaking old new before now last (Err statuses.ReadFault) = (now ≡ before + 1) × FailedLast last
-IsTaking old new before now last (Err statuses.NoMemory) = now ≡ before
-IsTaking old new before now last (Err statuses.Done) = ⊥
-IsTaking old new before now last (Err statuses.Words) = ⊥
-IsTaking old new before now last (Err (statuses.Trace line cause)) = ⊥
-IsTaking old new before now last (Err statuses.WriteFault) = ⊥
+-- what taking bytes results in, of which so many may come: by what the source tells, before and after
+abbrev pub IsTaking : ℕ → SourceView → SourceView → Result (List ℕ) Status → Type 0
+IsTaking most old new (Ok bytes) = (new.faults ≡ old.faults) × Takes most old.left new.left bytes
+IsTaking most old new (Err statuses.ReadFault) = (new.faults ≡ old.faults + 1) × FailedLast new.just_failed
+IsTaking most old new (Err statuses.NoMemory) = new.faults ≡ old.faults
+IsTaking most old new (Err statuses.Done) = ⊥
+IsTaking most old new (Err statuses.Words) = ⊥
+IsTaking most old new (Err (statuses.Trace line cause)) = ⊥
+IsTaking most old new (Err statuses.WriteFault) = ⊥
 
 -- the answer to bytes that were not read: the first bad line, or out of memory
 abbrev pub refused_as : ReadError → Status
 refused_as (reads.Bad first) = statuses.Trace first.line first.cause
 refused_as reads.NoMemory = statuses.NoMemory
 
--- what taking bytes and reading them results in, by what these bytes are read as and by the same
-abbrev pub IsReading : {Y : Type 0} → (List ℕ → Result Y TraceFault) → Option (List ℕ) → Option (List ℕ) → ℕ → ℕ → Option Bool → Result Y Status → Type 0
-IsReading read old new before now last (Ok found) = (now ≡ before) × ReadsEnough old new × IsAtEnd new × IfSome old (λ input. read input ≡ Ok found)
-IsReading read old new before now last (Err (statuses.Trace line cause)) = (now ≡ before) × ReadsEnough old new
-    × IfSome old (λ input. read input ≡ Err (record { line = line; cause = cause }))
-IsReading read old new before now last (Err statuses.ReadFault) = (now ≡ before + 1) × FailedLast last
-IsReading read old new before now last (Err statuses.NoMemory) = now ≡ before
-IsReading read old new before now last (Err statuses.Done) = ⊥
-IsReading read old new before now last (Err statuses.Words) = ⊥
-IsReading read old new before now last (Err statuses.WriteFault) = ⊥
+-- what taking bytes and reading them results in, of which so many may come: by what these bytes are read as, and by the same
+abbrev pub IsReading : {Y : Type 0} → (List ℕ → Result Y TraceFault) → ℕ → SourceView → SourceView → Result Y Status → Type 0
+IsReading read most old new (Ok found) = (new.faults ≡ old.faults) × ReadsEnough most old.left new.left × IsAtEnd new.left
+    × IfSome old.left (λ input. read input ≡ Ok found)
+IsReading read most old new (Err (statuses.Trace line cause)) = (new.faults ≡ old.faults) × ReadsEnough most old.left new.left
+    × IfSome old.left (λ input. read input ≡ Err (record { line = line; cause = cause }))
+IsReading read most old new (Err statuses.ReadFault) = (new.faults ≡ old.faults + 1) × FailedLast new.just_failed
+IsReading read most old new (Err statuses.NoMemory) = new.faults ≡ old.faults
+IsReading read most old new (Err statuses.Done) = ⊥
+IsReading read most old new (Err statuses.Words) = ⊥
+IsReading read most old new (Err statuses.WriteFault) = ⊥

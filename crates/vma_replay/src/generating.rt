@@ -4,12 +4,12 @@ ghost use Rattle.gen_load.specs.Loads.{load_trace};
 ghost use Rattle.lock_core.specs.Facts.{list_after};
 ghost use Rattle.trace_reader.specs.Values.{IsTraceValue};
 ghost use Rattle.vma_replay.specs.declared.words.Mode.TheVariants.{Serial};
-ghost use Rattle.vma_replay.specs.Giving.{IsGivingSummary};
+ghost use Rattle.vma_replay.specs.Giving.{GivesASummary, IsDoing, IsDone, IsText};
 ghost use Rattle.vma_replay.specs.Replaying.{IsRunOf};
+ghost use Rattle.vma_replay.specs.Summaries.{summary_text};
 
 use crate::giving::give_all;
 use crate::replayed::{Replayed, Runs};
-use crate::running::run_serial;
 use crate::status::Status;
 use crate::summary::Summary;
 use gen_load::{MOST_OPERATIONS, load};
@@ -19,9 +19,9 @@ use mm_types::NoMemory;
 use std::alloc::Global;
 use std::sync::Wait;
 use trace_reader::{Trace, read};
+use vma_drive::run_serial;
 
-/// Runs the generated trace of so many operations and a seed in the order of its lines, and gives a sink its summary. The room for the
-/// run that is kept is taken first.
+/// Runs the generated trace of so many operations and a seed in the order of its lines, and gives a sink its summary.
 pub(crate) fn give_summary<R: Wait, K: Sink>(
     rt: &R,
     alloc: Global,
@@ -30,25 +30,30 @@ pub(crate) fn give_summary<R: Wait, K: Sink>(
     sink: &mut K,
 ) -> Replayed
     requires count { count ≤ MOST_OPERATIONS }
-    requires sink { K.faults sink.old < 2 ^ 64 - 1 }
-    ensures { IsGivingSummary count seed (K.written sink.old) (K.written sink.new) (K.faults sink.old) (K.faults sink.new) (K.just_failed sink.new) result.status result.runs }
+    requires sink { (K.seen sink.old).faults < 2 ^ 64 - 1 }
+    ensures { IsDone (GivesASummary count seed) (IsText (summary_text count seed)) (K.seen sink.old) (K.seen sink.new) result.status result.runs }
 {
-    let Ok(room) = Vec::with_capacity(alloc, 1) else {
-        return Replayed::without_run(alloc, Status::NoMemory);
-    };
-    let Ok(run) = generated_run(rt, alloc, count, seed) else {
-        return Replayed::without_run(alloc, Status::NoMemory);
-    };
-    let Ok(text) = Summary::of(&run).text(alloc) else {
-        return Replayed::without_run(alloc, Status::NoMemory);
-    };
-    match give_all(sink, &text) {
-        Status::Done => Replayed {
-            status: Status::Done,
-            runs: Runs::one(room, run),
-        },
-        status => Replayed::without_run(alloc, status),
-    }
+    Replayed::of(alloc, summary_given(rt, alloc, count, seed, sink))
+}
+
+/// The closed run of the generated trace, once its summary was given to a sink. The room for it is taken first.
+fn summary_given<R: Wait, K: Sink>(
+    rt: &R,
+    alloc: Global,
+    count: u32,
+    seed: u64,
+    sink: &mut K,
+) -> Result<Runs, Status>
+    requires count { count ≤ MOST_OPERATIONS }
+    requires sink { (K.seen sink.old).faults < 2 ^ 64 - 1 }
+    ensures { IsDoing (GivesASummary count seed) (IsText (summary_text count seed)) (K.seen sink.old) (K.seen sink.new) result }
+{
+    let mut runs = Vec::with_capacity(alloc, 1)?;
+    let run = generated_run(rt, alloc, count, seed)?;
+    let text = Summary::of(&run).text(alloc)?;
+    give_all(sink, &text)?;
+    runs.push_reserved(run);
+    Ok(Runs::of(runs))
 }
 
 /// Runs the generated trace in the order of its lines over a new space, and closes it.

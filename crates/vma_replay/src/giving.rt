@@ -1,7 +1,8 @@
 //! Runs of a trace, and texts that are given to a sink a piece after the other.
 ghost use Rattle.std.specs.Prelude.{◌≡◌, ◌≤◌, ◌<◌, ◌^◌, ◌-◌, [], codes, drop, length, take};
-ghost use Rattle.trace_reader.specs.Values.{IsTraceValue};
-ghost use Rattle.vma_replay.specs.Giving.{IsGiving, IsGivingRun, IsPrinting};
+ghost use Rattle.vma_replay.specs.Giving.{GivesAnOutput, GivesThis, IsDoing, IsDone, IsGivingText, IsPrinting, IsText};
+ghost use Rattle.vma_replay.specs.Replaying.{IsOutputOf};
+ghost use Rattle.vma_replay.specs.Runnable.{IsRunnable};
 
 use crate::printing::give_output;
 use crate::replayed::{Replayed, Runs};
@@ -17,7 +18,10 @@ use trace_reader::Trace;
 /// How many bytes are given at a call at most.
 pub(crate) const MOST_GIVEN: usize = 65_536;
 
-/// Runs a trace, and gives a sink its output. The room for the run that is kept is taken first.
+/// How many closed runs a trace has.
+const RUNS: usize = 1;
+
+/// Runs a trace, and gives a sink its output.
 pub(crate) fn give_run<R: Threads + Wait + Sync, K: Sink, G: Gate>(
     rt: &R,
     alloc: Global,
@@ -26,40 +30,65 @@ pub(crate) fn give_run<R: Threads + Wait + Sync, K: Sink, G: Gate>(
     trace: &Trace,
     gate: &G,
 ) -> Replayed
-    requires trace { IsTraceValue trace.now }
-    requires sink { K.faults sink.old < 2 ^ 64 - 1 }
-    ensures { IsGivingRun mode trace.now (K.written sink.old) (K.written sink.new) (K.faults sink.old) (K.faults sink.new) (K.just_failed sink.new) result.status result.runs }
+    requires trace { IsRunnable trace.now }
+    requires sink { (K.seen sink.old).faults < 2 ^ 64 - 1 }
+    ensures { IsDone (GivesAnOutput mode trace.now) (IsOutputOf mode trace.now) (K.seen sink.old) (K.seen sink.new) result.status result.runs }
 {
-    let Ok(room) = Vec::with_capacity(alloc, 1) else {
-        return Replayed::without_run(alloc, Status::NoMemory);
-    };
-    let Ok(run) = closed_run(rt, alloc, mode, trace, gate) else {
-        return Replayed::without_run(alloc, Status::NoMemory);
-    };
-    match give_output(alloc, mode, trace, &run, sink) {
-        Ok(()) => Replayed {
-            status: Status::Done,
-            runs: Runs::one(room, run),
-        },
-        Err(status) => Replayed::without_run(alloc, status),
-    }
+    Replayed::of(alloc, run_given(rt, alloc, mode, sink, trace, gate))
+}
+
+/// The closed runs of a trace, once their output was given to a sink. The room for them is taken first.
+fn run_given<R: Threads + Wait + Sync, K: Sink, G: Gate>(
+    rt: &R,
+    alloc: Global,
+    mode: Mode,
+    sink: &mut K,
+    trace: &Trace,
+    gate: &G,
+) -> Result<Runs, Status>
+    requires trace { IsRunnable trace.now }
+    requires sink { (K.seen sink.old).faults < 2 ^ 64 - 1 }
+    ensures { IsDoing (GivesAnOutput mode trace.now) (IsOutputOf mode trace.now) (K.seen sink.old) (K.seen sink.new) result }
+{
+    let mut runs = Vec::with_capacity(alloc, RUNS)?;
+    let run = closed_run(rt, alloc, mode, trace, gate)?;
+    give_output(alloc, mode, trace, &run, sink)?;
+    runs.push_reserved(run);
+    Ok(Runs::of(runs))
+}
+
+/// Gives a sink a text that no run was made for.
+pub(crate) fn give_text<K: Sink>(alloc: Global, sink: &mut K, text: &[u8]) -> Replayed
+    requires { (K.seen sink.old).faults < 2 ^ 64 - 1 }
+    ensures { IsDone (GivesThis text.now) (IsText text.now) (K.seen sink.old) (K.seen sink.new) result.status result.runs }
+{
+    Replayed::of(alloc, text_given(alloc, sink, text))
+}
+
+/// No run, once a text was given to a sink.
+fn text_given<K: Sink>(alloc: Global, sink: &mut K, text: &[u8]) -> Result<Runs, Status>
+    requires { (K.seen sink.old).faults < 2 ^ 64 - 1 }
+    ensures { IsDoing (GivesThis text.now) (IsText text.now) (K.seen sink.old) (K.seen sink.new) result }
+{
+    give_all(sink, text)?;
+    Ok(Runs::none(alloc))
 }
 
 /// Gives all of a text to a sink, in pieces of at most `MOST_GIVEN` bytes. Where the sink takes part of a piece, the next begins with
 /// the rest.
-pub(crate) fn give_all<K: Sink>(sink: &mut K, text: &[u8]) -> Status
-    requires { K.faults sink.old < 2 ^ 64 - 1 }
-    ensures { IsGiving text.now (K.written sink.old) (K.written sink.new) (K.faults sink.old) (K.faults sink.new) (K.just_failed sink.new) result }
+pub(crate) fn give_all<K: Sink>(sink: &mut K, text: &[u8]) -> Result<(), Status>
+    requires { (K.seen sink.old).faults < 2 ^ 64 - 1 }
+    ensures { IsGivingText (K.seen sink.old) (K.seen sink.new) text.now result }
 {
     let mut given = 0;
     while given < text.len() {
         match sink.give(front(&text[given..])) {
             Ok(count) => given += count,
-            Err(GiveFault::Failed) => return Status::WriteFault,
-            Err(GiveFault::NoMemory) => return Status::NoMemory,
+            Err(GiveFault::Failed) => return Err(Status::WriteFault),
+            Err(GiveFault::NoMemory) => return Err(Status::NoMemory),
         }
     }
-    Status::Done
+    Ok(())
 }
 
 /// The first `MOST_GIVEN` bytes of a text, or all of a shorter one.
@@ -72,21 +101,16 @@ fn front(text: &[u8]) -> &[u8]
 
 /// Gives of what a piece holds as much as fills whole pieces.
 pub(crate) fn give_full<K: Sink>(sink: &mut K, piece: &mut Vec<u8>) -> Result<(), Status>
-    requires { K.faults sink.old < 2 ^ 64 - 1 }
-    ensures { IsPrinting (K.written sink.old) (K.written sink.new) (K.faults sink.old) (K.faults sink.new) (K.just_failed sink.new) piece.old.items piece.new.items []
-        result }
+    requires { (K.seen sink.old).faults < 2 ^ 64 - 1 }
+    ensures { IsPrinting (K.seen sink.old) (K.seen sink.new) piece.old.items piece.new.items [] result }
 {
     let full = piece.len() - piece.len() % MOST_GIVEN;
     if full == 0 {
         return Ok(());
     }
-    match give_all(sink, &piece[..full]) {
-        Status::Done => {
-            drop_front(piece, full);
-            Ok(())
-        }
-        status => Err(status),
-    }
+    give_all(sink, &piece[..full])?;
+    drop_front(piece, full);
+    Ok(())
 }
 
 /// Drops so many bytes from the front of a piece.
@@ -99,9 +123,8 @@ fn drop_front(piece: &mut Vec<u8>, count: usize)
 
 /// Ends a line in a piece, and gives as much as fills whole pieces.
 pub(crate) fn end_line<K: Sink>(sink: &mut K, piece: &mut Vec<u8>) -> Result<(), Status>
-    requires { K.faults sink.old < 2 ^ 64 - 1 }
-    ensures { IsPrinting (K.written sink.old) (K.written sink.new) (K.faults sink.old) (K.faults sink.new) (K.just_failed sink.new) piece.old.items piece.new.items
-        (codes "\n") result }
+    requires { (K.seen sink.old).faults < 2 ^ 64 - 1 }
+    ensures { IsPrinting (K.seen sink.old) (K.seen sink.new) piece.old.items piece.new.items (codes "\n") result }
 {
     piece.extend_from_slice(b"\n")?;
     give_full(sink, piece)

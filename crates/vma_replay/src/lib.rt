@@ -2,7 +2,8 @@
 //! and writes what each of its steps results in; or replays a generated trace, and writes a summary of what it did.
 #![tactic(auto)]
 
-mod driving;
+#[cfg(test)]
+mod form_tests;
 mod generating;
 mod giving;
 #[cfg(test)]
@@ -12,7 +13,6 @@ mod order_tests;
 mod output;
 #[cfg(test)]
 mod piece_tests;
-mod places;
 mod printing;
 mod reading;
 mod replayed;
@@ -30,11 +30,11 @@ mod tests;
 mod thread_tests;
 mod words;
 
-pub use driving::{drive, in_order};
 pub use history::label;
 pub use replayed::{Replayed, Runs};
 pub use run::replay;
 pub use status::{Status, status_line, status_number};
 pub use summary::Summary;
 pub use trace_reader::Cause;
+pub use vma_drive::{drive, in_order};
 pub use words::{Job, Mode};

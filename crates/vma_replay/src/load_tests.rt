@@ -1,13 +1,15 @@
 //! Runs of generated traces. The summaries are worked by hand from the first numbers of the generator: seed 0 begins with a write fault of
 //! memory without an area, and seed 4 with a mapping of six pages.
 
-use crate::generating::{generated_run, generated_trace};
+use crate::generating::generated_run;
 use crate::printing::run_history;
+use crate::reading::read_source;
 use crate::running::closed_run;
 use crate::summary::Summary;
 use crate::tests::words;
 use crate::words::Mode;
 use crate::{Status, replay};
+use gen_load::load;
 use history::check;
 use io_edge::{PlainGate, Source, SureSink, SureSource};
 use std::alloc::Global;
@@ -74,7 +76,10 @@ fn accepts_a_count_and_a_seed_within_limits(rt: HostRuntime) -> Result<(), Fail>
 
 /// Runs a generated trace in a mode, and has the history of the run judged.
 fn judge<R: Threads + Wait + Sync + Abort>(rt: &R, alloc: Global, mode: Mode) -> Result<(), Fail> {
-    let trace = generated_trace(alloc, 2000, 1)?;
+    let mut source = SureSource::new(load(alloc, 2000, 1)?);
+    let Ok(trace) = read_source(alloc, &mut source) else {
+        panic!(rt; "the generated text is no trace")
+    };
     let run = closed_run(rt, alloc, mode, &trace, &PlainGate)?;
     let history = run_history(alloc, mode, &trace, &run)?;
     assert!(rt; check(alloc, &trace, &history).is_ok());

@@ -2,6 +2,7 @@
 ghost use Rattle.std.specs.Prelude.{◌≡◌, ◌++◌, OnOk, codes, decimal};
 ghost use Rattle.vma_replay.specs.Output.{errno_name, reply_text, served_text, verdict_text, start_text};
 
+use itoa::Buffer;
 use maps_print::push_range;
 use mm_types::{Errno, NoMemory, Record, Reply, Verdict};
 use std::io::Write;
@@ -35,7 +36,17 @@ fn push_served(text: &mut Vec<u8>, area: &Record, index: u64) -> Result<(), NoMe
 fn push_page(text: &mut Vec<u8>, index: u64) -> Result<(), NoMemory>
     ensures { OnOk result (text.new.items ≡ text.old.items ++ (codes " page " ++ decimal index)) }
 {
-    write!(text, " page {index}").map_err(|_| NoMemory)
+    text.extend_from_slice(b" page ")?;
+    push_decimal(text, index)
+}
+
+/// Appends a number in decimal.
+fn push_decimal(text: &mut Vec<u8>, number: u64) -> Result<(), NoMemory>
+    ensures { OnOk result (text.new.items ≡ text.old.items ++ decimal number) }
+{
+    let mut buffer = Buffer::new();
+    text.extend_from_slice(buffer.format(number).as_bytes())?;
+    Ok(())
 }
 
 /// Appends what stands before what a line results in: `L<line> t<thread> v<version> = `.
@@ -43,8 +54,14 @@ fn push_page(text: &mut Vec<u8>, index: u64) -> Result<(), NoMemory>
 pub(crate) fn push_start(text: &mut Vec<u8>, line: &TraceLine, version: u64) -> Result<(), NoMemory>
     ensures { OnOk result (text.new.items ≡ text.old.items ++ start_text line.now version) }
 {
-    let (number, thread) = (line.number, line.thread);
-    write!(text, "L{number} t{thread} v{version} = ").map_err(|_| NoMemory)
+    text.push(b'L')?;
+    push_decimal(text, line.number)?;
+    text.extend_from_slice(b" t")?;
+    push_decimal(text, u64::from(line.thread))?;
+    text.extend_from_slice(b" v")?;
+    push_decimal(text, version)?;
+    text.extend_from_slice(b" = ")?;
+    Ok(())
 }
 
 /// Appends a reply: an address, 0, -1 and the name of the error, or the area that a fault grew.
@@ -54,10 +71,10 @@ pub(crate) fn push_reply(text: &mut Vec<u8>, reply: Reply) -> Result<(), NoMemor
 {
     match reply {
         Reply::Addr(address) => write!(text, "0x{address:x}").map_err(|_| NoMemory),
-        Reply::Zero => write!(text, "0").map_err(|_| NoMemory),
+        Reply::Zero => Ok(text.push(b'0')?),
         Reply::Refused(errno) => {
-            let name = errno_name(errno);
-            write!(text, "-1 {name}").map_err(|_| NoMemory)
+            text.extend_from_slice(b"-1 ")?;
+            Ok(text.extend_from_slice(errno_name(errno).as_bytes())?)
         }
         Reply::Grown { area, index } => push_served(text, &area, index),
     }

@@ -20,11 +20,7 @@ struct NotingSource {
 }
 
 impl Source for NotingSource {
-    ghost left = { λ _. None };
-
-    ghost faults = { λ _. 0 };
-
-    ghost just_failed = { λ _. None };
+    ghost seen = { λ _. record { left = None; faults = 0; just_failed = None } };
 
     fn take(&mut self, into: &mut [u8]) -> Result<usize, Failed> {
         self.longest = self.longest.max(into.len());
@@ -51,11 +47,7 @@ impl ShortSink {
 }
 
 impl Sink for ShortSink {
-    ghost written = { λ _. None };
-
-    ghost faults = { λ _. 0 };
-
-    ghost just_failed = { λ _. None };
+    ghost seen = { λ _. record { written = None; faults = 0; just_failed = None } };
 
     fn give(&mut self, piece: &[u8]) -> Result<usize, GiveFault> {
         let count = piece.len().min(self.most.max(1));

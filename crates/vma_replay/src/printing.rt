@@ -36,8 +36,8 @@ pub(crate) fn give_output<K: Sink>(
     requires trace { IsTraceValue trace.now }
     requires run { IsRunOf mode trace.now run.now }
     requires list { run.now.list ≡ list_after trace.now.config run.now.journal }
-    requires sink { K.faults sink.old < 2 ^ 64 - 1 }
-    ensures { IsGivingOutput mode trace.now run.now (K.written sink.old) (K.written sink.new) (K.faults sink.old) (K.faults sink.new) (K.just_failed sink.new) result }
+    requires sink { (K.seen sink.old).faults < 2 ^ 64 - 1 }
+    ensures { IsGivingOutput mode trace.now run.now (K.seen sink.old) (K.seen sink.new) result }
 {
     let history = run_history(alloc, mode, trace, run)?;
     give_history(alloc, trace, &history, run.list().items(), sink)
@@ -70,10 +70,10 @@ fn give_history<K: Sink>(
     sink: &mut K,
 ) -> Result<(), Status>
     requires trace { IsTraceValue trace.now }
-    requires legal { IsLegalHistory trace.now.config trace.now.lines history.now }
+    requires legal { IsLegalHistory trace.now.config [] trace.now.lines history.now }
     requires areas { areas.now ≡ list_after trace.now.config (journal_of history.now) }
-    requires sink { K.faults sink.old < 2 ^ 64 - 1 }
-    ensures { IsGivingText (K.written sink.old) (K.written sink.new) (K.faults sink.old) (K.faults sink.new) (K.just_failed sink.new)
+    requires sink { (K.seen sink.old).faults < 2 ^ 64 - 1 }
+    ensures { IsGivingText (K.seen sink.old) (K.seen sink.new)
         (output_text trace.now.config trace.now.lines history.now) result }
 {
     let places = places_by_caller(alloc, trace.lines.items())?;
@@ -87,10 +87,7 @@ fn give_history<K: Sink>(
         history.items(),
     )?;
     print_maps(sink, &mut piece, &trace.config.files, areas)?;
-    match give_all(sink, &piece) {
-        Status::Done => Ok(()),
-        status => Err(status),
-    }
+    give_all(sink, &piece)
 }
 
 /// Prints the items of a legal history, by the places of the lines of each caller.
@@ -103,9 +100,9 @@ fn print_items<K: Sink>(
     items: &[Item],
 ) -> Result<(), Status>
     requires places { ArePlaces trace.now.lines (length places.now) places.now }
-    requires legal { IsLegalHistory trace.now.config trace.now.lines items.now }
-    requires sink { K.faults sink.old < 2 ^ 64 - 1 }
-    ensures { IsPrinting (K.written sink.old) (K.written sink.new) (K.faults sink.old) (K.faults sink.new) (K.just_failed sink.new) piece.old.items piece.new.items
+    requires legal { IsLegalHistory trace.now.config [] trace.now.lines items.now }
+    requires sink { (K.seen sink.old).faults < 2 ^ 64 - 1 }
+    ensures { IsPrinting (K.seen sink.old) (K.seen sink.new) piece.old.items piece.new.items
         (items_text trace.now.config.files trace.now.lines [] items.now) result }
 {
     let (lines, files) = (trace.lines.items(), &trace.config.files);
@@ -127,8 +124,8 @@ fn print_item<K: Sink>(
     line: &TraceLine,
     item: &Item,
 ) -> Result<(), Status>
-    requires { K.faults sink.old < 2 ^ 64 - 1 }
-    ensures { IsPrinting (K.written sink.old) (K.written sink.new) (K.faults sink.old) (K.faults sink.new) (K.just_failed sink.new) piece.old.items piece.new.items
+    requires { (K.seen sink.old).faults < 2 ^ 64 - 1 }
+    ensures { IsPrinting (K.seen sink.old) (K.seen sink.new) piece.old.items piece.new.items
         (item_text files.now line.now item.now) result }
 {
     push_start(piece, line, item.version)?;
@@ -142,8 +139,8 @@ fn print_content<K: Sink>(
     files: &Files,
     content: &Content,
 ) -> Result<(), Status>
-    requires { K.faults sink.old < 2 ^ 64 - 1 }
-    ensures { IsPrinting (K.written sink.old) (K.written sink.new) (K.faults sink.old) (K.faults sink.new) (K.just_failed sink.new) piece.old.items piece.new.items
+    requires { (K.seen sink.old).faults < 2 ^ 64 - 1 }
+    ensures { IsPrinting (K.seen sink.old) (K.seen sink.new) piece.old.items piece.new.items
         (content_text files.now content.now) result }
 {
     match content {
@@ -166,8 +163,8 @@ fn print_maps<K: Sink>(
     files: &Files,
     areas: &[Record],
 ) -> Result<(), Status>
-    requires { K.faults sink.old < 2 ^ 64 - 1 }
-    ensures { IsPrinting (K.written sink.old) (K.written sink.new) (K.faults sink.old) (K.faults sink.new) (K.just_failed sink.new) piece.old.items piece.new.items
+    requires { (K.seen sink.old).faults < 2 ^ 64 - 1 }
+    ensures { IsPrinting (K.seen sink.old) (K.seen sink.new) piece.old.items piece.new.items
         (maps_text files.now areas.now) result }
 {
     push_count(piece, areas.len())?;
@@ -181,8 +178,8 @@ fn print_list<K: Sink>(
     files: &Files,
     areas: &[Record],
 ) -> Result<(), Status>
-    requires { K.faults sink.old < 2 ^ 64 - 1 }
-    ensures { IsPrinting (K.written sink.old) (K.written sink.new) (K.faults sink.old) (K.faults sink.new) (K.just_failed sink.new) piece.old.items piece.new.items
+    requires { (K.seen sink.old).faults < 2 ^ 64 - 1 }
+    ensures { IsPrinting (K.seen sink.old) (K.seen sink.new) piece.old.items piece.new.items
         (list_text files.now areas.now) result }
 {
     for area in areas {

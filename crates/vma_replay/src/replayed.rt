@@ -1,28 +1,41 @@
 //! What a replay answers.
-ghost use Rattle.std.specs.Prelude.{◌≡◌, ◌<◌, ◌∷◌, [], vec_len, vec_capacity, IfOk};
+ghost use Rattle.std.specs.Prelude.{◌≡◌, [], MatchResult};
+ghost use Rattle.vma_replay.specs.declared.status.Status.TheVariants.{Done};
 
 use crate::status::Status;
 use mm_space::Closed;
-use mm_types::NoMemory;
 use std::alloc::Global;
 use std::marker::Model;
 
-/// What a replay results in, with the run that it was made of, if a trace was run.
+/// What a replay results in, with the runs that its output was made of.
 #[derive(Drop)]
 pub struct Replayed {
     pub status: Status,
-    /// The one closed run where the status is `Done` and a trace was run, and none else.
+    /// The closed runs, where the status is `Done`; none else.
     pub runs: Runs,
 }
 
 impl Replayed {
     /// A replay of which no run is kept.
-    pub(crate) fn without_run(alloc: Global, status: Status) -> Replayed
+    pub(crate) fn without_runs(alloc: Global, status: Status) -> Replayed
         ensures { (result.status ≡ status) × (result.runs ≡ []) }
     {
         Replayed {
             status,
             runs: Runs::none(alloc),
+        }
+    }
+
+    /// The replay that is done with these runs, or that ended early.
+    pub(crate) fn of(alloc: Global, done: Result<Runs, Status>) -> Replayed
+        ensures { MatchResult done (λ runs. (result.status ≡ Done) × (result.runs ≡ runs)) (λ status. (result.status ≡ status) × (result.runs ≡ [])) }
+    {
+        match done {
+            Ok(runs) => Replayed {
+                status: Status::Done,
+                runs,
+            },
+            Err(status) => Replayed::without_runs(alloc, status),
         }
     }
 }
@@ -52,14 +65,10 @@ impl Runs {
         }
     }
 
-    /// One run, in room that was taken before.
-    pub(crate) fn one(room: Vec<Closed>, run: Closed) -> Runs
-        requires empty { vec_len room ≡ 0 }
-        requires room { 0 < vec_capacity room }
-        ensures { result ≡ run ∷ [] }
+    /// These runs.
+    pub(crate) fn of(items: Vec<Closed>) -> Runs
+        ensures { result ≡ items.items }
     {
-        let mut items = room;
-        items.push_reserved(run);
         Runs { items }
     }
 

@@ -1,5 +1,6 @@
 //! Runs in the mode `threads`: outputs that no schedule changes, outputs of which the schedule picks one, and workers that run at once.
 
+use crate::form_tests::{STACK, STACK_OUTPUT};
 use crate::{Status, replay};
 use io_edge::{Gate, PlainGate, SureSink, SureSource};
 use std::alloc::Global;
@@ -41,6 +42,13 @@ fn one_thread_gives_the_same_in_both_modes(rt: HostRuntime) -> Result<(), Fail> 
         00010000-00012000 rw-p 00000000 00:00 0 \nL6 t3 v2 = 0\nL7 t3 v2 = SIGSEGV SEGV_MAPERR\nmaps 1\n\
         00011000-00012000 rw-p 00000000 00:00 0 \n";
     assert_eq!(rt; serial.bytes(), wanted);
+    Ok(())
+}
+
+#[test]
+fn a_stack_grows_in_a_thread(rt: HostRuntime) -> Result<(), Fail> {
+    let sink = output(&rt, rt.alloc(), "threads", STACK, &PlainGate)?;
+    assert_eq!(rt; sink.bytes(), STACK_OUTPUT);
     Ok(())
 }
 

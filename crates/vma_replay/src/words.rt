@@ -1,7 +1,7 @@
 ghost use Rattle.std.specs.Prelude.{◌≡◌, ◌≤◌, IfErr, IfOk, IfSome, Err, None, Some, map, string_bytes, true};
 ghost use Rattle.std.specs.List.{list_any};
 ghost use Rattle.clap.specs.Words.{app_of, found_of, matches_of, rows_of, takes};
-ghost use Rattle.vma_replay.specs.Jobs.{generate_job, job_of_words, lone_job, named_job, operation_count};
+ghost use Rattle.vma_replay.specs.Jobs.{alone, generate_job, generate_words, job_of_words, named_job, operation_count};
 ghost use Rattle.vma_replay.specs.CommandLine.{begins_with_dash, job_of_rows, words_command};
 ghost use Rattle.vma_replay.specs.Tallies.{IsInLimits};
 
@@ -103,22 +103,31 @@ fn named_job(name: &str, rest: &[&str]) -> Option<Job>
     ensures job { result ≡ named_job name.now (map (λ word. word.now) rest.now) }
     ensures limits { IfSome result IsInLimits }
 {
-    match rest {
-        [] => lone_job(name),
-        [count, seed] if name == "generate" => generate_job(count, seed),
+    match name {
+        "serial" => alone(Job::Replay(Mode::Serial), rest),
+        "threads" => alone(Job::Replay(Mode::Threads), rest),
+        "steps" => alone(Job::Steps, rest),
+        "generate" => generate_words(rest),
         _ => None,
     }
 }
 
-/// The job that a word alone names.
-fn lone_job(name: &str) -> Option<Job>
-    ensures job { result ≡ lone_job name.now }
+/// A job that has no words after the first.
+fn alone(job: Job, rest: &[&str]) -> Option<Job>
+    requires { IsInLimits job }
+    ensures job { result ≡ alone job (map (λ word. word.now) rest.now) }
     ensures limits { IfSome result IsInLimits }
 {
-    match name {
-        "serial" => Some(Job::Replay(Mode::Serial)),
-        "threads" => Some(Job::Replay(Mode::Threads)),
-        "steps" => Some(Job::Steps),
+    if rest.is_empty() { Some(job) } else { None }
+}
+
+/// The job of the words after `generate`.
+fn generate_words(rest: &[&str]) -> Option<Job>
+    ensures job { result ≡ generate_words (map (λ word. word.now) rest.now) }
+    ensures limits { IfSome result IsInLimits }
+{
+    match rest {
+        [count, seed] => generate_job(count, seed),
         _ => None,
     }
 }

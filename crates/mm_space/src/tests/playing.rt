@@ -1,6 +1,7 @@
 //! Scripts of operations, which callers carry out on one space, and what the model makes of them.
 ghost use Rattle.std.specs.Prelude.{◌≡◌, ◌≤◌, ◌<◌, length};
-ghost use Rattle.fault_path.specs.Passes.{caller, IsPassOf, ArePasses};
+ghost use Rattle.fault_path.specs.Passes.{caller};
+ghost use Rattle.mm_space.specs.Names.{IsPassOf, ArePasses};
 
 use crate::{Closed, Ready, Space, SpaceName};
 use area_model::{Stepped, grows, is_ready, model_step, model_verdict, sound};
@@ -27,7 +28,7 @@ pub(super) fn play_all<N: SpaceName + Send + Sync, R: Threads + Wait + Sync>(
     ready: Ready,
     scripts: &[Vec<Step>],
 ) -> Closed
-    requires { (ready.table ≡ N.table) × (ready.nodes ≡ N.nodes) × (ready.config ≡ N.config) × (ready.operations ≡ N.operations) }
+    requires { ready ≡ N.name }
 {
     let (space, mut passes) = Space::<N>::open(ready);
     drive(rt, alloc, &space, passes.as_mut_slice(), scripts);
@@ -42,16 +43,16 @@ fn drive<N: SpaceName + Send + Sync, R: Threads + Wait + Sync>(
     passes: &mut [Pass],
     scripts: &[Vec<Step>],
 )
-    requires { ArePasses N.table N.nodes N.config N.operations passes.old }
-    ensures { ArePasses N.table N.nodes N.config N.operations passes.new }
+    requires { ArePasses N.name passes.old }
+    ensures { ArePasses N.name passes.new }
 {
     let threads = passes.len();
     if threads == 0 {
         return;
     }
     let worker = |place: usize, pass: &mut Pass|
-        requires { IsPassOf N.table N.nodes N.config N.operations pass.now }
-        ensures { IsPassOf N.table N.nodes N.config N.operations pass.exit.now × (caller pass.exit.now ≡ caller pass.entry.now) }
+        requires { IsPassOf N.name pass.now }
+        ensures { IsPassOf N.name pass.exit.now × (caller pass.exit.now ≡ caller pass.entry.now) }
     { play_one(rt, alloc, space, pass, scripts, place) };
     thread::for_each_mut(rt, passes, threads, &worker);
 }
@@ -65,8 +66,8 @@ fn play_one<N: SpaceName, R: Wait>(
     scripts: &[Vec<Step>],
     place: usize,
 )
-    requires { IsPassOf N.table N.nodes N.config N.operations pass.old }
-    ensures pass { IsPassOf N.table N.nodes N.config N.operations pass.new }
+    requires { IsPassOf N.name pass.old }
+    ensures pass { IsPassOf N.name pass.new }
     ensures caller { caller pass.new ≡ caller pass.old }
 {
     if let Some(script) = scripts.get(place) {
@@ -82,8 +83,8 @@ fn play<N: SpaceName, R: Wait>(
     pass: &mut Pass,
     script: &[Step],
 )
-    requires { IsPassOf N.table N.nodes N.config N.operations pass.old }
-    ensures pass { IsPassOf N.table N.nodes N.config N.operations pass.new }
+    requires { IsPassOf N.name pass.old }
+    ensures pass { IsPassOf N.name pass.new }
     ensures caller { caller pass.new ≡ caller pass.old }
 {
     for step in script {
@@ -96,9 +97,9 @@ fn play<N: SpaceName, R: Wait>(
 
 /// Makes one step. A list for which memory runs out is left out.
 fn make<N: SpaceName, R: Wait>(rt: &R, alloc: Global, space: &Space<N>, pass: &mut Pass, step: Step)
-    requires pass { IsPassOf N.table N.nodes N.config N.operations pass.old }
+    requires pass { IsPassOf N.name pass.old }
     requires left { 0 < pass.old.left }
-    ensures pass { IsPassOf N.table N.nodes N.config N.operations pass.new }
+    ensures pass { IsPassOf N.name pass.new }
     ensures caller { caller pass.new ≡ caller pass.old }
 {
     match step {

@@ -1,42 +1,59 @@
-//! Four callers that call and fault at once on a few pages.
+//! Callers that call and fault at once on a few pages.
 
-ghost use Rattle.std.specs.Prelude.{◌≤◌, ◌<◌};
+ghost use Rattle.std.specs.Prelude.{◌≡◌, ◌≤◌, ◌<◌, length, sum};
 
 use super::playing::{Step, judge, play_all};
 use super::{READ, READ_WRITE, config};
 use crate::Ready;
-use mm_types::{Access, Call, MAP_ANONYMOUS, MAP_FIXED, MAP_PRIVATE, MmapArgs, NoMemory, Page};
+use mm_types::{
+    Access, Call, MAP_ANONYMOUS, MAP_FIXED, MAP_GROWSDOWN, MAP_PRIVATE, MmapArgs, NoMemory, Page,
+};
 use std::alloc::Global;
 use std::marker::Brand;
+use std::process::Abort;
+use std::sync::Wait;
 use std::test::Fail;
+use std::thread::Threads;
 
 /// How many operations each caller makes.
 const OPERATIONS: usize = 400;
 
+/// Below which address the spaces have room.
+const TOP: u64 = 0x2_8000;
+
 /// The first page that they use.
 const FIRST: u64 = 0x20;
 
-/// Numbers that follow from a seed, by a linear congruence.
+/// Private anonymous memory at a fixed address.
+const FIXED: u32 = MAP_PRIVATE | MAP_ANONYMOUS | MAP_FIXED;
+
+/// Numbers that follow from a seed, by a linear congruence; the pages that are used, and the flags of a mapping.
 #[derive(Drop)]
-struct Generator(u64);
+struct Generator {
+    seed: u64,
+    pages: u64,
+    flags: u32,
+    ghost some: { (1 ≤ pages) × (pages ≤ 32) },
+}
 
 impl Generator {
     fn below(&mut self, bound: u64) -> u64
         requires { 1 ≤ bound }
         ensures { result < bound }
     {
-        self.0 = self
-            .0
+        self.seed = self
+            .seed
             .wrapping_mul(6364136223846793005)
             .wrapping_add(1442695040888963407);
-        (self.0 >> 33) % bound
+        (self.seed >> 33) % bound
     }
 
-    /// One of twelve pages.
+    /// One of the pages.
     fn page(&mut self) -> u64
         ensures { result < 64 }
     {
-        FIRST + self.below(12)
+        let pages = self.pages;
+        FIRST + self.below(pages)
     }
 
     fn mmap(&mut self) -> Call {
@@ -44,19 +61,23 @@ impl Generator {
             addr: 4096 * self.page(),
             len: 4096 * self.below(4),
             prot: if self.below(2) == 0 { READ } else { READ_WRITE },
-            flags: MAP_PRIVATE | MAP_ANONYMOUS | MAP_FIXED,
+            flags: self.flags,
             fd: -1,
             offset: 0,
         })
     }
 
+    fn munmap(&mut self) -> Call {
+        Call::Munmap {
+            addr: 4096 * self.page(),
+            len: 4096,
+        }
+    }
+
     fn step(&mut self) -> Step {
         match self.below(8) {
             0 | 1 => Step::Call(self.mmap()),
-            2 => Step::Call(Call::Munmap {
-                addr: 4096 * self.page(),
-                len: 4096,
-            }),
+            2 => Step::Call(self.munmap()),
             3 => Step::Call(Call::Mprotect {
                 addr: 4096 * self.page(),
                 len: 8192,
@@ -68,32 +89,62 @@ impl Generator {
     }
 }
 
-/// The operations of a caller, which follow from its seed.
-fn script(alloc: Global, seed: u64) -> Result<Vec<Step>, NoMemory> {
-    let mut generator = Generator(seed);
-    let mut steps = Vec::with_capacity(alloc, OPERATIONS)?;
-    for _ in 0..OPERATIONS {
-        steps.push(generator.step())?;
+/// The operations of some callers, which follow from their places.
+fn scripts(alloc: Global, callers: u64, pages: u64, flags: u32) -> Result<Vec<Vec<Step>>, NoMemory>
+    requires { (1 ≤ pages) × (pages ≤ 32) }
+{
+    let mut scripts = Vec::new(alloc);
+    for seed in 0..callers {
+        let mut generator = Generator { seed, pages, flags };
+        let mut steps = Vec::with_capacity(alloc, OPERATIONS)?;
+        for _ in 0..OPERATIONS {
+            steps.push(generator.step())?;
+        }
+        scripts.push(steps)?;
     }
-    Ok(steps)
+    Ok(scripts)
 }
 
-#[test]
-fn callers_see_one_order(rt: HostRuntime) -> Result<(), Fail> {
+/// Four callers play their scripts at once, in a space of at most so many areas. The closed run is judged, and each operation left one
+/// entry or one read.
+fn run<R: Threads + Wait + Abort + Sync + AllocGlobal>(
+    rt: &R,
+    areas: u32,
+    scripts: &[Vec<Step>],
+) -> Result<(), NoMemory> {
     let alloc = rt.alloc();
-    let mut scripts = Vec::with_capacity(alloc, 4)?;
-    for seed in 1..=4u64 {
-        scripts.push(script(alloc, seed)?)?;
-    }
-    let opened = config(alloc, 0x2_8000, 9)?;
+    let opened = config(alloc, TOP, areas)?;
     assert!(rt; opened.valid());
     let ready = Ready::make(alloc, opened, &[400; 4])?;
-    let closed = play_all::<Brand, HostRuntime>(&rt, alloc, ready, scripts.as_slice());
-    judge(&rt, alloc, &config(alloc, 0x2_8000, 9)?, &closed)?;
+    let closed = play_all::<Brand, R>(rt, alloc, ready, scripts);
+    judge(rt, alloc, &config(alloc, TOP, areas)?, &closed)?;
     let mut made = closed.journal().len();
     for log in closed.logs() {
         made = made.saturating_add(log.len());
     }
-    assert_eq!(rt; made, 1600);
+    assert_eq!(rt; made, 4 * OPERATIONS);
+    Ok(())
+}
+
+#[test]
+fn callers_see_one_order(rt: HostRuntime) -> Result<(), Fail> {
+    let scripts = scripts(rt.alloc(), 4, 12, FIXED)?;
+    run(&rt, 9, scripts.as_slice())?;
+    Ok(())
+}
+
+/// At most one area, and two pages.
+#[test]
+fn callers_wait_for_each_others_slots(rt: HostRuntime) -> Result<(), Fail> {
+    let scripts = scripts(rt.alloc(), 4, 2, FIXED)?;
+    run(&rt, 1, scripts.as_slice())?;
+    Ok(())
+}
+
+/// Areas grow towards each other, where others are mapped and unmapped.
+#[test]
+fn stacks_grow_beside_each_other(rt: HostRuntime) -> Result<(), Fail> {
+    let scripts = scripts(rt.alloc(), 4, 24, FIXED | MAP_GROWSDOWN)?;
+    run(&rt, 9, scripts.as_slice())?;
     Ok(())
 }

@@ -7,8 +7,8 @@ ghost use Rattle.node_slots.specs.Seats as trees;
 use crate::state::MmState;
 use maple_read::{a_root_that_was_loaded, walk};
 use mm_types::{
-    AreaList, Call, Config, Entry, FileRow, Files, NoMemory, Page, Reply, Slot, Text, rows_for,
-    slots_for,
+    Access, AreaList, Call, Config, Entry, FileRow, Files, NoMemory, Page, Reply, Slot, Text,
+    Verdict, rows_for, slots_for,
 };
 use node_slots::{NodeSeat, NodeTable};
 use std::alloc::Global;
@@ -81,6 +81,15 @@ impl Bench {
         self.seat.version()
     }
 
+    /// The verdict on a fault, where it grows no area.
+    pub(super) fn verdict(&self, page: Page, access: Access) -> Option<Verdict> {
+        if self.state.grows(page, access) {
+            None
+        } else {
+            Some(self.state.verdict(page, access))
+        }
+    }
+
     /// The row of a slot, where the reader is validated there.
     pub(super) fn row(&mut self, slot: u32) -> Option<[u64; 4]>
         requires { slot < 20 }
@@ -148,7 +157,7 @@ fn file(alloc: Global, fd: i32, write: bool) -> FileRow {
     }
 }
 
-/// Few places and at most 9 areas, and two files, of which the first may be written.
+/// Few places and at most 9 areas, two files, of which the first may be written, and a heap from page 0x12 on.
 pub(super) fn config(alloc: Global) -> Result<Config, NoMemory>
     ensures { IfOk result (λ config. config.areas ≡ 9) }
 {
@@ -161,6 +170,6 @@ pub(super) fn config(alloc: Global) -> Result<Config, NoMemory>
         limit: 0x7fff_ffff_f000,
         areas: 9,
         files: Files::of(files),
-        heap: 0,
+        heap: 0x1_2000,
     })
 }

@@ -1,91 +1,16 @@
-//! Generated calls of every kind, by plans on the table and in the plain model, on few pages: areas split, touch, join
-//! and move.
-
-ghost use Rattle.std.specs.Prelude.{◌≤◌, ◌<◌};
+//! Generated calls by plans on the table and in the plain model, and faults between them.
 
 use super::bench::{Bench, SLOTS, config};
-use area_model::{is_ready, model_step};
-use mm_types::{AreaList, Call, Config, Counters, MmapArgs, NoMemory, Page, Prot, Record, unpack};
+use super::generator::Generator;
+use area_model::{grows, is_ready, model_step, model_verdict};
+use mm_types::{AreaList, Call, Config, Counters, NoMemory, Page, Record, unpack};
 use std::alloc::Global;
 use std::process::Abort;
 use std::sync::Wait;
 use std::test::Fail;
 
-/// Numbers that follow from a seed, by a linear congruence.
-#[derive(Drop)]
-struct Generator(u64);
-
-impl Generator {
-    fn below(&mut self, bound: u64) -> u64
-        requires { 1 ≤ bound }
-        ensures { result < bound }
-    {
-        self.0 = self
-            .0
-            .wrapping_mul(6364136223846793005)
-            .wrapping_add(1442695040888963407);
-        (self.0 >> 33) % bound
-    }
-
-    fn chance(&mut self) -> bool {
-        self.below(2) == 0
-    }
-
-    fn address(&mut self) -> u64 {
-        4096 * (14 + self.below(28))
-    }
-
-    fn length(&mut self) -> u64 {
-        4096 * self.below(7)
-    }
-
-    fn prot(&mut self) -> Prot {
-        Prot {
-            read: self.chance(),
-            write: self.chance(),
-            exec: false,
-        }
-    }
-
-    fn mmap(&mut self) -> Call {
-        let flags = [0x22, 0x21, 0x32, 0x12, 0x1, 0x2, 0x10_0022, 0x31];
-        let place = self.below(8) as usize;
-        Call::Mmap(MmapArgs {
-            addr: if self.chance() { 0 } else { self.address() },
-            len: self.length(),
-            prot: self.prot(),
-            flags: flags[place],
-            fd: if self.chance() { 3 } else { 4 },
-            offset: 4096 * self.below(3),
-        })
-    }
-
-    fn mremap(&mut self) -> Call {
-        Call::Mremap {
-            old: self.address(),
-            old_len: self.length(),
-            new_len: self.length(),
-            flags: self.below(4) as u32,
-            new: self.address(),
-        }
-    }
-
-    fn call(&mut self) -> Call {
-        match self.below(4) {
-            0 => self.mmap(),
-            1 => Call::Munmap {
-                addr: self.address(),
-                len: self.length(),
-            },
-            2 => Call::Mprotect {
-                addr: self.address(),
-                len: self.length(),
-                prot: self.prot(),
-            },
-            _ => self.mremap(),
-        }
-    }
-}
+/// How many calls one space is given: after so many, most of its few pages are sealed.
+const CALLS: u32 = 200;
 
 /// The area at a page of a list.
 fn area_at(list: &AreaList, page: u64) -> Option<Record> {
@@ -107,28 +32,53 @@ fn pairs_follow<R: Abort>(rt: &R, bench: &mut Bench, list: &AreaList) {
     }
 }
 
+/// One fault, on the state and in the model.
+fn compare_fault(
+    rt: &impl Abort,
+    config: &Config,
+    bench: &Bench,
+    counters: Counters,
+    list: &AreaList,
+    generator: &mut Generator,
+) {
+    let (page, access) = generator.fault();
+    assert!(rt; is_ready(config, counters, list));
+    let wanted = if grows(config, list, page, access) {
+        None
+    } else {
+        Some(model_verdict(config, list, page, access))
+    };
+    assert!(rt; bench.verdict(page, access) == wanted);
+}
+
 /// Makes one call on the table and in the model, and compares the reply, the list, and the pairs of the tree. Answers the
-/// counters that the model then has: the lists agree on their numbers.
-fn compare<R: Abort + Wait>(
+/// list and the counters that the model then has.
+fn compare_call<R: Abort + Wait>(
     rt: &R,
     alloc: Global,
     config: &Config,
     bench: &mut Bench,
     counters: Counters,
     call: &Call,
-) -> Result<Counters, NoMemory> {
+) -> Result<(AreaList, Counters), NoMemory> {
     let list = bench.list(alloc)?;
     assert!(rt; is_ready(config, counters, &list));
     let wanted = model_step(alloc, config, counters, &list, call)?;
-    assert!(rt; bench.call(rt, call) == Some(wanted.reply));
-    assert!(rt; bench.list(alloc)?.items() == wanted.list.items());
+    assert!(rt; bench.call(rt, call) == Some(wanted.reply), "{call:?}");
+    assert!(rt;
+        bench.list(alloc)?.items() == wanted.list.items(),
+        "{call:?}"
+    );
     pairs_follow(rt, bench, &wanted.list);
-    Ok(wanted.counters)
+    Ok((wanted.list, wanted.counters))
 }
 
-#[test]
-fn calls_do_as_the_model(rt: HostRuntime) -> Result<(), Fail> {
-    let alloc = rt.alloc();
+/// Calls one after another on a new state and in the model, and a fault after each.
+fn compare_space<R: Abort + Wait>(
+    rt: &R,
+    alloc: Global,
+    generator: &mut Generator,
+) -> Result<(), NoMemory> {
     let settings = config(alloc)?;
     assert!(rt; settings.valid());
     let model = settings.copy(alloc)?;
@@ -136,10 +86,20 @@ fn calls_do_as_the_model(rt: HostRuntime) -> Result<(), Fail> {
         panic!(rt; "there is no reader")
     };
     let mut counters = Counters::opening(&model);
-    let mut generator = Generator(1);
-    for _ in 0..6000 {
+    for _ in 0..CALLS {
         let call = generator.call();
-        counters = compare(&rt, alloc, &model, &mut bench, counters, &call)?;
+        let (list, after) = compare_call(rt, alloc, &model, &mut bench, counters, &call)?;
+        counters = after;
+        compare_fault(rt, &model, &bench, counters, &list, generator);
+    }
+    Ok(())
+}
+
+#[test]
+fn calls_do_as_the_model(rt: HostRuntime) -> Result<(), Fail> {
+    let mut generator = Generator(1);
+    for _ in 0..30 {
+        compare_space(&rt, rt.alloc(), &mut generator)?;
     }
     Ok(())
 }

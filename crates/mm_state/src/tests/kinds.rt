@@ -74,8 +74,8 @@ fn each_kind_of_call(rt: HostRuntime) -> Result<(), Fail> {
     assert_eq!(rt; bench.call(&rt, &growing), Some(Reply::Addr(0x2_1000)));
     assert_eq!(rt; bench.row(last - 1), Some([0x21_8039, 0x23, 0, 0]));
     assert_eq!(rt;
-        bench.state.verdict(Page(0x22), Access::Write),
-        Verdict::AccErr
+        bench.verdict(Page(0x22), Access::Write),
+        Some(Verdict::AccErr)
     );
     let unmapping = Call::Munmap {
         addr: 0x2_0000,
@@ -84,8 +84,8 @@ fn each_kind_of_call(rt: HostRuntime) -> Result<(), Fail> {
     assert_eq!(rt; bench.call(&rt, &unmapping), Some(Reply::Zero));
     assert_eq!(rt; bench.row(last), Some([0; 4]));
     assert_eq!(rt;
-        bench.state.verdict(Page(0x20), Access::Read),
-        Verdict::MapErr
+        bench.verdict(Page(0x20), Access::Read),
+        Some(Verdict::MapErr)
     );
     let refused = Call::Munmap { addr: 1, len: 1 };
     assert_eq!(rt;

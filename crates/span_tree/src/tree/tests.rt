@@ -4,6 +4,7 @@ ghost use Rattle.node_slots.specs.Seats.{IsOf, IsClosed};
 ghost use Rattle.span_tree.specs.Tests.{IsStill, few_pairs};
 
 use super::SpanTree;
+use crate::call::OpenCall;
 use maple_node::Layout;
 use mm_types::{NoMemory, Page, Slot, Span, Steps};
 use node_slots::{NodeSeat, NodeTable};
@@ -15,6 +16,15 @@ const AREAS: u32 = 4;
 
 /// What is counted of nobody.
 struct Looks;
+
+/// A call, which is open, after so many others.
+struct Call(u64);
+
+impl OpenCall for Call {
+    ghost is_open = { λ _. Unit {0} };
+
+    ghost calls = { λ call. call.0 };
+}
 
 /// The entry at a place of the root's row, where that is a leaf.
 fn entry(tree: &SpanTree, place: usize) -> Option<(u64, Option<Slot>)> {
@@ -56,7 +66,7 @@ fn publish_two<R: Wait>(rt: &R, tree: &mut SpanTree)
     tree.prepare(rt);
     tree.store(Span { lo: 10, hi: 20 }, Some(Slot(3)));
     tree.store(Span { lo: 30, hi: 40 }, Some(Slot(4)));
-    tree.publish();
+    tree.publish(&Call(0));
 }
 
 /// Publishes the same tree with a gap in the place of the second half of one pair and the first of the other.
@@ -65,7 +75,7 @@ fn publish_gap<R: Wait>(rt: &R, tree: &mut SpanTree)
 {
     tree.prepare(rt);
     tree.store(Span { lo: 15, hi: 35 }, None);
-    tree.publish();
+    tree.publish(&Call(1));
 }
 
 /// The trees list their spans, and a tree is settled once no reader can read a row that only trees before it had.

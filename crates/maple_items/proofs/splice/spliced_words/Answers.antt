@@ -1,14 +1,15 @@
 -- For `spliced_words`: the words that are added are those of the items in order.
-use Rattle.std.proofs.Common.{ℕ, List, length, take, drop, ◌++◌, ◌-◌, ◌+◌, ◌*◌, ap, ◌∙◌, arith, length-append}
+use Rattle.std.proofs.Common.{ℕ, ◌≡◌, refl, inl, inr, List, length, take, drop, ◌++◌, ◌-◌, ◌+◌, ◌*◌, ap, ◌∙◌, arith, length-append}
 use Rattle.std.proofs.lemmas.List.{length-take-le, length-drop}
 use Rattle.std.specs.List.{flat_map}
-use Rattle.maple_node.specs.Nodes.{item_words, items_of}
+use Rattle.maple_node.specs.Nodes.{item_words, items_of, most}
 use Rattle.maple_items.specs.Splices.{upto, spliced}
 use Rattle.maple_items.specs.Parts.{width_of}
 use Rattle.maple_items.specs.Padding.{padded}
 use Rattle.maple_items.proofs.Padded.{length-words}
-use Rattle.maple_items.proofs.Spliced.{count_is, spliced_is, fits_of, most_words}
+use Rattle.maple_items.proofs.Spliced.{count_is, spliced_is, fits_of, misfits_of, most_words}
 use Rattle.maple_items.proofs.splice.spliced_words.Goals as goal
+use Rattle.maple_items.proofs.splice.spliced_words.Goals.{then-count-width-via-then-count-width, then-count-width-via-else-count-width+then-width-most}
 
 pub push_words-requires-2 : goal.push_words-requires-2
 push_words-requires-2 c =
@@ -75,3 +76,23 @@ returns-clause-least c =
     (fits_of leaf c.args.fewest (length (spliced c.args.lo c.args.hi new (items_of leaf words)))
     (parts.before + c.width_of-width.result * length new + (parts.used - parts.past)) c.width_of-width.result c.most.result
     (omega (arith, wide, count)) c.width_of-width.ensures c.most.ensures c.if-count-width.false c.if-width-most.false).least
+
+pub returns-then-count-width-clause-none : goal.returns-then-count-width-clause-none
+returns-then-count-width-clause-none c =
+    let leaf = c.args.leaf in
+    let words = c.args.words.now in
+    let new = c.args.new.now in
+    let parts = c.parts_of-before.result in
+    let told = c.parts_of-before.ensures in
+    let wide = ap (λ (n : ℕ). n * length new) c.width_of-width.ensures in
+    let count = count_is leaf c.args.lo c.args.hi parts.before parts.past parts.used words new (omega (arith, told.before, told.within, c.told-words))
+    (omega (arith, told.within, c.told-words)) told.past told.front told.back in
+    let all : ℕ = parts.before + c.width_of-width.result * length new + (parts.used - parts.past) in
+    let items : ℕ = length (spliced c.args.lo c.args.hi new (items_of leaf words)) in
+    let is : all ≡ width_of leaf * items = omega (arith, wide, count) in
+    elim c.then-count-width.branch [
+      | then-count-width-via-then-count-width w ↦
+          misfits_of leaf c.args.fewest items all c.width_of-width.result (most leaf) is c.width_of-width.ensures refl (inl w.if-count-width.true)
+      | then-count-width-via-else-count-width+then-width-most w ↦
+          misfits_of leaf c.args.fewest items all c.width_of-width.result w.most.result is c.width_of-width.ensures w.most.ensures (inr w.if-width-most.true)
+    ]

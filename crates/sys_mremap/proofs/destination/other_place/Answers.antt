@@ -8,7 +8,7 @@ use Rattle.area_rules.specs.declared.placement.Bounds.{Bounds}
 use Rattle.area_rules.specs.Mremap.{moves_to, may_move, new_place}
 use Rattle.area_rules.specs.Placement.{bounds_of, place_low}
 use Rattle.area_rules.specs.Tables.{pages_of}
-use Rattle.area_rules.proofs.Fitting.{place-without_hint}
+use Rattle.area_rules.proofs.Narrow.{place-zero}
 use Rattle.split_merge.specs.PageNumbers.{page_number}
 use Rattle.sys_mremap.specs.Cases.{other_place}
 use Rattle.sys_mremap.proofs.destination.other_place.Goals as goal
@@ -20,7 +20,7 @@ placed_by : (config : Config) (bounds : Bounds) (areas : List Record) (args : Mr
 unfolding other_place new_place
 placed_by config bounds areas args pages placed numbers loose may len is =
     rw (loose, may) (is ∙ ap (λ b. place_low b areas pages) numbers ∙ ap (λ n. place_low (bounds_of config) areas n) len
-    ∙ sym (place-without_hint (bounds_of config) areas (pages_of args.new_len)))
+    ∙ sym (place-zero (bounds_of config) areas (pages_of args.new_len)))
 
 pub returns-in_err-page : goal.returns-in_err-page
 returns-in_err-page g c = c.from_residual.ensures ∙ ap page_number (sym c.in_err-page.was)

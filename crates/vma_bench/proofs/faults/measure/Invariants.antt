@@ -2,4 +2,4 @@
 use Rattle.vma_bench.proofs.faults.measure.Given as goal
 
 abbrev pub ghosts-run : goal.ghosts-run
-ghosts-run g a = record { table = a.ready.table; nodes = a.ready.nodes; config = a.ready.config; operations = a.ready.operations }
+ghosts-run g a = record { name = a.ready }

@@ -2,4 +2,4 @@
 use Rattle.vma_bench.proofs.tests.an_area_is_held_through_many_calls.Given as goal
 
 abbrev pub ghosts-hold_through : goal.ghosts-hold_through
-ghosts-hold_through g a = record { table = a.ready.table; nodes = a.ready.nodes; config = a.ready.config; operations = a.ready.operations }
+ghosts-hold_through g a = record { name = a.ready }

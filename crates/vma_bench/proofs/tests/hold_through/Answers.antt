@@ -1,5 +1,6 @@
 -- For `hold_through`: the first pass has one operation, and the second is of the space.
-use Rattle.std.proofs.Common.{ap, arith, get_or, ◌∙◌}
+use Rattle.std.proofs.Common.{ap, arith, get_or, sym, ◌∙◌}
+use Rattle.mm_space.specs.Names.{SpaceId}
 use Rattle.mm_space.proofs.Playing.{left_at}
 use Rattle.vma_bench.proofs.tests.hold_through.Goals as goal
 
@@ -8,7 +9,8 @@ call-requires-clause-pass g c = (c.open-space.ensures.passes_are.each 0 c.in-Som
 
 pub call-requires-clause-left : goal.call-requires-clause-left
 call-requires-clause-left g c =
-    let one = left_at _ _ _ _ _ _ 0 c.in-Some.one c.open-space.ensures c.requires.name.3 c.in-Some.ensures.0 ∙ ap (λ ops. get_or ops 0 0) c.requires.two in
+    let one = left_at g.N.SpaceName.name _ 0 c.in-Some.one c.open-space.ensures c.in-Some.ensures.0
+    ∙ ap (λ (r : SpaceId). get_or r.operations 0 0) (sym c.requires.name) ∙ ap (λ ops. get_or ops 0 0) c.requires.two in
     omega (arith, one)
 
 pub call_elsewhere-requires : goal.call_elsewhere-requires

@@ -2,4 +2,4 @@
 use Rattle.vma_bench.proofs.tests.two_callers_share_a_space.Given as goal
 
 abbrev pub ghosts-share : goal.ghosts-share
-ghosts-share g a = record { table = a.ready.table; nodes = a.ready.nodes; config = a.ready.config; operations = a.ready.operations }
+ghosts-share g a = record { name = a.ready }

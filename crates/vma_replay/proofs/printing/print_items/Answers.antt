@@ -5,7 +5,7 @@ use Rattle.vma_replay.proofs.Telling.{here, told_none, told_all}
 use Rattle.vma_replay.proofs.printing.print_items.Goals as goal
 
 pub loop-item-init : goal.loop-item-init
-loop-item-init g c = ([], prints_none _ _ _, told_none _ _ _ _ _ _ (c.in_ok-answered.ensures.items_if_clones_equal (λ y same. search rules)) refl)
+loop-item-init g c = ([], prints_none _ _, told_none _ _ _ _ _ _ (c.in_ok-answered.ensures.items_if_clones_equal (λ y same. search rules)) refl)
 
 pub bounds-places-caller : goal.bounds-places-caller
 bounds-places-caller g c =
@@ -59,10 +59,10 @@ loop-item-preserved g c =
     c.item-item.result c.items-lines.ensures c.requires.places c.requires.legal c.loop-item.invariant.2 c.loop-item-test.true c.item-item.is).told
     c.index-places-caller.result c.index.result.now c.index_mut.result.now c.index-place.result.now c.index-places-caller.is c.index.ensures c.index_mut.ensures.value
     c.index-place.ensures _ in
-    (_, prints_then _ _ _ _ _ _ _ _ _ _ _ c.loop-item.invariant.1 c.in_ok-print_item.ensures, told)
+    (_, prints_then _ _ _ _ _ _ _ _ c.loop-item.invariant.1 c.in_ok-print_item.ensures, told)
 
 pub returns-in_err-answered : goal.returns-in_err-answered
-returns-in_err-answered g c = at_error _ _ _ _ c.from_residual.ensures.1 (cut_none _ _ _ _ _ _ refl)
+returns-in_err-answered g c = at_error _ _ _ _ c.from_residual.ensures.1 (cut_none _ _ _ _ refl)
 
 pub returns-in_err-print_item : goal.returns-in_err-print_item
 returns-in_err-print_item g c =
@@ -71,7 +71,7 @@ returns-in_err-print_item g c =
     c.index-places-caller.result c.index.result.now c.index_mut.result.now c.index-place.result.now c.index-places-caller.is c.index.ensures c.index_mut.ensures.value
     c.index-place.ensures _ in
     at_error _ _ _ _ c.from_residual-in_err-print_item.ensures.1
-    (cut_at _ _ _ _ _ _ _ _ _ _ _ _ _ _ c.loop-item.invariant.1 told.told c.in_err-print_item.ensures)
+    (cut_at _ _ _ _ _ _ _ _ _ _ c.loop-item.invariant.1 told.told c.in_err-print_item.ensures)
 
 pub returns : goal.returns
-returns g c = prints_as _ _ _ _ _ _ _ _ (told_all _ _ _ _ _ _ _ c.loop-item.invariant.2 c.loop-item-test.false) c.loop-item.invariant.1
+returns g c = prints_as _ _ _ _ _ _ (told_all _ _ _ _ _ _ _ c.loop-item.invariant.2 c.loop-item-test.false) c.loop-item.invariant.1

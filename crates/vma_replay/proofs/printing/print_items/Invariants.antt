@@ -6,6 +6,5 @@ use Rattle.vma_replay.proofs.printing.print_items.Given as goal
 
 abbrev pub invariant-loop-item : goal.invariant-loop-item
 invariant-loop-item g l = (text : List ℕ)
-    × Prints (g.K.Sink.written l.fn.sink) (g.K.Sink.written l.sink) (g.K.Sink.faults l.fn.sink) (g.K.Sink.faults l.sink)
-    l.fn.piece.items l.piece.items text
+    × Prints (g.K.Sink.seen l.fn.sink) (g.K.Sink.seen l.sink) l.fn.piece.items l.piece.items text
     × Told l.fn.trace.config.files l.fn.trace.lines l.fn.items (length l.fn.places) l.item-index l.answered.items text

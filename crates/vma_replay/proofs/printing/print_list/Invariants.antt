@@ -5,5 +5,4 @@ use Rattle.vma_replay.specs.Giving.{Prints}
 use Rattle.vma_replay.proofs.printing.print_list.Given as goal
 
 abbrev pub invariant-loop-area : goal.invariant-loop-area
-invariant-loop-area g l = Prints (g.K.Sink.written l.fn.sink) (g.K.Sink.written l.sink) (g.K.Sink.faults l.fn.sink) (g.K.Sink.faults l.sink)
-    l.fn.piece.items l.piece.items (list_text l.files (take l.area-index l.areas))
+invariant-loop-area g l = Prints (g.K.Sink.seen l.fn.sink) (g.K.Sink.seen l.sink) l.fn.piece.items l.piece.items (list_text l.files (take l.area-index l.areas))

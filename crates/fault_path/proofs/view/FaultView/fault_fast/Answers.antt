@@ -3,7 +3,7 @@ use Rattle.std.proofs.Common.{◌∙◌, sym, ap, subst, refl}
 use Rattle.vma_lock.specs.declared.view.View.{View}
 use Rattle.vma_lock.specs.Seats.{view}
 use Rattle.mm_types.specs.declared.config.Config.{Config}
-use Rattle.fault_path.specs.Passes.{PassView, ViewedTable, config}
+use Rattle.fault_path.specs.Passes.{PassView, ViewedTable, config, pass_of}
 use Rattle.fault_path.specs.Faults.{IsAnswer}
 use Rattle.fault_path.proofs.Passes.{gone_on}
 use Rattle.fault_path.proofs.Answers.{sub_goes, answered}
@@ -21,9 +21,9 @@ returns-in-Ok-clause-fast c =
     let config_is = ap (λ (v : View). v.config) c.sub.ensures.view ∙ c.lock_page.ensures.goes_on.config
     ∙ ap config c.pass.view_is ∙ c.requires.config_is ∙ sym (ap (λ (v : ViewedTable). v.config) c.self.view_is) in
     let inside = c.pass.inside in
-    let old : PassView = record { reader = inside.reader; nodes = inside.nodes; log = inside.log.items; left = inside.left; operations = inside.operations } in
-    let new : PassView = record { reader = c.sub.new.seat; nodes = c.lock_page.new.walker; log = inside.log.items; left = inside.left; operations = inside.operations } in
+    let old : PassView = pass_of inside.reader inside.rest in
+    let new : PassView = pass_of c.sub.new.seat (record inside.rest { nodes = c.lock_page.new.walker }) in
     subst (λ (was : PassView). IsAnswer c.args.page.0 c.args.access c.area_verdict.result c.version.result was new) c.pass.view_is
     (answered c.args.page.0 c.args.access c.area_verdict.result c.version.result c.in-Ok.area c.items.result.now old new (view held)
     c.in-Ok.ensures.locked.0 c.in-Ok.ensures.locked.1 c.sub.ensures.view c.area_verdict.ensures
-    (c.items.ensures ∙ c.self.invariant.files_are ∙ ap (λ (k : Config). k.files) (sym config_is)) c.version.ensures)
+    (c.items.ensures ∙ ap (λ (k : Config). k.files) (c.self.invariant.config_is ∙ sym config_is)) c.version.ensures)

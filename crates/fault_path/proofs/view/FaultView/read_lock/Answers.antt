@@ -1,7 +1,7 @@
 -- For `read_lock`: the area is locked, and what is kept of the pass.
 use Rattle.std.proofs.Common.{refl, sym, ap, subst, ◌∙◌, rules, ◌≡◌}
 use Rattle.mm_types.specs.Config.{IsValidConfig}
-use Rattle.fault_path.specs.Passes.{PassView, ViewedTable, config, walker}
+use Rattle.fault_path.specs.Passes.{PassView, ViewedTable, config, walker, pass_of}
 use Rattle.fault_path.specs.Holding.{HeldView, Locks}
 use Rattle.fault_path.proofs.Holding.{locks}
 use Rattle.fault_path.proofs.Passes.{keeps_on, keeps_of}
@@ -22,14 +22,8 @@ pub returns-in-Ok-clause-held : goal.returns-in-Ok-clause-held
 returns-in-Ok-clause-held c =
     let lock = c.lock_page.ensures in
     let inside = c.pass.inside in
-    let old : PassView = record { reader = inside.reader; nodes = inside.nodes; log = inside.log.items; left = inside.left; operations = inside.operations } in
-    let new : PassView = record {
-      reader = c.lock_page.new.reader;
-      nodes = c.lock_page.new.walker;
-      log = inside.log.items;
-      left = inside.left;
-      operations = inside.operations;
-    } in
+    let old : PassView = pass_of inside.reader inside.rest in
+    let new : PassView = pass_of c.lock_page.new.reader (record inside.rest { nodes = c.lock_page.new.walker }) in
     let held : HeldView = record { area = c.in-Ok.area; pass = new } in
     let table : new.reader.seat.table_id ≡ old.reader.seat.table_id = search rules in
     let nodes : new.nodes.seat.table_id ≡ old.nodes.seat.table_id = search rules in

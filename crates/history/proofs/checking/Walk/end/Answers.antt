@@ -2,20 +2,19 @@
 use Rattle.std.proofs.Common.{◌∙◌, refl, ap, List}
 use Rattle.mm_types.specs.declared.area.Record.{Record}
 use Rattle.history.specs.Walks.{shown}
-use Rattle.history.proofs.Advances.{next_of_trace}
 use Rattle.history.proofs.Walking.{walked_room, ends_legal, ends_early}
 use Rattle.history.proofs.checking.Walk.end.Goals as goal
 
 pub returns-in_default-clause-legal : goal.returns-in_default-clause-legal
-returns-in_default-clause-legal c = ends_legal _ _ _ _ c.requires (c.in_default.ensures c.args.trace.now.lines _ c.requires.progress)
+returns-in_default-clause-legal c = ends_legal _ _ c.requires (c.in_default.ensures c.args.case.now.lines.now _ c.requires.progress)
 
 pub run_line-expected-requires : goal.run_line-expected-requires
-run_line-expected-requires c = record { room = (walked_room _ _ _ _ _ c.requires).0 }
+run_line-expected-requires c = record { room = (walked_room _ _ _ c.requires).0 }
 
 pub returns-clause-refused : goal.returns-clause-refused
 returns-clause-refused c =
-    ends_early _ _ _ _ c.in-Some.caller c.next_line-line.result (shown c.run_line-expected.new.space.space.areas c.run_line-expected.result) _ c.requires
-    (c.in-Some.ensures c.args.trace.now.lines _ c.requires.progress)
-    (next_of_trace _ _ _ _ c.in-Some.caller _ c.items.ensures c.requires.progress c.next_line-line.ensures)
+    ends_early _ _ c.in-Some.caller c.next_line-line.result (shown c.run_line-expected.new.space.space.areas c.run_line-expected.result) _ c.requires
+    (c.in-Some.ensures c.args.case.now.lines.now _ c.requires.progress)
+    (c.next_line-line.ensures _ c.requires.progress)
     c.run_line-expected.ensures.answer refl
     (c.in_ok-answer.ensures ∙ ap (λ (areas : List Record). shown areas c.run_line-expected.result) c.list.ensures.list) refl

@@ -1,7 +1,9 @@
 -- For `make`: the state and the passes are of one new table.
-use Rattle.std.proofs.Common.{ap, arith, rules}
+use Rattle.std.proofs.Common.{◌≤◌, ap, arith, rules}
+use Rattle.std.proofs.lemmas.List.Elements.{All-nil}
+use Rattle.mm_types.specs.declared.call.Entry.{Entry}
 use Rattle.mm_state.specs.States.{StateView}
-use Rattle.mm_space.proofs.Opening.{operations_are, ready}
+use Rattle.mm_space.proofs.Opening.{operations_are, ready, opened_at_once}
 use Rattle.mm_space.proofs.ready.Ready.make.Goals as goal
 
 pub returns-clause-operations : goal.returns-clause-operations
@@ -10,11 +12,9 @@ returns-clause-operations c = operations_are _ _ _ _ _ c.in_ok-view.ensures.pass
 pub invariant_of-result : goal.invariant_of-result
 invariant_of-result c =
     let made = c.in_ok-state.ensures in
-    let room = ap (λ (s : StateView). s.room) made in
     let entries = c.total-entries.ensures in
-    let table = ap (λ (s : StateView). s.table) made in
-    let nodes = ap (λ (s : StateView). s.nodes) made in
-    let config = ap (λ (s : StateView). s.config) made in
-    let journal = ap (λ (s : StateView). s.journal) made in
-    ready _ _ _ _ _ _ _ _ _ c.in_ok-view.ensures.view table nodes config journal
-    (omega (arith, room, entries)) c.requires.few c.in_ok-view.ensures.passes c.in_ok-logs.ensures.len (search rules)
+    let room = ap (λ (s : StateView). s.room) made in
+    let few = c.requires.few in
+    ready _ _ _ _ _ _ c.in_ok-view.ensures.view (ap (λ (s : StateView). s.table) made) (ap (λ (s : StateView). s.nodes) made)
+    (ap (λ (s : StateView). s.config) made) (ap (λ (s : StateView). s.journal) made) (All-nil (λ (e : Entry). 64 ≤ e.caller)) c.requires.callers.1
+    (omega (arith, room, entries)) (omega (arith, few)) (opened_at_once _ _ _ _ _ c.in_ok-view.ensures.passes) c.in_ok-logs.ensures.len (search rules)

@@ -6,9 +6,9 @@ use Rattle.mm_space.proofs.Settling.{closes}
 use Rattle.mm_space.proofs.space.Space.close.Goals as goal
 
 pub returns : goal.returns
-returns g c = subst (λ (run : ClosedView). Closes g.N.SpaceName.config c.args.passes.items run) (sym c.new.ensures)
-    (closes _ _ _ _ _ _ _ _ _ c.requires c.finish-journal.ensures.journal c.finish-journal.ensures.legal c.finish-journal.ensures.list
+returns g c = subst (λ (run : ClosedView). Closes g.N.SpaceName.name c.args.passes.items run) (sym c.new.ensures)
+    (closes _ _ _ _ _ _ c.requires c.finish-journal.ensures.journal c.finish-journal.ensures.legal c.finish-journal.ensures.list
     c.gather_logs-logs.ensures.logs
-    (subst (λ (state : StateView). All (IsIn g.N.SpaceName.config state.journal) c.args.passes.items)
+    (subst (λ (state : StateView). All (IsIn g.N.SpaceName.name.config state.journal) c.args.passes.items)
     (sym c.gather_logs-logs.ensures.state) c.gather_logs-logs.ensures.each)
-    c.finish-journal.ensures.within)
+    c.finish-journal.ensures.begins c.finish-journal.ensures.within)

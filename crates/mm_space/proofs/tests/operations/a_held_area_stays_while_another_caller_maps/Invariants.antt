@@ -2,4 +2,4 @@
 use Rattle.mm_space.proofs.tests.operations.a_held_area_stays_while_another_caller_maps.Given as goal
 
 abbrev pub ghosts-hold_one : goal.ghosts-hold_one
-ghosts-hold_one g a = record { table = a.ready.table; nodes = a.ready.nodes; config = a.ready.config; operations = a.ready.operations }
+ghosts-hold_one g a = record { name = a.ready }

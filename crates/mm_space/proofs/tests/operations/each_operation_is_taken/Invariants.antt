@@ -2,4 +2,4 @@
 use Rattle.mm_space.proofs.tests.operations.each_operation_is_taken.Given as goal
 
 abbrev pub ghosts-use_all : goal.ghosts-use_all
-ghosts-use_all g a = record { table = a.ready.table; nodes = a.ready.nodes; config = a.ready.config; operations = a.ready.operations }
+ghosts-use_all g a = record { name = a.ready }

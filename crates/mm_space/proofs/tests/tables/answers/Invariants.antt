@@ -2,4 +2,4 @@
 use Rattle.mm_space.proofs.tests.tables.answers.Given as goal
 
 abbrev pub ghosts-play_all : goal.ghosts-play_all
-ghosts-play_all g a = record { table = a.ready.table; nodes = a.ready.nodes; config = a.ready.config; operations = a.ready.operations }
+ghosts-play_all g a = record { name = a.ready }

@@ -1,233 +1,38 @@
--- For `Board::enter`: the board is at rest again.
-use Rattle.std.proofs.Common.{◌≡◌, ◌≤◌, ◌+◌, ◌*◌, ◌++◌, [], ◌∷◌, ℕ, Option, Some, None, nat_eq, eq-eqb, refl, if◌then◌else◌, List, All, length, ap, ◌∙◌, arith, subst, sym, length-append, sum_by, vec_capacity}
+-- For `Board::enter`: the turn that was lent is given back, and the board is as the call left it.
+use Rattle.std.proofs.Common.{◌≡◌, ℕ, Option, Some, None, nat_eq, eq-eqb, refl, if◌then◌else◌, List, ap, ◌∙◌, sym, inl}
 use Rattle.std.proofs.lemmas.Bool.{cond-true}
-use Rattle.mm_types.specs.Config.{slots_for}
-use Rattle.mm_types.specs.declared.area.Record.{Record}
 use Rattle.mm_types.specs.declared.call.Entry.{Entry}
-use Rattle.mm_types.specs.declared.config.Config.{Config}
-use Rattle.mm_types.specs.Packed.{packed}
-use Rattle.lock_core.specs.declared.stage.SlotState.{SlotState}
-use Rattle.lock_core.specs.Facts.{list_after}
-use Rattle.lock_core.specs.Rows.{Exactly}
-use Rattle.area_list.specs.Areas.{page_of}
-use Rattle.split_merge.specs.Plans.{applied, IsPlanOf}
-use Rattle.area_slots.specs.Slots.{SlotSet}
 use Rattle.vma_lock.specs.declared.view.View.{View}
-use Rattle.vma_lock.specs.declared.seats.WriterSeat.{WriterSeat}
-use Rattle.vma_lock.specs.Views.{begin_at, end_at, lent_at}
-use Rattle.vma_lock.specs.Seats.{config_of, slots_of, view, sight, journal, slots, kept_turn, is_turn_of}
-use Rattle.area_tree.specs.AreaTrees.{AreaTreeView, shown_of, areas_of, AreasRise}
-use Rattle.mm_state.specs.declared.board.Board.{Board}
-use Rattle.mm_state.specs.Shelves.{Hangs}
-use Rattle.mm_state.specs.States.{KeepsSlots}
-use Rattle.mm_state.specs.Boards.{IsPackable}
-use Rattle.mm_state.proofs.Changing.{tree_step}
-use Rattle.mm_state.proofs.Hanging.{hangs_permuted}
-use Rattle.mm_state.proofs.Readying.{prepared, can_store, rows_then, areas_then, news_few}
-use Rattle.mm_state.proofs.Staying.{stays}
+use Rattle.vma_lock.specs.Seats.{sight, view, is_turn_of}
+use Rattle.mm_state.proofs.Resting.{IsLike, at_rest_like, entered_like, carried_like}
 use Rattle.mm_state.proofs.board.Board.enter.Goals as goal
 
-pub change_all-requires-clause-can : goal.change_all-requires-clause-can
-change_all-requires-clause-can g c =
-    let ready = c.make_ready.ensures.ready in
-    let p = prepared c.args.self.now c.make_ready.new.self c.args.changes.now c.requires.rest ready in
-    let begun = c.begin.ensures.view ∙ ap begin_at c.lend.ensures.writer in
-    record {
-      table = c.begin.ensures.table;
-      open_call = omega (arith, ap (λ (v : View). v.desk.seq) begun, ap (λ w. (sight w).desk.seq) ready.writer, c.requires.rest.closed);
-      count = ready.slots.count ∙ c.requires.rest.count ∙ ap slots_of (sym ready.table);
-      records = ready.slots.count ∙ c.requires.rest.records ∙ sym (ap (λ (t : AreaTreeView). slots_for t.tree.areas) ready.areas);
-      hangs = subst (λ (states : List SlotState). Hangs states (shown_of c.make_ready.new.self.areas ++ c.make_ready.new.self.moved.items) c.make_ready.new.self.slots)
-          (sym (ap (λ (v : View). v.desk.slots) begun ∙ ap slots ready.writer)) p.hangs;
-      roomy = ap (λ (t : AreaTreeView). t.tree.roomy) ready.areas;
-    }
+-- another view with the same table and journal
+like : (old new : View) (turn : Option ℕ) (joined own : List Entry) → new ≡ record old { turn = turn; joined = joined; own = own } → IsLike old new
+like old new turn joined own is = record { config = ap (λ (v : View). v.config) is; seen = ap (λ (v : View). v.seen) is; desk = ap (λ (v : View). v.desk) is }
 
-pub change_all-requires-clause-plan : goal.change_all-requires-clause-plan
-change_all-requires-clause-plan g c = subst (λ (t : AreaTreeView). IsPlanOf (areas_of t) c.args.changes.now) (sym c.make_ready.ensures.ready.areas) c.requires.plan.plan
+pub carry_out-requires-clause-rest : goal.carry_out-requires-clause-rest
+carry_out-requires-clause-rest g c = at_rest_like c.args.self.now c.lend.new.writer (like _ _ _ _ _ c.lend.ensures.writer) c.lend.ensures.tables.0 c.requires.rest
 
-pub change_all-requires-clause-moved : goal.change_all-requires-clause-moved
-change_all-requires-clause-moved g c = (prepared c.args.self.now c.make_ready.new.self c.args.changes.now c.requires.rest c.make_ready.ensures.ready).moved
+pub carry_out-requires-clause-turn : goal.carry_out-requires-clause-turn
+carry_out-requires-clause-turn g c = inl (ap (λ (v : View). v.turn) c.lend.ensures.writer ∙ c.requires.turn.0 ∙ ap Some (sym c.requires.turn.1))
 
-pub change_all-requires-clause-leaving : goal.change_all-requires-clause-leaving
-change_all-requires-clause-leaving g c =
-    let ready = c.make_ready.ensures.ready in
-    let begun = c.begin.ensures.view ∙ ap begin_at c.lend.ensures.writer in
-    let number : c.make_ready.new.self.areas.tree.number ≡ c.version-tree.result =
-    ap (λ (t : AreaTreeView). t.tree.number) ready.areas ∙ c.requires.rest.tree.number ∙ ap (λ w. length (journal w)) (sym ready.writer)
-    ∙ sym (c.version-tree.ensures ∙ ap (λ (v : View). length v.seen) begun) in
-    subst (λ n. All (λ leaving. leaving.tree ≤ n + 1) c.make_ready.new.self.slots.left) number
-    (prepared c.args.self.now c.make_ready.new.self c.args.changes.now c.requires.rest ready).leaving
+pub carry_out-requires-clause-plan : goal.carry_out-requires-clause-plan
+carry_out-requires-clause-plan g c =
+    entered_like c.args.self.now c.lend.new.writer c.args.changes.now c.args.entry (like _ _ _ _ _ c.lend.ensures.writer) c.requires.plan
 
-pub change_all-requires-clause-room : goal.change_all-requires-clause-room
-change_all-requires-clause-room g c = omega (
-  arith,
-  ap vec_capacity c.make_ready.ensures.ready.moved,
-  c.requires.rest.tree.spare,
-  c.requires.plan.few_after,
-  news_few c.args.changes.now (areas_of c.args.self.now.areas),
-)
-
-pub store_moved-requires : goal.store_moved-requires
-store_moved-requires g c =
-    let ready = c.make_ready.ensures.ready in
-    let changing = c.change_all.ensures in
-    let board = c.change_all.new.self in
-    let start = c.make_ready.new.self in
-    let limit : board.areas.tree.limit ≡ page_of (config_of c.args.self.now.table).limit =
-    ap (λ (t : AreaTreeView). t.tree.limit) changing.same ∙ ap (λ (t : AreaTreeView). t.tree.limit) ready.areas ∙ c.requires.rest.tree.limit in
-    let areas : board.areas.tree.areas ≡ (config_of c.args.self.now.table).areas =
-    ap (λ (t : AreaTreeView). t.tree.areas) changing.same ∙ ap (λ (t : AreaTreeView). t.tree.areas) ready.areas ∙ c.requires.rest.tree.areas in
-    let plan = subst (λ (t : AreaTreeView). IsPlanOf (areas_of t) c.args.changes.now) (sym ready.areas) c.requires.plan.plan in
-    let rise = subst (λ (t : AreaTreeView). AreasRise (page_of (config_of c.args.self.now.table).limit) 0 (applied c.args.changes.now (areas_of t))) (sym ready.areas)
-    c.requires.plan.rise_after in
-    let few = ap (λ (t : AreaTreeView). length (applied c.args.changes.now (areas_of t))) ready.areas in (
-      ap (λ (t : AreaTreeView). t.tree.roomy) changing.same ∙ ap (λ (t : AreaTreeView). t.tree.roomy) ready.areas,
-      can_store _ board c.args.changes.now _ changing plan board.areas.tree.areas board.areas.tree.limit
-          (subst (λ n. AreasRise n 0 (applied c.args.changes.now (areas_of start.areas))) (sym limit) rise)
-          (omega (arith, areas, few, c.requires.plan.few_after))
-          (omega (arith, changing.count, ready.slots.count, c.requires.rest.count, areas)),
-    )
-
-pub publish_areas-requires-clause-roomy : goal.publish_areas-requires-clause-roomy
-publish_areas-requires-clause-roomy g c =
-    ap (λ (t : AreaTreeView). t.tree.roomy) c.store_moved.ensures.same ∙ ap (λ (t : AreaTreeView). t.tree.roomy) c.change_all.ensures.same
-    ∙ ap (λ (t : AreaTreeView). t.tree.roomy) c.make_ready.ensures.ready.areas
-
-pub publish_areas-requires-clause-number : goal.publish_areas-requires-clause-number
-publish_areas-requires-clause-number g c = omega (
-  arith,
-  ap (λ (t : AreaTreeView). t.tree.number) c.store_moved.ensures.same,
-  ap (λ (t : AreaTreeView). t.tree.number) c.change_all.ensures.same,
-  ap (λ (t : AreaTreeView). t.tree.number) c.make_ready.ensures.ready.areas,
-  c.requires.rest.tree.number,
-  c.requires.room,
-)
-
-pub end-requires-clause-exact : goal.end-requires-clause-exact
-end-requires-clause-exact g c =
-    let ready = c.make_ready.ensures.ready in
-    let changing = c.change_all.ensures in
-    let board = c.change_all.new.self in
-    let begun = c.begin.ensures.view ∙ ap begin_at (c.lend.ensures.writer ∙ ap (λ w. lent_at (sight w) (view c.args.seat.now)) ready.writer) in
-    let config : (sight board.writer).config ≡ config_of c.args.self.now.table = changing.beside.config ∙ ap (λ (v : View). v.config) begun ∙ c.requires.rest.config in
-    let seen : journal board.writer ≡ journal c.args.self.now.writer = changing.beside.seen ∙ ap (λ (v : View). v.seen) begun in
-    let plan = subst (λ (t : AreaTreeView). IsPlanOf (areas_of t) c.args.changes.now) (sym ready.areas) c.requires.plan.plan in
-    let list : applied c.args.changes.now (areas_of c.make_ready.new.self.areas) ≡ list_after (sight board.writer).config (journal board.writer ++ c.args.entry ∷ []) =
-    ap (λ (t : AreaTreeView). applied c.args.changes.now (areas_of t)) ready.areas ∙ c.requires.plan.result
-    ∙ sym (ap (λ (k : Config). list_after k (journal c.args.self.now.writer ++ c.args.entry ∷ [])) config)
-    ∙ sym (ap (λ (j : List Entry). list_after (sight board.writer).config (j ++ c.args.entry ∷ [])) seen) in
-    subst (λ (w : WriterSeat). Exactly (slots w) (list_after (sight w).config (journal w ++ c.args.entry ∷ []))) (sym (ap (λ (b : Board). b.writer) c.publish_areas.ensures.same))
-    (λ weight. rows_then _ board c.args.changes.now _ changing plan weight ∙ ap (sum_by (λ (area : Record). weight (packed area))) list)
-
-pub returns-clause-areas : goal.returns-clause-areas
-returns-clause-areas g c =
-    let ready = c.make_ready.ensures.ready in
-    let changing = c.change_all.ensures in
-    let board = c.change_all.new.self in
-    let start = c.make_ready.new.self in
-    let after = c.store_moved.new.areas in
-    let limit : after.tree.limit ≡ page_of (config_of c.args.self.now.table).limit =
-    ap (λ (t : AreaTreeView). t.tree.limit) c.store_moved.ensures.same ∙ ap (λ (t : AreaTreeView). t.tree.limit) changing.same
-    ∙ ap (λ (t : AreaTreeView). t.tree.limit) ready.areas ∙ c.requires.rest.tree.limit in
-    let plan = subst (λ (t : AreaTreeView). IsPlanOf (areas_of t) c.args.changes.now) (sym ready.areas) c.requires.plan.plan in
-    let rise = subst (λ (t : AreaTreeView). AreasRise (page_of (config_of c.args.self.now.table).limit) 0 (applied c.args.changes.now (areas_of t))) (sym ready.areas)
-    c.requires.plan.rise_after in
-    ap areas_of c.publish_areas.ensures.areas
-    ∙ areas_then _ board c.args.changes.now _ changing plan after after.tree.limit c.store_moved.ensures.shown c.facts.ensures.rise
-    (subst (λ n. AreasRise n 0 (applied c.args.changes.now (areas_of start.areas))) (sym limit) rise)
-    ∙ ap (λ (t : AreaTreeView). applied c.args.changes.now (areas_of t)) ready.areas
-
-pub returns-clause-bounds : goal.returns-clause-bounds
-returns-clause-bounds g c = (
-  ap (λ (t : AreaTreeView). t.bounds) c.publish_areas.ensures.areas ∙ ap (λ (t : AreaTreeView). t.bounds) c.store_moved.ensures.same
-      ∙ ap (λ (t : AreaTreeView). t.bounds) c.change_all.ensures.same ∙ ap (λ (t : AreaTreeView). t.bounds) c.make_ready.ensures.ready.areas,
-  ap (λ (t : AreaTreeView). t.tree.areas) c.publish_areas.ensures.areas ∙ ap (λ (t : AreaTreeView). t.tree.areas) c.store_moved.ensures.same
-      ∙ ap (λ (t : AreaTreeView). t.tree.areas) c.change_all.ensures.same ∙ ap (λ (t : AreaTreeView). t.tree.areas) c.make_ready.ensures.ready.areas,
-)
-
-pub returns-clause-stays : goal.returns-clause-stays
-returns-clause-stays g c =
-    let ready = c.make_ready.ensures.ready in
-    let board = c.change_all.new.self in
-    let before = c.args.self.now in
-    let opened = c.begin.new.writer in
-    let met = c.meet.new.writer in
-    let tree = c.make_ready.new.self.areas in
-    let begun = c.begin.ensures.view ∙ ap begin_at c.lend.ensures.writer in
-    let were : slots opened ≡ slots before.writer = ap (λ (v : View). v.desk.slots) begun ∙ ap slots ready.writer in
-    let are : slots met ≡ slots board.writer = ap (λ (v : View). v.desk.slots) c.meet.ensures.writer ∙ ap (λ (v : View). v.desk.slots) c.end.ensures.view
-    ∙ ap (λ (b : Board). slots b.writer) c.publish_areas.ensures.same in
-    let hangs = subst (λ (t : AreaTreeView). Hangs (slots opened) (shown_of t) before.slots) (sym ready.areas)
-    (subst (λ (states : List SlotState). Hangs states (shown_of before.areas) before.slots) (sym were) c.requires.rest.hangs) in
-    let packable = subst (λ (t : AreaTreeView). All IsPackable (areas_of t)) (sym ready.areas) c.requires.plan.packable in
-    let plan = subst (λ (t : AreaTreeView). IsPlanOf (areas_of t) c.args.changes.now) (sym ready.areas) c.requires.plan.plan in
-    subst (λ (t : AreaTreeView). KeepsSlots (areas_of t) (applied c.args.changes.now (areas_of t)) (slots before.writer) (slots met)) ready.areas
-    (subst (λ (states : List SlotState). KeepsSlots (areas_of tree) (applied c.args.changes.now (areas_of tree)) states (slots met)) were
-    (subst (λ (states : List SlotState). KeepsSlots (areas_of tree) (applied c.args.changes.now (areas_of tree)) (slots opened) states) (sym are)
-    (stays _ board c.args.changes.now _ before.slots c.change_all.ensures hangs packable plan c.requires.plan.real)))
-
-pub returns-clause-nodes : goal.returns-clause-nodes
-returns-clause-nodes g c =
-    ap (λ (t : AreaTreeView). t.tree.table) c.publish_areas.ensures.areas ∙ ap (λ (t : AreaTreeView). t.tree.table) c.store_moved.ensures.same
-    ∙ ap (λ (t : AreaTreeView). t.tree.table) c.change_all.ensures.same ∙ ap (λ (t : AreaTreeView). t.tree.table) c.make_ready.ensures.ready.areas
+pub returns-clause-rest : goal.returns-clause-rest
+returns-clause-rest g c = at_rest_like c.carry_out.new.self c.meet.new.writer (like _ _ _ _ _ c.meet.ensures.writer) c.meet.ensures.tables.0 c.carry_out.ensures.rest
 
 -- a turn that was lent is given back
 given_back : (caller : ℕ) (turn : Option ℕ) → turn ≡ Some caller → (if is_turn_of caller turn then None else turn) ≡ None
 given_back caller turn is = rw is (cond-true (nat_eq caller caller) None (Some caller) (eq-eqb caller caller refl))
 
-pub returns-clause-rest : goal.returns-clause-rest
-returns-clause-rest g c =
-    let ready = c.make_ready.ensures.ready in
-    let changing = c.change_all.ensures in
-    let board = c.change_all.new.self in
-    let published = c.publish_areas.new.self in
-    let same = c.publish_areas.ensures.same in
-    let table = ap (λ (b : Board). b.table) same ∙ changing.table ∙ ready.table in
-    let writer : published.writer ≡ board.writer = ap (λ (b : Board). b.writer) same in
-    let set : published.slots ≡ board.slots = ap (λ (b : Board). b.slots) same in
-    let moved : published.moved ≡ c.store_moved.new.moved = ap (λ (b : Board). b.moved) same in
-    let met : sight c.meet.new.writer ≡ record (end_at (sight board.writer) c.args.entry) {
-      turn = kept_turn (sight c.end.new.writer) (view c.lend.new.seat);
-      joined = journal c.end.new.writer;
-    } =
-    c.meet.ensures.writer ∙ ap (λ (v : View). record v { turn = kept_turn (sight c.end.new.writer) (view c.lend.new.seat); joined = journal c.end.new.writer })
-    (c.end.ensures.view ∙ ap (λ (w : WriterSeat). end_at (sight w) c.args.entry) writer) in
-    let begun = c.begin.ensures.view ∙ ap begin_at (c.lend.ensures.writer ∙ ap (λ w. lent_at (sight w) (view c.args.seat.now)) ready.writer) in
-    let stored = c.store_moved.ensures in
-    let shown = c.publish_areas.ensures.areas in
-    let tree = tree_step c.make_ready.new.self.areas board.areas c.store_moved.new.areas changing.same stored.same in
-    let limit : published.areas.tree.limit ≡ page_of (config_of c.args.self.now.table).limit =
-    ap (λ (t : AreaTreeView). t.tree.limit) shown ∙ ap (λ (t : AreaTreeView). t.tree.limit) tree ∙ ap (λ (t : AreaTreeView). t.tree.limit) ready.areas ∙ c.requires.rest.tree.limit in
-    let areas : published.areas.tree.areas ≡ (config_of c.args.self.now.table).areas =
-    ap (λ (t : AreaTreeView). t.tree.areas) shown ∙ ap (λ (t : AreaTreeView). t.tree.areas) tree ∙ ap (λ (t : AreaTreeView). t.tree.areas) ready.areas ∙ c.requires.rest.tree.areas in
-    let number : published.areas.tree.number ≡ length (journal c.args.self.now.writer) + 1 =
-    ap (λ (t : AreaTreeView). t.tree.number) shown ∙ ap (λ (t : AreaTreeView). t.tree.number + 1) tree ∙ ap (λ (t : AreaTreeView). t.tree.number + 1) ready.areas
-    ∙ ap (λ n. n + 1) c.requires.rest.tree.number in
-    let seen : journal c.meet.new.writer ≡ journal c.args.self.now.writer ++ c.args.entry ∷ [] =
-    ap (λ (v : View). v.seen) met ∙ ap (λ j. j ++ c.args.entry ∷ []) (changing.beside.seen ∙ ap (λ (v : View). v.seen) begun) in
-    record {
-      table = c.meet.ensures.tables.0;
-      config = ap (λ (v : View). v.config) met ∙ changing.beside.config ∙ ap (λ (v : View). v.config) begun ∙ c.requires.rest.config ∙ ap config_of (sym table);
-      closed = omega (arith, ap (λ (v : View). v.desk.seq) met, changing.beside.seq, ap (λ (v : View). v.desk.seq) begun, c.requires.rest.closed);
-      turn = ap (λ (v : View). v.turn) met ∙ given_back (view c.lend.new.seat).caller (sight c.end.new.writer).turn
-          (ap (λ (v : View). v.turn) c.end.ensures.view ∙ ap (λ (w : WriterSeat). (sight w).turn) writer ∙ changing.beside.turn ∙ ap (λ (v : View). v.turn) begun ∙ c.requires.turn.0
-          ∙ ap Some (sym (ap (λ (v : View). v.caller) c.lend.ensures.seat)));
-      count = ap (λ (s : SlotSet). s.count) set ∙ changing.count ∙ ready.slots.count ∙ c.requires.rest.count ∙ ap slots_of (sym table);
-      records = omega (arith, ap (λ (s : SlotSet). s.count) set, changing.count, ready.slots.count, c.requires.rest.records, c.requires.rest.tree.areas, areas);
-      hangs = subst (λ (states : List SlotState). Hangs states (shown_of published.areas) published.slots) (sym (ap (λ (v : View). v.desk.slots) met))
-          (subst (λ (s : SlotSet). Hangs (slots board.writer) (shown_of published.areas) s) (sym set)
-          (subst (λ (t : AreaTreeView). Hangs (slots board.writer) (shown_of t) board.slots) (sym shown)
-          (hangs_permuted (slots board.writer) (shown_of board.areas ++ board.moved.items) (shown_of c.store_moved.new.areas) board.slots stored.shown changing.hangs)));
-      tree = record {
-        shown = ap (λ (t : AreaTreeView). t.tree.shown) shown ∙ sym (ap (λ (t : AreaTreeView). t.tree.pairs) shown);
-        still = ap (λ (t : AreaTreeView). t.tree.changed) shown;
-        number = number ∙ sym (ap length seen ∙ length-append (journal c.args.self.now.writer) (c.args.entry ∷ []));
-        areas = areas ∙ ap (λ t. (config_of t).areas) (sym table);
-        limit = limit ∙ ap (λ t. page_of (config_of t).limit) (sym table);
-        leaving = subst (λ (s : SlotSet). All (λ leaving. leaving.tree ≤ published.areas.tree.number) s.left) (sym set)
-            (subst (λ n. All (λ leaving. leaving.tree ≤ n) board.slots.left)
-            (ap (λ n. n + 1) (c.version-tree.ensures ∙ ap (λ (v : View). length v.seen) begun) ∙ sym number) changing.leaving);
-        moved = ap (λ m. m.items) moved ∙ stored.none;
-        spare = omega (arith, ap (λ t. (config_of t).areas) table, ap vec_capacity moved, stored.room, changing.moved_room, ap vec_capacity ready.moved, c.requires.rest.tree.spare);
-      };
-    }
+pub returns-clause-turn : goal.returns-clause-turn
+returns-clause-turn g c = ap (λ (v : View). v.turn) c.meet.ensures.writer
+    ∙ given_back (view c.lend.new.seat).caller (sight c.carry_out.new.self.writer).turn
+    (c.carry_out.ensures.turn ∙ ap (λ (v : View). v.turn) c.lend.ensures.writer ∙ c.requires.turn.0 ∙ ap Some (sym (ap (λ (v : View). v.caller) c.lend.ensures.seat)))
+
+pub returns-clause-done : goal.returns-clause-done
+returns-clause-done g c = carried_like c.args.self.now c.carry_out.new.self c.lend.new.writer c.meet.new.writer c.args.changes.now c.args.entry
+    (like _ _ _ _ _ c.lend.ensures.writer) (like _ _ _ _ _ c.meet.ensures.writer) c.carry_out.ensures.done

@@ -31,7 +31,6 @@ returns-clause-rest c =
       table = table.0;
       config = sym table.1;
       closed = ap (λ (v : View). v.desk.seq % 2) opened;
-      turn = ap (λ (v : View). v.turn) opened;
       count = ap (λ (s : SlotSet). s.count) made ∙ ap (λ n. 2 * n + 2) (sym areas);
       records = ap (λ (s : SlotSet). s.count) made ∙ ap (λ (t : AreaTreeView). slots_for t.tree.areas) (sym tree);
       hangs = subst (λ (s : SlotSet). Hangs (sight c.args.writer).desk.slots (shown_of c.in_ok-new.field-0) s) (sym made)

@@ -1,7 +1,8 @@
 -- For `MmState::facts`: what the fields keep of the tree.
-use Rattle.std.proofs.Common.{◌≡◌, List, length, sym, ap, subst, ◌∙◌}
+use Rattle.std.proofs.Common.{◌≡◌, ◌≤◌, ◌%◌, None, List, All, length, sym, ap, subst, ◌∙◌}
 use Rattle.mm_types.specs.declared.area.Record.{Record}
 use Rattle.area_rules.specs.Tables.{AddressSpace}
+use Rattle.lock_core.specs.Rows.{Exactly}
 use Rattle.maple_node.specs.Trees.{Pair}
 use Rattle.vma_lock.specs.Seats.{slots}
 use Rattle.area_tree.specs.AreaTrees.{areas_of}
@@ -23,3 +24,19 @@ returns-clause-pairs c =
     (subst (λ (areas : List Record). ArePairsOf (slots s.board.writer) areas s.board.areas.tree.shown) (ap (λ (space : AddressSpace). space.areas) i.space)
     (subst (λ (pairs : List Pair). ArePairsOf (slots s.board.writer) (areas_of s.board.areas) pairs) (sym i.rest.tree.shown)
     record { spans = c.facts.ensures.spans; rows = rows }))
+
+pub returns-clause-even : goal.returns-clause-even
+returns-clause-even c = subst (λ (v : StateView). v.seq % 2 ≡ 0) c.self.view_is c.self.invariant.rest.closed
+
+pub returns-clause-turn : goal.returns-clause-turn
+returns-clause-turn c = subst (λ (v : StateView). v.turn ≡ None) c.self.view_is c.self.invariant.turn
+
+pub returns-clause-rows : goal.returns-clause-rows
+returns-clause-rows c =
+    let s = c.self.inside in
+    let i = c.self.invariant in
+    subst (λ (v : StateView). Exactly v.slots (list_of v)) c.self.view_is
+    (subst (Exactly (slots s.board.writer)) (ap (λ (space : AddressSpace). space.areas) i.space) i.rest.hangs.exactly)
+
+pub returns-clause-left : goal.returns-clause-left
+returns-clause-left c = subst (λ (v : StateView). All (λ leaving. leaving.tree ≤ v.number) v.left) c.self.view_is c.self.invariant.rest.tree.leaving

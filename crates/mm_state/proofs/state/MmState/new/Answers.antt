@@ -4,7 +4,7 @@ use Rattle.mm_types.specs.declared.area.Record.{Record}
 use Rattle.area_rules.specs.Steps.{IsLegalJournal}
 use Rattle.split_merge.specs.Plans.{PlanView, IsKept}
 use Rattle.vma_lock.specs.declared.view.View.{View}
-use Rattle.vma_lock.specs.Seats.{journal}
+use Rattle.vma_lock.specs.Seats.{sight, journal}
 use Rattle.area_tree.specs.AreaTrees.{areas_of}
 use Rattle.mm_state.proofs.Entering.{legal_nil, opening_space, kept_nil}
 use Rattle.mm_state.proofs.state.MmState.new.Goals as goal
@@ -18,6 +18,7 @@ invariant_of-result c =
     let areas = c.in_ok-board.board.areas in
     record {
       rest = board.rest;
+      turn = ap (λ w. (sight w).turn) board.writer.0 ∙ ap (λ (v : View). v.turn) opened;
       settings = board.writer.1 ∙ ap (λ (v : View). v.config) opened;
       valid = c.requires.config;
       journal = ap journal board.writer.0 ∙ ap (λ (v : View). v.seen) opened ∙ sym none;

@@ -5,10 +5,14 @@ use Rattle.span_tree.specs.Kept.{IsSpanTree}
 use Rattle.span_tree.specs.Rows.{settled_of}
 use Rattle.span_tree.proofs.Counts.{writers_low}
 use Rattle.span_tree.proofs.Storing.{stored_settled}
-use Rattle.span_tree.proofs.Spans.{scanned_kept, scanned_settled}
+use Rattle.span_tree.proofs.Spans.{scanned_kept, scanned_settled, scanned_free}
 use Rattle.span_tree.proofs.Preparing.{later_kept, first_kept}
 use Rattle.span_tree.proofs.tree.SpanTree.prepare.Goals as goal
 use Rattle.span_tree.proofs.tree.SpanTree.prepare.Goals.{then-self-eq0, else-self-eq0}
+
+pub wait_for_rows-requires-clause-comes : goal.wait_for_rows-requires-clause-comes
+wait_for_rows-requires-clause-comes g c =
+    scanned_free c.self.inside c.self.invariant (ap (λ v. v.changed) c.self.view_is ∙ c.requires)
 
 pub store-requires-clause-free : goal.store-requires-clause-free
 store-requires-clause-free g c =

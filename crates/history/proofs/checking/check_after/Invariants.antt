@@ -1,0 +1,6 @@
+-- The proof of `check_after`: what its loop keeps.
+use Rattle.history.specs.Walks.{IsWalked}
+use Rattle.history.proofs.checking.check_after.Given as goal
+
+abbrev pub invariant-loop-place : goal.invariant-loop-place
+invariant-loop-place l = IsWalked l.case l.place l.walk

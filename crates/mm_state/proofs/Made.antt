@@ -1,0 +1,110 @@
+-- For `MmState::apply` and `MmState::apply_before`: a call that was planned and carried out keeps the state.
+use Rattle.std.proofs.Common.{ℕ, ◌≡◌, ◌≤◌, ◌<◌, ◌++◌, ◌∷◌, [], List, None, length, subst, sym, ap, ◌∙◌, arith, length-append, vec_capacity}
+use Rattle.mm_types.specs.declared.area.Record.{Record}
+use Rattle.mm_types.specs.declared.call.Entry.{Entry}
+use Rattle.area_rules.specs.declared.placement.Bounds.{Bounds}
+use Rattle.area_rules.specs.Steps.{step, after, IsLegalJournal}
+use Rattle.area_rules.specs.Tables.{space_of, AddressSpace}
+use Rattle.area_rules.proofs.Journals.{legal-push}
+use Rattle.lock_core.specs.declared.stage.SlotState.{SlotState}
+use Rattle.lock_core.specs.Facts.{list_after}
+use Rattle.split_merge.specs.declared.planned.Planned.{Planned}
+use Rattle.split_merge.specs.Plans.{PlanView, IsKept, applied}
+use Rattle.sys_seal.specs.Guards.{IsPlannedWhole}
+use Rattle.sys_calls.proofs.Keeping.{made_space}
+use Rattle.vma_lock.specs.Seats.{config_of, sight, slots}
+use Rattle.area_tree.specs.AreaTrees.{areas_of}
+use Rattle.mm_state.specs.declared.state.MmState.TheInside.{Inside}
+use Rattle.mm_state.specs.Boards.{IsAtRest, IsEntered, IsCarriedOut}
+use Rattle.mm_state.specs.Kept.{IsState}
+use Rattle.mm_state.specs.States.{KeepsSlots}
+use Rattle.mm_state.proofs.Entering.{space_after, entered}
+
+-- a call was planned on a state that had room
+pub record IsAsked (old : Inside) (entry : Entry) (answer : Planned) (plan : PlanView) : Type 0 where
+  pub state : IsState old
+  pub spare : length old.journal.items < old.room
+  pub reply : entry.reply ≡ answer.reply
+  pub planned : IsPlannedWhole old.board.areas.bounds old.board.areas.tree.areas (areas_of old.board.areas)
+      (step old.config (space_of (areas_of old.board.areas) old.counters) entry.call) answer old.plan plan
+
+-- the plan can be carried out
+pub may_enter : (old : Inside) (entry : Entry) (answer : Planned) (plan : PlanView) → IsAsked old entry answer plan → IsEntered old.board plan.changes entry
+may_enter old entry answer plan asked =
+    let i = asked.state in
+    entered old.board old.config old.journal.items old.counters entry old.plan plan record {
+      settings = i.settings;
+      journal_is = i.journal;
+      space = i.space;
+      valid = i.valid;
+      room = omega (arith, i.entries, asked.spare);
+      most_is = i.most;
+      limit_is = ap (λ (b : Bounds). b.limit) i.bounds;
+      planned = record { reply = asked.reply ∙ asked.planned.planned.reply; makes = asked.planned.planned.makes; kept = asked.planned.planned.kept; room = asked.planned.planned.room };
+    }
+
+-- the list after the plan is that after the entry
+list_then : (old : Inside) (entry : Entry) (answer : Planned) (plan : PlanView) (entries : List Entry) → IsAsked old entry answer plan
+    → entries ≡ old.journal.items ++ entry ∷ [] → applied plan.changes (areas_of old.board.areas) ≡ list_after old.config entries
+list_then old entry answer plan entries asked pushed = asked.planned.planned.makes.result
+    ∙ ap (λ (space : AddressSpace). space.areas) (space_after old.config old.journal.items (areas_of old.board.areas) old.counters entry asked.state.space
+    ∙ ap (after old.config) (sym pushed))
+
+-- an area of the lists before and after keeps its slot
+pub stays_made : (old : Inside) (entry : Entry) (answer : Planned) (plan : PlanView) (entries : List Entry) (new : List SlotState) → IsAsked old entry answer plan
+    → entries ≡ old.journal.items ++ entry ∷ [] → KeepsSlots (areas_of old.board.areas) (applied plan.changes (areas_of old.board.areas)) (slots old.board.writer) new
+    → KeepsSlots (list_after old.config old.journal.items) (list_after old.config entries) (slots old.board.writer) new
+stays_made old entry answer plan entries new asked pushed stays =
+    subst (λ (areas : List Record). KeepsSlots areas (list_after old.config entries) (slots old.board.writer) new) (ap (λ (space : AddressSpace). space.areas) asked.state.space)
+    (subst (λ (areas : List Record). KeepsSlots (areas_of old.board.areas) areas (slots old.board.writer) new) (list_then old entry answer plan entries asked pushed) stays)
+
+-- and was carried out and entered
+pub record IsMade (old new : Inside) (entry : Entry) (answer : Planned) (plan : PlanView) : Type 0 where
+  pub asked : IsAsked old entry answer plan
+  pub rest : IsAtRest new.board
+  pub turn : (sight new.board.writer).turn ≡ None
+  pub table : new.board.table ≡ old.board.table
+  pub done : IsCarriedOut old.board new.board plan.changes entry
+  pub counters : new.counters ≡ answer.counters
+  pub pushed : new.journal.items ≡ old.journal.items ++ entry ∷ []
+  pub capacity : vec_capacity old.journal ≤ vec_capacity new.journal
+  pub cleared : new.plan ≡ record plan { changes = [] }
+
+module _ (old new : Inside) (entry : Entry) (answer : Planned) (plan : PlanView) (made : IsMade old new entry answer plan) where
+  legal_then : IsLegalJournal old.config new.journal.items
+  legal_then = subst (IsLegalJournal old.config) (sym made.pushed) ((legal-push old.config old.journal.items entry).1 (
+    made.asked.state.legal,
+    made.asked.reply ∙ made.asked.planned.planned.reply ∙ ap (λ (space : AddressSpace). (step old.config space entry.call).reply) made.asked.state.space,
+  ))
+
+  space_then : space_of (areas_of new.board.areas) new.counters ≡ after old.config new.journal.items
+  space_then = made_space (areas_of new.board.areas) new.counters (step old.config (space_of (areas_of old.board.areas) old.counters) entry.call).space
+      (made.done.areas ∙ made.asked.planned.planned.makes.result) (made.counters ∙ made.asked.planned.counters)
+      ∙ space_after old.config old.journal.items (areas_of old.board.areas) old.counters entry made.asked.state.space ∙ ap (after old.config) (sym made.pushed)
+
+  kept_then : IsKept new.board.areas.bounds new.board.areas.tree.areas (areas_of new.board.areas)
+  kept_then = subst (λ (b : Bounds). IsKept b new.board.areas.tree.areas (areas_of new.board.areas)) (sym made.done.bounds)
+      (subst (λ (n : ℕ). IsKept old.board.areas.bounds n (areas_of new.board.areas)) (sym made.done.most)
+      (subst (λ (areas : List Record). IsKept old.board.areas.bounds old.board.areas.tree.areas areas) (sym made.done.areas) made.asked.planned.planned.kept))
+
+  -- the state is kept
+  pub state_made : IsState (record old { board = new.board; counters = new.counters; plan = new.plan; journal = new.journal })
+  state_made = record {
+    rest = made.rest;
+    turn = made.turn;
+    settings = ap config_of made.table ∙ made.asked.state.settings;
+    valid = made.asked.state.valid;
+    journal = made.done.entered ∙ ap (λ (j : List Entry). j ++ entry ∷ []) made.asked.state.journal ∙ sym made.pushed;
+    legal = legal_then;
+    space = space_then;
+    bounds = made.done.bounds ∙ made.asked.state.bounds;
+    most = made.done.most ∙ made.asked.state.most;
+    kept = kept_then;
+    fresh = record {
+      empty = ap (λ (p : PlanView). p.changes) made.cleared;
+      room = omega (arith, ap (λ (p : PlanView). p.room) made.cleared, made.asked.planned.planned.room, made.asked.state.fresh.room);
+    };
+    room = omega (arith, ap length made.pushed, length-append old.journal.items (entry ∷ []), made.asked.spare);
+    entries = made.asked.state.entries;
+    reserved = omega (arith, made.capacity, made.asked.state.reserved);
+  }

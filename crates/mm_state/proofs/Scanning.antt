@@ -1,0 +1,49 @@
+-- For `scan_for` and `wait_for_slots`: what scans change, and what is free once no reader is inside.
+use Rattle.std.proofs.Common.{ℕ, ◌≡◌, ◌≤◌, ◌<◌, ◌++◌, ◌∙◌, ◌⊎◌, inl, inr, true, nat_le, List, length, get_or, All, sym, ap, arith, length-append}
+use Rattle.std.proofs.lemmas.Bool.Decides.{nat_tests}
+use Rattle.std.proofs.lemmas.List.{length-map}
+use Rattle.std.proofs.lemmas.List.Elements.{recursion_from_All}
+use Rattle.split_merge.proofs.Lists.{filter_all}
+use Rattle.node_slots.specs.Seats.{AreOut, HasOpen}
+use Rattle.span_tree.proofs.Scanning.{out_or_open}
+use Rattle.area_slots.specs.declared.leaving.Leaving.{Leaving}
+use Rattle.area_slots.specs.Slots.{SlotSet, left_by, gone_by, gone_after, slots_of}
+use Rattle.area_tree.specs.AreaTrees.{AreaTreeView}
+use Rattle.mm_state.specs.Boards.{CanFree, IsScanned}
+
+-- a scan is one of scans
+pub scanned : (old new : AreaTreeView) (scans : ℕ)
+    → new ≡ record old { tree = record old.tree { settled = new.tree.settled; scans = scans; pins = new.tree.pins } } → IsScanned old new
+scanned old new scans same = same
+    ∙ ap (λ n. record old { tree = record old.tree { settled = new.tree.settled; scans = n; pins = new.tree.pins } }) (sym (ap (λ (t : AreaTreeView). t.tree.scans) same))
+
+pub scanned_more : (first second third : AreaTreeView) → IsScanned first second → IsScanned second third → IsScanned first third
+scanned_more first second third one two = two
+    ∙ ap (λ (t : AreaTreeView). record t { tree = record t.tree { settled = third.tree.settled; scans = third.tree.scans; pins = third.tree.pins } }) one
+
+-- each of those that left by a tree is gone by it
+all_gone : (tree : ℕ) (left : List Leaving) → All (λ leaving. leaving.tree ≤ tree) left → gone_by tree left ≡ left
+all_gone tree left all = filter_all (left_by tree) left (recursion_from_All (λ leaving. left_by tree leaving ≡ true) left (λ k d within. by (get_or left k d).tree (all k d within)))
+  where
+    by : (n : ℕ) → n ≤ tree → nat_le n tree ≡ true
+    by n upto = grind (arith, nat_tests)
+
+-- where fewer are free than wanted after a scan, it found a reader inside
+pub some_inside : (areas new : AreaTreeView) (set after : SlotSet) (wanted : ℕ) → CanFree areas set wanted → new.tree.number ≡ areas.tree.number
+    → (AreOut new.tree.pins → new.tree.settled ≡ new.tree.number)
+    → after ≡ record set { free = set.free ++ slots_of (gone_by new.tree.settled set.left); left = gone_after new.tree.settled set.left }
+    → length after.free < wanted → HasOpen new.tree.pins
+some_inside areas new set after wanted can same gone seen few = by (out_or_open new.tree.pins)
+  where
+    by : AreOut new.tree.pins ⊎ HasOpen new.tree.pins → HasOpen new.tree.pins
+    by (inr some) = some
+    by (inl out) = absurd (omega (
+      arith,
+      few,
+      can.enough,
+      ap (λ (s : SlotSet). length s.free) seen,
+      length-append set.free (slots_of (gone_by new.tree.settled set.left)),
+      length-map (gone_by new.tree.settled set.left) (λ (l : Leaving). l.slot),
+      ap (λ n. length (gone_by n set.left)) (gone out ∙ same),
+      ap length (all_gone areas.tree.number set.left can.left),
+    ))

@@ -1,0 +1,19 @@
+-- For `scan_for`: once every reader is closed, all that left is free.
+use Rattle.std.proofs.Common.{◌<◌, ap, arith}
+use Rattle.std.proofs.lemmas.Bool.Decides.{nat_tests}
+use Rattle.area_tree.specs.AreaTrees.{AreaTreeView}
+use Rattle.mm_state.proofs.Hanging.{seen_freed}
+use Rattle.mm_state.proofs.Scanning.{scanned, some_inside}
+use Rattle.mm_state.proofs.spans.scan_for.Goals as goal
+
+pub returns-clause-areas : goal.returns-clause-areas
+returns-clause-areas c = scanned c.args.areas.now c.scan.new.self _ c.scan.ensures.same
+
+pub returns-clause-slots : goal.returns-clause-slots
+returns-clause-slots c = seen_freed c.args.slots.now c.free_settled.new.slots c.scan.new.self.tree.settled c.free_settled.ensures
+
+pub returns-clause-inside : goal.returns-clause-inside
+returns-clause-inside c = λ no.
+    some_inside c.args.areas.now c.scan.new.self c.args.slots.now c.free_settled.new.slots c.args.wanted c.requires
+    (ap (λ (t : AreaTreeView). t.tree.number) c.scan.ensures.same) c.scan.ensures.gone c.free_settled.ensures
+    (let few : c.count_free.result < c.args.wanted = grind (arith, nat_tests, no) in omega (arith, few, c.count_free.ensures))

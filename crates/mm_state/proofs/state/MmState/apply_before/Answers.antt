@@ -1,0 +1,90 @@
+-- For `MmState::apply_before`: the plan makes the list after the entry, and the state is kept.
+use Rattle.std.proofs.Common.{◌<◌, length, List, refl, subst, sym, ◌∙◌, arith, inr}
+use Rattle.mm_types.specs.declared.call.Entry.{Entry}
+use Rattle.split_merge.specs.declared.plan.Change.{Change}
+use Rattle.split_merge.specs.Plans.{applied}
+use Rattle.lock_core.specs.Facts.{list_after}
+use Rattle.vma_lock.specs.Seats.{slots}
+use Rattle.area_tree.specs.AreaTrees.{areas_of}
+use Rattle.mm_state.specs.Boards.{IsEntered, IsCarriedOut}
+use Rattle.mm_state.specs.States.{StateView, list_of, MarksChanged, KeepsSlots, KeepsLeft, HaveLeft}
+use Rattle.mm_state.proofs.Entering.{ready_now}
+use Rattle.mm_state.proofs.Made.{may_enter, state_made, stays_made}
+use Rattle.mm_state.proofs.state.MmState.apply_before.Goals as goal
+
+pub plan_call-called-requires-clause-ready : goal.plan_call-called-requires-clause-ready
+plan_call-called-requires-clause-ready g c =
+    let s = c.self.inside in
+    let i = c.self.invariant in
+    ready_now s.config s.journal.items (areas_of s.board.areas) s.counters i.valid (omega (arith, i.room, i.entries)) i.space
+
+pub plan_call-called-requires-clause-prepared : goal.plan_call-called-requires-clause-prepared
+plan_call-called-requires-clause-prepared g c =
+    let i = c.self.invariant in
+    record { numbers = i.bounds; allowed = i.most; fresh = i.fresh }
+
+pub carry_out-requires-clause-plan : goal.carry_out-requires-clause-plan
+carry_out-requires-clause-plan g c =
+    let s = c.self.inside in
+    let entry : Entry = record { caller = c.args.caller; call = c.args.call.now; reply = c.plan_call-called.result.reply } in
+    subst (λ (changes : List Change). IsEntered s.board changes entry) (sym c.changes.ensures)
+    (may_enter s entry c.plan_call-called.result c.plan_call-called.new.plan record {
+      state = c.self.invariant;
+      spare = subst (λ (v : StateView). length v.journal < v.room) (sym c.self.view_is) c.requires.room;
+      reply = refl;
+      planned = c.plan_call-called.ensures;
+    })
+
+pub carry_out-requires-clause-turn : goal.carry_out-requires-clause-turn
+carry_out-requires-clause-turn g c = inr c.requires.nobody
+
+pub invariant_of-self : goal.invariant_of-self
+invariant_of-self g c =
+    let s = c.self.inside in
+    let entry : Entry = record { caller = c.args.caller; call = c.args.call.now; reply = c.plan_call-called.result.reply } in
+    state_made s (record s { board = c.carry_out.new.self; counters = c.plan_call-called.result.counters; plan = c.clear.new.self; journal = c.push_reserved.new.self }) entry
+    c.plan_call-called.result c.plan_call-called.new.plan record {
+      asked = record {
+        state = c.self.invariant;
+        spare = subst (λ (v : StateView). length v.journal < v.room) (sym c.self.view_is) c.requires.room;
+        reply = refl;
+        planned = c.plan_call-called.ensures;
+      };
+      rest = c.carry_out.ensures.rest;
+      turn = c.carry_out.ensures.turn ∙ c.self.invariant.turn;
+      table = c.carry_out.ensures.table;
+      done = subst (λ (changes : List Change). IsCarriedOut s.board c.carry_out.new.self changes entry) c.changes.ensures c.carry_out.ensures.done;
+      counters = refl;
+      pushed = c.push_reserved.ensures.items;
+      capacity = omega (arith, c.push_reserved.ensures.capacity);
+      cleared = c.clear.ensures;
+    }
+
+pub returns-clause-stays : goal.returns-clause-stays
+returns-clause-stays g c =
+    let s = c.self.inside in
+    let entry : Entry = record { caller = c.args.caller; call = c.args.call.now; reply = c.plan_call-called.result.reply } in
+    subst (λ (v : StateView). KeepsSlots (list_of v) (list_after s.config c.push_reserved.new.self.items) v.slots (slots c.carry_out.new.self.writer)) c.self.view_is
+    (stays_made s entry c.plan_call-called.result c.plan_call-called.new.plan c.push_reserved.new.self.items (slots c.carry_out.new.self.writer)
+    record {
+      state = c.self.invariant;
+      spare = subst (λ (v : StateView). length v.journal < v.room) (sym c.self.view_is) c.requires.room;
+      reply = refl;
+      planned = c.plan_call-called.ensures;
+    }
+    c.push_reserved.ensures.items
+    (subst (λ (changes : List Change). KeepsSlots (areas_of s.board.areas) (applied changes (areas_of s.board.areas)) (slots s.board.writer) (slots c.carry_out.new.self.writer))
+    c.changes.ensures c.carry_out.ensures.done.stays))
+
+pub returns-clause-marks : goal.returns-clause-marks
+returns-clause-marks g c = subst (λ (v : StateView). MarksChanged v.slots (slots c.carry_out.new.self.writer)) c.self.view_is c.carry_out.ensures.done.marks
+
+pub returns-clause-waits : goal.returns-clause-waits
+returns-clause-waits g c =
+    let board = c.carry_out.new.self in
+    subst (λ (v : StateView). KeepsLeft board.areas.tree.settled v.left board.slots.left v.slots (slots board.writer)) c.self.view_is c.carry_out.ensures.done.waits
+
+pub returns-clause-gone : goal.returns-clause-gone
+returns-clause-gone g c =
+    let board = c.carry_out.new.self in
+    subst (λ (v : StateView). HaveLeft board.areas.tree.number board.slots.left v.slots (slots board.writer)) c.self.view_is c.carry_out.ensures.done.gone

@@ -1,0 +1,97 @@
+-- What a line with a thread asks for.
+use Rattle.std.specs.Prelude.{ℕ, ◌/◌, ◌-◌, Bool, true, ◌&&◌, List, [], ◌∷◌, length, take, drop, codes, bytes_eq, nat_eq, nat_lt, get_or, Option, Some, None, is_some, Result, Ok, Err, ok_or, if◌then◌else◌}
+use Rattle.std.specs.List.{starts_with}
+use Rattle.mm_types.specs.declared.call.Call.{Call}
+use Rattle.mm_types.specs.declared.config.TheConstants.{PAGE_SIZE}
+use Rattle.trace_reader.specs.declared.trace.Op.{Op}
+use Rattle.trace_reader.specs.declared.trace.Op.TheVariants as ops
+use Rattle.trace_reader.specs.declared.trace.TraceLine.{TraceLine}
+use Rattle.trace_reader.specs.declared.fault.Cause.{Cause}
+use Rattle.trace_reader.specs.declared.fault.Cause.TheVariants.{Number, Arity, Thread}
+use Rattle.trace_reader.specs.Calls.{call_named, brk_of, mseal_of, has_its_new}
+use Rattle.trace_reader.specs.Causes.{◌>>=◌}
+use Rattle.trace_reader.specs.Fields.{number, access}
+use Rattle.trace_reader.specs.Numbers.{decimal_of, thread_of}
+
+-- the page fault of these words: the page of the address, and the access
+unfoldable pub fault : List ℕ → List ℕ → Result Op Cause
+fault addr wanted = do
+  a ← number addr
+  w ← access wanted
+  Ok (ops.Fault (record { 0 = a / PAGE_SIZE }) w)
+
+-- `fault ADDR A`
+unfoldable pub fault_of : List (List ℕ) → Result Op Cause
+fault_of (addr ∷ wanted ∷ []) = fault addr wanted
+fault_of _ = Err Arity
+
+-- `maps`
+unfoldable pub maps_of : List (List ℕ) → Result Op Cause
+maps_of [] = Ok ops.Maps
+maps_of _ = Err Arity
+
+-- `fork C`, where C is a thread
+unfoldable pub fork_of : List (List ℕ) → Result Op Cause
+fork_of (child ∷ []) = do
+  c ← ok_or (thread_of child) Number
+  Ok (ops.Fork c)
+fork_of _ = Err Arity
+
+-- the operation that a call is
+abbrev pub called : Result Call Cause → Result Op Cause
+called read = read >>= λ call. Ok (ops.Call call)
+
+-- the operation of this name, from the words after it
+unfoldable pub op_named : List ℕ → List (List ℕ) → Result Op Cause
+op_named name words = if bytes_eq name (codes "fault") then fault_of words
+    else (if bytes_eq name (codes "maps") then maps_of words
+    else (if bytes_eq name (codes "fork") then fork_of words
+    else (if bytes_eq name (codes "brk") then called (brk_of words)
+    else (if bytes_eq name (codes "mseal") then called (mseal_of words)
+    else called (call_named name words)))))
+
+-- the words after a thread: the name of an operation, and the words of its form
+unfoldable pub op_of : List (List ℕ) → Result Op Cause
+op_of [] = Err Arity
+op_of (name ∷ words) = op_named name words
+
+-- `after=`
+abbrev pub note : List ℕ
+note = codes "after="
+
+-- the last of words
+abbrev pub last_word : List (List ℕ) → List ℕ
+last_word words = get_or words (length words - 1) []
+
+-- LINE of `after=LINE`, where that is the last of the words after a thread and stands behind the name of the operation
+unfoldable pub note_of : List (List ℕ) → Option (List ℕ)
+note_of words = if nat_lt 1 (length words) && starts_with nat_eq (last_word words) note
+    then Some (drop (length note) (last_word words)) else None
+
+-- the words without that one
+unfoldable pub without_note : List (List ℕ) → List (List ℕ)
+without_note words = if is_some (note_of words) then take (length words - 1) words else words
+
+-- LINE: the number of a line, where its word is there
+unfoldable pub line_named : Option (List ℕ) → Result (Option ℕ) Cause
+line_named None = Ok None
+line_named (Some word) = do
+  n ← ok_or (decimal_of word) Number
+  Ok (Some n)
+
+-- an mremap(2) among these words has NEW where it is to have it
+abbrev pub op_has_its_new : Op → List (List ℕ) → Bool
+op_has_its_new (ops.Call call) words = has_its_new call words
+op_has_its_new (ops.Fault page wanted) words = true
+op_has_its_new ops.Maps words = true
+op_has_its_new (ops.Fork child) words = true
+
+-- The line of this number that these words are, by its tests in their order: the thread; the name of the operation; how many
+-- words there are; each of them, from the left; LINE; and NEW against the flags of an mremap(2).
+unfoldable pub line_of : ℕ → List ℕ → List (List ℕ) → Result TraceLine Cause
+line_of number first words = do
+  thread ← ok_or (thread_of first) Thread
+  op ← op_of (without_note words)
+  after ← line_named (note_of words)
+  if op_has_its_new op (without_note words)
+      then Ok (record { number = number; thread = thread; op = op; after = after }) else Err Arity

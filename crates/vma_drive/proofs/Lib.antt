@@ -1,0 +1,5 @@
+pub mod Operations
+pub mod Growing
+pub mod RanLines
+pub mod Workers
+pub mod ClosedRuns

@@ -1,0 +1,110 @@
+-- Serves the workers: what a pass did after the first lines.
+use Rattle.std.proofs.Common.{ℕ, ◌≡◌, ◌+◌, ◌<◌, ◌≤◌, ◌∙◌, refl, sym, ap, subst, List, [], ◌∷◌, ◌++◌, length, take, get_or, arith}
+use Rattle.std.proofs.lemmas.List.{take_all, take_more, length-append, map-append, append-nil}
+use Rattle.std.proofs.lemmas.List.Elements.{All-nil}
+use Rattle.trace_reader.specs.declared.trace.Op.{Op}
+use Rattle.trace_reader.specs.declared.trace.TraceLine.{TraceLine}
+use Rattle.history.specs.declared.items.Item.{Item}
+use Rattle.history.specs.Histories.{read_as, AsksItself, AskThemselves}
+use Rattle.history.specs.Runs.{ops_of, asked}
+use Rattle.history.proofs.Steps.{ops_more}
+use Rattle.fault_path.specs.Passes.{PassView, seen_by, IsFresh, IsLater}
+use Rattle.vma_drive.specs.Hearing.{own_by, done_by, HaveGrown, IsLate, Grew, GrewNone, DoesItem, Ran}
+use Rattle.vma_drive.proofs.Operations.{fresh_own, fresh_grown, later_on, no_later}
+use Rattle.vma_drive.proofs.Growing.{grew_on}
+
+-- a fresh pass did nothing
+pub fresh_did : (pass : PassView) → IsFresh pass → done_by pass ≡ []
+unfolding ops_of
+fresh_did pass fresh = ap ops_of (fresh_own pass fresh)
+
+-- the first lines were run
+pub record RanTo (old new : PassView) (lines : List TraceLine) (count : ℕ) : Type 0 where
+  pub later : IsLater old new
+  pub more : List Item
+  pub many : length more ≡ count
+  pub grew : Grew old new more
+  pub ops : ops_of more ≡ asked (take count lines)
+  pub left : new.left + count ≡ old.left
+
+pub ran_none : (pass : PassView) (lines : List TraceLine) → RanTo pass pass lines 0
+unfolding ops_of
+ran_none pass lines = record {
+  later = no_later pass;
+  more = [];
+  many = refl;
+  grew = record { own = sym (append-nil (own_by pass)); late = All-nil (IsLate (length (seen_by pass))); grown = λ before. before };
+  ops = refl;
+  left = omega arith;
+}
+
+pub ran_more : (old mid new : PassView) (lines : List TraceLine) (count : ℕ) (d : TraceLine) → RanTo old mid lines count → IsLater mid new
+    → count < length lines → DoesItem mid new (get_or lines count d).op → RanTo old new lines (count + 1)
+ran_more old mid new lines count d ran later within does =
+    let line : TraceLine = get_or lines count d in
+    record {
+      later = later_on old mid new ran.later later;
+      more = ran.more ++ does.item ∷ [];
+      many = omega (arith, length-append ran.more (does.item ∷ []), ran.many);
+      grew = grew_on old mid new ran.more (does.item ∷ []) ran.later ran.grew does.grew;
+      ops = ops_more ran.more does.item ∙ ap (λ (op : Op). ops_of ran.more ++ op ∷ []) does.asked
+          ∙ ap (λ (l : List Op). l ++ read_as line.op ∷ []) ran.ops
+          ∙ sym (map-append (λ (l : TraceLine). read_as l.op) (take count lines) (line ∷ []))
+          ∙ ap asked (sym (take_more lines count d within));
+      left = omega (arith, ran.left, does.left);
+    }
+
+-- as the lines are shown
+pub ran_shown : (old mid new : PassView) (shown lines : List TraceLine) (count : ℕ) (d : TraceLine) → RanTo old mid lines count → IsLater mid new
+    → shown ≡ lines → count < length shown → DoesItem mid new (get_or shown count d).op → RanTo old new lines (count + 1)
+ran_shown old mid new shown lines count d ran later same within does =
+    ran_more old mid new lines count d ran later (subst (λ (l : List TraceLine). count < length l) same within)
+    (subst (λ (l : List TraceLine). DoesItem mid new (get_or l count d).op) same does)
+
+-- and then no more
+pub ran_no_more : (old mid new : PassView) (lines : List TraceLine) (count : ℕ) → RanTo old mid lines count → IsLater mid new → GrewNone mid new
+    → RanTo old new lines count
+ran_no_more old mid new lines count ran later none = record {
+  later = later_on old mid new ran.later later;
+  more = ran.more;
+  many = ran.many;
+  grew = record {
+    own = none.grew.own ∙ append-nil (own_by mid) ∙ ran.grew.own;
+    late = ran.grew.late;
+    grown = λ before. none.grew.grown (ran.grew.grown before);
+  };
+  ops = ran.ops;
+  left = omega (arith, ran.left, none.left);
+}
+
+pub ran_is : (old new : PassView) (lines : List TraceLine) (count : ℕ) → RanTo old new lines count → count ≤ length lines → Ran old new lines
+ran_is old new lines count ran few = record {
+  more = ran.more;
+  few = omega (arith, ran.many, few);
+  grew = ran.grew;
+  ops = ran.ops ∙ ap (λ (k : ℕ). asked (take k lines)) (sym ran.many);
+  left = omega (arith, ran.left, ran.many);
+}
+
+-- a fresh pass that ran the first lines did just those
+pub fresh_grew : (old new : PassView) (more : List Item) → IsFresh old → Grew old new more → done_by new ≡ ops_of more
+fresh_grew old new more fresh grew = ap ops_of (grew.own ∙ ap (λ (l : List Item). l ++ more) (fresh_own old fresh))
+
+pub begun_of : (old new : PassView) (lines : List TraceLine) (count : ℕ) → IsFresh old → RanTo old new lines count
+    → done_by new ≡ asked (take count lines)
+begun_of old new lines count fresh ran = fresh_grew old new ran.more fresh ran.grew ∙ ran.ops
+
+-- and each touch that its caller entered has grown
+pub grown_of : (old new : PassView) (lines : List TraceLine) (count : ℕ) → IsFresh old → RanTo old new lines count → HaveGrown new
+grown_of old new lines count fresh ran = ran.grew.grown (fresh_grown old fresh)
+
+-- the next line asks for itself
+pub asks_shown : (shown lines : List TraceLine) (count : ℕ) (d : TraceLine) → AskThemselves lines → shown ≡ lines → count < length shown
+    → AsksItself (get_or shown count d).op
+asks_shown shown lines count d asks same within =
+    (subst (λ (l : List TraceLine). AskThemselves l) (sym same) asks) count d within
+
+-- and all where it ran all
+pub done_of : (old new : PassView) (lines : List TraceLine) (count : ℕ) → IsFresh old → RanTo old new lines count → length lines ≤ count
+    → done_by new ≡ asked lines
+done_of old new lines count fresh ran past = begun_of old new lines count fresh ran ∙ ap asked (take_all count lines past)

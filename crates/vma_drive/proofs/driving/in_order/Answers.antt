@@ -1,0 +1,39 @@
+-- The proof of `in_order`: it ran a beginning of the lines, and all of them at the end.
+use Rattle.std.proofs.Common.{◌≤◌, List, length, subst}
+use Rattle.trace_reader.specs.declared.trace.TraceLine.{TraceLine}
+use Rattle.vma_drive.proofs.RanLines.{ran_none, ran_shown, ran_no_more, begun_of, done_of, grown_of, asks_shown}
+use Rattle.vma_drive.proofs.driving.in_order.Goals as goal
+
+pub returns-in_err-run_op-clause-begun : goal.returns-in_err-run_op-clause-begun
+returns-in_err-run_op-clause-begun g c = (
+  c.loop-line.line-index,
+  begun_of _ _ _ _ c.requires.fresh
+      (ran_no_more _ _ _ _ _ c.loop-line.invariant.ran c.run_op.ensures.later c.in_err-run_op.ensures.err),
+)
+
+pub returns-clause-begun : goal.returns-clause-begun
+returns-clause-begun g c = (c.loop-line.line-index, begun_of _ _ _ _ c.requires.fresh c.loop-line.invariant.ran)
+
+pub returns-clause-done : goal.returns-clause-done
+returns-clause-done g c = done_of _ _ _ _ c.requires.fresh c.loop-line.invariant.ran
+    (subst (λ (l : List TraceLine). length l ≤ c.loop-line.line-index) c.items-line-items.ensures c.loop-line-test.false)
+
+pub run_op-requires-clause-op : goal.run_op-requires-clause-op
+run_op-requires-clause-op g c = asks_shown _ _ _ _ c.requires.lines c.items-line-items.ensures c.loop-line-test.true
+
+pub returns-in_err-run_op-clause-grown : goal.returns-in_err-run_op-clause-grown
+returns-in_err-run_op-clause-grown g c = grown_of _ _ _ _ c.requires.fresh
+    (ran_no_more _ _ _ _ _ c.loop-line.invariant.ran c.run_op.ensures.later c.in_err-run_op.ensures.err)
+
+pub returns-clause-grown : goal.returns-clause-grown
+returns-clause-grown g c = grown_of _ _ _ _ c.requires.fresh c.loop-line.invariant.ran
+
+pub loop-line-init : goal.loop-line-init
+loop-line-init g c = record { pass = c.requires.pass; ran = ran_none c.args.pass.now c.args.trace.now.lines }
+
+pub loop-line-preserved : goal.loop-line-preserved
+loop-line-preserved g c = record {
+  pass = c.run_op.ensures.pass;
+  ran = ran_shown _ _ _ c.items-line-items.result.now _ _ _ c.loop-line.invariant.ran c.run_op.ensures.later c.items-line-items.ensures
+      c.loop-line-test.true c.in_ok-run_op.ensures.ok;
+}

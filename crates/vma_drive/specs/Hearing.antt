@@ -1,0 +1,50 @@
+-- What passes did, item by item, and when.
+use Rattle.std.specs.Prelude.{ℕ, ◌≡◌, ◌≤◌, ◌+◌, if◌then◌else◌, List, [], ◌∷◌, ◌++◌, length, take, All}
+use Rattle.trace_reader.specs.declared.trace.Op.{Op}
+use Rattle.trace_reader.specs.declared.trace.TraceLine.{TraceLine}
+use Rattle.history.specs.declared.items.Item.{Item}
+use Rattle.history.specs.Histories.{is_call, op_of, read_as}
+use Rattle.history.specs.Runs.{own_of, ops_of, asked, HasGrown}
+use Rattle.fault_path.specs.Passes.{PassView, caller, seen_by, made_by}
+
+-- what a pass did, in the order of a history
+abbrev pub own_by : PassView → List Item
+own_by pass = own_of (caller pass) (seen_by pass) pass.log
+
+-- what a pass was asked to do and did, in order
+abbrev pub done_by : PassView → List Op
+done_by pass = ops_of (own_by pass)
+
+-- an item made once so many entries were seen: a call's place is greater
+abbrev pub IsLate : ℕ → Item → Type 0
+IsLate seen item = seen + (if is_call item.content then 1 else 0) ≤ item.version
+
+-- each touch that its caller entered has grown an area
+abbrev pub HaveGrown : PassView → Type 0
+HaveGrown pass = All HasGrown (made_by pass)
+
+-- these items were done more, all of them once all was seen that had been seen before, and each touch among them has grown
+pub record Grew (old new : PassView) (more : List Item) : Type 0 where
+  pub own : own_by new ≡ own_by old ++ more
+  pub late : All (IsLate (length (seen_by old))) more
+  pub grown : HaveGrown old → HaveGrown new
+
+-- one operation was done more
+pub record DoesItem (old new : PassView) (op : Op) : Type 0 where
+  pub item : Item
+  pub grew : Grew old new (item ∷ [])
+  pub asked : op_of item.content ≡ read_as op
+  pub left : new.left + 1 ≡ old.left
+
+-- nothing was done, and no operation was taken
+pub record GrewNone (old new : PassView) : Type 0 where
+  pub grew : Grew old new []
+  pub left : new.left ≡ old.left
+
+-- some of these lines were run more, in order, from the first on, one item for each
+pub record Ran (old new : PassView) (lines : List TraceLine) : Type 0 where
+  pub more : List Item
+  pub few : length more ≤ length lines
+  pub grew : Grew old new more
+  pub ops : ops_of more ≡ asked (take (length more) lines)
+  pub left : new.left + length more ≡ old.left

@@ -1,0 +1,14 @@
+-- How the lines of a trace are shared out among the callers of a space.
+use Rattle.std.specs.Prelude.{ℕ, ◌≡◌, ◌<◌, List, length, slice_index, All, None}
+use Rattle.trace_reader.specs.declared.trace.TraceLine.{TraceLine}
+use Rattle.history.specs.CallerPlaces.{callers_of}
+use Rattle.history.specs.Histories.{lines_of}
+
+-- there are just these callers, and each may make as many operations as it has lines
+pub record AreShares (lines : List TraceLine) (operations : List ℕ) : Type 0 where
+  pub all : length operations ≡ callers_of lines
+  pub each : (caller : ℕ) → caller < callers_of lines → slice_index operations caller ≡ length (lines_of lines caller)
+
+-- no line names a line that it comes after
+abbrev pub NameNoLine : List TraceLine → Type 0
+NameNoLine lines = All (λ line. line.after ≡ None) lines
