@@ -29,7 +29,7 @@ use Rattle.area_tree.specs.AreaTrees.{AreaTreeView, shown_of, areas_of, areas_sh
 use Rattle.mm_state.specs.declared.board.Board.{Board}
 use Rattle.mm_state.specs.Shelves.{ShowsIt, Hangs}
 use Rattle.mm_state.specs.States.{MarksChanged, HaveLeft}
-use Rattle.mm_state.specs.Boards.{adds, weigh, IsBeside, after_leaving, Moves, Carries, IsSane, IsShown, IsStill, IsChanging, IsSameTree}
+use Rattle.mm_state.specs.Boards.{adds, weigh, IsBeside, after_leaving, Moves, Carries, IsSane, IsShown, IsStill, ChangesAtMost, IsChanging, IsSameTree}
 use Rattle.mm_state.proofs.Rows.{packed_attached, packed_apart, not_packed}
 use Rattle.mm_state.proofs.Hanging.{hangs_permuted, alone, IsAlone, self, left_more, detached, altered, added, free_is_none}
 use Rattle.mm_state.proofs.Writing.{hangs_out}
@@ -58,6 +58,16 @@ marks_more old states slot state within marks differs other = by (cases_eq slot 
     by (inr apart) =
         let is : slot_at (set states slot state) other ≡ slot_at states other = get_or-set_other states slot other state free_slot (λ same. apart (sym same)) in
         λ rose equal. marks other (λ same. rose (ap (λ (s : SlotState). s.lock_seq) is ∙ same)) (sym (ap (λ (s : SlotState). s.row) is) ∙ equal)
+
+-- one slot more changed
+few_more : (old states : List SlotState) (slot : ℕ) (state : SlotState) (count more : ℕ) → count < more → ChangesAtMost count old states
+    → ChangesAtMost more old (set states slot state)
+few_more old states slot state count more above (changed, short, same) = (
+  slot ∷ changed,
+  omega arith,
+  λ other apart. get_or-set_other states slot other state free_slot (λ is. apart (0, omega arith, sym is))
+      ∙ same other (λ member. apart (Contains-append_right (slot ∷ []) changed other member)),
+)
 
 unused_more : (old states : List SlotState) (slot : ℕ) (state : SlotState) (free left : List ℕ) → times slot left ≡ 0
     → ((other : ℕ) → times other left ≤ times other free) → Unused old states free → Unused old (set states slot state) left
@@ -194,6 +204,7 @@ detach_step start board after done tree area changing member (slot, changes, out
   same = tree_step start.areas board.areas after.areas changing.same changes.same;
   moved_room = changes.moved_room ∙ changing.moved_room;
   few_moved = omega (arith, ap length moved, changing.few_moved);
+  few = rw changes.written.slots (few_more (slots start.writer) (slots board.writer) slot state (length done) (length (Detach area ∷ done)) (omega arith) changing.few);
   marks = rw changes.written.slots (marks_more (slots start.writer) (slots board.writer) slot state within changing.marks
       (λ same. not_packed detached_row area refl (same ∙ ap (λ (s : SlotState). s.row) (sym was) ∙ shows)));
   waits = rw changes.written.slots (waits_more (slots start.writer) (slots board.writer) slot state start.slots.left board.slots.left after.slots.left changing.waits more
@@ -339,6 +350,7 @@ alter_step start board after done tree area changed changing member sane (slot, 
   same = tree_step start.areas board.areas after.areas changing.same changes.same;
   moved_room = changes.moved_room ∙ changing.moved_room;
   few_moved = omega (arith, m.few, changing.few_moved);
+  few = rw changes.written.slots (few_more (slots start.writer) (slots board.writer) slot state (length done) (length (Alter area changed ∷ done)) (omega arith) changing.few);
   marks = rw changes.written.slots (marks_more (slots start.writer) (slots board.writer) slot state within changing.marks
       (λ same. packed_apart area changed sane.0 sane.1 sane.2 (sym (same ∙ ap (λ (s : SlotState). s.row) (sym was) ∙ shows))));
   waits = rw changes.written.slots (waits_more (slots start.writer) (slots board.writer) slot state start.slots.left board.slots.left after.slots.left changing.waits more
@@ -423,6 +435,7 @@ add_step start board after done tree area changing (slot, changes, tree_is, move
   same = tree_step start.areas board.areas after.areas changing.same changes.same;
   moved_room = changes.moved_room ∙ changing.moved_room;
   few_moved = omega (arith, ap length moved, length-append board.moved.items (now ∷ []), changing.few_moved);
+  few = rw changes.written.slots (few_more (slots start.writer) (slots board.writer) slot state (length done) (length (Add area ∷ done)) (omega arith) changing.few);
   marks = rw changes.written.slots (marks_more (slots start.writer) (slots board.writer) slot state within changing.marks
       (λ same. not_packed (slot_at (slots board.writer) slot).row area (changing.hangs.others slot free.1) (ap (λ (s : SlotState). s.row) was ∙ sym same)));
   waits = rw changes.written.slots (waits_more (slots start.writer) (slots board.writer) slot state start.slots.left board.slots.left after.slots.left changing.waits more
@@ -512,6 +525,7 @@ none_changed board tree mine hangs empty leaving ascend = record {
   same = refl;
   moved_room = refl;
   few_moved = omega (arith, ap length empty);
+  few = ([], omega arith, λ slot apart. refl);
   marks = λ slot rose same. rose refl;
   waits = λ leaving member. (member, refl);
   gone = λ slot was is. absurd (both_ways (is_detached (slot_at (slots board.writer) slot).row) is was);

@@ -1,5 +1,6 @@
 -- For `MmState::apply` and `MmState::apply_before`: a call that was planned and carried out keeps the state.
-use Rattle.std.proofs.Common.{ℕ, ◌≡◌, ◌≤◌, ◌<◌, ◌++◌, ◌∷◌, [], List, None, length, subst, sym, ap, ◌∙◌, arith, length-append, vec_capacity}
+use Rattle.std.proofs.Common.{ℕ, ◌≡◌, ◌≢◌, ◌≤◌, ◌<◌, ◌++◌, ◌∷◌, [], List, None, length, subst, sym, ap, ◌∙◌, arith, length-append, vec_capacity, ◌⊎◌, inl, inr}
+use Rattle.std.specs.List.{Contains}
 use Rattle.mm_types.specs.declared.area.Record.{Record}
 use Rattle.mm_types.specs.declared.call.Entry.{Entry}
 use Rattle.area_rules.specs.declared.placement.Bounds.{Bounds}
@@ -10,14 +11,15 @@ use Rattle.lock_core.specs.declared.stage.SlotState.{SlotState}
 use Rattle.lock_core.specs.Facts.{list_after}
 use Rattle.split_merge.specs.declared.planned.Planned.{Planned}
 use Rattle.split_merge.specs.Plans.{PlanView, IsKept, applied}
+use Rattle.split_merge.proofs.Counting.{contains_cases}
 use Rattle.sys_seal.specs.Guards.{IsPlannedWhole}
 use Rattle.sys_calls.proofs.Keeping.{made_space}
 use Rattle.vma_lock.specs.Seats.{config_of, sight, slots}
 use Rattle.area_tree.specs.AreaTrees.{areas_of}
 use Rattle.mm_state.specs.declared.state.MmState.TheInside.{Inside}
-use Rattle.mm_state.specs.Boards.{IsAtRest, IsEntered, IsCarriedOut}
+use Rattle.mm_state.specs.Boards.{IsAtRest, ChangesAtMost, IsEntered, IsCarriedOut}
 use Rattle.mm_state.specs.Kept.{IsState}
-use Rattle.mm_state.specs.States.{KeepsSlots}
+use Rattle.mm_state.specs.States.{KeepsSlots, ChangesOne}
 use Rattle.mm_state.proofs.Entering.{space_after, entered}
 
 -- a call was planned on a state that had room
@@ -49,6 +51,16 @@ list_then : (old : Inside) (entry : Entry) (answer : Planned) (plan : PlanView) 
 list_then old entry answer plan entries asked pushed = asked.planned.planned.makes.result
     ∙ ap (λ (space : AddressSpace). space.areas) (space_after old.config old.journal.items (areas_of old.board.areas) old.counters entry asked.state.space
     ∙ ap (after old.config) (sym pushed))
+
+-- where a plan has one change at most, all slots but one at most are as they were
+pub one_slot : (count : ℕ) (old new : List SlotState) → count ≤ 1 → ChangesAtMost count old new → ChangesOne old new
+one_slot count old new one ([], short, same) = (0, λ other apart. same other (λ member. omega (arith, member.1)))
+one_slot count old new one (slot ∷ [], short, same) = (slot, λ other apart. same other (λ member. no_other other apart (contains_cases slot [] other member)))
+  where
+    no_other : (other : ℕ) → other ≢ slot → (slot ≡ other) ⊎ Contains [] other → ⊥
+    no_other other apart (inl is) = apart (sym is)
+    no_other other apart (inr member) = omega (arith, member.1)
+one_slot count old new one (slot ∷ next ∷ rest, short, same) = absurd (omega (arith, one, short))
 
 -- an area of the lists before and after keeps its slot
 pub stays_made : (old : Inside) (entry : Entry) (answer : Planned) (plan : PlanView) (entries : List Entry) (new : List SlotState) → IsAsked old entry answer plan

@@ -14,7 +14,7 @@ use Rattle.area_tree.specs.AreaTrees.{shown_of, areas_of}
 use Rattle.mm_state.specs.declared.board.Board.{Board}
 use Rattle.mm_state.specs.Shelves.{Hangs}
 use Rattle.mm_state.specs.States.{MarksChanged, KeepsSlots, KeepsLeft, HaveLeft}
-use Rattle.mm_state.specs.Boards.{IsAtRest, IsEntered, IsCarriedOut}
+use Rattle.mm_state.specs.Boards.{IsAtRest, ChangesAtMost, IsEntered, IsCarriedOut}
 
 -- what a writer knows of its table and its journal is what it knew
 pub record IsLike (old new : View) : Type 0 where
@@ -65,6 +65,7 @@ carried_like board made lent met changes entry first second done = record {
   bounds = done.bounds;
   most = done.most;
   nodes = done.nodes;
+  few = between (ChangesAtMost (length changes)) done.few;
   marks = between MarksChanged done.marks;
   stays = between (KeepsSlots (areas_of board.areas) (applied changes (areas_of board.areas))) done.stays;
   waits = between (KeepsLeft made.areas.tree.settled board.slots.left made.slots.left) done.waits;

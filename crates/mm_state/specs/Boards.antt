@@ -139,6 +139,10 @@ IsShown shown area = (slot : ℕ) × Contains shown (record { slot = slot; area 
 abbrev pub IsStill : List SlotState → List SlotState → List Shown → Record → Type 0
 IsStill old new shown area = (slot : ℕ) → Contains shown (record { slot = slot; area = area }) → slot_at new slot ≡ slot_at old slot
 
+-- all slots but these are as they were, of which there are at most so many
+abbrev pub ChangesAtMost : ℕ → List SlotState → List SlotState → Type 0
+ChangesAtMost count old new = (changed : List ℕ) × (length changed ≤ count) × ((slot : ℕ) → ¬ (Contains changed slot) → slot_at new slot ≡ slot_at old slot)
+
 -- These changes of a plan were carried out from a board on: what they brought came to its areas, and what they took away left. What
 -- the other changes may take away is in the tree, and its slots are as they were; so are the free slots.
 pub record IsChanging (start board : Board) (done : List Change) (tree : ℕ) : Type 0 where
@@ -158,6 +162,7 @@ pub record IsChanging (start board : Board) (done : List Change) (tree : ℕ) : 
   pub same : IsSameTree start.areas board.areas
   pub moved_room : vec_capacity board.moved ≡ vec_capacity start.moved
   pub few_moved : length board.moved.items ≤ length (news_of done)
+  pub few : ChangesAtMost (length done) (slots start.writer) (slots board.writer)
   pub marks : MarksChanged (slots start.writer) (slots board.writer)
   pub waits : (leaving : Leaving) → Contains start.slots.left leaving
       → Contains board.slots.left leaving × (slot_at (slots board.writer) leaving.slot ≡ slot_at (slots start.writer) leaving.slot)
@@ -217,15 +222,16 @@ pub record IsEntered (board : Board) (changes : List Change) (entry : Entry) : T
   pub few_after : length (applied changes (areas_of board.areas)) ≤ (config_of board.table).areas
   pub rise_after : AreasRise (page_of (config_of board.table).limit) 0 (applied changes (areas_of board.areas))
 
--- A call's plan made its list of the areas, and its entry stands last in the journal. A slot that was marked shows another row, an
--- area of both lists keeps its slot, a slot that left after the settled tree is as it was, and one whose area went left with the
--- new tree.
+-- A call's plan made its list of the areas, and its entry stands last in the journal. At most as many slots as it has changes are
+-- other than before. A slot that was marked shows another row, an area of both lists keeps its slot, a slot that left after the
+-- settled tree is as it was, and one whose area went left with the new tree.
 pub record IsCarriedOut (old new : Board) (changes : List Change) (entry : Entry) : Type 0 where
   pub entered : journal new.writer ≡ journal old.writer ++ entry ∷ []
   pub areas : areas_of new.areas ≡ applied changes (areas_of old.areas)
   pub bounds : new.areas.bounds ≡ old.areas.bounds
   pub most : new.areas.tree.areas ≡ old.areas.tree.areas
   pub nodes : new.areas.tree.table ≡ old.areas.tree.table
+  pub few : ChangesAtMost (length changes) (slots old.writer) (slots new.writer)
   pub marks : MarksChanged (slots old.writer) (slots new.writer)
   pub stays : KeepsSlots (areas_of old.areas) (applied changes (areas_of old.areas)) (slots old.writer) (slots new.writer)
   pub waits : KeepsLeft new.areas.tree.settled old.slots.left new.slots.left (slots old.writer) (slots new.writer)

@@ -52,6 +52,10 @@ KeepsSlots before after old new = (slot : ℕ) (area : Record) → Contains befo
 abbrev pub MarksChanged : List SlotState → List SlotState → Type 0
 MarksChanged old new = (slot : ℕ) → (slot_at new slot).lock_seq ≢ (slot_at old slot).lock_seq → (slot_at new slot).row ≢ (slot_at old slot).row
 
+-- all slots but one at most are as they were
+abbrev pub ChangesOne : List SlotState → List SlotState → Type 0
+ChangesOne old new = (slot : ℕ) × ((other : ℕ) → other ≢ slot → slot_at new other ≡ slot_at old other)
+
 -- a slot that left after the settled tree is left still, and is as it was
 abbrev pub KeepsLeft : (settled : ℕ) → (before after : List Leaving) → (old new : List SlotState) → Type 0
 KeepsLeft settled before after old new = (leaving : Leaving) → Contains before leaving → settled < leaving.tree

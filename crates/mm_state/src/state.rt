@@ -1,5 +1,8 @@
 //! The state behind the mmap lock.
 ghost use Rattle.std.specs.Prelude.{◌≡◌, ◌≤◌, ◌<◌, ◌+◌, ◌/◌, ◌%◌, ◌^◌, ◌++◌, ◌∷◌, [], ℕ, false, IfOk, All, length, replicate, None};
+ghost use Rattle.mm_types.specs.declared.area.Access.{Access};
+ghost use Rattle.mm_types.specs.declared.area.Page.{Page};
+ghost use Rattle.mm_types.specs.declared.call.Call.TheVariants.{Touch};
 ghost use Rattle.mm_types.specs.Config.{IsValidConfig};
 ghost use Rattle.area_rules.specs.Journals.{calls_by};
 ghost use Rattle.area_rules.specs.Steps.{step, after, IsLegalJournal};
@@ -49,7 +52,7 @@ impl Model for MmState {
 }
 
 impl MmState {
-    ghost use Rattle.mm_state.specs.States.{list_of, ArePairsOf, MarksChanged, KeepsSlots, KeepsLeft, HaveLeft};
+    ghost use Rattle.mm_state.specs.States.{list_of, ArePairsOf, ChangesOne, MarksChanged, KeepsSlots, KeepsLeft, HaveLeft};
 
     /// The state of a new table, of which the writer is given, with room for so many entries. Its trees stand in a new table of
     /// nodes, of which the writer is given: it has the rows and the slots for so many areas.
@@ -112,6 +115,8 @@ impl MmState {
         // what it had seen lies before this entry, and no entry between is of its caller
         ensures later { StartsWith self.old.journal (seen seat.old) }
         ensures own { calls_by (view seat.old).caller self.old.journal ≡ calls_by (view seat.old).caller (seen seat.old) }
+        // a touch leaves all slots but one at most as they were
+        ensures touch { (page : Page) (access : Access) → call.now ≡ Touch page access → ChangesOne self.old.slots self.new.slots }
         // a slot whose mark rose shows another row than before
         ensures marks { MarksChanged self.old.slots self.new.slots }
         // an area that is in the list before and after keeps its slot, which is not marked
@@ -148,6 +153,8 @@ impl MmState {
         ensures same { (self.new.table ≡ self.old.table) × (self.new.config ≡ self.old.config) × (self.new.room ≡ self.old.room) }
         ensures nodes { self.new.nodes ≡ self.old.nodes }
         ensures reply { result ≡ (step self.old.config (after self.old.config self.old.journal) call.now).reply }
+        // a touch leaves all slots but one at most as they were
+        ensures touch { (page : Page) (access : Access) → call.now ≡ Touch page access → ChangesOne self.old.slots self.new.slots }
         // a slot whose mark rose shows another row than before
         ensures marks { MarksChanged self.old.slots self.new.slots }
         // an area that is in the list before and after keeps its slot, which is not marked

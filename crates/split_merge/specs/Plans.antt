@@ -62,6 +62,10 @@ pub record IsPlanOf (areas : List Record) (plan : List Change) : Type 0 where
   pub members : All (Contains areas) (olds_of plan)
   pub distinct : AllPairs (λ a b. a ≢ b) (olds_of plan)
 
+-- a plan is one change: an area becomes this one
+abbrev pub IsOneAlter : List Change → Record → Type 0
+IsOneAlter plan new = (old : Record) × (plan ≡ Alter old new ∷ [])
+
 -- a plan has only real changes where no area that it brings is one that it takes away
 abbrev pub IsReal : List Change → Type 0
 IsReal plan = All (λ new. ¬ (Contains (olds_of plan) new)) (news_of plan)

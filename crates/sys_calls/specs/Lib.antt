@@ -1,2 +1,3 @@
+pub mod Touches
 pub mod Plain
 pub mod Kept

@@ -5,6 +5,7 @@ ghost use Rattle.area_rules.specs.Tables.{space_of};
 ghost use Rattle.area_rules.specs.Steps.{step, step_unsealed, IsReady};
 ghost use Rattle.split_merge.specs.Calls.{IsPrepared};
 ghost use Rattle.sys_seal.specs.Guards.{IsPlannedWhole};
+ghost use Rattle.sys_calls.specs.Touches.{TouchesOne};
 
 use mm_types::{Call, Config, Counters, Reply};
 use split_merge::{Areas, Plan, Planned};
@@ -39,8 +40,9 @@ fn plan_unsealed<A: Areas>(
 ) -> Planned
     requires ready { IsReady config.now (space_of (A.list areas.now) counters) }
     requires prepared { IsPrepared config.now (A.bounds areas.now) (A.most areas.now) plan.old }
-    ensures { IsPlannedWhole (A.bounds areas.now) (A.most areas.now) (A.list areas.now)
+    ensures planned { IsPlannedWhole (A.bounds areas.now) (A.most areas.now) (A.list areas.now)
         (step_unsealed config.now (space_of (A.list areas.now) counters) call.now) result plan.old plan.new }
+    ensures touch { TouchesOne call.now plan.new.changes }
 {
     let reply = match call {
         Call::Mmap(args) => return plan_mmap(config, counters, areas, args, plan),
@@ -66,7 +68,7 @@ fn plan_unsealed<A: Areas>(
 }
 
 /// One call, planned. `counters` are those before it. The reply, the counters and the list that the plan makes are those of the
-/// step: of the call's table, unless it would change sealed pages. No memory is taken.
+/// step: of the call's table, unless it would change sealed pages. A touch is one change at most. No memory is taken.
 #[tactic(auto, unfolding(area_rules::specs::Steps::step))]
 pub fn plan_call<A: Areas>(
     config: &Config,
@@ -77,8 +79,9 @@ pub fn plan_call<A: Areas>(
 ) -> Planned
     requires ready { IsReady config.now (space_of (A.list areas.now) counters) }
     requires prepared { IsPrepared config.now (A.bounds areas.now) (A.most areas.now) plan.old }
-    ensures { IsPlannedWhole (A.bounds areas.now) (A.most areas.now) (A.list areas.now)
+    ensures planned { IsPlannedWhole (A.bounds areas.now) (A.most areas.now) (A.list areas.now)
         (step config.now (space_of (A.list areas.now) counters) call.now) result plan.old plan.new }
+    ensures touch { TouchesOne call.now plan.new.changes }
 {
     let planned = plan_unsealed(config, counters, areas, call, plan);
     guard(areas, call, counters, planned, plan)

@@ -1,15 +1,17 @@
 //! Page faults over a list of areas: the verdict, and the growth of an area as a plan.
-ghost use Rattle.std.specs.Prelude.{◌≡◌, []};
+ghost use Rattle.std.specs.Prelude.{◌≡◌, ℕ, []};
 ghost use Rattle.mm_types.specs.Config.{IsValidConfig};
 ghost use Rattle.mm_types.specs.declared.call.Counters.{Counters};
 ghost use Rattle.mm_types.specs.declared.call.Errno.{Errno};
-ghost use Rattle.mm_types.specs.declared.call.Reply.TheVariants.{Refused};
+ghost use Rattle.mm_types.specs.declared.area.Record.{Record};
+ghost use Rattle.mm_types.specs.declared.call.Reply.TheVariants.{Grown, Refused};
 ghost use Rattle.area_list.specs.Areas.{IsSound};
 ghost use Rattle.area_list.specs.Areas.{IsCanonical};
 ghost use Rattle.area_rules.specs.Growing.{AreGrowersPrivate, grows, touch};
 ghost use Rattle.area_rules.specs.Verdicts.{unmapped_verdict, verdict};
 ghost use Rattle.area_rules.specs.Tables.{space_of};
 ghost use Rattle.split_merge.specs.Calls.{IsPrepared, IsPlannedCall};
+ghost use Rattle.split_merge.specs.Plans.{IsOneAlter};
 
 use area_rules::{area_verdict, grown_to, permits};
 use mm_types::{Access, Config, Errno, Page, Record, Reply, Verdict};
@@ -53,7 +55,7 @@ pub fn grows<A: Areas>(config: &Config, areas: &A, page: Page, access: Access) -
 
 /// A touch of a page, planned: where the area right above the page grows downwards and allows the access, it takes the page
 /// (`MAP_GROWSDOWN` of mmap(2)). The reply and the list that the plan makes are those of its rule, and do not depend on the
-/// counters. EFAULT where no area grows, and then the plan is empty. No memory is taken.
+/// counters. The plan is then one change, of this area. EFAULT where no area grows, and then the plan is empty. No memory is taken.
 pub fn plan_touch<A: Areas>(
     config: &Config,
     areas: &A,
@@ -67,6 +69,7 @@ pub fn plan_touch<A: Areas>(
     requires prepared { IsPrepared config.now (A.bounds areas.now) (A.most areas.now) plan.old }
     ensures planned { (counters : Counters) → IsPlannedCall (A.bounds areas.now) (A.most areas.now) (A.list areas.now)
         (touch config.now (space_of (A.list areas.now) counters) page.0 access) result plan.old plan.new }
+    ensures altered { (area : Record) (index : ℕ) → result ≡ Grown area index → IsOneAlter plan.new.changes area }
     ensures refused { (errno : Errno) → result ≡ Refused errno → plan.new.changes ≡ [] }
 {
     let Some(area) = grower(config, areas, page.0) else {

@@ -1,5 +1,5 @@
 //! Calls that would change sealed pages.
-ghost use Rattle.std.specs.Prelude.{◌≡◌};
+ghost use Rattle.std.specs.Prelude.{◌≡◌, ◌≤◌, length};
 ghost use Rattle.std.specs.Option.{option_to_list};
 ghost use Rattle.std.specs.List.{list_any};
 ghost use Rattle.area_list.specs.Areas.{IsCanonical};
@@ -44,10 +44,11 @@ pub fn guard<A: Areas>(
     plan: &mut Plan,
 ) -> Planned
     requires { IsKept (A.bounds areas.now) (A.most areas.now) (A.list areas.now) }
-    ensures { (space : AddressSpace) (outcome : Outcome) (fresh : PlanView) → space.areas ≡ A.list areas.now
+    ensures planned { (space : AddressSpace) (outcome : Outcome) (fresh : PlanView) → space.areas ≡ A.list areas.now
         → counters_of space ≡ before
         → IsPlannedWhole (A.bounds areas.now) (A.most areas.now) (A.list areas.now) outcome planned fresh plan.old
         → IsPlannedWhole (A.bounds areas.now) (A.most areas.now) (A.list areas.now) (guarded space call.now outcome) result fresh plan.new }
+    ensures short { length plan.new.changes ≤ length plan.old.changes }
 {
     if is_sealed_off(areas, call, &planned.reply) {
         plan.clear();

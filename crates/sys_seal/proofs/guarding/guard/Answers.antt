@@ -4,7 +4,7 @@ use Rattle.split_merge.specs.Plans.{PlanView}
 use Rattle.sys_seal.proofs.SealedOff.{guarded_call}
 use Rattle.sys_seal.proofs.guarding.guard.Goals as goal
 
-pub returns-then-is_sealed_off : goal.returns-then-is_sealed_off
-returns-then-is_sealed_off g c =
+pub returns-then-is_sealed_off-clause-planned : goal.returns-then-is_sealed_off-clause-planned
+returns-then-is_sealed_off-clause-planned g c =
     guarded_call c.requires c.args.call.now c.args.before c.args.planned c.args.plan.now c.clear.new.self (ap (λ (p : PlanView). p.changes) c.clear.ensures)
     (ap (λ (p : PlanView). p.room) c.clear.ensures) (sym c.is_sealed_off.ensures ∙ c.if-is_sealed_off.true)

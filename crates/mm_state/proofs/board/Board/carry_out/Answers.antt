@@ -19,7 +19,7 @@ use Rattle.area_tree.specs.AreaTrees.{AreaTreeView, shown_of, areas_of, AreasRis
 use Rattle.mm_state.specs.declared.board.Board.{Board}
 use Rattle.mm_state.specs.Shelves.{Hangs}
 use Rattle.mm_state.specs.States.{MarksChanged, KeepsSlots, KeepsLeft, HaveLeft}
-use Rattle.mm_state.specs.Boards.{IsPackable}
+use Rattle.mm_state.specs.Boards.{IsPackable, ChangesAtMost}
 use Rattle.mm_state.proofs.Changing.{tree_step}
 use Rattle.mm_state.proofs.Hanging.{hangs_permuted}
 use Rattle.mm_state.proofs.Readying.{prepared, can_store, rows_then, areas_then, news_few, slots_suffice}
@@ -174,6 +174,7 @@ returns-clause-done g c =
       bounds = ap (λ (t : AreaTreeView). t.bounds) shown ∙ ap (λ (t : AreaTreeView). t.bounds) tree ∙ ap (λ (t : AreaTreeView). t.bounds) ready.areas;
       most = ap (λ (t : AreaTreeView). t.tree.areas) shown ∙ ap (λ (t : AreaTreeView). t.tree.areas) tree ∙ ap (λ (t : AreaTreeView). t.tree.areas) ready.areas;
       nodes = ap (λ (t : AreaTreeView). t.tree.table) shown ∙ ap (λ (t : AreaTreeView). t.tree.table) tree ∙ ap (λ (t : AreaTreeView). t.tree.table) ready.areas;
+      few = between (ChangesAtMost (length c.args.changes.now)) (slots before.writer) (slots opened) (slots board.writer) (slots ended) were are changing.few;
       marks = between MarksChanged (slots before.writer) (slots opened) (slots board.writer) (slots ended) were are changing.marks;
       stays = between (KeepsSlots (areas_of before.areas) (applied c.args.changes.now (areas_of before.areas)))
           (slots before.writer) (slots opened) (slots board.writer) (slots ended) were are

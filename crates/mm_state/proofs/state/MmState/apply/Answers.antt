@@ -1,5 +1,5 @@
 -- For `MmState::apply`: the plan makes the list after the entry, and the state is kept.
-use Rattle.std.proofs.Common.{◌<◌, length, List, refl, subst, sym, arith}
+use Rattle.std.proofs.Common.{◌<◌, length, List, refl, ap, subst, sym, arith}
 use Rattle.mm_types.specs.declared.call.Entry.{Entry}
 use Rattle.split_merge.specs.declared.plan.Change.{Change}
 use Rattle.split_merge.specs.Plans.{applied}
@@ -7,9 +7,9 @@ use Rattle.lock_core.specs.Facts.{list_after}
 use Rattle.vma_lock.specs.Seats.{slots}
 use Rattle.area_tree.specs.AreaTrees.{areas_of}
 use Rattle.mm_state.specs.Boards.{IsEntered, IsCarriedOut}
-use Rattle.mm_state.specs.States.{StateView, list_of, MarksChanged, KeepsSlots, KeepsLeft, HaveLeft}
+use Rattle.mm_state.specs.States.{StateView, list_of, ChangesOne, MarksChanged, KeepsSlots, KeepsLeft, HaveLeft}
 use Rattle.mm_state.proofs.Entering.{ready_now}
-use Rattle.mm_state.proofs.Made.{may_enter, state_made, stays_made}
+use Rattle.mm_state.proofs.Made.{may_enter, one_slot, state_made, stays_made}
 use Rattle.mm_state.proofs.state.MmState.apply.Goals as goal
 
 pub plan_call-called-requires-clause-ready : goal.plan_call-called-requires-clause-ready
@@ -32,7 +32,7 @@ enter-requires-clause-plan g c =
       state = c.self.invariant;
       spare = subst (λ (v : StateView). length v.journal < v.room) (sym c.self.view_is) c.requires.room;
       reply = refl;
-      planned = c.plan_call-called.ensures;
+      planned = c.plan_call-called.ensures.planned;
     })
 
 pub invariant_of-self : goal.invariant_of-self
@@ -45,7 +45,7 @@ invariant_of-self g c =
         state = c.self.invariant;
         spare = subst (λ (v : StateView). length v.journal < v.room) (sym c.self.view_is) c.requires.room;
         reply = refl;
-        planned = c.plan_call-called.ensures;
+        planned = c.plan_call-called.ensures.planned;
       };
       rest = c.enter.ensures.rest;
       turn = c.enter.ensures.turn;
@@ -67,11 +67,18 @@ returns-clause-stays g c =
       state = c.self.invariant;
       spare = subst (λ (v : StateView). length v.journal < v.room) (sym c.self.view_is) c.requires.room;
       reply = refl;
-      planned = c.plan_call-called.ensures;
+      planned = c.plan_call-called.ensures.planned;
     }
     c.push_reserved.ensures.items
     (subst (λ (changes : List Change). KeepsSlots (areas_of s.board.areas) (applied changes (areas_of s.board.areas)) (slots s.board.writer) (slots c.enter.new.self.writer))
     c.changes.ensures c.enter.ensures.done.stays))
+
+pub returns-clause-touch : goal.returns-clause-touch
+returns-clause-touch g c page access is =
+    let new = slots c.enter.new.self.writer in
+    subst (λ (v : StateView). ChangesOne v.slots new) c.self.view_is
+    (one_slot (length c.changes.result.now) (slots c.self.inside.board.writer) new
+    (omega (arith, ap length c.changes.ensures, c.plan_call-called.ensures.touch page access is)) c.enter.ensures.done.few)
 
 pub returns-clause-marks : goal.returns-clause-marks
 returns-clause-marks g c = subst (λ (v : StateView). MarksChanged v.slots (slots c.enter.new.self.writer)) c.self.view_is c.enter.ensures.done.marks

@@ -31,7 +31,7 @@ pub invariant_of-self : goal.invariant_of-self
 invariant_of-self c =
     let s = c.self.inside in
     let i = c.self.invariant in
-    let called = c.plan_call-called.ensures in
+    let called = c.plan_call-called.ensures.planned in
     let stored = c.apply.ensures in
     let ready = ready_now s i (subst (λ (v : PlainView). v.space.objects < 2 ^ 32 - 1) (sym c.self.view_is) c.requires.room) in
     let kept : IsKeptFor s.config.now (space_of c.apply.new.self.list c.plan_call-called.result.counters)
@@ -56,7 +56,7 @@ invariant_of-self c =
 pub returns-clause-space : goal.returns-clause-space
 returns-clause-space c =
     let s = c.self.inside in
-    let called = c.plan_call-called.ensures in
+    let called = c.plan_call-called.ensures.planned in
     rw (← c.self.view_is) (made_space c.apply.new.self.list c.plan_call-called.result.counters (step s.config.now (space_of s.areas.list s.counters) c.args.call.now).space
     (ap (λ (a : Stored). a.list) c.apply.ensures ∙ called.planned.makes.result) called.counters)
 
@@ -65,7 +65,7 @@ returns-clause-objects c =
     let s = c.self.inside in
     omega (
       arith,
-      ap (λ (k : Counters). k.objects) c.plan_call-called.ensures.counters,
+      ap (λ (k : Counters). k.objects) c.plan_call-called.ensures.planned.counters,
       (step_objects s.config.now (space_of s.areas.list s.counters) c.args.call.now).1,
       ap (λ (v : PlainView). v.space.objects) c.self.view_is,
     )
