@@ -7,6 +7,7 @@ pub mod Paths
 pub mod LineTests
 pub mod Notes
 pub mod LineAdded
+pub mod Halving
 pub mod RawPieces
 pub mod RawReading
 pub mod RawLaws

@@ -28,6 +28,14 @@ first_fails before lines more line (calls.Bad cause) all number so_far first num
     first_bad after_line before lines more line cause all number so_far first numbered fails
 first_fails before lines more line calls.NoMemory all number so_far first numbered fails = tt
 
+-- the first line is good, and what it leaves and the others are what all leave
+pub first_good : {S : Type 0} (step : S → RawLine → Result S Cause) (before after : S) (lines more : List RawLine) (line : RawLine)
+    (all : Result S TraceFault)
+    → lines_leave step before lines ≡ all → lines ≡ line ∷ more → step before line ≡ Ok after → lines_leave step after more ≡ all
+first_good {S} step before after lines more line all so_far first good =
+    sym (ap (λ (r : Result S Cause). at_line line.number r (λ next. lines_leave step next more)) good)
+    ∙ sym (ap (lines_leave step before) first) ∙ so_far
+
 -- no lines are left
 pub none_left : {S : Type 0} (step : S → RawLine → Result S Cause) (before : S) (number start : ℕ) (bytes : List ℕ) (all : Result S TraceFault)
     → length bytes ≡ 0 → lines_leave step before (lines_from number start bytes) ≡ all → all ≡ Ok before

@@ -1,9 +1,9 @@
 -- For `traces_fit`: what holds of every trace that was read.
-use Rattle.std.proofs.Common.{◌≡◌, ◌≢◌, ℕ, ◌+◌, ◌^◌, ◌<◌, ◌≤◌, Bool, true, false, not, ◌&&◌, nat_eq, nat_lt, nat_le, List, [], ◌∷◌, ◌++◌, length, get_or, codes, bytes_eq, ℤ, Option, Some, None, unwrap_or, is_some, option_to_list, Result, Ok, Err, ok_or, IfOk, IfSome, All, AllPairs, if◌then◌else◌, refl, sym, ap, inl, inr, ◌⊎◌, subst, arith, lit≤}
+use Rattle.std.proofs.Common.{◌≡◌, ◌≢◌, ℕ, ◌+◌, ◌^◌, ◌<◌, ◌≤◌, Bool, true, false, not, nat_eq, nat_lt, nat_le, List, [], ◌∷◌, ◌++◌, length, get_or, codes, bytes_eq, ℤ, Option, Some, None, unwrap_or, Result, Ok, Err, ok_or, IfOk, IfSome, AllPairs, if◌then◌else◌, refl, sym, ap, inl, inr, ◌⊎◌, subst, arith, lit≤}
 use Rattle.std.specs.List.{list_any, slice_split}
 use Rattle.std.specs.Ordering.{int_eq}
 use Rattle.std.specs.Str.{is_utf8}
-use Rattle.std.proofs.lemmas.Bool.{cond_both, leb-false, ltb-false, or_parts, both_ways, not-false}
+use Rattle.std.proofs.lemmas.Bool.{cond_both, leb-false, ltb-false, or_parts, both_ways}
 use Rattle.std.proofs.lemmas.Bool.Decides.{Decides-int_eq}
 use Rattle.std.proofs.lemmas.List.{length_push}
 use Rattle.std.proofs.lemmas.List.Folds.{list_any_at}
@@ -38,14 +38,14 @@ abbrev IsCount : ℕ → Type 0
 IsCount n = (1 ≤ n) × (n ≤ MOST_AREAS)
 
 -- what holds of what was read so far, where the next line has this number
-record IsSoFar (next : ℕ) (s : SoFar) : Type 0 where
-  areas : IfSome s.areas IsCount
-  top : IfSome s.top IsBound
-  min : IfSome s.min IsBound
-  heap : IfSome s.heap IsBound
-  files : length s.files ≤ MOST_FILES
-  distinct : AllPairs (λ a b. a.fd ≢ b.fd) s.files
-  lines : AreRead next s.lines s.children s.maps s.named
+pub record IsSoFar (next : ℕ) (s : SoFar) : Type 0 where
+  pub areas : IfSome s.areas IsCount
+  pub top : IfSome s.top IsBound
+  pub min : IfSome s.min IsBound
+  pub heap : IfSome s.heap IsBound
+  pub files : length s.files ≤ MOST_FILES
+  pub distinct : AllPairs (λ a b. a.fd ≢ b.fd) s.files
+  pub lines : AreRead next s.lines s.children s.maps s.named
 
 later : (next : ℕ) (s : SoFar) → IsSoFar next s → IsSoFar (next + 1) s
 later next s known = record {
@@ -293,11 +293,18 @@ text_fits s line false false utf8 known small = tt
 text_fits s line false true false known small = tt
 text_fits s line false true true known small = after_text-value s line.number line.text known (small refl)
 
-after_line-value : (s : SoFar) (line : RawLine) → IsSoFar line.number s → line.number ≤ line.start + 1
+after_line-value : (s : SoFar) (line : RawLine) → IsSoFar line.number s → (is_too_long line ≡ false → line.number < 2 ^ 64)
     → IfOk (after_line s line) (IsSoFar (line.number + 1))
 unfolding after_line text_within
-after_line-value s line known counted = text_fits s line (is_too_long line) line.ended (is_utf8 line.text) known
-    (small_number line counted)
+after_line-value s line known small = text_fits s line (is_too_long line) line.ended (is_utf8 line.text) known small
+
+-- so of a line that is good
+pub after_line-good : (before after : SoFar) (line : RawLine) (number : ℕ) → IsSoFar number before → line.number ≡ number → number < 2 ^ 64
+    → after_line before line ≡ Ok after → IsSoFar (number + 1) after
+after_line-good before after line number known numbered small good =
+    subst (λ (n : ℕ). IsSoFar (n + 1) after) numbered
+    (subst (λ (r : Result SoFar Cause). IfOk r (IsSoFar (line.number + 1))) good
+    (after_line-value before line (subst (λ (n : ℕ). IsSoFar n before) (sym numbered) known) (λ _. omega arith)))
 
 read_fits : (next : ℕ) (Q : SoFar → Type 0) (number : ℕ) (r : Result SoFar Cause) (rest : SoFar → Result SoFar TraceFault)
     → IfOk r (IsSoFar next) → ((s : SoFar) → IsSoFar next s → IfOk (rest s) Q) → IfOk (at_line number r rest) Q
@@ -317,11 +324,12 @@ pieces-value s number start (text ∷ []) known counted =
     cond_both (nat_eq (length text) 0) [] (raw_line number start text false ∷ [])
     (λ lines. IfOk (after_lines s lines) IsRead) (λ _. (number, known))
     (λ _. read_fits (number + 1) IsRead number (after_line s (raw_line number start text false)) (λ next. Ok next)
-    (after_line-value s (raw_line number start text false) known counted) (λ next h. (number + 1, h)))
+    (after_line-value s (raw_line number start text false) known (small_number (raw_line number start text false) counted))
+    (λ next h. (number + 1, h)))
 pieces-value s number start (text ∷ next ∷ pieces) known counted =
     read_fits (number + 1) IsRead number (after_line s (raw_line number start text true))
     (λ after. after_lines after (lines_of_pieces (number + 1) (start + length text + 1) (next ∷ pieces)))
-    (after_line-value s (raw_line number start text true) known counted)
+    (after_line-value s (raw_line number start text true) known (small_number (raw_line number start text true) counted))
     (λ after h. pieces-value after (number + 1) (start + length text + 1) (next ∷ pieces) h (omega arith))
 
 nothing-value : IsSoFar 1 nothing

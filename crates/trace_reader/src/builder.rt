@@ -5,7 +5,7 @@ ghost use Rattle.std.specs.List.{list_any};
 ghost use Rattle.trace_reader.specs.Grammar.{nothing, address_limit, trace_so_far};
 ghost use Rattle.trace_reader.specs.Lines.{version_numbered, version_of, is_comment, begins_with_digit, has_child, is_told, may_name, may_fork, names_rightly, forks_rightly, is_full, has_descriptor, with_header, with_line, with_limit, with_top, with_min, with_heap, with_file, after_setting, after_words, after_line};
 ghost use Rattle.trace_reader.specs.Reading.{Gives, line_view, so_far};
-ghost use Rattle.trace_reader.specs.Values.{is_call_op, is_maps, child_of};
+ghost use Rattle.trace_reader.specs.Values.{AreNumbered, is_call_op, is_maps, child_of};
 
 use crate::fault::{CallError, Cause};
 use crate::limits::{MOST_FORKS, MOST_LINES, MOST_MAPS, MOST_NAMED};
@@ -42,7 +42,7 @@ pub(crate) struct TraceBuilder {
     /// What `heap` set, in bytes.
     heap: Option<u64>,
     files: Vec<FileRow>,
-    /// The lines with a thread.
+    /// The lines with a thread, whose numbers rise.
     lines: Vec<TraceLine>,
     /// The children that the lines fork.
     children: Vec<u32>,
@@ -74,6 +74,7 @@ impl TraceBuilder {
     /// Adds a line, of which the first is the header. Its bytes are tested before its words.
     #[tactic(auto, unfolding(crate::specs::Lines::after_line))]
     pub(crate) fn add(&mut self, alloc: Global, line: &RawLine) -> Result<(), CallError>
+        requires { AreNumbered self.old.lines.items }
         ensures { Gives (λ _. so_far self.new) result (after_line (so_far self.old) (line_view line.now)) }
     {
         let text = text_of(line)?;
@@ -108,6 +109,7 @@ impl TraceBuilder {
         text: &str,
         words: &[&str],
     ) -> Result<(), CallError>
+        requires { AreNumbered self.old.lines.items }
         ensures { Gives (λ _. so_far self.new) result
             (after_words (so_far self.old) number text.now (map (λ word. word.now) words.now)) }
     {
@@ -128,6 +130,7 @@ impl TraceBuilder {
     /// Adds a line with a thread, by its last tests in their order: the line that it names, the child, and how many there may be.
     #[tactic(auto, unfolding(crate::specs::Lines::with_line, crate::specs::Lines::with_one, crate::specs::Lines::is_full))]
     fn add_line(&mut self, line: TraceLine) -> Result<(), CallError>
+        requires { AreNumbered self.old.lines.items }
         ensures { Gives (λ _. so_far self.new) result (with_line (so_far self.old) line) }
     {
         if !self.names_rightly(&line) {
@@ -155,6 +158,7 @@ impl TraceBuilder {
     /// Whether a line names a line that it may name, where it names one.
     #[tactic(auto, unfolding(crate::specs::Lines::names_rightly, crate::specs::Lines::may_name))]
     fn names_rightly(&self, line: &TraceLine) -> bool
+        requires { AreNumbered self.now.lines.items }
         ensures { result ≡ names_rightly (so_far self.now) line.now }
     {
         let Some(number) = line.after else {
@@ -391,13 +395,16 @@ fn has_thread(lines: &[TraceLine], thread: u32) -> bool
     lines.iter().any(|line| line.thread == thread)
 }
 
-/// Whether the line of this number is one that a line of this thread may name.
+/// Whether the line of this number, found by halving, is one that a line of this thread may name.
 fn has_told(lines: &[TraceLine], children: &[u32], thread: u32, number: u64) -> bool
+    requires { AreNumbered lines.now }
     ensures { result ≡ list_any (is_told children.now thread number) lines.now }
 {
-    lines
-        .iter()
-        .any(|other| is_told(children, thread, number, other))
+    let place = lines.partition_point(|other| other.number < number);
+    match lines.get(place) {
+        Some(other) => is_told(children, thread, number, other),
+        None => false,
+    }
 }
 
 /// Whether a line has this number, is a call, and is of another thread than this one that is no child.

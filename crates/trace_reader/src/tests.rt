@@ -25,25 +25,31 @@ fn with_header(alloc: Global, rest: &[u8]) -> Result<Vec<u8>, Fail> {
 
 #[test]
 fn the_header_comes_first(rt: HostRuntime) -> Result<(), Fail> {
-    for (cause, text) in [
-        (Cause::Header, ""),
-        (Cause::Header, "\n"),
-        (Cause::Header, "vmatrace 3\n"),
-        (Cause::Header, "vmasteps 1\n"),
-        (Cause::Header, "vmatrace 1 1\n"),
-        (Cause::Header, "vmatrace 1\r\n"),
-        (Cause::Header, "\u{feff}vmatrace 1\n"),
-        (Cause::Header, "# a comment\nvmatrace 1\n"),
-        (Cause::NoEnd, "vmatrace 1"),
+    for (line, cause, text) in [
+        (1, Cause::Header, ""),
+        (1, Cause::Header, "\n"),
+        (1, Cause::Header, "vmatrace 3\n"),
+        (1, Cause::Header, "vmasteps 1\n"),
+        (1, Cause::Header, "vmatrace 1 1\n"),
+        (1, Cause::Header, "vmatrace 1\r\n"),
+        (1, Cause::Header, "\u{feff}vmatrace 1\n"),
+        (1, Cause::Header, "# a comment\nvmatrace 1\n"),
+        (1, Cause::NoEnd, "vmatrace 1"),
+        (2, Cause::Number, "vmatrace 2\nheap 0x800000000000\n"),
     ] {
-        let wanted = TraceFault { line: 1, cause };
+        let wanted = TraceFault { line, cause };
         assert_eq!(rt;
             refusal(rt.alloc(), text.as_bytes())?,
             Some(wanted),
             "{text}"
         );
     }
-    for text in ["vmatrace 1\n", "vmatrace 2\n", " \tvmatrace \t 1\t\n"] {
+    for text in [
+        "vmatrace 1\n",
+        "vmatrace 2\n",
+        " \tvmatrace \t 1\t\n",
+        "vmatrace 2\n0 munmap 0x800000000000 4096\n",
+    ] {
         assert_eq!(rt; refusal(rt.alloc(), text.as_bytes())?, None, "{text}");
     }
     Ok(())
@@ -115,6 +121,7 @@ fn heaps_and_seals_have_their_form(rt: HostRuntime) -> Result<(), Fail> {
         (2, Cause::Arity, "heap 4096 after=1\n"),
         (2, Cause::Arity, "0 brk\n"),
         (2, Cause::Arity, "0 mseal 4096 4096\n"),
+        (2, Cause::Arity, "0 mseal 4096 4096 0 0\n"),
         (2, Cause::Number, "0 mseal 4096 4096 PROT_NONE\n"),
     ] {
         let bytes = with_header(rt.alloc(), text.as_bytes())?;
@@ -141,9 +148,12 @@ fn only_a_call_above_of_another_thread_is_named(rt: HostRuntime) -> Result<(), F
         (TWO_CALLS, "0 maps after=00000000000000000003\n", None),
         (TWO_CALLS, "0 fork 7 after=3\n", None),
         (TWO_CALLS, "0 mremap 1 2 3 0 after=3\n", None),
+        (TWO_CALLS, "\n# below\n2 brk 0\n1 maps after=6\n", None),
+        (TWO_CALLS, "\n1 maps after=4\n", Some((5, Cause::After))),
         (TWO_CALLS, "0 maps after=4\n", Some((4, Cause::After))),
         (TWO_CALLS, "0 maps after=2\n", Some((4, Cause::After))),
         (TWO_CALLS, "2 maps after=1\n", Some((4, Cause::After))),
+        (TWO_CALLS, "0 fork 1 after=2\n", Some((4, Cause::After))),
         (TWO_CALLS, "0 maps after=x\n", Some((4, Cause::Number))),
         (TWO_CALLS, "0 maps after=\n", Some((4, Cause::Number))),
         (TWO_CALLS, "0 maps after=0x3\n", Some((4, Cause::Number))),
