@@ -1,6 +1,7 @@
 //! Runs of a space, by one caller and by four at once.
 
 mod asking;
+mod continuing;
 mod operations;
 mod playing;
 mod tables;

@@ -36,7 +36,7 @@ pub(super) fn play_all<N: SpaceName + Send + Sync, R: Threads + Wait + Sync>(
 }
 
 /// Each pass plays the script in its place, in a thread of its own.
-fn drive<N: SpaceName + Send + Sync, R: Threads + Wait + Sync>(
+pub(super) fn drive<N: SpaceName + Send + Sync, R: Threads + Wait + Sync>(
     rt: &R,
     alloc: Global,
     space: &Space<N>,
