@@ -1,0 +1,7 @@
+pub mod Shifting
+pub mod Places
+pub mod Spaces
+pub mod ChildRuns
+pub mod Alike
+pub mod OwnLines
+pub mod Traces

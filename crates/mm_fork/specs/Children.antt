@@ -1,0 +1,81 @@
+-- Child spaces: what a child begins with, whose lines are whose, and the history of a child.
+use Rattle.std.specs.Prelude.{ℕ, ◌≡◌, ◌≤◌, ◌<◌, ◌+◌, Bool, true, false, not, nat_eq, List, [], ◌++◌, length, map, take, drop, filter, fold, slice_get, All, Some}
+use Rattle.std.specs.List.{list_any}
+use Rattle.mm_types.specs.declared.call.Entry.{Entry}
+use Rattle.mm_types.specs.declared.call.Seen.{Seen}
+use Rattle.mm_types.specs.declared.config.Config.{Config}
+use Rattle.trace_reader.specs.declared.trace.Trace.{Trace}
+use Rattle.trace_reader.specs.declared.trace.TraceLine.{TraceLine}
+use Rattle.trace_reader.specs.Values.{children_of}
+use Rattle.area_rules.specs.Growing.{grows}
+use Rattle.area_rules.specs.Tables.{AddressSpace}
+use Rattle.area_rules.specs.Verdicts.{verdict}
+use Rattle.area_rules.specs.Steps.{step, IsLegalJournal}
+use Rattle.area_rules.specs.Journals.{calls_by, version_of, IsReadRight}
+use Rattle.history.specs.declared.callers.TheConstants.{MOST_THREADS}
+use Rattle.history.specs.declared.items.Content.{Content}
+use Rattle.history.specs.declared.items.Content.TheVariants as contents
+use Rattle.history.specs.declared.items.Item.{Item}
+use Rattle.history.specs.Histories.{lines_of}
+use Rattle.history.specs.Runs.{history_of, own_of, ops_of, asked, HasGrown, AreTold}
+use Rattle.mm_fork.specs.Behind.{log_behind}
+
+-- an entry of a parent as its child has it, whose caller is none of the child's
+abbrev pub as_inherited : Entry → Entry
+as_inherited entry = record entry { caller = entry.caller + MOST_THREADS }
+
+-- what a child begins with that was forked at a version of a journal
+abbrev pub inherited : List Entry → ℕ → List Entry
+inherited journal version = map as_inherited (take version journal)
+
+-- the history of a child that was forked at a version, by its whole journal and the logs of its callers
+abbrev pub child_history_of : ℕ → List Entry → List (List Seen) → List Item
+child_history_of version journal logs = history_of (drop version journal) (map (log_behind version) logs)
+
+-- whether a thread is one of these children
+abbrev pub is_among : List ℕ → ℕ → Bool
+is_among children thread = list_any (λ child. nat_eq child thread) children
+
+-- the lines of the parent, in order: those of threads that are no child's
+abbrev pub parent_lines : List TraceLine → List TraceLine
+parent_lines lines = filter (λ line. not (is_among (children_of lines) line.thread)) lines
+
+-- the lines of a child, in order
+abbrev pub child_lines : List TraceLine → ℕ → List TraceLine
+child_lines lines child = filter (λ line. nat_eq line.thread child) lines
+
+-- the trace of the parent: its lines, in the same configuration
+abbrev pub parent_trace : Trace → Trace
+parent_trace trace = record trace { lines = parent_lines trace.lines }
+
+-- the trace of a child
+abbrev pub child_trace : Trace → ℕ → Trace
+child_trace trace child = record trace { lines = child_lines trace.lines child }
+
+-- an address space after calls, one after another
+abbrev pub space_from : Config → AddressSpace → List Entry → AddressSpace
+space_from config space entries = fold (λ space entry. (step config space entry.call).space) space entries
+
+-- a content is right over an address space: it is the reply of the step, the verdict on a fault that does not grow, or the list
+abbrev pub IsRightOver : Config → AddressSpace → Content → Type 0
+IsRightOver config space (contents.Called call reply) = reply ≡ (step config space call).reply
+IsRightOver config space (contents.Fault page access found) = (grows config space.areas page.0 access ≡ false)
+    × (found ≡ verdict config space.areas page.0 access)
+IsRightOver config space (contents.List areas) = areas ≡ space.areas
+
+-- A finished run of the lines of a child by so many callers, whose journal begins with the entries that it inherited, none of which is of a
+-- caller of the child: the whole journal is legal, each touch behind these entries grew, each caller's reads are right in the whole journal
+-- and not from before the fork, what each caller did is its lines, in order, what a line names was done before, and nobody else did
+-- anything or has a line.
+pub record IsChildRun (config : Config) (before : List Entry) (lines : List TraceLine) (callers : ℕ) (own : List Entry) (logs : List (List Seen)) : Type 0 where
+  pub legal : IsLegalJournal config (before ++ own)
+  pub grown : All HasGrown own
+  pub all : length logs ≡ callers
+  pub right : (caller : ℕ) (log : List Seen) → slice_get logs caller ≡ Some log → All (IsReadRight config (before ++ own)) log
+  pub later : (caller : ℕ) (log : List Seen) → slice_get logs caller ≡ Some log → All (λ read. length before ≤ version_of read) log
+  pub done : (caller : ℕ) (log : List Seen) → slice_get logs caller ≡ Some log
+      → ops_of (own_of caller (before ++ own) log) ≡ asked (lines_of lines caller)
+  pub told : AreTold lines (before ++ own) logs
+  pub apart : (caller : ℕ) → caller < callers → calls_by caller before ≡ []
+  pub others : (caller : ℕ) → callers ≤ caller → calls_by caller own ≡ []
+  pub no_lines : (caller : ℕ) → callers ≤ caller → lines_of lines caller ≡ []

@@ -1,0 +1,53 @@
+//! Whether a history is legal and of the lines of a parent, or of a child.
+ghost use Rattle.std.specs.Prelude.{◌≡◌, ◌<◌, ◌≤◌, ◌^◌, Err, [], All, OnOk, length};
+ghost use Rattle.mm_types.specs.Config.{IsValidConfig};
+ghost use Rattle.trace_reader.specs.Values.{AreNumbered};
+ghost use Rattle.trace_reader.specs.declared.limits.TheConstants.{MOST_LINES};
+ghost use Rattle.history.specs.declared.answers.BadEntry.{BadEntry};
+ghost use Rattle.history.specs.declared.callers.TheConstants.{MOST_THREADS};
+ghost use Rattle.history.specs.Checking.{IsRefused};
+ghost use Rattle.history.specs.Histories.{IsLegalHistory};
+ghost use Rattle.mm_fork.specs.Children.{parent_lines, child_lines};
+
+use crate::lines::{lines_of_child, lines_of_parent};
+use history::{CheckFault, History, check_after};
+use mm_types::Entry;
+use std::alloc::Global;
+use trace_reader::Trace;
+
+/// Judges the history of the parent of a trace, as `check` does one of a trace without children: `Ok` exactly where it is legal and of the
+/// lines of threads that are no child's, and else the first item that is bad, or its end. The only other error is out of memory.
+pub fn check_parent(alloc: Global, trace: &Trace, history: &History) -> Result<(), CheckFault>
+    requires valid { IsValidConfig trace.now.config }
+    requires few { length trace.now.lines ≤ MOST_LINES }
+    requires threads { All (λ line. line.thread < MOST_THREADS) trace.now.lines }
+    requires numbered { AreNumbered trace.now.lines }
+    ensures legal { OnOk result (IsLegalHistory trace.now.config [] (parent_lines trace.now.lines) history.now) }
+    ensures refused { (bad : BadEntry) → result ≡ Err (CheckFault.Bad bad)
+        → IsRefused trace.now.config [] (parent_lines trace.now.lines) history.now bad }
+{
+    let lines = lines_of_parent(alloc, trace.lines.items())?;
+    check_after(alloc, &trace.config, &[], lines.as_slice(), history)
+}
+
+/// Judges the history of a child of a trace, which began with these entries, as `check` does that of a space that began empty: `Ok` exactly
+/// where it is legal and of the child's lines, and else the first item that is bad, or its end. The only other error is out of memory.
+pub fn check_child(
+    alloc: Global,
+    trace: &Trace,
+    child: u32,
+    before: &[Entry],
+    history: &History,
+) -> Result<(), CheckFault>
+    requires valid { IsValidConfig trace.now.config }
+    requires few { length trace.now.lines ≤ MOST_LINES }
+    requires threads { All (λ line. line.thread < MOST_THREADS) trace.now.lines }
+    requires numbered { AreNumbered trace.now.lines }
+    requires begun { length before.now ≤ 2 ^ 31 }
+    ensures legal { OnOk result (IsLegalHistory trace.now.config before.now (child_lines trace.now.lines child) history.now) }
+    ensures refused { (bad : BadEntry) → result ≡ Err (CheckFault.Bad bad)
+        → IsRefused trace.now.config before.now (child_lines trace.now.lines child) history.now bad }
+{
+    let lines = lines_of_child(alloc, trace.lines.items(), child)?;
+    check_after(alloc, &trace.config, before, lines.as_slice(), history)
+}
