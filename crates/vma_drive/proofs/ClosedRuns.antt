@@ -1,10 +1,8 @@
 -- Serves the functions that run a trace: what closing a space after all lines were run leaves.
-use Rattle.std.proofs.Common.{Bool, true, false, cond, None, inl, inr, ℕ, ◌≡◌, ◌+◌, ◌<◌, ◌≤◌, ◌∙◌, zero, suc, refl, sym, ap, subst, nat_eq, nat_le, filter, sum, List, [], ◌∷◌, ◌++◌, length, map, take, drop, get_or, set, slice_get, option_map, All, Some, arith}
+use Rattle.std.proofs.Common.{Bool, true, false, cond, inl, inr, ℕ, ◌≡◌, ◌+◌, ◌<◌, ◌≤◌, ◌∙◌, zero, suc, refl, sym, ap, subst, nat_eq, List, [], ◌∷◌, ◌++◌, length, map, take, drop, get_or, set, slice_get, option_map, All, Some, arith}
 use Rattle.std.proofs.lemmas.List.{length-map, length-set, take-append-le, take_all, get_or-set_same}
 use Rattle.std.proofs.lemmas.Bool.{cases_lt, eq-eqb}
-use Rattle.std.proofs.lemmas.Bool.Decides.{nat_tests}
-use Rattle.std.proofs.lemmas.List.Elements.{All-nil, All-filter, All-weaker}
-use Rattle.std.proofs.lemmas.List.Sums.{length-filter, count_by-le-length, sum_by-cons}
+use Rattle.std.proofs.lemmas.List.Elements.{All-nil, All-weaker}
 use Rattle.std.proofs.lemmas.Option.{slice_get-map, slice_get_within, slice_get_read, slice_get-get_or, get_or_from_slice_get}
 use Rattle.mm_types.specs.declared.call.Entry.{Entry}
 use Rattle.mm_types.specs.declared.call.Seen.{Seen}
@@ -13,24 +11,24 @@ use Rattle.trace_reader.specs.declared.trace.TraceLine.{TraceLine}
 use Rattle.trace_reader.specs.Values.{IsLineValue}
 use Rattle.area_rules.specs.Journals.{calls_by, IsReadRight}
 use Rattle.history.specs.declared.callers.TheConstants.{MOST_THREADS}
-use Rattle.history.specs.Histories.{caller_of, lines_of}
-use Rattle.history.specs.Runs.{own_of, ops_of, asked, HasGrown, AreMade, IsReadRightAfter, IsRun}
+use Rattle.history.specs.declared.items.Item.{Item}
+use Rattle.history.specs.Histories.{lines_of}
+use Rattle.history.specs.Runs.{own_of, ops_of, asked, HasGrown, AreMade, AreTold, IsReadRightAfter, IsRun}
 use Rattle.history.specs.Labels.{IsSerialRun}
-use Rattle.history.proofs.Lists.{at_place}
 use Rattle.history.proofs.Steps.{own_same}
 use Rattle.history.proofs.Touches.{touches_made}
 use Rattle.history.proofs.ThreadCounts.{no_lines_past}
 use Rattle.fault_path.specs.Passes.{PassView, caller, seen_by, made_by, IsFresh, IsLater}
 use Rattle.mm_space.specs.Names.{SpaceId, since, IsPassOf, ArePasses}
 use Rattle.mm_space.specs.Closing.{ClosedView, IsIn, Closes}
-use Rattle.vma_drive.specs.Hearing.{done_by, HaveGrown}
+use Rattle.vma_drive.specs.Hearing.{own_by, done_by, HaveGrown, AreToldBy}
 use Rattle.history.specs.CallerPlaces.{callers_of}
-use Rattle.vma_drive.specs.Sharing.{AreShares, NameNoLine}
+use Rattle.vma_drive.specs.Sharing.{AreShares}
 use Rattle.vma_drive.proofs.Operations.{AreNew, split, nothing, calls_append}
 
 -- what a pass did, by the whole journal
-own_in : (settings : Config) (journal : List Entry) (pass : PassView) → IsIn settings journal pass
-    → ops_of (own_of (caller pass) journal pass.log) ≡ done_by pass
+pub own_in : (settings : Config) (journal : List Entry) (pass : PassView) → IsIn settings journal pass
+    → own_of (caller pass) journal pass.log ≡ own_by pass
 own_in settings journal pass lies =
     let c : ℕ = caller pass in
     let rest : List Entry = drop (length (seen_by pass)) journal in
@@ -38,7 +36,7 @@ own_in settings journal pass lies =
     let made : length (calls_by c (seen_by pass ++ rest)) ≡ length (made_by pass) = ap (λ (l : List Entry). length (calls_by c l)) (sym journal_is)
     ∙ ap length lies.made in
     let none : calls_by c rest ≡ [] = nothing (calls_by c rest) (omega (arith, made, calls_append c (seen_by pass) rest)) in
-    ap (λ (l : List Entry). ops_of (own_of c l pass.log)) journal_is ∙ ap ops_of (own_same c (seen_by pass) rest pass.log none)
+    ap (λ (l : List Entry). own_of c l pass.log) journal_is ∙ own_same c (seen_by pass) rest pass.log none
 
 -- the pass whose log this is
 pass_at : (passes : List PassView) (place : ℕ) (log : List Seen) → slice_get (map (λ pass. pass.log) passes) place ≡ Some log
@@ -71,7 +69,7 @@ tail_grown by entry entries grown = by_test (nat_eq entry.caller by) grown
     by_test true grown = λ i d within. grown (suc i) d (omega arith)
     by_test false grown = grown
 
-entry_at : (by : ℕ) (entries : List Entry) (i : ℕ) (d : Entry) → All HasGrown (calls_by by entries) → i < length entries
+pub entry_at : (by : ℕ) (entries : List Entry) (i : ℕ) (d : Entry) → All HasGrown (calls_by by entries) → i < length entries
     → by ≡ (get_or entries i d).caller → HasGrown (get_or entries i d)
 entry_at by [] i d grown within own = absurd (omega arith)
 entry_at by (entry ∷ entries) zero d grown within own =
@@ -79,13 +77,6 @@ entry_at by (entry ∷ entries) zero d grown within own =
     0 d (omega arith)
 entry_at by (entry ∷ entries) (suc i) d grown within own =
     entry_at by entries i d (tail_grown by entry entries grown) (omega arith) own
-
--- no line of a caller names a line where none does
-no_name : (lines : List TraceLine) (by place : ℕ) (line : TraceLine) → NameNoLine lines → slice_get (lines_of lines by) place ≡ Some line
-    → line.after ≡ None
-unfolding lines_of
-no_name lines by place line alone found = at_place (λ (l : TraceLine). l.after ≡ None) (lines_of lines by) place line
-    (All-filter (λ (l : TraceLine). nat_eq (caller_of lines l.thread) by) (λ (l : TraceLine). l.after ≡ None) lines alone) found
 
 module _ (name : SpaceId) (lines : List TraceLine) (passes : List PassView) (closed : ClosedView)
     (none : name.before ≡ []) (are : ArePasses name passes) (closes : Closes name passes closed) where
@@ -102,16 +93,30 @@ module _ (name : SpaceId) (lines : List TraceLine) (passes : List PassView) (clo
       let its = log_of place log found in
       subst (λ (l : List Seen). All (IsReadRight name.config closed.journal) l) its.2 its.3.right
 
-  log_done : (place : ℕ) (log : List Seen) → slice_get closed.logs place ≡ Some log
-      → (pass : PassView) × (slice_get passes place ≡ Some pass) × (ops_of (own_of place closed.journal log) ≡ done_by pass)
-  log_done place log found =
+  log_own : (place : ℕ) (log : List Seen) → slice_get closed.logs place ≡ Some log
+      → (pass : PassView) × (slice_get passes place ≡ Some pass) × (own_of place closed.journal log ≡ own_by pass)
+  log_own place log found =
       let its = log_of place log found in (
         its.0,
         its.1,
-        ap (λ (k : ℕ). ops_of (own_of k closed.journal log)) (sym its.4)
-            ∙ ap (λ (l : List Seen). ops_of (own_of (caller its.0) closed.journal l)) (sym its.2)
+        ap (λ (k : ℕ). own_of k closed.journal log) (sym its.4)
+            ∙ ap (λ (l : List Seen). own_of (caller its.0) closed.journal l) (sym its.2)
             ∙ own_in name.config closed.journal its.0 its.3,
       )
+
+  log_done : (place : ℕ) (log : List Seen) → slice_get closed.logs place ≡ Some log
+      → (pass : PassView) × (slice_get passes place ≡ Some pass) × (ops_of (own_of place closed.journal log) ≡ done_by pass)
+  log_done place log found =
+      let its = log_own place log found in
+      (its.0, its.1, ap ops_of its.2)
+
+  -- what a line names comes before it in the journal too
+  told_in : AreToldBy lines passes → AreTold lines closed.journal closed.logs
+  told_in told by place log item line number found item_is at names teller there other said named other_is said_is at_there is =
+      let mine = log_own by log found in
+      let theirs = log_own teller other other_is in
+      told by place mine.0 item line number mine.1 (ap (λ (l : List Item). slice_get l place) (sym mine.2) ∙ item_is) at names
+      teller there theirs.0 said named theirs.1 (ap (λ (l : List Item). slice_get l there) (sym theirs.2) ∙ said_is) at_there is
 
   many : length closed.logs ≡ length name.operations
   many = ap length closes.logs ∙ length-map passes (λ (pass : PassView). pass.log) ∙ are.all
@@ -141,72 +146,23 @@ module _ (name : SpaceId) (lines : List TraceLine) (passes : List PassView) (clo
   made grown = touches_made name.config [] closed.journal (record { replies = closes.legal.replies }) (all_grown grown)
 
   -- where each pass ran the lines of its caller, it is a run of the lines
-  pub threads_run : AreShares lines name.operations → All IsLineValue lines → NameNoLine lines
+  pub threads_run : AreShares lines name.operations → All IsLineValue lines → AreToldBy lines passes
       → ((place : ℕ) (pass : PassView) → slice_get passes place ≡ Some pass → HaveGrown pass)
       → ((place : ℕ) (pass : PassView) → slice_get passes place ≡ Some pass → done_by pass ≡ asked (lines_of lines place))
       → IsRun name.config [] lines (callers_of lines) closed.journal closed.logs
-  threads_run shares values alone grown done = record {
+  threads_run shares values told grown done = record {
     legal = record { replies = closes.legal.replies };
     made = made grown;
     all = many ∙ shares.all;
     right = log_right_after;
     done = λ place log found. let did = log_done place log found in did.2 ∙ done place did.0 did.1;
-    told = λ caller place log item line number found own at names teller there other said named told_log told_item told_line is.
-        absurd (let none_named = no_name lines caller place line alone at in cc);
+    told = told_in told;
     others = λ other past. nobody other (omega (arith, are.all, shares.all));
     no_lines = λ other past. no_lines_past MOST_THREADS lines other (λ i d within. (values i d within).thread) (omega arith);
   }
 
-  -- where there is one pass, which ran all lines, it is a run of all lines by one caller
-  pub serial_run : length name.operations ≡ 1
-      → ((place : ℕ) (pass : PassView) → slice_get passes place ≡ Some pass → HaveGrown pass)
-      → ((place : ℕ) (pass : PassView) → slice_get passes place ≡ Some pass → done_by pass ≡ asked lines)
-      → (log : List Seen) × (closed.logs ≡ log ∷ []) × IsSerialRun name.config lines closed.journal log
-  serial_run one grown done =
-      let only : (log : List Seen) × (closed.logs ≡ log ∷ []) = lone closed.logs (many ∙ one) in
-      let log : List Seen = only.0 in
-      let found : slice_get closed.logs 0 ≡ Some log = ap (λ (l : List (List Seen)). slice_get l 0) only.1 in
-      let did = log_done 0 log found in (
-        log,
-        only.1,
-        record {
-          legal = closes.legal;
-          made = made grown;
-          right = log_right 0 log found;
-          done = did.2 ∙ done 0 did.0 did.1;
-          others = λ other past. nobody other (omega (arith, are.all, one));
-        },
-      )
-    where
-      lone : (logs : List (List Seen)) → length logs ≡ 1 → (log : List Seen) × (logs ≡ log ∷ [])
-      lone [] none = absurd (omega arith)
-      lone (log ∷ []) one = (log, refl)
-      lone (log ∷ other ∷ rest) more = absurd (omega arith)
-
--- the one pass of a space
-pub record OnlyPass (name : SpaceId) (passes : List PassView) (pass : PassView)
-    (lines : List TraceLine) : Type 0 where
-  pub one : length name.operations ≡ 1
-  pub only : length passes ≡ 1
-  pub pass_is : IsPassOf name pass
-  pub fresh : IsFresh pass
-  pub left : length lines ≤ pass.left
-  pub by : caller pass ≡ 0
-
-pub only_pass : (name : SpaceId) (operations : List ℕ) (passes : List PassView) (pass : PassView) (lines : List TraceLine)
-    → AreNew name passes → operations ≡ name.operations → operations ≡ length lines ∷ [] → pass ≡ get_or passes 0 pass
-    → OnlyPass name passes pass lines
-only_pass name operations passes pass lines fresh named its read =
-    let most_is : name.operations ≡ length lines ∷ [] = sym named ∙ its in
-    let one : length name.operations ≡ 1 = ap length most_is in
-    let found : slice_get passes 0 ≡ Some pass = slice_get_read passes (length passes) 0 pass refl (omega (arith, fresh.passes_are.all, one)) read in
-    let is = fresh.passes_are.each 0 pass found in
-    let left : pass.left ≡ length lines =
-    (fresh.fresh 0 pass found).left ∙ is.0.operations ∙ ap (λ (k : ℕ). get_or name.operations k 0) is.1 ∙ ap (λ (l : List ℕ). get_or l 0 0) most_is in
-    record { one = one; only = fresh.passes_are.all ∙ one; pass_is = is.0; fresh = fresh.fresh 0 pass found; left = omega arith; by = is.1 }
-
 -- after it was used
-used : (passes : List PassView) (new : PassView) (place : ℕ) (pass : PassView) → length passes ≡ 1 → slice_get (set passes 0 new) place ≡ Some pass
+pub used : (passes : List PassView) (new : PassView) (place : ℕ) (pass : PassView) → length passes ≡ 1 → slice_get (set passes 0 new) place ≡ Some pass
     → (place ≡ 0) × (new ≡ pass)
 used passes new place pass one found =
     let first : place ≡ 0 = omega (arith, slice_get_within (set passes 0 new) place pass found, length-set passes 0 new) in (
@@ -215,92 +171,6 @@ used passes new place pass one found =
           ∙ get_or_from_slice_get (set passes 0 new) place pass pass found,
     )
 
-pub one_pass : (name : SpaceId) (passes : List PassView) (old new : PassView) (lines : List TraceLine)
-    → OnlyPass name passes old lines → IsPassOf name new → IsLater old new
-    → ArePasses name (set passes 0 new)
-one_pass name passes old new lines only is later = record {
-  all = length-set passes 0 new ∙ only.only ∙ sym only.one;
-  each = λ place pass found.
-      let its = used passes new place pass only.only found in
-      (subst (λ (p : PassView). IsPassOf name p) its.1 is, ap caller (sym its.1) ∙ later.by ∙ only.by ∙ sym its.0);
-}
-
-pub one_grown : (passes : List PassView) (new : PassView) → length passes ≡ 1 → HaveGrown new
-    → (place : ℕ) (pass : PassView) → slice_get (set passes 0 new) place ≡ Some pass → HaveGrown pass
-one_grown passes new one grown place pass found = subst HaveGrown (used passes new place pass one found).1 grown
-
-pub one_done : (passes : List PassView) (new : PassView) (lines : List TraceLine) → length passes ≡ 1 → done_by new ≡ asked lines
-    → (place : ℕ) (pass : PassView) → slice_get (set passes 0 new) place ≡ Some pass → done_by pass ≡ asked lines
-one_done passes new lines one done place pass found = ap done_by (sym (used passes new place pass one found).1) ∙ done
-
 -- a slice that was lent comes back
 pub back : {X : Type 0} (new old : List X) (many : ℕ) → length new ≡ many → take many (new ++ drop (length new) old) ≡ new
 back new old many same = take-append-le many new (drop (length new) old) (omega arith) ∙ take_all many new (omega arith)
-
--- how many operations there are together
-parts : (key : TraceLine → ℕ) (low : ℕ) (lines : List TraceLine)
-    → length (filter (λ line. nat_eq (key line) low) lines) + length (filter (λ line. nat_le (low + 1) (key line)) lines) ≤ length
-    (filter (λ line. nat_le low (key line)) lines)
-parts key low [] = omega arith
-parts key low (line ∷ lines) =
-    let rest = parts key low lines in
-    grind (arith, nat_tests)
-
-sums : (key : TraceLine → ℕ) (lines : List TraceLine) (counts : List ℕ) (low : ℕ)
-    → ((k : ℕ) → k < length counts → get_or counts k 0 ≡ length (filter (λ line. nat_eq (key line) (low + k)) lines))
-    → sum counts ≤ length (filter (λ line. nat_le low (key line)) lines)
-sums key lines [] low each = omega arith
-sums key lines (count ∷ counts) low each =
-    let here : count ≡ length (filter (λ line. nat_eq (key line) low) lines) =
-    each 0 (omega arith) ∙ ap (λ (n : ℕ). length (filter (λ line. nat_eq (key line) n) lines)) (zero_more low) in
-    let rest : sum counts ≤ length (filter (λ line. nat_le (low + 1) (key line)) lines) =
-    sums key lines counts (low + 1) (λ k within. each (suc k) (omega arith)
-    ∙ ap (λ (n : ℕ). length (filter (λ line. nat_eq (key line) n) lines)) (one_more low k)) in
-    let total : sum (count ∷ counts) ≡ count + sum counts = sum_by-cons (λ (n : ℕ). n) count counts in
-    omega (arith, parts key low lines)
-  where
-    zero_more : (low : ℕ) → low + 0 ≡ low
-    zero_more low = omega arith
-
-    one_more : (low k : ℕ) → low + suc k ≡ low + 1 + k
-    one_more low k = omega arith
-
-caller_few : (lines : List TraceLine) (threads : ℕ) → caller_of lines threads ≤ threads
-unfolding caller_of
-caller_few lines zero = omega arith
-caller_few lines (suc thread) = let rest = caller_few lines thread in grind (arith, nat_tests)
-
--- the callers are few, and have no more operations than there are lines
-pub record FewShares (lines : List TraceLine) (operations : List ℕ) : Type 0 where
-  pub some : 1 ≤ length operations
-  pub callers : length operations ≤ 64
-  pub few : sum operations ≤ length lines
-
-pub few_callers : (lines : List TraceLine) → callers_of lines ≤ 64
-few_callers lines = let few : caller_of lines MOST_THREADS ≤ MOST_THREADS = caller_few lines MOST_THREADS in omega arith
-
-pub few_shares : (lines : List TraceLine) (operations : List ℕ) → AreShares lines operations → FewShares lines operations
-unfolding lines_of
-few_shares lines operations shares =
-    let callers : callers_of lines ≤ 64 = few_callers lines in
-    let some : 1 ≤ callers_of lines = omega arith in
-    record {
-      some = omega (arith, shares.all);
-      callers = omega (arith, shares.all);
-      few =
-          let total = sums (λ line. caller_of lines line.thread) lines operations 0 (λ k within. shares.each k (omega (arith, shares.all))
-          ∙ ap (λ (n : ℕ). length (filter (λ line. nat_eq (caller_of lines line.thread) n) lines)) (none_more k)) in
-          omega (
-            arith,
-            total,
-            length-filter (λ line. nat_le 0 (caller_of lines line.thread)) lines,
-            count_by-le-length
-                (λ line. nat_le 0 (caller_of lines line.thread)) lines,
-          );
-    }
-  where
-    none_more : (k : ℕ) → k ≡ 0 + k
-    none_more k = omega arith
-
-pub few_shown : (lines : List TraceLine) (operations shown : List ℕ) → AreShares lines operations → shown ≡ operations → FewShares lines shown
-few_shown lines operations shown shares same = subst (FewShares lines) (sym same) (few_shares lines operations shares)

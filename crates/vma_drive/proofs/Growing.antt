@@ -161,3 +161,19 @@ grew_on old mid new first next later one two =
           (All-weaker (IsLate (length (seen_by mid))) (IsLate (length (seen_by old))) (λ item late. omega (arith, late, longer)) next two.late);
       grown = λ before. two.grown (one.grown before);
     }
+
+-- all that a pass did is of versions that it has seen
+pub own_within : (c : ℕ) (seen : List Entry) (log : List Seen) → All (λ read. version_of read ≤ length seen) log
+    → All (λ (item : Item). item.version ≤ length seen) (own_of c seen log)
+unfolding own_of items_of log_items
+own_within c seen log within =
+    let P = λ (item : Item). item.version ≤ length seen in
+    all_gather P (items_of (entry_items 0 seen) c ++ log_items c log)
+    (All-append P (items_of (entry_items 0 seen) c) (log_items c log)
+    (All-filter (λ (item : Item). nat_eq item.caller c) P (entry_items 0 seen)
+    (All-weaker (Stands (length seen)) P (λ item stands. stands.0) (entry_items 0 seen) (entries_stand 0 (length seen) seen (omega arith))))
+    (All-map P (read_item c) log within))
+
+-- nothing done
+pub grew_still : (pass : PassView) → Grew pass pass []
+grew_still pass = record { own = sym (append-nil (own_by pass)); late = All-nil (IsLate (length (seen_by pass))); grown = λ before. before }

@@ -1,7 +1,6 @@
--- Serves the workers: what a pass did after the first lines.
+-- Serves `in_order`: what a pass did after the first lines.
 use Rattle.std.proofs.Common.{ℕ, ◌≡◌, ◌+◌, ◌<◌, ◌≤◌, ◌∙◌, refl, sym, ap, subst, List, [], ◌∷◌, ◌++◌, length, take, get_or, arith}
 use Rattle.std.proofs.lemmas.List.{take_all, take_more, length-append, map-append, append-nil}
-use Rattle.std.proofs.lemmas.List.Elements.{All-nil}
 use Rattle.trace_reader.specs.declared.trace.Op.{Op}
 use Rattle.trace_reader.specs.declared.trace.TraceLine.{TraceLine}
 use Rattle.history.specs.declared.items.Item.{Item}
@@ -9,9 +8,9 @@ use Rattle.history.specs.Histories.{read_as, AsksItself, AskThemselves}
 use Rattle.history.specs.Runs.{ops_of, asked}
 use Rattle.history.proofs.Steps.{ops_more}
 use Rattle.fault_path.specs.Passes.{PassView, seen_by, IsFresh, IsLater}
-use Rattle.vma_drive.specs.Hearing.{own_by, done_by, HaveGrown, IsLate, Grew, GrewNone, DoesItem, Ran}
+use Rattle.vma_drive.specs.Hearing.{own_by, done_by, HaveGrown, Grew, GrewNone, DoesItem}
 use Rattle.vma_drive.proofs.Operations.{fresh_own, fresh_grown, later_on, no_later}
-use Rattle.vma_drive.proofs.Growing.{grew_on}
+use Rattle.vma_drive.proofs.Growing.{grew_on, grew_still}
 
 -- a fresh pass did nothing
 pub fresh_did : (pass : PassView) → IsFresh pass → done_by pass ≡ []
@@ -33,7 +32,7 @@ ran_none pass lines = record {
   later = no_later pass;
   more = [];
   many = refl;
-  grew = record { own = sym (append-nil (own_by pass)); late = All-nil (IsLate (length (seen_by pass))); grown = λ before. before };
+  grew = grew_still pass;
   ops = refl;
   left = omega arith;
 }
@@ -75,15 +74,6 @@ ran_no_more old mid new lines count ran later none = record {
   };
   ops = ran.ops;
   left = omega (arith, ran.left, none.left);
-}
-
-pub ran_is : (old new : PassView) (lines : List TraceLine) (count : ℕ) → RanTo old new lines count → count ≤ length lines → Ran old new lines
-ran_is old new lines count ran few = record {
-  more = ran.more;
-  few = omega (arith, ran.many, few);
-  grew = ran.grew;
-  ops = ran.ops ∙ ap (λ (k : ℕ). asked (take k lines)) (sym ran.many);
-  left = omega (arith, ran.left, ran.many);
 }
 
 -- a fresh pass that ran the first lines did just those

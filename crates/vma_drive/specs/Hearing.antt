@@ -1,10 +1,10 @@
 -- What passes did, item by item, and when.
-use Rattle.std.specs.Prelude.{ℕ, ◌≡◌, ◌≤◌, ◌+◌, if◌then◌else◌, List, [], ◌∷◌, ◌++◌, length, take, All}
+use Rattle.std.specs.Prelude.{ℕ, ◌≡◌, ◌≤◌, ◌+◌, if◌then◌else◌, List, [], ◌∷◌, ◌++◌, length, take, slice_get, Some, All}
 use Rattle.trace_reader.specs.declared.trace.Op.{Op}
 use Rattle.trace_reader.specs.declared.trace.TraceLine.{TraceLine}
 use Rattle.history.specs.declared.items.Item.{Item}
-use Rattle.history.specs.Histories.{is_call, op_of, read_as}
-use Rattle.history.specs.Runs.{own_of, ops_of, asked, HasGrown}
+use Rattle.history.specs.Histories.{is_call, lines_of, op_of, read_as}
+use Rattle.history.specs.Runs.{own_of, ops_of, asked, HasGrown, ComesAfter}
 use Rattle.fault_path.specs.Passes.{PassView, caller, seen_by, made_by}
 
 -- what a pass did, in the order of a history
@@ -22,6 +22,11 @@ IsLate seen item = seen + (if is_call item.content then 1 else 0) ≤ item.versi
 -- each touch that its caller entered has grown an area
 abbrev pub HaveGrown : PassView → Type 0
 HaveGrown pass = All HasGrown (made_by pass)
+
+-- nothing was done with a pass: its caller entered nothing, and it read nothing
+pub record IsUnused (pass : PassView) : Type 0 where
+  pub made : made_by pass ≡ []
+  pub log : pass.log ≡ []
 
 -- these items were done more, all of them once all was seen that had been seen before, and each touch among them has grown
 pub record Grew (old new : PassView) (more : List Item) : Type 0 where
@@ -41,10 +46,19 @@ pub record GrewNone (old new : PassView) : Type 0 where
   pub grew : Grew old new []
   pub left : new.left ≡ old.left
 
--- some of these lines were run more, in order, from the first on, one item for each
-pub record Ran (old new : PassView) (lines : List TraceLine) : Type 0 where
-  pub more : List Item
-  pub few : length more ≤ length lines
-  pub grew : Grew old new more
-  pub ops : ops_of more ≡ asked (take (length more) lines)
-  pub left : new.left + length more ≡ old.left
+-- A pass did the first lines of its caller, one item for each, and each touch among them has grown. With these it has so many
+-- operations, those left among them.
+pub record HasRun (own : List TraceLine) (pass : PassView) (owed : ℕ) : Type 0 where
+  pub few : length (own_by pass) ≤ length own
+  pub ops : done_by pass ≡ asked (take (length (own_by pass)) own)
+  pub left : pass.left + length (own_by pass) ≡ owed
+  pub grown : HaveGrown pass
+
+-- where a line names a line, what its caller's pass did for it comes after what the other's pass did for that one
+abbrev pub AreToldBy : List TraceLine → List PassView → Type 0
+AreToldBy lines passes = (caller place : ℕ) (pass : PassView) (item : Item) (line : TraceLine) (number : ℕ)
+    → slice_get passes caller ≡ Some pass → slice_get (own_by pass) place ≡ Some item
+    → slice_get (lines_of lines caller) place ≡ Some line → line.after ≡ Some number
+    → (teller there : ℕ) (other : PassView) (said : Item) (named : TraceLine)
+    → slice_get passes teller ≡ Some other → slice_get (own_by other) there ≡ Some said
+    → slice_get (lines_of lines teller) there ≡ Some named → named.number ≡ number → ComesAfter said item

@@ -1,2 +1,5 @@
+pub mod Naming
 pub mod Sharing
 pub mod Hearing
+pub mod Alone
+pub mod Rounds

@@ -1,29 +1,33 @@
-//! Workers that run the lines of a trace, each with a pass of its own.
-ghost use Rattle.std.specs.Prelude.{ℕ, ◌≡◌, ◌≤◌, ◌<◌, List, [], length, take, slice_get, Some, All, IsTrue, OnOk, OnErr};
+//! Runs the lines of a trace with passes: in rounds, or all of them in order.
+ghost use Rattle.std.specs.Prelude.{ℕ, ◌≡◌, ◌≤◌, [], length, take, slice_get, slice_index, Some, All, OnOk, IfOk};
 ghost use Rattle.trace_reader.specs.declared.trace.TraceLine.{TraceLine};
 ghost use Rattle.trace_reader.specs.Values.{IsTraceValue};
-ghost use Rattle.history.specs.Histories.{lines_of, AsksItself, AskThemselves};
+ghost use Rattle.history.specs.Histories.{lines_of, AskThemselves};
 ghost use Rattle.history.specs.Runs.{asked};
-ghost use Rattle.fault_path.specs.Passes.{PassView, IsFresh, IsLater};
+ghost use Rattle.fault_path.specs.Passes.{PassView, IsLater, seen_by};
 ghost use Rattle.mm_space.specs.Names.{IsPassOf, ArePasses};
 ghost use Rattle.mm_space.specs.Opening.{AreOpened};
-ghost use Rattle.history.specs.CallerPlaces.{ArePlaces, StandAt};
-ghost use Rattle.vma_drive.specs.Hearing.{done_by, DoesItem, GrewNone, HaveGrown, Ran};
+ghost use Rattle.vma_drive.specs.Hearing.{done_by, own_by, HaveGrown, IsLate, IsUnused, AreToldBy};
+ghost use Rattle.vma_drive.specs.Rounds.{Settled, AtRound};
 ghost use Rattle.vma_drive.specs.Sharing.{AreShares};
 
+use crate::busy::is_whole;
+use crate::rounds::{Telling, count_rounds, rounds_of, tellings_of};
+use crate::telling::tell_round;
+use crate::working::{run_op, run_workers};
 use fault_path::Pass;
-use history::places_by_caller;
+use history::{Callers, places_by_caller};
 use io_edge::Gate;
 use mm_space::{Space, SpaceName};
 use mm_types::NoMemory;
 use std::alloc::Global;
 use std::sync::Wait;
-use std::thread;
 use std::thread::Threads;
-use trace_reader::{Op, Trace, TraceLine};
+use trace_reader::{Trace, TraceLine};
 
-/// Runs the lines of a trace with the fresh passes of a space: those of each caller with its pass, in order, in a thread of its own.
-/// The gate is called before and after each operation with the number of its line. Where memory runs out, each pass has run a
+/// Runs the lines of a trace with the fresh passes of a space, in rounds. In a round the lines of each caller are run with its pass, in
+/// order, in a thread of its own; before it, for each line of the round that names one, the caller of the named line tells what it has
+/// seen. The gate is called before and after each operation with the number of its line. Where memory runs out, each pass has run a
 /// beginning of its lines.
 pub fn drive<N: SpaceName + Send + Sync, R: Threads + Wait + Sync, G: Gate>(
     rt: &R,
@@ -43,18 +47,61 @@ pub fn drive<N: SpaceName + Send + Sync, R: Threads + Wait + Sync, G: Gate>(
     ensures done { OnOk result ((caller : ℕ) (pass : PassView) → slice_get passes.new caller ≡ Some pass
         → done_by pass ≡ asked (lines_of trace.now.lines caller)) }
     ensures grown { (caller : ℕ) (pass : PassView) → slice_get passes.new caller ≡ Some pass → HaveGrown pass }
+    ensures told { OnOk result (AreToldBy trace.now.lines passes.new) }
 {
     let lines = trace.lines.items();
+    let callers = Callers::of(lines);
     let places = places_by_caller(alloc, lines)?;
-    run_workers(rt, alloc, space, passes, lines, places.as_slice(), gate);
-    if have_finished(passes) {
-        Ok(())
-    } else {
-        Err(NoMemory)
-    }
+    let places = places.as_slice();
+    let rounds = rounds_of(alloc, &callers, lines)?;
+    let rounds = rounds.as_slice();
+    let tellings = tellings_of(alloc, &callers, lines, rounds)?;
+    let tellings = tellings.as_slice();
+    let mut owed = lefts(alloc, passes)?;
+    let owed = owed.as_mut_slice();
+    run_rounds(
+        rt, alloc, space, passes, lines, places, rounds, tellings, owed, gate,
+    )
 }
 
-/// Runs all lines of a trace with one fresh pass, in order. Where memory runs out, it has run a beginning of them.
+/// Runs all rounds, one after the other. `owed` holds for each caller its operations but for those that it told with. Where memory runs
+/// out, each pass has run a beginning of its lines.
+fn run_rounds<N: SpaceName + Send + Sync, R: Threads + Wait + Sync, G: Gate>(
+    rt: &R,
+    alloc: Global,
+    space: &Space<N>,
+    passes: &mut [Pass],
+    lines: &[TraceLine],
+    places: &[Vec<u32>],
+    rounds: &[u32],
+    tellings: &[Telling],
+    owed: &mut [u64],
+    gate: &G,
+) -> Result<(), NoMemory>
+    requires lines { AskThemselves lines.now }
+    requires settled { Settled N.name lines.now places.now rounds.now tellings.now }
+    requires first { AtRound N.name lines.now places.now rounds.now tellings.now passes.old owed.old 0 }
+    ensures passes { ArePasses N.name passes.new }
+    ensures begun { (caller : ℕ) (pass : PassView) → slice_get passes.new caller ≡ Some pass
+        → (count : ℕ) × (done_by pass ≡ asked (take count (lines_of lines.now caller))) }
+    ensures done { OnOk result ((caller : ℕ) (pass : PassView) → slice_get passes.new caller ≡ Some pass
+        → done_by pass ≡ asked (lines_of lines.now caller)) }
+    ensures grown { (caller : ℕ) (pass : PassView) → slice_get passes.new caller ≡ Some pass → HaveGrown pass }
+    ensures told { OnOk result (AreToldBy lines.now passes.new) }
+{
+    for round in 0..count_rounds(rounds) {
+        tell_round(space, passes, tellings, owed, round);
+        run_workers(
+            rt, alloc, space, passes, lines, places, rounds, owed, round, gate,
+        );
+        if !is_whole(passes, places, rounds, owed, round) {
+            return Err(NoMemory);
+        }
+    }
+    Ok(())
+}
+
+/// Runs all lines of a trace with one pass with which nothing was done, in order. Where memory runs out, it has run a beginning of them.
 pub fn in_order<N: SpaceName, R: Wait>(
     rt: &R,
     alloc: Global,
@@ -63,13 +110,14 @@ pub fn in_order<N: SpaceName, R: Wait>(
     trace: &Trace,
 ) -> Result<(), NoMemory>
     requires pass { IsPassOf N.name pass.old }
-    requires fresh { IsFresh pass.old }
+    requires unused { IsUnused pass.old }
     requires left { length trace.now.lines ≤ pass.old.left }
     requires lines { AskThemselves trace.now.lines }
     ensures pass { IsPassOf N.name pass.new }
     ensures later { IsLater pass.old pass.new }
     ensures begun { (count : ℕ) × (done_by pass.new ≡ asked (take count trace.now.lines)) }
     ensures done { OnOk result (done_by pass.new ≡ asked trace.now.lines) }
+    ensures late { All (IsLate (length (seen_by pass.old))) (own_by pass.new) }
     ensures grown { HaveGrown pass.new }
 {
     for line in trace.lines.items() {
@@ -78,108 +126,15 @@ pub fn in_order<N: SpaceName, R: Wait>(
     Ok(())
 }
 
-/// Runs the lines of each caller with its pass, in a thread of its own.
-fn run_workers<N: SpaceName + Send + Sync, R: Threads + Wait + Sync, G: Gate>(
-    rt: &R,
-    alloc: Global,
-    space: &Space<N>,
-    passes: &mut [Pass],
-    lines: &[TraceLine],
-    places: &[Vec<u32>],
-    gate: &G,
-)
-    requires some { 0 < length passes.old }
-    requires lines { AskThemselves lines.now }
-    requires places { ArePlaces lines.now (length passes.old) places.now }
-    requires passes { ArePasses N.name passes.old }
-    requires left { (caller : ℕ) (pass : PassView) → slice_get passes.old caller ≡ Some pass → length (lines_of lines.now caller) ≤ pass.left }
-    ensures passes { ArePasses N.name passes.new }
-    ensures ran { (caller : ℕ) (old new : PassView) → slice_get passes.old caller ≡ Some old → slice_get passes.new caller ≡ Some new
-        → IsLater old new × Ran old new (lines_of lines.now caller) }
+/// How many operations each pass has left.
+fn lefts(alloc: Global, passes: &[Pass]) -> Result<Vec<u64>, NoMemory>
+    ensures count { IfOk result (λ owed. length owed.items ≡ length passes.now) }
+    ensures each { IfOk result (λ owed. (caller : ℕ) (pass : PassView) → slice_get passes.now caller ≡ Some pass
+        → slice_index owed.items caller ≡ pass.left) }
 {
-    let worker = |caller: usize, pass: &mut Pass|
-        requires { (caller < length places.now) × AskThemselves lines.now × ArePlaces lines.now (length places.now) places.now × IsPassOf N.name pass.now
-            × (length (lines_of lines.now caller) ≤ pass.now.left) }
-        ensures { IsPassOf N.name pass.exit.now × IsLater pass.entry.now pass.exit.now
-            × Ran pass.entry.now pass.exit.now (lines_of lines.entry.now caller) }
-    { run_own(rt, alloc, space, pass, lines, places, caller, gate) };
-    let threads = passes.len();
-    thread::for_each_mut(rt, passes, threads, &worker);
-}
-
-/// Runs the lines of one caller with its pass, in order. Stops where memory runs out.
-fn run_own<N: SpaceName, R: Threads + Wait + Sync, G: Gate>(
-    rt: &R,
-    alloc: Global,
-    space: &Space<N>,
-    pass: &mut Pass,
-    lines: &[TraceLine],
-    places: &[Vec<u32>],
-    caller: usize,
-    gate: &G,
-)
-    requires caller { caller < length places.now }
-    requires lines { AskThemselves lines.now }
-    requires places { ArePlaces lines.now (length places.now) places.now }
-    requires pass { IsPassOf N.name pass.old }
-    requires left { length (lines_of lines.now caller) ≤ pass.old.left }
-    ensures pass { IsPassOf N.name pass.new }
-    ensures later { IsLater pass.old pass.new }
-    ensures ran { Ran pass.old pass.new (lines_of lines.now caller) }
-{
-    for place in places[caller].iter() {
-        let line = &lines[*place as usize];
-        gate.before(rt, line.number);
-        let Ok(()) = run_op(rt, alloc, space, pass, line.op) else {
-            return;
-        };
-        gate.after(rt, line.number);
-    }
-}
-
-/// Runs one operation with a pass. Refused where memory runs out, and then nothing was done.
-fn run_op<N: SpaceName, R: Wait>(
-    rt: &R,
-    alloc: Global,
-    space: &Space<N>,
-    pass: &mut Pass,
-    op: Op,
-) -> Result<(), NoMemory>
-    requires pass { IsPassOf N.name pass.old }
-    requires left { 0 < pass.old.left }
-    requires op { AsksItself op }
-    ensures pass { IsPassOf N.name pass.new }
-    ensures later { IsLater pass.old pass.new }
-    ensures ok { OnOk result (DoesItem pass.old pass.new op) }
-    ensures err { OnErr result (GrewNone pass.old pass.new) }
-{
-    pass.facts();
-    match op {
-        Op::Call(call) => {
-            space.call(rt, pass, &call);
-        }
-        Op::Fault { page, access } => {
-            space.fault(rt, pass, page, access);
-        }
-        Op::Maps => {
-            space.maps(rt, alloc, pass)?;
-        }
-        // The list is what the child begins with.
-        Op::Fork { .. } => {
-            space.maps(rt, alloc, pass)?;
-        }
-    }
-    Ok(())
-}
-
-/// Whether no pass has an operation left.
-fn have_finished(passes: &[Pass]) -> bool
-    ensures { IsTrue result → All (λ pass. pass.left ≡ 0) passes.now }
-{
+    let mut owed = Vec::new(alloc);
     for pass in passes {
-        if pass.left() > 0 {
-            return false;
-        }
+        owed.push(pass.left())?;
     }
-    true
+    Ok(owed)
 }

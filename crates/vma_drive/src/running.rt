@@ -1,15 +1,15 @@
 //! Closed runs of a trace.
-ghost use Rattle.std.specs.Prelude.{◌≡◌, ◌∷◌, [], List, length, IfOk};
+ghost use Rattle.std.specs.Prelude.{◌≡◌, ◌∷◌, [], List, IfOk};
 ghost use Rattle.lock_core.specs.Facts.{list_after};
 ghost use Rattle.trace_reader.specs.Values.{IsTraceValue};
 ghost use Rattle.mm_types.specs.declared.call.Seen.{Seen};
 ghost use Rattle.history.specs.CallerPlaces.{callers_of};
-ghost use Rattle.history.specs.Histories.{AskThemselves};
 ghost use Rattle.history.specs.Labels.{IsSerialRun};
 ghost use Rattle.history.specs.Runs.{IsRun};
-ghost use Rattle.vma_drive.specs.Sharing.{AreShares, NameNoLine};
+ghost use Rattle.vma_drive.specs.Sharing.{AreShares};
 
-use crate::driving::{drive, in_order};
+use crate::alone::run_alone;
+use crate::driving::drive;
 use crate::places::shares;
 use io_edge::Gate;
 use mm_space::{Closed, Ready, Space, SpaceName};
@@ -28,11 +28,11 @@ pub fn run_serial<R: Wait>(rt: &R, alloc: Global, trace: &Trace) -> Result<Close
 {
     let config = trace.config.copy(alloc)?;
     let ready = Ready::make(alloc, config, &[trace.lines.items().len() as u64])?;
-    run_one_pass::<Brand, R>(rt, alloc, ready, trace)
+    run_alone::<Brand, R>(rt, alloc, ready, trace)
 }
 
-/// Runs the lines of each thread of a trace, none of which names another, over a new space, in a thread of its own, and closes it.
-/// Refused where memory runs out.
+/// Runs the lines of each thread of a trace over a new space, in a thread of its own, in rounds, so that what a line names was done
+/// before it, and closes it. Refused where memory runs out.
 pub fn run_threads<R: Threads + Wait + Sync, G: Gate>(
     rt: &R,
     alloc: Global,
@@ -40,7 +40,6 @@ pub fn run_threads<R: Threads + Wait + Sync, G: Gate>(
     gate: &G,
 ) -> Result<Closed, NoMemory>
     requires trace { IsTraceValue trace.now }
-    requires alone { NameNoLine trace.now.lines }
     ensures run { IfOk result (λ run. IsRun trace.now.config [] trace.now.lines (callers_of trace.now.lines) run.journal run.logs) }
     ensures list { IfOk result (λ run. run.list ≡ list_after trace.now.config run.journal) }
 {
@@ -48,26 +47,6 @@ pub fn run_threads<R: Threads + Wait + Sync, G: Gate>(
     let operations = shares(alloc, trace.lines.items())?;
     let ready = Ready::make(alloc, config, &operations)?;
     run_passes::<Brand, R, G>(rt, alloc, ready, trace, gate)
-}
-
-/// Opens a space of one caller, runs all lines with its pass, and closes it.
-fn run_one_pass<N: SpaceName, R: Wait>(
-    rt: &R,
-    alloc: Global,
-    ready: Ready,
-    trace: &Trace,
-) -> Result<Closed, NoMemory>
-    requires name { ready ≡ N.name }
-    requires before { ready.before ≡ [] }
-    requires config { ready.config ≡ trace.now.config }
-    requires one { ready.operations ≡ length trace.now.lines ∷ [] }
-    requires lines { AskThemselves trace.now.lines }
-    ensures run { IfOk result (λ run. (log : List Seen) × (run.logs ≡ log ∷ []) × IsSerialRun trace.now.config trace.now.lines run.journal log) }
-    ensures list { IfOk result (λ run. run.list ≡ list_after trace.now.config run.journal) }
-{
-    let (space, mut passes) = Space::<N>::open(ready);
-    in_order(rt, alloc, &space, &mut passes[0], trace)?;
-    Ok(space.close(passes))
 }
 
 /// Opens a space of the callers of a trace, runs the lines of each with its pass, and closes it.
@@ -83,7 +62,6 @@ fn run_passes<N: SpaceName + Send + Sync, R: Threads + Wait + Sync, G: Gate>(
     requires config { ready.config ≡ trace.now.config }
     requires shares { AreShares trace.now.lines ready.operations }
     requires trace { IsTraceValue trace.now }
-    requires alone { NameNoLine trace.now.lines }
     ensures run { IfOk result (λ run. IsRun trace.now.config [] trace.now.lines (callers_of trace.now.lines) run.journal run.logs) }
     ensures list { IfOk result (λ run. run.list ≡ list_after trace.now.config run.journal) }
 {

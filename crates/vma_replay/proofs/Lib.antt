@@ -3,8 +3,13 @@ pub mod Pieces
 pub mod Outputs
 pub mod Doing
 pub mod Taken
-pub mod Unrun
 pub mod CommandLine
 pub mod Telling
 pub mod RunTexts
+pub mod Parents
+pub mod ChildSpaces
+pub mod FamilyTexts
+pub mod Fronts
+pub mod SerialRuns
+pub mod Alike
 pub mod Summaries

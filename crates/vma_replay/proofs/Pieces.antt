@@ -103,6 +103,12 @@ printing_after old new held mid holds text more (Err status) is cut =
     cut_then old old new held (held ++ text) text more status (prints_held old held text)
     (subst (λ (m : List ℕ). IsCut old new m more status) is cut)
 
+-- one text was printed, and then what printing another results in
+pub printing_then : {T : Type 0} (old mid new : SinkView) (held holds last text more : List ℕ) (result : Result T Status) → Prints old mid held holds text
+    → IsPrinting mid new holds last more result → IsPrinting old new held last (text ++ more) result
+printing_then old mid new held holds last text more (Ok done) first second = prints_then old mid new held holds last text more first second
+printing_then old mid new held holds last text more (Err status) first cut = cut_then old mid new held holds text more status first cut
+
 -- what was given stays so
 appends_kept : (old mid new : Option (List ℕ)) (bytes : List ℕ) → Appends old mid bytes → Keeps mid new → Appends old new bytes
 appends_kept None mid new bytes moved kept = tt

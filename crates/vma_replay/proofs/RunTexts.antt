@@ -1,4 +1,4 @@
--- Serves `give_output`: the history of a closed run is legal, and ends with its list.
+-- Serves `closed_family`: the history of a closed run is legal, and ends with its list.
 use Rattle.std.proofs.Common.{ℕ, ◌≡◌, ◌<◌, ◌^◌, ◌∙◌, refl, sym, ap, subst, nat_eq, List, [], ◌∷◌, ◌++◌, append-nil, length, map, take, filter, fold, filter_map, slice_get, unwrap_or, All, Some, arith}
 use Rattle.std.specs.Prelude.{Bool, Option, None, Vec}
 use Rattle.std.specs.declared.alloc.Global.{Global}
@@ -25,10 +25,10 @@ use Rattle.history.proofs.SerialOrder.{serial_is_history, serial_space}
 use Rattle.mm_space.specs.Closing.{ClosedView}
 use Rattle.vma_replay.specs.declared.words.Mode.{Mode}
 use Rattle.vma_replay.specs.declared.words.Mode.TheVariants as modes
-use Rattle.vma_replay.specs.Output.{output_text, serial_output}
-use Rattle.vma_replay.specs.Replaying.{IsRunOf, IsGivenFor, IsOutputOf, history_of_run}
+use Rattle.vma_replay.specs.Output.{output_text}
+use Rattle.vma_replay.specs.Replaying.{IsRunOf, IsGivenFor, history_of_run}
 use Rattle.history.specs.CallerPlaces.{callers_of}
-use Rattle.vma_drive.proofs.ClosedRuns.{few_callers}
+use Rattle.vma_drive.proofs.NamesShared.{few_callers}
 
 -- where all are of the first caller, they are its own
 all_own : (items : List Item) → All (λ item. item.caller < 1) items → items_of items 0 ≡ items
@@ -49,7 +49,7 @@ serial_own config lines journal log run =
     ∙ ap (λ (l : List Item). gather (l ++ log_items 0 log)) (sym (all_own (entry_items 0 journal) (entries_below 1 0 journal run.others)))
 
 -- the one log is the first
-first_log : (logs : List (List Seen)) (log : List Seen) → logs ≡ log ∷ [] → unwrap_or (slice_get logs 0) [] ≡ log
+pub first_log : (logs : List (List Seen)) (log : List Seen) → logs ≡ log ∷ [] → unwrap_or (slice_get logs 0) [] ≡ log
 first_log logs log is = ap (λ (l : List (List Seen)). unwrap_or (slice_get l 0) []) is
 
 -- a serial run stands for the history of the trace in the order of its lines
@@ -80,12 +80,6 @@ list_of_run modes.Serial trace run is list =
     ∙ sym (serial_space trace.config trace.lines))
     ∙ ap (λ (l : List Item). list_after trace.config (journal_of l)) (sym (serial_is trace run is))
 
-pub output_of_run : (mode : Mode) (trace : Trace) (run : ClosedView) (text : List ℕ) → IsTraceValue trace → IsRunOf mode trace run
-    → text ≡ output_text trace.config trace.lines (history_of_run mode trace run) → IsOutputOf mode trace text
-unfolding serial_output
-output_of_run modes.Threads trace run text value is told = (history_of_run modes.Threads trace run, legal_of_run modes.Threads trace run value is, told)
-output_of_run modes.Serial trace run text value is told = told ∙ ap (output_text trace.config trace.lines) (serial_is trace run is)
-
 pub given_for_run : (mode : Mode) (trace : Trace) (run : ClosedView) (text : List ℕ) → IsTraceValue trace → IsRunOf mode trace run
     → run.list ≡ list_after trace.config run.journal
     → text ≡ output_text trace.config trace.lines (history_of_run mode trace run) → IsGivenFor mode trace run text
@@ -100,9 +94,3 @@ given_for_run mode trace run text value is list told = record {
 pub few_logs : (lines : List TraceLine) (shown : List (Vec Seen Global)) (logs : List (List Seen)) → map (λ log. log.items) shown ≡ logs
     → length logs ≡ callers_of lines → length shown < 2 ^ 32
 few_logs lines shown logs same all = omega (arith, few_callers lines, sym (length-map shown (λ (log : Vec Seen Global). log.items)) ∙ ap length same)
-
--- a trace has an output in each mode
-pub some_output : (mode : Mode) (trace : Trace) → IsTraceValue trace → IsOutputOf mode trace (serial_output trace)
-unfolding serial_output
-some_output modes.Threads trace value = (serial_history trace.config trace.lines, serial_legal trace value, refl)
-some_output modes.Serial trace value = refl

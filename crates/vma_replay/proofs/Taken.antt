@@ -14,7 +14,6 @@ use Rattle.step_script.specs.Output.{script_output}
 use Rattle.step_script.specs.Reading.{IsFault}
 use Rattle.vma_replay.specs.declared.status.Status.{Status}
 use Rattle.vma_replay.specs.Replaying.{Takes}
-use Rattle.vma_replay.specs.Runnable.{first_unrun, or_fault, runnable, runnable_of}
 use Rattle.vma_replay.specs.Reading.{IsReading, IsTaking, refused_as}
 use Rattle.trace_reader.specs.Grammar.{trace_of}
 use Rattle.trace_reader.proofs.Beginnings.{trace_of-front, trace_within}
@@ -65,21 +64,8 @@ refused_first {Y} read bounded old new bytes error status taken fault is =
     by_error (reads.Bad first) fault = (taken.0, (bytes, taken.1), settled read bounded old.left new.left bytes (Err first) taken.1 fault)
     by_error reads.NoMemory fault = taken.0
 
--- what can be run was read
-was_read : (read : Result Trace TraceFault) (trace : Trace) → runnable read ≡ Ok trace → read ≡ Ok trace
-was_read (Ok found) trace is = by_fault (first_unrun found.lines) is
-  where
-    by_fault : (first : Option TraceFault) → or_fault found first ≡ Ok trace → or_fault found None ≡ Ok trace
-    by_fault None is = is
-    by_fault (Some first) is = absurd (cc)
-was_read (Err first) trace is = absurd (cc)
-
-bounded_trace : IsBounded runnable_of
-unfolding runnable_of
-bounded_trace = record {
-  front = λ bytes. ap runnable (trace_of-front bytes);
-  within = λ bytes trace is. trace_within bytes trace (was_read (trace_of bytes) trace is);
-}
+bounded_trace : IsBounded trace_of
+bounded_trace = record { front = trace_of-front; within = trace_within }
 
 bounded_script : IsBounded script_output
 bounded_script = record { front = output-front; within = output-within }
@@ -91,14 +77,14 @@ trace_fault reads.NoMemory read is = is
 
 -- of traces
 pub reads_trace : (old new : SourceView) (bytes : List ℕ) (trace : Trace)
-    → IsTaking trace_limit old new (Ok bytes) → runnable_of bytes ≡ Ok trace → IsReading runnable_of trace_limit old new (Ok trace)
-reads_trace = found_whole runnable_of bounded_trace
+    → IsTaking trace_limit old new (Ok bytes) → trace_of bytes ≡ Ok trace → IsReading trace_of trace_limit old new (Ok trace)
+reads_trace = found_whole trace_of bounded_trace
 
 pub reads_no_trace : (old new : SourceView) (bytes : List ℕ) (error : ReadError) (status : Status)
-    → IsTaking trace_limit old new (Ok bytes) → GivesTrace (Err error) (runnable_of bytes) → status ≡ refused_as error
-    → IsReading runnable_of trace_limit old new (Err status)
+    → IsTaking trace_limit old new (Ok bytes) → GivesTrace (Err error) (trace_of bytes) → status ≡ refused_as error
+    → IsReading trace_of trace_limit old new (Err status)
 reads_no_trace old new bytes error status taken given =
-    refused_first runnable_of bounded_trace old new bytes error status taken (trace_fault error (runnable_of bytes) given)
+    refused_first trace_of bounded_trace old new bytes error status taken (trace_fault error (trace_of bytes) given)
 
 -- of scripts
 pub reads_script : (old new : SourceView) (bytes text : List ℕ)

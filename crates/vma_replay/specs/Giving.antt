@@ -1,13 +1,16 @@
 -- No public clause cites what stands here: what the functions result in that run a trace and give a text to a sink.
 use Rattle.std.specs.Prelude.{ℕ, ◌≡◌, ◌<◌, ◌+◌, ◌⊎◌, List, [], ◌++◌, length, take, Result, Ok, Err, MatchResult}
-use Rattle.std.specs.Io.KnownBytes.{Appends}
+use Rattle.std.specs.Io.KnownBytes.{Appends, Keeps}
 use Rattle.io_edge.specs.Edge.{SinkView, FailedLast}
 use Rattle.mm_space.specs.Closing.{ClosedView}
 use Rattle.trace_reader.specs.declared.trace.Trace.{Trace}
+use Rattle.mm_fork.specs.Children.{parent_trace}
 use Rattle.vma_replay.specs.declared.status.Status.{Status}
 use Rattle.vma_replay.specs.declared.status.Status.TheVariants as statuses
 use Rattle.vma_replay.specs.declared.words.Mode.{Mode}
-use Rattle.vma_replay.specs.Replaying.{GivesRuns, IsGivenFor, IsOutputOf, RunsGenerated}
+use Rattle.vma_replay.specs.declared.words.Mode.TheVariants as modes
+use Rattle.vma_replay.specs.Output.{serial_output}
+use Rattle.vma_replay.specs.Replaying.{BeginsWith, GivesRuns, RunsGenerated}
 use Rattle.vma_replay.specs.Summaries.{summary_text}
 
 -- A sink was given these bytes, and no give failed.
@@ -43,31 +46,39 @@ IsPrinting old new held holds text result = MatchResult result (λ done. Prints 
 abbrev pub IsGivingText : {T : Type 0} → SinkView → SinkView → List ℕ → Result T Status → Type 0
 IsGivingText old new text result = MatchResult result (λ done. Gave old new text) (λ status. IsCut old new [] text status)
 
--- what giving the output of a closed run results in
-abbrev pub IsGivingOutput : {T : Type 0} → Mode → Trace → ClosedView → SinkView → SinkView → Result T Status → Type 0
-IsGivingOutput mode trace run old new result =
-    (text : List ℕ) × IsGivenFor mode trace run text × IsOutputOf mode trace text × IsGivingText old new text result
+-- Doing a piece of work ended early with this status: nothing was given, since memory ran out before, or of a text that it gives with some
+-- closed runs a beginning.
+abbrev pub IsCutShort : (List ClosedView → List ℕ → Type 0) → SinkView → SinkView → Status → Type 0
+IsCutShort gives old new status = ((status ≡ statuses.NoMemory) × (new ≡ old))
+    ⊎ ((runs : List ClosedView) × (text : List ℕ) × gives runs text × IsCut old new [] text status)
 
--- What doing a piece of work results in: it is done, with these closed runs, and a text was given; or a beginning of one was.
-abbrev pub IsDoing : (List ClosedView → List ℕ → Type 0) → (List ℕ → Type 0) → SinkView → SinkView → Result (List ClosedView) Status → Type 0
-IsDoing gives begins old new (Ok runs) = (text : List ℕ) × gives runs text × Gave old new text
-IsDoing gives begins old new (Err status) = (text : List ℕ) × begins text × IsCut old new [] text status
+-- What doing a piece of work results in: it is done, with these closed runs, and a text was given; or it ended early.
+abbrev pub IsDoing : (List ClosedView → List ℕ → Type 0) → SinkView → SinkView → Result (List ClosedView) Status → Type 0
+IsDoing gives old new (Ok runs) = (text : List ℕ) × gives runs text × Gave old new text
+IsDoing gives old new (Err status) = IsCutShort gives old new status
 
 -- The same by the answer and by the closed runs that are kept.
-abbrev pub IsDone : (List ClosedView → List ℕ → Type 0) → (List ℕ → Type 0) → SinkView → SinkView → Status → List ClosedView → Type 0
-IsDone gives begins old new statuses.Done runs = (new.faults ≡ old.faults) × (text : List ℕ) × gives runs text
+abbrev pub IsDone : (List ClosedView → List ℕ → Type 0) → SinkView → SinkView → Status → List ClosedView → Type 0
+IsDone gives old new statuses.Done runs = (new.faults ≡ old.faults) × (text : List ℕ) × gives runs text
     × Appends old.written new.written text
-IsDone gives begins old new statuses.WriteFault runs = (new.faults ≡ old.faults + 1) × FailedLast new.just_failed × (runs ≡ [])
-    × (text : List ℕ) × begins text × (count : ℕ) × (count < length text) × Appends old.written new.written (take count text)
-IsDone gives begins old new statuses.NoMemory runs = (new.faults ≡ old.faults) × (runs ≡ [])
-    × (text : List ℕ) × begins text × (count : ℕ) × Appends old.written new.written (take count text)
-IsDone gives begins old new statuses.Words runs = ⊥
-IsDone gives begins old new (statuses.Trace line cause) runs = ⊥
-IsDone gives begins old new statuses.ReadFault runs = ⊥
+IsDone gives old new statuses.WriteFault runs = (new.faults ≡ old.faults + 1) × FailedLast new.just_failed × (runs ≡ [])
+    × (made : List ClosedView) × (text : List ℕ) × gives made text × (count : ℕ) × (count < length text)
+    × Appends old.written new.written (take count text)
+IsDone gives old new statuses.NoMemory runs = (new.faults ≡ old.faults) × (runs ≡ [])
+    × (Keeps old.written new.written ⊎ ((made : List ClosedView) × (text : List ℕ) × gives made text
+    × (count : ℕ) × Appends old.written new.written (take count text)))
+IsDone gives old new statuses.Words runs = ⊥
+IsDone gives old new (statuses.Trace line cause) runs = ⊥
+IsDone gives old new statuses.ReadFault runs = ⊥
 
--- with these closed runs a mode gives this text for a trace, which is one of its outputs
+-- in `serial` a text begins with the output of the parent's lines in their order
+abbrev pub BeginsAsSerial : Mode → Trace → List ℕ → Type 0
+BeginsAsSerial modes.Threads trace text = Unit {0}
+BeginsAsSerial modes.Serial trace text = BeginsWith text (serial_output (parent_trace trace))
+
+-- with these closed runs a mode gives this text for a trace
 abbrev pub GivesAnOutput : Mode → Trace → List ClosedView → List ℕ → Type 0
-GivesAnOutput mode trace runs text = GivesRuns mode trace runs text × IsOutputOf mode trace text
+GivesAnOutput mode trace runs text = GivesRuns mode trace runs text × BeginsAsSerial mode trace text
 
 -- with these closed runs of the generated trace this text is its summary
 abbrev pub GivesASummary : ℕ → ℕ → List ClosedView → List ℕ → Type 0
@@ -76,7 +87,3 @@ GivesASummary count seed runs text = RunsGenerated count seed runs × (text ≡ 
 -- with no closed run one text is given
 abbrev pub GivesThis : List ℕ → List ClosedView → List ℕ → Type 0
 GivesThis whole runs text = (runs ≡ []) × (text ≡ whole)
-
--- a text is this one
-abbrev pub IsText : List ℕ → List ℕ → Type 0
-IsText whole text = text ≡ whole

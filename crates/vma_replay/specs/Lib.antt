@@ -2,9 +2,10 @@ pub mod Output
 pub mod Statuses
 pub mod Jobs
 pub mod Summaries
-pub mod Runnable
+pub mod Forks
 pub mod Replaying
 pub mod Reading
 pub mod Giving
+pub mod Families
 pub mod Tallies
 pub mod CommandLine

@@ -1,5 +1,5 @@
 -- The text of a history.
-use Rattle.std.specs.Prelude.{ℕ, false, List, [], ◌∷◌, ◌++◌, length, codes, decimal}
+use Rattle.std.specs.Prelude.{ℕ, false, List, [], ◌∷◌, ◌++◌, length, codes, decimal, Option, Some, None}
 use Rattle.std.specs.Fmt.{digits}
 use Rattle.std.specs.Option.{option_map_or}
 use Rattle.mm_types.specs.declared.area.Record.{Record}
@@ -9,6 +9,7 @@ use Rattle.mm_types.specs.declared.call.Errno.{Errno}
 use Rattle.mm_types.specs.declared.call.Errno.TheVariants as errnos
 use Rattle.mm_types.specs.declared.call.Reply.{Reply}
 use Rattle.mm_types.specs.declared.call.Reply.TheVariants as replies
+use Rattle.mm_types.specs.declared.call.Entry.{Entry}
 use Rattle.mm_types.specs.declared.config.Config.{Config}
 use Rattle.mm_types.specs.declared.files.FileRow.{FileRow}
 use Rattle.history.specs.declared.items.Content.{Content}
@@ -17,8 +18,10 @@ use Rattle.history.specs.declared.items.Item.{Item}
 use Rattle.trace_reader.specs.declared.trace.TraceLine.{TraceLine}
 use Rattle.mm_types.specs.MapsText.{range_text, list_text}
 use Rattle.trace_reader.specs.declared.trace.Trace.{Trace}
+use Rattle.trace_reader.specs.Values.{child_of}
 use Rattle.area_rules.specs.Steps.{after}
 use Rattle.history.specs.Histories.{line_of, journal_of, serial_history}
+use Rattle.vma_replay.specs.declared.forks.Fork.{Fork}
 
 -- the name of an error
 unfoldable pub errno_name : Errno → List ℕ
@@ -64,19 +67,43 @@ unfoldable pub start_text : TraceLine → ℕ → List ℕ
 start_text line version = codes "L" ++ (decimal line.number
     ++ (codes " t" ++ (decimal line.thread ++ (codes " v" ++ (decimal version ++ codes " = ")))))
 
+-- the child that a line forked, and how many areas it begins with
+unfoldable pub forked_text : ℕ → List Record → List ℕ
+forked_text child areas = codes "child " ++ (decimal child ++ (codes " areas " ++ (decimal (length areas) ++ codes "\n")))
+
+-- what a line results in that forks this child, if it forks one: a list is that of the child
+abbrev pub result_text : List FileRow → Option ℕ → Content → List ℕ
+result_text files None content = content_text files content
+result_text files (Some child) (contents.List areas) = forked_text child areas
+result_text files (Some child) (contents.Called call reply) = content_text files (contents.Called call reply)
+result_text files (Some child) (contents.Fault page access verdict) = content_text files (contents.Fault page access verdict)
+
 -- an item, with the line that it answers
 abbrev pub item_text : List FileRow → TraceLine → Item → List ℕ
-item_text files line item = start_text line item.version ++ content_text files item.content
+item_text files line item = start_text line item.version ++ result_text files (child_of line.op) item.content
 
--- the items after others, each with the line that it answers
-abbrev pub items_text : List FileRow → List TraceLine → List Item → List Item → List ℕ
-items_text files lines before [] = []
-items_text files lines before (item ∷ items) = option_map_or (λ line. item_text files line item) (line_of lines before item) []
-    ++ items_text files lines (before ++ item ∷ []) items
+-- what is told of the items after others, of each with the line that it answers
+abbrev pub told_by : {X : Type 0} → (TraceLine → Item → List X) → List TraceLine → List Item → List Item → List X
+told_by tell lines before [] = []
+told_by tell lines before (item ∷ items) = option_map_or (λ line. tell line item) (line_of lines before item) []
+    ++ told_by tell lines (before ++ item ∷ []) items
+
+-- the items of a history, and after them a list
+unfoldable pub listed_text : List FileRow → List TraceLine → List Item → List Record → List ℕ
+listed_text files lines items areas = told_by (item_text files) lines [] items ++ maps_text files areas
 
 -- the items of a history, and after them the list after all its calls
 unfoldable pub output_text : Config → List TraceLine → List Item → List ℕ
-output_text config lines items = items_text config.files lines [] items ++ maps_text config.files (after config (journal_of items)).areas
+output_text config lines items = listed_text config.files lines items (after config (journal_of items)).areas
+
+-- the line before those of a child: the child, the line that forked it, and the version of its parent there
+unfoldable pub child_line : Fork → List ℕ
+child_line fork = codes "child " ++ (decimal fork.child ++ (codes " of L" ++ (decimal fork.line ++ (codes " v" ++ (decimal fork.version ++ codes "\n")))))
+
+-- the text of a child's history behind what it inherited: after its line its items, and then the list after all these calls
+unfoldable pub child_text : Config → List TraceLine → Fork → List Entry → List Item → List ℕ
+child_text config lines fork inherits items =
+    child_line fork ++ listed_text config.files lines items (after config (inherits ++ journal_of items)).areas
 
 -- the output of a trace that runs in the order of its lines
 unfoldable pub serial_output : Trace → List ℕ

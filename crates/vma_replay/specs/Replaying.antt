@@ -1,10 +1,11 @@
 -- What the promises of `replay` say of what it takes, runs, gives and answers.
-use Rattle.std.specs.Prelude.{ℕ, ◌≡◌, ◌<◌, ◌≤◌, ◌+◌, ◌⊎◌, Bool, true, false, List, [], ◌∷◌, length, take, Option, Some, None, IfSome, is_some, option_and_then, unwrap_or, slice_get, String, Result, Ok, IsOkAnd}
+use Rattle.std.specs.Prelude.{ℕ, ◌≡◌, ◌<◌, ◌≤◌, ◌+◌, ◌⊎◌, Bool, true, false, List, [], ◌∷◌, ◌++◌, length, take, Option, Some, None, IfSome, is_some, option_and_then, unwrap_or, slice_get, String, Result, Ok, IsOkAnd}
 use Rattle.std.specs.Option.{option_map_or}
 use Rattle.std.specs.Result.{result_err}
 use Rattle.std.specs.declared.alloc.Global.{Global}
 use Rattle.io_edge.specs.Edge.{SinkView}
 use Rattle.std.specs.Io.KnownBytes.{Appends, Consumes, IsAtEnd}
+use Rattle.mm_types.specs.declared.call.Entry.{Entry}
 use Rattle.mm_types.specs.declared.call.Seen.{Seen}
 use Rattle.lock_core.specs.Facts.{list_after}
 use Rattle.mm_space.specs.Closing.{ClosedView}
@@ -12,19 +13,22 @@ use Rattle.history.specs.declared.items.Item.{Item}
 use Rattle.history.specs.Histories.{journal_of, IsLegalHistory}
 use Rattle.history.specs.Runs.{history_of, IsRun}
 use Rattle.history.specs.Labels.{label_of, IsSerialRun}
+use Rattle.mm_fork.specs.Children.{inherited, child_history_of, parent_lines, child_lines, parent_trace, IsChildRun}
 use Rattle.trace_reader.specs.declared.fault.Cause.{Cause}
 use Rattle.trace_reader.specs.declared.fault.TraceFault.{TraceFault}
 use Rattle.trace_reader.specs.declared.trace.Trace.{Trace}
+use Rattle.trace_reader.specs.Grammar.{trace_of}
 use Rattle.trace_reader.specs.Lines.{trace_limit}
 use Rattle.gen_load.specs.Loads.{load_trace}
+use Rattle.vma_replay.specs.declared.forks.Fork.{Fork}
 use Rattle.vma_replay.specs.declared.words.Job.{Job}
 use Rattle.vma_replay.specs.declared.words.Job.TheVariants as jobs
 use Rattle.vma_replay.specs.declared.words.Mode.{Mode}
 use Rattle.vma_replay.specs.declared.words.Mode.TheVariants as modes
 use Rattle.vma_replay.specs.declared.status.Status.{Status}
 use Rattle.vma_replay.specs.declared.status.Status.TheVariants as statuses
-use Rattle.vma_replay.specs.Output.{output_text, serial_output}
-use Rattle.vma_replay.specs.Runnable.{runnable_of}
+use Rattle.vma_replay.specs.Forks.{forks_of}
+use Rattle.vma_replay.specs.Output.{output_text, child_text, serial_output}
 use Rattle.history.specs.CallerPlaces.{callers_of}
 use Rattle.step_script.specs.Output.{script_output}
 use Rattle.vma_replay.specs.Jobs.{job_of_words}
@@ -49,9 +53,43 @@ pub record IsGivenFor (mode : Mode) (trace : Trace) (run : ClosedView) (text : L
   pub list : run.list ≡ list_after trace.config (journal_of (history_of_run mode trace run))
   pub text_is : text ≡ output_text trace.config trace.lines (history_of_run mode trace run)
 
--- with these closed runs a mode gives this text for a trace: there is one run, and the text is that of its history
-abbrev pub GivesRuns : Mode → Trace → List ClosedView → List ℕ → Type 0
-GivesRuns mode trace runs text = (run : ClosedView) × (runs ≡ run ∷ []) × IsGivenFor mode trace run text
+-- A closed run of a child of a trace, by the journal of its parent and its fork: behind what it inherited it is of the child's lines, and its
+-- history, with versions from the fork on, is legal.
+pub record IsRunOfChild (trace : Trace) (parent : List Entry) (fork : Fork) (run : ClosedView) : Type 0 where
+  pub within : fork.version ≤ length parent
+  pub own : List Entry
+  pub journal : run.journal ≡ inherited parent fork.version ++ own
+  pub run_is : IsChildRun trace.config (inherited parent fork.version) (child_lines trace.lines fork.child) 1 own run.logs
+  pub legal : IsLegalHistory trace.config (inherited parent fork.version) (child_lines trace.lines fork.child)
+      (child_history_of fork.version run.journal run.logs)
+  pub list : run.list ≡ list_after trace.config run.journal
+
+-- what is given for such a run: the text of its history
+abbrev pub IsChildGiven : Trace → List Entry → Fork → ClosedView → List ℕ → Type 0
+IsChildGiven trace parent fork run text = IsRunOfChild trace parent fork run
+    × (text ≡ child_text trace.config (child_lines trace.lines fork.child) fork (inherited parent fork.version)
+    (child_history_of fork.version run.journal run.logs))
+
+-- what is given for closed runs of children, one after another: there is one run for each fork
+abbrev pub AreChildrenGiven : Trace → List Entry → List Fork → List ClosedView → List ℕ → Type 0
+AreChildrenGiven trace parent [] [] text = text ≡ []
+AreChildrenGiven trace parent (fork ∷ forks) (run ∷ runs) text = (first : List ℕ) × (rest : List ℕ) × (text ≡ first ++ rest)
+    × IsChildGiven trace parent fork run first × AreChildrenGiven trace parent forks runs rest
+AreChildrenGiven trace parent [] (run ∷ runs) text = ⊥
+AreChildrenGiven trace parent (fork ∷ forks) [] text = ⊥
+
+-- with these closed runs a mode gives this text for a trace: first that of the parent, whose lines are those of threads that no line forks,
+-- and then those of its children, by ascending number
+pub record GivesRuns (mode : Mode) (trace : Trace) (runs : List ClosedView) (text : List ℕ) : Type 0 where
+  pub parent : ClosedView
+  pub children : List ClosedView
+  pub first : List ℕ
+  pub rest : List ℕ
+  pub runs_are : runs ≡ parent ∷ children
+  pub text_is : text ≡ first ++ rest
+  pub parent_is : IsGivenFor mode (parent_trace trace) parent first
+  pub children_are : AreChildrenGiven trace parent.journal
+      (forks_of (parent_lines trace.lines) (history_of_run mode (parent_trace trace) parent)) children rest
 
 -- with these closed runs the generated trace of so many operations and a seed was run: once, in the order of its lines, with the list of the
 -- run after it
@@ -59,26 +97,24 @@ abbrev pub RunsGenerated : ℕ → ℕ → List ClosedView → Type 0
 RunsGenerated count seed runs = (run : ClosedView) × (runs ≡ run ∷ []) × IsRunOf modes.Serial (load_trace count seed) run
     × (run.list ≡ list_after (load_trace count seed).config run.journal)
 
--- the input is a trace that can be run, and what was given is the output of its lines in their order
-abbrev pub GivesSerialOutput : List ℕ → SinkView → SinkView → Type 0
-GivesSerialOutput input old new = IsOkAnd (runnable_of input) (λ trace. Appends old.written new.written (serial_output trace))
+-- a text begins with another
+abbrev pub BeginsWith : List ℕ → List ℕ → Type 0
+BeginsWith text front = (rest : List ℕ) × (text ≡ front ++ rest)
 
--- an output that a mode may give for a trace: in `threads` the text of any legal history of it, in `serial` that of its lines in their order
-abbrev pub IsOutputOf : Mode → Trace → List ℕ → Type 0
-IsOutputOf modes.Threads trace text = (items : List Item) × IsLegalHistory trace.config [] trace.lines items
-    × (text ≡ output_text trace.config trace.lines items)
-IsOutputOf modes.Serial trace text = text ≡ serial_output trace
+-- the input is a trace, and what was given is the text of closed runs of it in the order of its lines, which begins with the output of the
+-- parent's lines in their order
+abbrev pub GivesSerialOutput : List ℕ → SinkView → SinkView → Type 0
+GivesSerialOutput input old new = IsOkAnd (trace_of input) (λ trace. (runs : List ClosedView) × (text : List ℕ)
+    × GivesRuns modes.Serial trace runs text × BeginsWith text (serial_output (parent_trace trace)) × Appends old.written new.written text)
 
 -- A kind of work, as one row of a table: the mode in which it runs a trace, if it reads one; the most bytes that what it reads may have, if
--- it reads anything; whether it opens a space; the first bad line of an input; with which closed runs it gives which text for an input, once
--- it is done; and the texts of which it may give a beginning.
+-- it reads anything; whether it opens a space; the first bad line of an input; and with which closed runs it gives which text for an input.
 pub record Work : Type 1 where
   pub mode : Option Mode
   pub reads : Option ℕ
   pub opens : Bool
   pub fault : List ℕ → Option TraceFault
   pub gives : List ℕ → List ClosedView → List ℕ → Type 0
-  pub begins : List ℕ → List ℕ → Type 0
 
 -- Work that turns an input into a text, with no space: this is the text of an input, or its first bad line.
 abbrev pub text_work : ℕ → (List ℕ → Result (List ℕ) TraceFault) → Work
@@ -88,7 +124,6 @@ text_work most text_of = record {
   opens = false;
   fault = λ input. result_err (text_of input);
   gives = λ input runs text. (runs ≡ []) × (text_of input ≡ Ok text);
-  begins = λ input text. text_of input ≡ Ok text;
 }
 
 -- the table
@@ -97,9 +132,8 @@ work_of (jobs.Replay mode) = record {
   mode = Some mode;
   reads = Some trace_limit;
   opens = true;
-  fault = λ input. result_err (runnable_of input);
-  gives = λ input runs text. IsOkAnd (runnable_of input) (λ trace. GivesRuns mode trace runs text);
-  begins = λ input text. IsOkAnd (runnable_of input) (λ trace. IsOutputOf mode trace text);
+  fault = λ input. result_err (trace_of input);
+  gives = λ input runs text. IsOkAnd (trace_of input) (λ trace. GivesRuns mode trace runs text);
 }
 work_of jobs.Steps = text_work trace_limit script_output
 work_of (jobs.Generate count seed) = record {
@@ -108,7 +142,6 @@ work_of (jobs.Generate count seed) = record {
   opens = true;
   fault = λ input. None;
   gives = λ input runs text. RunsGenerated count seed runs × (text ≡ summary_text count seed);
-  begins = λ input text. text ≡ summary_text count seed;
 }
 
 -- the mode that words name, in which a trace is read and its lines are run
@@ -137,14 +170,14 @@ abbrev pub GivesAll : Work → Option (List ℕ) → List ClosedView → SinkVie
 GivesAll work left runs old new = OfInput work.reads left (λ input. (text : List ℕ) × work.gives input runs text
     × Appends old.written new.written text)
 
--- a beginning of a text was given that the work may give for the input
+-- a beginning was given of a text that the work gives for the input with some closed runs
 abbrev pub GivesBeginning : Work → Option (List ℕ) → SinkView → SinkView → Type 0
-GivesBeginning work left old new = OfInput work.reads left (λ input. (text : List ℕ) × work.begins input text
+GivesBeginning work left old new = OfInput work.reads left (λ input. (runs : List ClosedView) × (text : List ℕ) × work.gives input runs text
     × (count : ℕ) × Appends old.written new.written (take count text))
 
 -- a beginning of one that is not all of it was given
 abbrev pub GivesProperBeginning : Work → Option (List ℕ) → SinkView → SinkView → Type 0
-GivesProperBeginning work left old new = OfInput work.reads left (λ input. (text : List ℕ) × work.begins input text
+GivesProperBeginning work left old new = OfInput work.reads left (λ input. (runs : List ClosedView) × (text : List ℕ) × work.gives input runs text
     × (count : ℕ) × (count < length text) × Appends old.written new.written (take count text))
 
 -- the answer to an input that has this bad line, or none, where neither memory nor the outside fails

@@ -4,9 +4,8 @@ ghost use Rattle.gen_load.specs.Loads.{load_trace};
 ghost use Rattle.lock_core.specs.Facts.{list_after};
 ghost use Rattle.trace_reader.specs.Values.{IsTraceValue};
 ghost use Rattle.vma_replay.specs.declared.words.Mode.TheVariants.{Serial};
-ghost use Rattle.vma_replay.specs.Giving.{GivesASummary, IsDoing, IsDone, IsText};
+ghost use Rattle.vma_replay.specs.Giving.{GivesASummary, IsDoing, IsDone};
 ghost use Rattle.vma_replay.specs.Replaying.{IsRunOf};
-ghost use Rattle.vma_replay.specs.Summaries.{summary_text};
 
 use crate::giving::give_all;
 use crate::replayed::{Replayed, Runs};
@@ -31,7 +30,7 @@ pub(crate) fn give_summary<R: Wait, K: Sink>(
 ) -> Replayed
     requires count { count ≤ MOST_OPERATIONS }
     requires sink { (K.seen sink.old).faults < 2 ^ 64 - 1 }
-    ensures { IsDone (GivesASummary count seed) (IsText (summary_text count seed)) (K.seen sink.old) (K.seen sink.new) result.status result.runs }
+    ensures { IsDone (GivesASummary count seed) (K.seen sink.old) (K.seen sink.new) result.status result.runs }
 {
     Replayed::of(alloc, summary_given(rt, alloc, count, seed, sink))
 }
@@ -46,7 +45,7 @@ fn summary_given<R: Wait, K: Sink>(
 ) -> Result<Runs, Status>
     requires count { count ≤ MOST_OPERATIONS }
     requires sink { (K.seen sink.old).faults < 2 ^ 64 - 1 }
-    ensures { IsDoing (GivesASummary count seed) (IsText (summary_text count seed)) (K.seen sink.old) (K.seen sink.new) result }
+    ensures { IsDoing (GivesASummary count seed) (K.seen sink.old) (K.seen sink.new) result }
 {
     let mut runs = Vec::with_capacity(alloc, 1)?;
     let run = generated_run(rt, alloc, count, seed)?;

@@ -1,12 +1,12 @@
 //! Runs of a trace, and texts that are given to a sink a piece after the other.
 ghost use Rattle.std.specs.Prelude.{◌≡◌, ◌≤◌, ◌<◌, ◌^◌, ◌-◌, [], codes, drop, length, take};
-ghost use Rattle.vma_replay.specs.Giving.{GivesAnOutput, GivesThis, IsDoing, IsDone, IsGivingText, IsPrinting, IsText};
-ghost use Rattle.vma_replay.specs.Replaying.{IsOutputOf};
-ghost use Rattle.vma_replay.specs.Runnable.{IsRunnable};
+ghost use Rattle.trace_reader.specs.Values.{IsTraceValue};
+ghost use Rattle.mm_fork.specs.Children.{parent_trace};
+ghost use Rattle.vma_replay.specs.Giving.{GivesAnOutput, GivesThis, IsDoing, IsDone, IsGivingText, IsPrinting};
 
-use crate::printing::give_output;
+use crate::families::{closed_family, has_forks, parent_of};
+use crate::printing::give_family;
 use crate::replayed::{Replayed, Runs};
-use crate::running::closed_run;
 use crate::status::Status;
 use crate::words::Mode;
 use io_edge::{Gate, GiveFault, Sink};
@@ -18,9 +18,6 @@ use trace_reader::Trace;
 /// How many bytes are given at a call at most.
 pub(crate) const MOST_GIVEN: usize = 65_536;
 
-/// How many closed runs a trace has.
-const RUNS: usize = 1;
-
 /// Runs a trace, and gives a sink its output.
 pub(crate) fn give_run<R: Threads + Wait + Sync, K: Sink, G: Gate>(
     rt: &R,
@@ -30,14 +27,14 @@ pub(crate) fn give_run<R: Threads + Wait + Sync, K: Sink, G: Gate>(
     trace: &Trace,
     gate: &G,
 ) -> Replayed
-    requires trace { IsRunnable trace.now }
+    requires trace { IsTraceValue trace.now }
     requires sink { (K.seen sink.old).faults < 2 ^ 64 - 1 }
-    ensures { IsDone (GivesAnOutput mode trace.now) (IsOutputOf mode trace.now) (K.seen sink.old) (K.seen sink.new) result.status result.runs }
+    ensures { IsDone (GivesAnOutput mode trace.now) (K.seen sink.old) (K.seen sink.new) result.status result.runs }
 {
     Replayed::of(alloc, run_given(rt, alloc, mode, sink, trace, gate))
 }
 
-/// The closed runs of a trace, once their output was given to a sink. The room for them is taken first.
+/// The closed runs of a trace, once their output was given to a sink. The lines of the parent are copied only where some are not its own.
 fn run_given<R: Threads + Wait + Sync, K: Sink, G: Gate>(
     rt: &R,
     alloc: Global,
@@ -46,21 +43,43 @@ fn run_given<R: Threads + Wait + Sync, K: Sink, G: Gate>(
     trace: &Trace,
     gate: &G,
 ) -> Result<Runs, Status>
-    requires trace { IsRunnable trace.now }
+    requires trace { IsTraceValue trace.now }
     requires sink { (K.seen sink.old).faults < 2 ^ 64 - 1 }
-    ensures { IsDoing (GivesAnOutput mode trace.now) (IsOutputOf mode trace.now) (K.seen sink.old) (K.seen sink.new) result }
+    ensures { IsDoing (GivesAnOutput mode trace.now) (K.seen sink.old) (K.seen sink.new) result }
 {
-    let mut runs = Vec::with_capacity(alloc, RUNS)?;
-    let run = closed_run(rt, alloc, mode, trace, gate)?;
-    give_output(alloc, mode, trace, &run, sink)?;
-    runs.push_reserved(run);
-    Ok(Runs::of(runs))
+    if has_forks(trace.lines.items()) {
+        let parent = parent_of(alloc, trace)?;
+        family_given(rt, alloc, mode, sink, trace, &parent, gate)
+    } else {
+        family_given(rt, alloc, mode, sink, trace, trace, gate)
+    }
+}
+
+/// The closed runs of a trace, whose parent's trace is given, once their output was given to a sink. The runs stand whole before the first
+/// byte is given.
+fn family_given<R: Threads + Wait + Sync, K: Sink, G: Gate>(
+    rt: &R,
+    alloc: Global,
+    mode: Mode,
+    sink: &mut K,
+    trace: &Trace,
+    parent: &Trace,
+    gate: &G,
+) -> Result<Runs, Status>
+    requires trace { IsTraceValue trace.now }
+    requires parent { parent.now ≡ parent_trace trace.now }
+    requires sink { (K.seen sink.old).faults < 2 ^ 64 - 1 }
+    ensures { IsDoing (GivesAnOutput mode trace.now) (K.seen sink.old) (K.seen sink.new) result }
+{
+    let family = closed_family(rt, alloc, mode, trace, parent, gate)?;
+    give_family(alloc, sink, trace, parent, &family)?;
+    Ok(Runs::of(family.runs))
 }
 
 /// Gives a sink a text that no run was made for.
 pub(crate) fn give_text<K: Sink>(alloc: Global, sink: &mut K, text: &[u8]) -> Replayed
     requires { (K.seen sink.old).faults < 2 ^ 64 - 1 }
-    ensures { IsDone (GivesThis text.now) (IsText text.now) (K.seen sink.old) (K.seen sink.new) result.status result.runs }
+    ensures { IsDone (GivesThis text.now) (K.seen sink.old) (K.seen sink.new) result.status result.runs }
 {
     Replayed::of(alloc, text_given(alloc, sink, text))
 }
@@ -68,7 +87,7 @@ pub(crate) fn give_text<K: Sink>(alloc: Global, sink: &mut K, text: &[u8]) -> Re
 /// No run, once a text was given to a sink.
 fn text_given<K: Sink>(alloc: Global, sink: &mut K, text: &[u8]) -> Result<Runs, Status>
     requires { (K.seen sink.old).faults < 2 ^ 64 - 1 }
-    ensures { IsDoing (GivesThis text.now) (IsText text.now) (K.seen sink.old) (K.seen sink.new) result }
+    ensures { IsDoing (GivesThis text.now) (K.seen sink.old) (K.seen sink.new) result }
 {
     give_all(sink, text)?;
     Ok(Runs::none(alloc))

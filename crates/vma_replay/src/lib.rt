@@ -2,10 +2,15 @@
 //! and writes what each of its steps results in; or replays a generated trace, and writes a summary of what it did.
 #![tactic(auto)]
 
+mod families;
+#[cfg(test)]
+mod family_tests;
+mod forks;
 #[cfg(test)]
 mod form_tests;
 mod generating;
 mod giving;
+mod laws;
 #[cfg(test)]
 mod load_tests;
 #[cfg(test)]
@@ -30,11 +35,12 @@ mod tests;
 mod thread_tests;
 mod words;
 
+pub use forks::Fork;
 pub use history::label;
+pub use laws::serial_outputs_are_equal;
 pub use replayed::{Replayed, Runs};
 pub use run::replay;
 pub use status::{Status, status_line, status_number};
 pub use summary::Summary;
 pub use trace_reader::Cause;
-pub use vma_drive::{drive, in_order};
 pub use words::{Job, Mode};

@@ -1,7 +1,8 @@
 //! The text of what a line results in, and of what stands before a list.
 ghost use Rattle.std.specs.Prelude.{◌≡◌, ◌++◌, OnOk, codes, decimal};
-ghost use Rattle.vma_replay.specs.Output.{errno_name, reply_text, served_text, verdict_text, start_text};
+ghost use Rattle.vma_replay.specs.Output.{child_line, errno_name, reply_text, served_text, verdict_text, start_text};
 
+use crate::forks::Fork;
 use itoa::Buffer;
 use maps_print::push_range;
 use mm_types::{Errno, NoMemory, Record, Reply, Verdict};
@@ -102,4 +103,25 @@ pub(crate) fn push_count(text: &mut Vec<u8>, count: usize) -> Result<(), NoMemor
     ensures { OnOk result (text.new.items ≡ text.old.items ++ (codes "maps " ++ (decimal count ++ codes "\n"))) }
 {
     write!(text, "maps {count}\n").map_err(|_| NoMemory)
+}
+
+/// Appends what a line results in that forks a child: the child, and how many areas it begins with.
+pub(crate) fn push_forked(text: &mut Vec<u8>, child: u32, count: usize) -> Result<(), NoMemory>
+    ensures { OnOk result (text.new.items ≡ text.old.items ++ (codes "child "
+        ++ (decimal child ++ (codes " areas " ++ (decimal count ++ codes "\n"))))) }
+{
+    write!(text, "child {child} areas {count}\n").map_err(|_| NoMemory)
+}
+
+/// Appends the line before those of a child: `child <C> of L<line> v<version>`.
+#[tactic(auto, unfolding(crate::specs::Output::child_line))]
+pub(crate) fn push_child_line(text: &mut Vec<u8>, fork: &Fork) -> Result<(), NoMemory>
+    ensures { OnOk result (text.new.items ≡ text.old.items ++ child_line fork.now) }
+{
+    let Fork {
+        child,
+        line,
+        version,
+    } = *fork;
+    write!(text, "child {child} of L{line} v{version}\n").map_err(|_| NoMemory)
 }

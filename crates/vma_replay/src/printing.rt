@@ -1,46 +1,75 @@
-//! The output of a run: the text of a history that stands whole, which is given while it is printed.
-ghost use Rattle.std.specs.Prelude.{◌≡◌, ◌<◌, ◌^◌, ◌-◌, [], IfOk, length};
+//! The text of closed runs, which is given while it is printed: each history stands whole before its first byte is given.
+ghost use Rattle.std.specs.Prelude.{◌≡◌, ◌≤◌, ◌<◌, ◌^◌, ◌-◌, [], All, IfOk, List, length};
 ghost use Rattle.mm_types.specs.MapsText.{list_text};
-ghost use Rattle.lock_core.specs.Facts.{list_after};
-ghost use Rattle.trace_reader.specs.Values.{IsTraceValue};
-ghost use Rattle.history.specs.Histories.{IsLegalHistory, journal_of};
+ghost use Rattle.mm_types.specs.declared.call.Entry.{Entry};
+ghost use Rattle.trace_reader.specs.declared.limits.TheConstants.{MOST_LINES};
+ghost use Rattle.trace_reader.specs.Values.{IsTraceValue, child_of};
+ghost use Rattle.history.specs.declared.callers.TheConstants.{MOST_THREADS};
 ghost use Rattle.history.specs.CallerPlaces.{ArePlaces};
-ghost use Rattle.vma_replay.specs.Giving.{IsGivingOutput, IsGivingText, IsPrinting};
-ghost use Rattle.vma_replay.specs.Output.{content_text, item_text, items_text, maps_text, output_text};
-ghost use Rattle.vma_replay.specs.Replaying.{IsRunOf, history_of_run};
+ghost use Rattle.mm_fork.specs.Children.{parent_trace};
+ghost use Rattle.vma_replay.specs.Families.{AreLegal, AreRunsOfChildren, IsFamily, text_of_child, text_of_children, text_of_family};
+ghost use Rattle.vma_replay.specs.Giving.{IsGivingText, IsPrinting};
+ghost use Rattle.vma_replay.specs.Output.{content_text, item_text, listed_text, maps_text, result_text, told_by};
+ghost use Rattle.vma_replay.specs.Replaying.{IsRunOf, IsRunOfChild, history_of_run};
+ghost use Rattle.vma_replay.specs.declared.words.Mode.{Mode};
 
+use crate::families::Family;
+use crate::forks::Fork;
 use crate::giving::{MOST_GIVEN, end_line, give_all, give_full};
-use crate::output::{push_count, push_reply, push_start, push_verdict};
+use crate::output::{
+    push_child_line, push_count, push_forked, push_reply, push_start, push_verdict,
+};
 use crate::status::Status;
 use crate::words::Mode;
 use history::{Content, History, Item, gather, label, places_by_caller};
 use io_edge::Sink;
 use maps_print::push_line;
+use mm_fork::{child_history, lines_of_child};
 use mm_space::Closed;
 use mm_types::{Files, NoMemory, Record};
 use std::alloc::Global;
-use trace_reader::{Trace, TraceLine};
+use trace_reader::{Op, Trace, TraceLine};
 
 /// Room for a piece of the output, and for a line of a usual length that goes past its end.
 const ROOM: usize = MOST_GIVEN + 8_192;
 
-/// Gives a sink the output of a closed run of a trace: the text of the history that it stands for. The history stands whole before the
-/// first byte is given.
-pub(crate) fn give_output<K: Sink>(
+/// Gives a sink the text of the closed runs of a trace: that of the parent's history, and then that of each child's.
+pub(crate) fn give_family<K: Sink>(
     alloc: Global,
-    mode: Mode,
-    trace: &Trace,
-    run: &Closed,
     sink: &mut K,
+    trace: &Trace,
+    parent: &Trace,
+    family: &Family,
 ) -> Result<(), Status>
     requires trace { IsTraceValue trace.now }
-    requires run { IsRunOf mode trace.now run.now }
-    requires list { run.now.list ≡ list_after trace.now.config run.now.journal }
+    requires parent { parent.now ≡ parent_trace trace.now }
+    requires family { (mode : Mode) × IsFamily mode trace.now family.now.history family.now.forks.items family.now.runs.items }
     requires sink { (K.seen sink.old).faults < 2 ^ 64 - 1 }
-    ensures { IsGivingOutput mode trace.now run.now (K.seen sink.old) (K.seen sink.new) result }
+    ensures { IsGivingText (K.seen sink.old) (K.seen sink.new)
+        (text_of_family trace.now family.now.history family.now.forks.items family.now.runs.items) result }
 {
-    let history = run_history(alloc, mode, trace, run)?;
-    give_history(alloc, trace, &history, run.list().items(), sink)
+    let (lines, files) = (parent.lines.items(), &trace.config.files);
+    let runs = family.runs.as_slice();
+    let areas = runs[0].list().items();
+    let mut piece = Vec::with_capacity(alloc, ROOM)?;
+    print_history(
+        alloc,
+        sink,
+        &mut piece,
+        lines,
+        files,
+        family.history.items(),
+        areas,
+    )?;
+    print_children(
+        alloc,
+        sink,
+        &mut piece,
+        trace,
+        family.forks.as_slice(),
+        &runs[1..],
+    )?;
+    give_all(sink, &piece)
 }
 
 /// The history that a closed run stands for.
@@ -60,34 +89,80 @@ pub(crate) fn run_history(
     }
 }
 
-/// Gives a sink the text of a legal history of a trace: its items, each with the line that it answers, and after them the final list of
-/// areas. Of the text no more than a piece and a line stand in memory.
-fn give_history<K: Sink>(
+/// Prints the texts of children, one after another: there is a run for each fork.
+fn print_children<K: Sink>(
     alloc: Global,
-    trace: &Trace,
-    history: &History,
-    areas: &[Record],
     sink: &mut K,
+    piece: &mut Vec<u8>,
+    trace: &Trace,
+    forks: &[Fork],
+    runs: &[Closed],
 ) -> Result<(), Status>
     requires trace { IsTraceValue trace.now }
-    requires legal { IsLegalHistory trace.now.config [] trace.now.lines history.now }
-    requires areas { areas.now ≡ list_after trace.now.config (journal_of history.now) }
+    requires runs { (parent : List Entry) × AreRunsOfChildren trace.now parent forks.now runs.now }
     requires sink { (K.seen sink.old).faults < 2 ^ 64 - 1 }
-    ensures { IsGivingText (K.seen sink.old) (K.seen sink.new)
-        (output_text trace.now.config trace.now.lines history.now) result }
+    ensures { IsPrinting (K.seen sink.old) (K.seen sink.new) piece.old.items piece.new.items
+        (text_of_children trace.now forks.now runs.now) result }
 {
-    let places = places_by_caller(alloc, trace.lines.items())?;
-    let mut piece = Vec::with_capacity(alloc, ROOM)?;
-    print_items(
+    for (place, fork) in forks.iter().enumerate() {
+        if let Some(run) = runs.get(place) {
+            print_child(alloc, sink, piece, trace, fork, run)?;
+        }
+    }
+    Ok(())
+}
+
+/// Prints the text of a child: its line, its history with versions from the fork on, and its final list.
+fn print_child<K: Sink>(
+    alloc: Global,
+    sink: &mut K,
+    piece: &mut Vec<u8>,
+    trace: &Trace,
+    fork: &Fork,
+    run: &Closed,
+) -> Result<(), Status>
+    requires trace { IsTraceValue trace.now }
+    requires run { (parent : List Entry) × IsRunOfChild trace.now parent fork.now run.now }
+    requires sink { (K.seen sink.old).faults < 2 ^ 64 - 1 }
+    ensures { IsPrinting (K.seen sink.old) (K.seen sink.new) piece.old.items piece.new.items
+        (text_of_child trace.now fork.now run.now) result }
+{
+    let lines = lines_of_child(alloc, trace.lines.items(), fork.child)?;
+    let history = child_history(alloc, fork.version, run.journal(), run.logs())?;
+    let (files, areas) = (&trace.config.files, run.list().items());
+    push_child_line(piece, fork)?;
+    print_history(
         alloc,
         sink,
-        &mut piece,
-        trace,
-        places.as_slice(),
+        piece,
+        lines.as_slice(),
+        files,
         history.items(),
-    )?;
-    print_maps(sink, &mut piece, &trace.config.files, areas)?;
-    give_all(sink, &piece)
+        areas,
+    )
+}
+
+/// Prints a legal history of lines, each item with the line that it answers, and after it a list. Of the text no more than a piece and a
+/// line stand in memory.
+fn print_history<K: Sink>(
+    alloc: Global,
+    sink: &mut K,
+    piece: &mut Vec<u8>,
+    lines: &[TraceLine],
+    files: &Files,
+    items: &[Item],
+    areas: &[Record],
+) -> Result<(), Status>
+    requires few { length lines.now ≤ MOST_LINES }
+    requires threads { All (λ line. line.thread < MOST_THREADS) lines.now }
+    requires legal { AreLegal lines.now items.now }
+    requires sink { (K.seen sink.old).faults < 2 ^ 64 - 1 }
+    ensures { IsPrinting (K.seen sink.old) (K.seen sink.new) piece.old.items piece.new.items
+        (listed_text files.now lines.now items.now areas.now) result }
+{
+    let places = places_by_caller(alloc, lines)?;
+    print_items(alloc, sink, piece, lines, files, places.as_slice(), items)?;
+    print_maps(sink, piece, files, areas)
 }
 
 /// Prints the items of a legal history, by the places of the lines of each caller.
@@ -95,17 +170,17 @@ fn print_items<K: Sink>(
     alloc: Global,
     sink: &mut K,
     piece: &mut Vec<u8>,
-    trace: &Trace,
+    lines: &[TraceLine],
+    files: &Files,
     places: &[Vec<u32>],
     items: &[Item],
 ) -> Result<(), Status>
-    requires places { ArePlaces trace.now.lines (length places.now) places.now }
-    requires legal { IsLegalHistory trace.now.config [] trace.now.lines items.now }
+    requires places { ArePlaces lines.now (length places.now) places.now }
+    requires legal { AreLegal lines.now items.now }
     requires sink { (K.seen sink.old).faults < 2 ^ 64 - 1 }
     ensures { IsPrinting (K.seen sink.old) (K.seen sink.new) piece.old.items piece.new.items
-        (items_text trace.now.config.files trace.now.lines [] items.now) result }
+        (told_by (item_text files.now) lines.now [] items.now) result }
 {
-    let (lines, files) = (trace.lines.items(), &trace.config.files);
     let mut answered = vec![in alloc; 0usize; places.len()]?;
     for item in items {
         let caller = item.caller as usize;
@@ -129,7 +204,28 @@ fn print_item<K: Sink>(
         (item_text files.now line.now item.now) result }
 {
     push_start(piece, line, item.version)?;
-    print_content(sink, piece, files, &item.content)
+    print_result(sink, piece, files, line.op, &item.content)
+}
+
+/// Prints what an operation results in: a list that a child begins with by the child and how many areas it has.
+fn print_result<K: Sink>(
+    sink: &mut K,
+    piece: &mut Vec<u8>,
+    files: &Files,
+    op: Op,
+    content: &Content,
+) -> Result<(), Status>
+    requires { (K.seen sink.old).faults < 2 ^ 64 - 1 }
+    ensures { IsPrinting (K.seen sink.old) (K.seen sink.new) piece.old.items piece.new.items
+        (result_text files.now (child_of op) content.now) result }
+{
+    match (op, content) {
+        (Op::Fork { child }, Content::List(areas)) => {
+            push_forked(piece, child, areas.items().len())?;
+            give_full(sink, piece)
+        }
+        (_, content) => print_content(sink, piece, files, content),
+    }
 }
 
 /// Prints what happened, up to the end of its last line.

@@ -1,4 +1,4 @@
-ghost use Rattle.std.specs.Prelude.{◌≡◌, ◌<◌, ◌^◌, ◌+◌, ◌-◌, ◌⊎◌, ◌∷◌, [], ℕ, true, false, IfSome, IsSomeAnd, Some};
+ghost use Rattle.std.specs.Prelude.{◌≡◌, ◌<◌, ◌^◌, ◌+◌, ◌-◌, ◌⊎◌, ◌∷◌, [], ℕ, List, true, false, IfSome, IsSomeAnd, Some};
 ghost use Rattle.std.specs.Io.KnownBytes.{Keeps, IsAtEnd};
 ghost use Rattle.trace_reader.specs.declared.fault.Cause.{Cause};
 ghost use Rattle.io_edge.specs.Edge.{FailedLast};
@@ -22,14 +22,16 @@ use std::thread::Threads;
 
 /// Replays a trace. `words` are the words after the program's name. In the modes `serial` and `threads`, each a word alone, the trace is
 /// read from a source, and the sink is given every reply and the final list of areas: `serial` runs the lines in their order, and
-/// `threads` those of each thread of the trace in a thread of its own, where the gate is called before and after each line.
+/// `threads` those of each thread of the trace in a thread of its own, where the gate is called before and after each line. A thread that
+/// a line forks is the one thread of a child space, which begins with what its parent had there, and runs once the parent is closed.
 /// `steps` alone reads a script from the source, and gives what each of its steps results in and the state after it; no space is opened.
 /// `generate COUNT SEED` runs the generated trace of COUNT operations, at most 400,000, and a seed in the order of its lines, and gives
 /// its summary; the source is left as it is.
 ///
 /// On `Words`, `Trace` and `ReadFault` nothing is given to the sink. On `WriteFault` what was given is a beginning of an
 /// output, and not all of it; on `NoMemory` a beginning. Words that are not accepted leave the source untouched too.
-/// On `Done` the closed run is handed out where a trace was run, and else none.
+/// On `Done` the closed runs are handed out where a trace was run, the parent's first and then those of its children by ascending number,
+/// and else none.
 pub fn replay<R: Threads + Wait + Sync, S: Source, K: Sink, G: Gate>(
     rt: &R,
     alloc: Global,
@@ -41,14 +43,15 @@ pub fn replay<R: Threads + Wait + Sync, S: Source, K: Sink, G: Gate>(
     requires source_count_has_room { (S.seen source.old).faults < 2 ^ 64 - 1 }
     requires sink_count_has_room { (K.seen sink.old).faults < 2 ^ 64 - 1 }
 
-    // The headline: in a mode, what was given is the text of the history of the one closed run, and that history is legal and of the
-    // trace that was read; in `steps`, it is the text of the script that was read; in `generate`, it is the summary of the generated
+    // The headline: in a mode, what was given is the text of the histories of the closed runs, of the parent and of each child, and these
+    // are legal and of the trace that was read; in `steps`, it is the text of the script that was read; in `generate`, it is the summary of the generated
     // trace, which was run once, in the order of its lines.
     ensures output { result.status ≡ Status.Done → IsSomeAnd (job_of_words words.now) (λ job.
         GivesAll (work_of job) (S.seen source.old).left result.runs (K.seen sink.old) (K.seen sink.new)) }
     ensures serial_output { result.status ≡ Status.Done → mode_of_words words.now ≡ Some Serial → IfSome (S.seen source.old).left (λ input.
         GivesSerialOutput input (K.seen sink.old) (K.seen sink.new)) }
-    ensures one_run { result.status ≡ Status.Done → opens_a_space words.now ≡ true → (run : ClosedView) × (result.runs ≡ run ∷ []) }
+    ensures some_run { result.status ≡ Status.Done → opens_a_space words.now ≡ true → (parent : ClosedView) × (children : List ClosedView)
+        × (result.runs ≡ parent ∷ children) × (reads_the_source words.now ≡ false → children ≡ []) }
     ensures no_run { (result.status ≡ Status.Done) ⊎ (result.runs ≡ []) }
     ensures no_space { opens_a_space words.now ≡ false → result.runs ≡ [] }
     ensures counts_stand_still { result.status ≡ Status.Done → ((S.seen source.new).faults ≡ (S.seen source.old).faults) × ((K.seen sink.new).faults ≡ (K.seen sink.old).faults) }

@@ -1,8 +1,8 @@
 //! A closed run of a trace, in a mode.
 ghost use Rattle.std.specs.Prelude.{◌≡◌, IfOk};
 ghost use Rattle.lock_core.specs.Facts.{list_after};
+ghost use Rattle.trace_reader.specs.Values.{IsTraceValue};
 ghost use Rattle.vma_replay.specs.Replaying.{IsRunOf};
-ghost use Rattle.vma_replay.specs.Runnable.{IsRunnable};
 
 use crate::words::Mode;
 use io_edge::Gate;
@@ -22,7 +22,7 @@ pub(crate) fn closed_run<R: Threads + Wait + Sync, G: Gate>(
     trace: &Trace,
     gate: &G,
 ) -> Result<Closed, NoMemory>
-    requires { IsRunnable trace.now }
+    requires { IsTraceValue trace.now }
     ensures run { IfOk result (λ run. IsRunOf mode trace.now run) }
     ensures list { IfOk result (λ run. run.list ≡ list_after trace.now.config run.journal) }
 {

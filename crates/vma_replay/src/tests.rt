@@ -70,18 +70,11 @@ fn gives_replies_and_areas(rt: HostRuntime) -> Result<(), Fail> {
 #[test]
 fn gives_nothing_for_what_is_no_trace(rt: HostRuntime) -> Result<(), Fail> {
     let words = words(rt.alloc(), &["serial"])?;
-    let runs: [(&[u8], u64, Cause); 7] = [
+    let runs: [(&[u8], u64, Cause); 5] = [
         (b"", 1, Cause::Header),
         (b"vmatrace 1", 1, Cause::NoEnd),
         (b"vmatrace 1\n0 mapped\n", 2, Cause::Word),
         (&TWO_PAGES[..TWO_PAGES.len() - 1], 2, Cause::NoEnd),
-        // A trace that forks, or in which a line names another, is not run; but a bad line comes first.
-        (b"vmatrace 1\n0 maps\n0 fork 1\n1 maps\n", 3, Cause::Word),
-        (
-            b"vmatrace 1\n0 brk 0\n1 maps after=2\n0 fork 2\n",
-            3,
-            Cause::Arity,
-        ),
         (b"vmatrace 1\n0 fork 1\n0 mmap\n", 3, Cause::Arity),
     ];
     for (trace, line, cause) in runs {

@@ -23,7 +23,7 @@ returns-clause-run g c =
     (subst (λ (l : List PassView). Closes g.N.SpaceName.name l c.close.result)
     (back c.drive.new.passes _ _ (c.drive.auto.passes ∙ c.as_mut_slice.ensures.len)) c.close.ensures)
     (subst
-    (λ (l : List ℕ). AreShares c.args.trace.now.lines l) (ap (λ (r : SpaceId). r.operations) c.requires.name) c.requires.shares) c.requires.trace.lines c.requires.alone
+    (λ (l : List ℕ). AreShares c.args.trace.now.lines l) (ap (λ (r : SpaceId). r.operations) c.requires.name) c.requires.shares) c.requires.trace.lines c.in_ok-drive.ensures.told
     c.in_ok-drive.ensures.grown c.in_ok-drive.ensures.done)
 
 pub drive-requires-clause-before : goal.drive-requires-clause-before

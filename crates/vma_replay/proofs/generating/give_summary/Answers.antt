@@ -3,4 +3,4 @@ use Rattle.vma_replay.proofs.Doing.{done_of}
 use Rattle.vma_replay.proofs.generating.give_summary.Goals as goal
 
 pub returns : goal.returns
-returns g c = done_of _ _ _ _ c.summary_given.result _ _ c.summary_given.ensures c.of.ensures
+returns g c = done_of _ _ _ c.summary_given.result _ _ c.summary_given.ensures c.of.ensures

@@ -1,5 +1,6 @@
 -- The proof of `print_items`: the items so far were printed.
 use Rattle.std.proofs.Common.{ℕ, List, length}
+use Rattle.vma_replay.specs.Output.{item_text}
 use Rattle.vma_replay.specs.Giving.{Prints}
 use Rattle.vma_replay.proofs.Telling.{Told}
 use Rattle.vma_replay.proofs.printing.print_items.Given as goal
@@ -7,4 +8,4 @@ use Rattle.vma_replay.proofs.printing.print_items.Given as goal
 abbrev pub invariant-loop-item : goal.invariant-loop-item
 invariant-loop-item g l = (text : List ℕ)
     × Prints (g.K.Sink.seen l.fn.sink) (g.K.Sink.seen l.sink) l.fn.piece.items l.piece.items text
-    × Told l.fn.trace.config.files l.fn.trace.lines l.fn.items (length l.fn.places) l.item-index l.answered.items text
+    × Told (item_text l.fn.files) l.fn.lines l.fn.items (length l.fn.places) l.item-index l.answered.items text

@@ -1,0 +1,6 @@
+-- The proof of `run_rounds`: what its loop keeps.
+use Rattle.vma_drive.specs.Rounds.{AtRound}
+use Rattle.vma_drive.proofs.driving.run_rounds.Given as goal
+
+abbrev pub invariant-loop-round : goal.invariant-loop-round
+invariant-loop-round g l = AtRound g.N.SpaceName.name l.fn.lines l.fn.places l.fn.rounds l.fn.tellings l.passes l.owed l.round

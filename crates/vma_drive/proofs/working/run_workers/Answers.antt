@@ -1,0 +1,31 @@
+-- The proof of `run_workers`: each pass may be run by its worker, and was.
+use Rattle.std.proofs.Common.{rules}
+use Rattle.vma_drive.proofs.OwnLines.{places_in}
+use Rattle.vma_drive.proofs.Workers.{passes_worked, each_ran, may_work, worked}
+use Rattle.vma_drive.proofs.working.run_workers.Goals as goal
+
+pub for_each_mut-requires-clause-accepts : goal.for_each_mut-requires-clause-accepts
+for_each_mut-requires-clause-accepts g c lifetimes outlives i p within read = (
+  may_work g.N.SpaceName.name c.args.lines.now c.args.places.now c.args.rounds.now c.args.owed.now c.args.round c.args.passes.now c.requires.lines
+      c.requires.places c.requires.rounds c.requires.owed c.requires.passes c.requires.has i p.now within read,
+  search rules,
+)
+
+pub returns-clause-passes : goal.returns-clause-passes
+returns-clause-passes g c = passes_worked g.N.SpaceName.name c.args.lines.now c.args.places.now c.args.rounds.now c.args.owed.now c.args.round
+    c.args.passes.now c.for_each_mut.new.s c.requires.passes c.for_each_mut.auto.s
+    (λ i d within. let change = (c.for_each_mut.ensures i d within).1 in
+    worked g.N.SpaceName.name _ _ _ _ _ i change.argument.now change.after_call.now _ _ change.argument_is change.left change.call)
+
+pub returns-clause-ran : goal.returns-clause-ran
+returns-clause-ran g c =
+    each_ran g.N.SpaceName.name c.args.lines.now c.args.places.now c.args.rounds.now
+    c.args.owed.now c.args.round c.args.passes.now c.for_each_mut.new.s c.for_each_mut.auto.s
+    (λ i d within. let change = (c.for_each_mut.ensures i d within).1 in
+    worked g.N.SpaceName.name _ _ _ _ _ i change.argument.now change.after_call.now _ _ change.argument_is change.left change.call)
+
+pub threads_for-threads-requires-clause-within : goal.threads_for-threads-requires-clause-within
+threads_for-threads-requires-clause-within g c = places_in c.args.lines.now _ c.args.places.now c.args.rounds.now c.requires.places c.requires.rounds
+
+pub threads_for-threads-requires-clause-left : goal.threads_for-threads-requires-clause-left
+threads_for-threads-requires-clause-left g c caller pass found = (c.requires.has caller pass found).0.left

@@ -1,0 +1,63 @@
+//! Closed runs by one pass alone: of all lines of a trace, one after the other.
+ghost use Rattle.std.specs.Prelude.{◌≡◌, ◌≤◌, ◌+◌, ◌∷◌, ◌++◌, [], ℕ, List, All, IfOk, length};
+ghost use Rattle.lock_core.specs.Facts.{list_after};
+ghost use Rattle.mm_types.specs.Config.{IsValidConfig};
+ghost use Rattle.mm_types.specs.declared.call.Entry.{Entry};
+ghost use Rattle.area_rules.specs.Steps.{IsLegalJournal};
+ghost use Rattle.history.specs.Histories.{AskThemselves};
+ghost use Rattle.mm_space.specs.Names.{AreStrangers};
+ghost use Rattle.mm_fork.specs.Children.{IsChildRun};
+ghost use Rattle.vma_drive.specs.Alone.{RanAlone};
+ghost use Rattle.vma_drive.specs.Sharing.{AreOfOneThread, NameNoLine};
+
+use crate::driving::in_order;
+use mm_space::{Closed, Ready, Space, SpaceName};
+use mm_types::{Entry, NoMemory};
+use std::alloc::Global;
+use std::marker::Brand;
+use std::sync::Wait;
+use trace_reader::Trace;
+
+/// Runs the lines of a child, of its one thread, over a space that begins with what the child inherits, and closes it. Refused where
+/// memory runs out.
+pub fn run_child<R: Wait>(
+    rt: &R,
+    alloc: Global,
+    trace: &Trace,
+    before: &[Entry],
+) -> Result<Closed, NoMemory>
+    requires config { IsValidConfig trace.now.config }
+    requires few { length before.now + length trace.now.lines ≤ 16777216 }
+    requires legal { IsLegalJournal trace.now.config before.now }
+    requires strangers { AreStrangers before.now }
+    requires lines { AskThemselves trace.now.lines }
+    requires own { AreOfOneThread trace.now.lines }
+    requires alone { NameNoLine trace.now.lines }
+    ensures run { IfOk result (λ run. (own : List Entry) × (run.journal ≡ before.now ++ own)
+        × IsChildRun trace.now.config before.now trace.now.lines 1 own run.logs) }
+    ensures list { IfOk result (λ run. run.list ≡ list_after trace.now.config run.journal) }
+{
+    let config = trace.config.copy(alloc)?;
+    let count = trace.lines.items().len() as u64;
+    let ready = Ready::make_after(rt, alloc, config, before, &[count])?;
+    run_alone::<Brand, R>(rt, alloc, ready, trace)
+}
+
+/// Opens a space of one caller, runs all lines with its pass, and closes it.
+pub(crate) fn run_alone<N: SpaceName, R: Wait>(
+    rt: &R,
+    alloc: Global,
+    ready: Ready,
+    trace: &Trace,
+) -> Result<Closed, NoMemory>
+    requires name { ready ≡ N.name }
+    requires strangers { AreStrangers ready.before }
+    requires config { ready.config ≡ trace.now.config }
+    requires one { ready.operations ≡ length trace.now.lines ∷ [] }
+    requires lines { AskThemselves trace.now.lines }
+    ensures { IfOk result (RanAlone trace.now.config ready.before trace.now.lines) }
+{
+    let (space, mut passes) = Space::<N>::open(ready);
+    in_order(rt, alloc, &space, &mut passes[0], trace)?;
+    Ok(space.close(passes))
+}

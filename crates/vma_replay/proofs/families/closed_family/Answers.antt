@@ -1,0 +1,41 @@
+-- The proof of `closed_family`: the parent's trace is one, its history is legal, and its forks are those of its children.
+use Rattle.std.proofs.Common.{◌∙◌, rules}
+use Rattle.trace_reader.specs.Values.{IsTraceValue}
+use Rattle.vma_replay.proofs.Parents.{bears, family_made, few_lines, found_right, legal_items, low_threads, parent_value}
+use Rattle.vma_replay.proofs.families.closed_family.Goals as goal
+
+pub closed_run-requires : goal.closed_run-requires
+closed_run-requires g c =
+    let value : IsTraceValue c.args.parent.now = parent_value c.args.trace.now c.args.parent.now c.requires.parent c.requires.trace in
+    search rules
+
+pub run_history-requires-clause-trace : goal.run_history-requires-clause-trace
+run_history-requires-clause-trace g c = parent_value c.args.trace.now c.args.parent.now c.requires.parent c.requires.trace
+
+pub forks_of-requires-clause-few : goal.forks_of-requires-clause-few
+forks_of-requires-clause-few g c =
+    few_lines c.args.parent.now c.items.result.now (parent_value c.args.trace.now c.args.parent.now c.requires.parent c.requires.trace) c.items.ensures
+
+pub forks_of-requires-clause-threads : goal.forks_of-requires-clause-threads
+forks_of-requires-clause-threads g c =
+    low_threads c.args.parent.now c.items.result.now (parent_value c.args.trace.now c.args.parent.now c.requires.parent c.requires.trace) c.items.ensures
+
+pub forks_of-requires-clause-legal : goal.forks_of-requires-clause-legal
+forks_of-requires-clause-legal g c =
+    legal_items c.args.mode c.args.parent.now c.in_ok-run.run' c.items.result.now c.in_ok-history.history c.items-2.result.now
+    (parent_value c.args.trace.now c.args.parent.now c.requires.parent c.requires.trace) c.in_ok-run.ensures.run c.items.ensures
+    c.in_ok-history.ensures c.items-2.ensures
+
+pub with_children-requires-clause-parent : goal.with_children-requires-clause-parent
+with_children-requires-clause-parent g c =
+    bears c.args.mode c.args.trace.now c.args.parent.now c.in_ok-run.run' c.requires.trace c.requires.parent c.in_ok-run.ensures.run
+
+pub with_children-requires-clause-forks : goal.with_children-requires-clause-forks
+with_children-requires-clause-forks g c = found_right c.args.trace.now c.args.parent.now c.args.mode c.in_ok-run.run' c.items.result.now
+    c.in_ok-history.history c.items-2.result.now _ c.requires.trace c.in_ok-run.ensures.run c.requires.parent c.items.ensures c.in_ok-history.ensures
+    c.items-2.ensures (c.as_slice.ensures.value ∙ c.in_ok-forks.ensures)
+
+pub returns : goal.returns
+returns g c = family_made c.args.trace.now c.args.parent.now c.args.mode c.in_ok-run.run' c.items.result.now c.in_ok-history.history
+    c.items-2.result.now c.in_ok-forks.forks.items c.as_slice.result.now c.in_ok-runs.runs.items c.in_ok-run.ensures.run c.in_ok-run.ensures.list c.requires.parent c.items.ensures c.in_ok-history.ensures
+    c.items-2.ensures c.in_ok-forks.ensures c.as_slice.ensures.value c.in_ok-runs.ensures

@@ -1,0 +1,57 @@
+-- The proof of `give_family`: the parent's text is printed into an empty piece, then those of its children, and then the rest is given.
+use Rattle.std.proofs.Common.{◌∙◌, ◌-◌, ap, drop, get_or, length, refl, take}
+use Rattle.mm_fork.specs.Children.{parent_trace}
+use Rattle.mm_fork.proofs.Traces.{parent_is_trace}
+use Rattle.vma_replay.proofs.FamilyTexts.{family_whole}
+use Rattle.vma_replay.proofs.Outputs.{cut_first, cut_second, prints_both}
+use Rattle.vma_replay.proofs.Parents.{few_lines, legal_items, low_threads, parent_value}
+use Rattle.vma_replay.proofs.Pieces.{at_error, giving_last}
+use Rattle.vma_replay.proofs.printing.give_family.Goals as goal
+
+pub print_history-requires-clause-few : goal.print_history-requires-clause-few
+print_history-requires-clause-few g c = few_lines c.args.parent.now c.items-lines.result.now
+    (parent_value c.args.trace.now c.args.parent.now c.requires.parent c.requires.trace) c.items-lines.ensures
+
+pub print_history-requires-clause-threads : goal.print_history-requires-clause-threads
+print_history-requires-clause-threads g c = low_threads c.args.parent.now c.items-lines.result.now
+    (parent_value c.args.trace.now c.args.parent.now c.requires.parent c.requires.trace) c.items-lines.ensures
+
+pub print_history-requires-clause-legal : goal.print_history-requires-clause-legal
+print_history-requires-clause-legal g c =
+    let family = c.requires.family.1 in
+    legal_items c.requires.family.0 (parent_trace c.args.trace.now) family.parent c.items-lines.result.now c.args.family.now.history c.items.result.now
+    (parent_is_trace c.args.trace.now c.requires.trace) family.parent_is (c.items-lines.ensures ∙ ap (λ trace. trace.lines) c.requires.parent)
+    family.history_is c.items.ensures
+
+pub returns-in_err-print_history : goal.returns-in_err-print_history
+returns-in_err-print_history g c = at_error _ _ _ _ c.from_residual-in_err-print_history.ensures.1
+    (cut_first _ _ _ _ _ _ _ c.in_ok-piece.ensures.items
+    (family_whole c.requires.family.0 c.args.trace.now c.args.parent.now c.args.family.now.history c.items.result.now c.args.family.now.forks.items
+    c.args.family.now.forks.items c.args.family.now.runs.items _ c.items-lines.result.now c.items-areas.result.now c.index-runs-0.result
+    c.requires.family.1 c.requires.parent c.items-lines.ensures c.items.ensures
+    (c.index-runs-0.is ∙ ap (λ runs. get_or runs 0 c.index-runs-0.result) c.as_slice-runs.ensures.value)
+    (c.items-areas.ensures ∙ c.list.ensures) refl
+    (refl))
+    c.in_err-print_history.ensures)
+
+pub returns-in_err-print_children : goal.returns-in_err-print_children
+returns-in_err-print_children g c = at_error _ _ _ _ c.from_residual-in_err-print_children.ensures.1
+    (cut_second _ _ _ _ _ _ _ _ _ c.in_ok-piece.ensures.items
+    (family_whole c.requires.family.0 c.args.trace.now c.args.parent.now c.args.family.now.history c.items.result.now c.args.family.now.forks.items
+    c.as_slice.result.now c.args.family.now.runs.items _ c.items-lines.result.now c.items-areas.result.now c.index-runs-0.result
+    c.requires.family.1 c.requires.parent c.items-lines.ensures c.items.ensures
+    (c.index-runs-0.is ∙ ap (λ runs. get_or runs 0 c.index-runs-0.result) c.as_slice-runs.ensures.value)
+    (c.items-areas.ensures ∙ c.list.ensures) c.as_slice.ensures.value
+    (ap (λ runs. take (length runs - 1) (drop 1 runs)) c.as_slice-runs.ensures.value))
+    c.in_ok-print_history.ensures c.in_err-print_children.ensures)
+
+pub returns : goal.returns
+returns g c = giving_last _ _ _ _ _ _ _
+    (prints_both _ _ _ _ _ _ _ _ _ c.in_ok-piece.ensures.items
+    (family_whole c.requires.family.0 c.args.trace.now c.args.parent.now c.args.family.now.history c.items.result.now c.args.family.now.forks.items
+    c.as_slice.result.now c.args.family.now.runs.items _ c.items-lines.result.now c.items-areas.result.now c.index-runs-0.result
+    c.requires.family.1 c.requires.parent c.items-lines.ensures c.items.ensures
+    (c.index-runs-0.is ∙ ap (λ runs. get_or runs 0 c.index-runs-0.result) c.as_slice-runs.ensures.value)
+    (c.items-areas.ensures ∙ c.list.ensures) c.as_slice.ensures.value
+    (ap (λ runs. take (length runs - 1) (drop 1 runs)) c.as_slice-runs.ensures.value))
+    c.in_ok-print_history.ensures c.in_ok-print_children.ensures) c.deref.ensures.value c.give_all.ensures
