@@ -1,20 +1,14 @@
 -- For `push_line`: the text of a line of each kind.
-use Rattle.std.proofs.Common.{◌≡◌, ℕ, ◌*◌, ◌/◌, ◌<◌, false, ◌++◌, codes, nat_eq, None, refl, ap, ◌∙◌, append_assoc, arith}
+use Rattle.std.proofs.Common.{◌≡◌, ℕ, ◌*◌, ◌/◌, ◌<◌, false, ◌++◌, codes, None, refl, ap, ◌∙◌, append_assoc, arith}
 use Rattle.std.specs.Fmt.{digits, decimal}
-use Rattle.std.proofs.lemmas.Bool.{cond-false, ne_eqb}
 use Rattle.std.proofs.lemmas.Fmt.{decimal_digit}
 use Rattle.mm_types.specs.declared.config.TheConstants.{PAGE_SIZE}
 use Rattle.flag_table.specs.Printing.{printed}
 use Rattle.flag_table.specs.Tables.{map_flags, mremap_flags}
 use Rattle.trace_reader.specs.Fields.{prot_of_bits}
-use Rattle.gen_load.specs.LineTexts.{address_word, prot_word, call_words, op_words, line_words, text_of, line_text}
+use Rattle.trace_text.specs.LineTexts.{address_word, prot_word, call_words, op_words, line_words, text_of, line_text}
+use Rattle.trace_text.proofs.Numerals.{address_word-some}
 use Rattle.gen_load.specs.Loads.{kind_of, thread_of, address_of, length_of, prot_bits_of, new_length_of, mapping, exactly, anywhere, operation, line_of}
-
--- an address that is there
-pub address_word-some : (address : ℕ) → 0 < address → address_word address ≡ codes "0x" ++ digits 16 false address
-unfolding address_word
-address_word-some address some = let apart : nat_eq address 0 ≡ false = ne_eqb address 0 (λ none. omega arith) in
-    cond-false (nat_eq address 0) (codes "0") (codes "0x" ++ digits 16 false address) apart
 
 address_of-some : (draw : ℕ) → 0 < address_of draw
 address_of-some draw = omega arith

@@ -1,8 +1,4 @@
 pub mod Written
 pub mod KindTexts
-pub mod PlainWords
-pub mod Numerals
-pub mod Operations
-pub mod PrintedLines
 pub mod LoadOperations
 pub mod Readings

@@ -1,8 +1,7 @@
 -- For `loads_are_traces`: the operations of a load have values that fit and short words.
-use Rattle.std.proofs.Common.{◌≡◌, ℕ, ◌*◌, ◌/◌, ◌^◌, ◌<◌, ◌≤◌, ◌≤ℤ◌, Bool, true, false, nat_eq, List, [], ◌∷◌, length, negsuc, pos, Option, None, refl, arith, if◌then◌else◌, lit≤}
-use Rattle.std.specs.Fmt.{decimal, signed_decimal}
+use Rattle.std.proofs.Common.{◌≡◌, ℕ, ◌*◌, ◌/◌, ◌^◌, ◌<◌, ◌≤◌, Bool, true, false, nat_eq, length, None, refl, arith, if◌then◌else◌, lit≤}
 use Rattle.std.proofs.lemmas.Bool.{cond_both}
-use Rattle.std.proofs.lemmas.Fmt.{decimal_digit, length-decimal-le}
+use Rattle.std.proofs.lemmas.Fmt.{length-decimal-le}
 use Rattle.std.proofs.lemmas.Int.{ints}
 use Rattle.mm_types.specs.declared.area.Access.{Access}
 use Rattle.mm_types.specs.declared.area.Access.TheVariants.{Read, Write, Exec}
@@ -16,10 +15,10 @@ use Rattle.trace_reader.specs.declared.trace.Op.{Op}
 use Rattle.trace_reader.specs.declared.trace.Op.TheVariants as ops
 use Rattle.trace_reader.specs.Fields.{prot_of_bits}
 use Rattle.trace_reader.specs.Values.{IsOpValue, is_maps, child_of}
-use Rattle.gen_load.specs.LineTexts.{prot_word, access_word, call_words, op_words, HasNames}
+use Rattle.trace_text.specs.LineTexts.{prot_word, access_word, call_words, op_words, HasNames}
 use Rattle.gen_load.specs.Loads.{address_of, length_of, prot_bits_of, new_length_of, mapping, exactly, anywhere, operation}
-use Rattle.gen_load.proofs.PlainWords.{room_of}
-use Rattle.gen_load.proofs.Numerals.{length-address, length-number}
+use Rattle.trace_text.proofs.PlainWords.{room_of}
+use Rattle.trace_text.proofs.Numerals.{length-address, length-number}
 
 -- an operation with values that fit, flags with names, and short words
 pub record IsLoaded (op : Op) : Type 0 where

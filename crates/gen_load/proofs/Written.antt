@@ -3,7 +3,7 @@ use Rattle.std.proofs.Common.{◌≡◌, ℕ, suc, ◌+◌, ◌-◌, ◌<◌, �
 use Rattle.std.proofs.lemmas.List.{append-nil}
 use Rattle.std.specs.declared.alloc.AllocError.{AllocError}
 use Rattle.std.specs.Fmt.{AppendsText}
-use Rattle.gen_load.specs.LineTexts.{line_words, text_of, line_text}
+use Rattle.trace_text.specs.LineTexts.{line_words, text_of, line_text}
 use Rattle.gen_load.specs.Loads.{next_of, draw_of, line_of, lines_after, load_text}
 
 -- what was written is this text

@@ -11,7 +11,7 @@ use Rattle.trace_reader.specs.declared.trace.Op.TheVariants.{Call, Fault}
 use Rattle.trace_reader.specs.declared.trace.Trace.{Trace}
 use Rattle.trace_reader.specs.declared.trace.TraceLine.{TraceLine}
 use Rattle.gen_load.specs.declared.draw.TheConstants.{MULTIPLIER, INCREMENT, FIRST_ADDRESS}
-use Rattle.gen_load.specs.LineTexts.{line_text}
+use Rattle.trace_text.specs.LineTexts.{line_text}
 
 -- the number after a number: a linear congruential generator of 64 bits
 abbrev pub next_of : ℕ → ℕ

@@ -5,23 +5,14 @@ ghost use Rattle.mm_types.specs.declared.flags.TheConstants.{MREMAP_MAYMOVE};
 ghost use Rattle.flag_table.specs.Tables.{map_flags, mremap_flags};
 ghost use Rattle.flag_table.specs.Printing.{printed};
 ghost use Rattle.trace_reader.specs.Grammar.{trace_of};
-ghost use Rattle.trace_reader.specs.Values.{IsLineValue};
-ghost use Rattle.trace_reader.specs.declared.trace.TraceLine.{TraceLine};
 ghost use Rattle.gen_load.specs.declared.draw.TheConstants.{MULTIPLIER, INCREMENT, FIRST_ADDRESS};
 ghost use Rattle.gen_load.specs.declared.loading.TheConstants.{MOST_OPERATIONS};
-ghost use Rattle.gen_load.specs.LineTexts.{HasNames, line_read, text_of};
 ghost use Rattle.gen_load.specs.Loads.{exactly, anywhere, load_lines, load_trace, load_text};
 
 /// The text of a load is a trace: its reader gives the lines of the load, one for each operation.
 pub fn loads_are_traces()
     ensures read { (count seed : ℕ) → count ≤ MOST_OPERATIONS → trace_of (load_text count seed) ≡ Ok (load_trace count seed) }
     ensures count { (count seed : ℕ) → length (load_trace count seed).lines ≡ count }
-{}
-
-/// Each line is read as it was printed: a call with any of its flags, a page fault, a read of the list, a fork, and the line that
-/// any of these names.
-pub fn printed_lines_are_read()
-    ensures { (line : TraceLine) → IsLineValue line → HasNames line.op → line_read line.number (text_of line) ≡ Ok line }
 {}
 
 /// The flags of a load, in the words of their tables.

@@ -1,7 +1,7 @@
 //! The text of a load.
 
 ghost use Rattle.std.specs.Prelude.{◌≡◌, ◌≤◌, ◌++◌, IfOk, OnOk, string_bytes};
-ghost use Rattle.gen_load.specs.LineTexts.{text_of, line_text};
+ghost use Rattle.trace_text.specs.LineTexts.{text_of, line_text};
 ghost use Rattle.gen_load.specs.Loads.{line_of, load_text};
 
 use crate::draw::{Draw, next_number};

@@ -1,7 +1,7 @@
 -- The proof of `load`: the text grows line by line to that of the load.
 use Rattle.std.proofs.Common.{◌≡◌, ◌++◌, arith, codes, string_bytes, ◌∙◌}
 use Rattle.std.proofs.lemmas.Grind.{common_steps}
-use Rattle.gen_load.specs.LineTexts.{line_text}
+use Rattle.trace_text.specs.LineTexts.{line_text}
 use Rattle.gen_load.specs.Loads.{draw_of, line_of}
 use Rattle.gen_load.proofs.Written.{loading_none, loading_more, loading_all}
 use Rattle.gen_load.proofs.loading.load.Goals as goal

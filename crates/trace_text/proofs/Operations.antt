@@ -1,24 +1,23 @@
--- For `printed_lines_are_read` and `loads_are_traces`: the words of each operation are read as that operation.
-use Rattle.std.proofs.Common.{◌≡◌, ◌≢◌, ℕ, ◌+◌, ◌-◌, ◌*◌, ◌/◌, ◌^◌, ◌<◌, ◌≤◌, ◌≤ℤ◌, Bool, true, false, not, ◌&&◌, nat_eq, nat_lt, nat_le, List, [], ◌∷◌, ◌++◌, length, take, drop, map, filter, codes, bytes_eq, bit_and, ℤ, pos, negsuc, Some, None, Result, Ok, Err, All, ok_or, get_or, refl, sym, ap, ◌∙◌, subst, arith, if◌then◌else◌, lit<, lit≤}
+-- The words of each operation are read as that operation.
+use Rattle.std.proofs.Common.{◌≡◌, ℕ, ◌-◌, ◌*◌, ◌/◌, ◌^◌, ◌<◌, ◌≤◌, ◌≤ℤ◌, Bool, true, false, not, ◌&&◌, nat_eq, nat_lt, List, [], ◌∷◌, ◌++◌, length, codes, bytes_eq, ℤ, pos, negsuc, Ok, All, refl, sym, ap, ◌∙◌, subst, arith}
 use Rattle.std.specs.Fmt.{decimal, signed_decimal}
-use Rattle.std.specs.List.{join_with_byte, starts_with, list_all}
+use Rattle.std.specs.List.{join_with_byte}
 use Rattle.std.specs.Str.Parse.{AllDigits}
 use Rattle.std.specs.Char.{digit_value}
-use Rattle.std.proofs.lemmas.Bool.{cond_both, and_parts, and_from, ltb-true, le-leb, both_ways, eq-eqb, cond-false, cond-true}
+use Rattle.std.proofs.lemmas.Bool.{cond_both, and_parts, ltb-true, le-leb, both_ways, eq-eqb, cond-false}
 use Rattle.std.proofs.lemmas.Bool.Decides.{nat_tests}
 use Rattle.std.proofs.lemmas.Fmt.{decimal_digit, decimal_is_IsNumeral}
 use Rattle.std.proofs.lemmas.Int.{ints}
-use Rattle.std.proofs.lemmas.List.Elements.{All-nil, All-cons, All-head, All-tail, All-append, All-map, All-filter, All-weaker}
+use Rattle.std.proofs.lemmas.List.Elements.{All-nil, All-cons, All-head, All-tail, All-append, All-map, All-filter}
 use Rattle.mm_types.specs.declared.area.Access.{Access}
 use Rattle.mm_types.specs.declared.area.Access.TheVariants.{Read, Write, Exec}
 use Rattle.mm_types.specs.declared.area.Prot.{Prot}
-use Rattle.mm_types.specs.declared.call.Call.{Call}
 use Rattle.mm_types.specs.declared.call.MmapArgs.{MmapArgs}
 use Rattle.mm_types.specs.declared.call.Call.TheVariants.{Mmap, Munmap, Mprotect, Mremap, Touch, Brk, Mseal}
 use Rattle.mm_types.specs.declared.config.TheConstants.{PAGE_SIZE}
 use Rattle.mm_types.specs.declared.flags.TheConstants.{MREMAP_FIXED}
 use Rattle.mm_types.specs.Flags.{has_flag}
-use Rattle.flag_table.specs.Laws.{IsSound, IsOneBit}
+use Rattle.flag_table.specs.Laws.{IsSound}
 use Rattle.flag_table.specs.Printing.{printed, rows_with}
 use Rattle.flag_table.specs.Reading.{reading, is_zero, read_words}
 use Rattle.flag_table.specs.Tables.{Row, Table, HasRows, bits_of, names_of, prot_flags, map_flags, mremap_flags}
@@ -26,18 +25,15 @@ use Rattle.flag_table.proofs.Bits.{bits_of-filter}
 use Rattle.flag_table.proofs.Pairs.{All-from_test}
 use Rattle.flag_table.proofs.Sound.{map_is_sound, mremap_is_sound}
 use Rattle.flag_table.proofs.Texts.{reading-printed}
-use Rattle.trace_reader.specs.declared.fault.Cause.{Cause}
-use Rattle.trace_reader.specs.declared.fault.Cause.TheVariants.{Number}
 use Rattle.trace_reader.specs.declared.trace.Op.{Op}
 use Rattle.trace_reader.specs.declared.trace.Op.TheVariants as ops
 use Rattle.trace_reader.specs.Calls.{mmap, mmap_of, munmap, munmap_of, mprotect, mprotect_of, mremap, mremap_of, number_if, brk_of, mseal, mseal_of, call_named, has_its_new}
-use Rattle.trace_reader.specs.Causes.{◌>>=◌}
 use Rattle.trace_reader.specs.Fields.{number, number_in, descriptor, mapped_descriptor, access, or_flag, flags, prot, prot_of_bits}
 use Rattle.trace_reader.specs.Operations.{fault, fault_of, maps_of, fork_of, op_named, op_of, op_has_its_new}
-use Rattle.trace_reader.specs.Values.{IsMapping, IsCallValue, IsOpValue}
-use Rattle.gen_load.specs.LineTexts.{address_word, prot_word, access_word, call_words, op_words, HasNames}
-use Rattle.gen_load.proofs.PlainWords.{IsPlain, IsWord}
-use Rattle.gen_load.proofs.Numerals.{number-address, number-decimal, thread_of-decimal, address-word, decimal-word}
+use Rattle.trace_reader.specs.Values.{IsMapping, IsOpValue}
+use Rattle.trace_text.specs.LineTexts.{hexadecimal, address_word, prot_word, access_word, mapping_words, call_words, op_words, HasNames}
+use Rattle.trace_text.proofs.PlainWords.{IsPlain, IsWord}
+use Rattle.trace_text.proofs.Numerals.{number-address, number-decimal, number-hexadecimal, thread_of-decimal, address-word, decimal-word, hexadecimal-word}
 
 -- ---- words that name no line
 
@@ -230,26 +226,44 @@ all_fields : (fields : List (List ℕ)) → AreFields fields → All IsField fie
 all_fields [] are = All-nil IsField
 all_fields (field ∷ fields) are = All-cons IsField field fields are.0 (all_fields fields are.1)
 
--- an operation that is read from its words
-pub record IsReadable (op : Op) : Type 0 where
-  pub some : 0 < length (op_words op)
-  pub fields : All IsField (op_words op)
-  pub reads : op_of (op_words op) ≡ Ok op
-  pub right : op_has_its_new op (op_words op) ≡ true
+-- an operation that is read from these words
+pub record IsReadFrom (words : List (List ℕ)) (op : Op) : Type 0 where
+  pub some : 0 < length words
+  pub fields : All IsField words
+  pub reads : op_of words ≡ Ok op
+  pub right : op_has_its_new op words ≡ true
 
-mapping-readable : (args : MmapArgs) → IsMapping args → HasRows map_flags args.flags → IsReadable (ops.Call (Mmap args))
-unfolding op_words call_words op_of op_named call_named mmap_of mmap has_its_new
-mapping-readable args is has =
+-- an operation that is read from its words
+abbrev pub IsReadable : Op → Type 0
+IsReadable op = IsReadFrom (op_words op) op
+
+-- a word that is read as this number
+pub record IsNumberWord (n : ℕ) (word : List ℕ) : Type 0 where
+  pub reads : number word ≡ Ok n
+  pub field : IsField word
+
+pub decimal_is_word : (n : ℕ) → n < 2 ^ 64 → IsNumberWord n (decimal n)
+decimal_is_word n fits = record { reads = number-decimal n fits; field = decimal-field n fits }
+
+pub hexadecimal_is_word : (n : ℕ) → n < 2 ^ 64 → IsNumberWord n (hexadecimal n)
+hexadecimal_is_word n fits =
+    record { reads = number-hexadecimal n fits; field = record { word = hexadecimal-word n fits; other = refl } }
+
+-- an mmap(2), whichever way its offset is written
+pub mapping_read_from : (args : MmapArgs) (offset : List ℕ) → IsMapping args → HasRows map_flags args.flags
+    → IsNumberWord args.offset offset → IsReadFrom (mapping_words args offset) (ops.Call (Mmap args))
+unfolding op_of op_named call_named mmap_of mmap has_its_new
+mapping_read_from args offset is has written =
     let protection = prot_is_word args.prot in
     let flag = flag_word map_flags args.flags map_names has in
     let fd = fd_is_word args.fd is.low is.high in
     record {
       some = omega arith;
-      fields = all_fields (op_words (ops.Call (Mmap args))) (
+      fields = all_fields (mapping_words args offset) (
         field_from_test (codes "mmap") refl,
         (
           address-field args.addr is.addr,
-          (decimal-field args.len is.len, (protection.field, (flag.field, (fd.field, (decimal-field args.offset is.offset, tt))))),
+          (decimal-field args.len is.len, (protection.field, (flag.field, (fd.field, (written.field, tt))))),
         ),
       );
       reads = rw (
@@ -258,10 +272,14 @@ mapping-readable args is has =
         protection.reads,
         flag.reads,
         fd.reads,
-        number-decimal args.offset is.offset,
+        written.reads,
       ) refl;
       right = refl;
     }
+
+mapping-readable : (args : MmapArgs) → IsMapping args → HasRows map_flags args.flags → IsReadable (ops.Call (Mmap args))
+unfolding op_words call_words
+mapping-readable args is has = mapping_read_from args (decimal args.offset) is has (decimal_is_word args.offset is.offset)
 
 unmap-readable : (address len : ℕ) → address < 2 ^ 64 → len < 2 ^ 64 → IsReadable (ops.Call (Munmap address len))
 unfolding op_words call_words op_of op_named call_named munmap_of munmap has_its_new

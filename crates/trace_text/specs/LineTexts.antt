@@ -8,6 +8,7 @@ use Rattle.mm_types.specs.declared.area.Access.TheVariants.{Read, Write, Exec}
 use Rattle.mm_types.specs.declared.area.Prot.{Prot}
 use Rattle.mm_types.specs.declared.call.Call.{Call}
 use Rattle.mm_types.specs.declared.call.Call.TheVariants.{Mmap, Munmap, Mprotect, Mremap, Touch, Brk, Mseal}
+use Rattle.mm_types.specs.declared.call.MmapArgs.{MmapArgs}
 use Rattle.mm_types.specs.declared.config.TheConstants.{PAGE_SIZE}
 use Rattle.mm_types.specs.declared.flags.TheConstants.{PROT_READ, PROT_WRITE, PROT_EXEC, MREMAP_FIXED}
 use Rattle.mm_types.specs.Flags.{has_flag}
@@ -21,9 +22,13 @@ use Rattle.trace_reader.specs.declared.trace.Op.{Op}
 use Rattle.trace_reader.specs.declared.trace.Op.TheVariants as ops
 use Rattle.trace_reader.specs.declared.trace.TraceLine.{TraceLine}
 
--- an address: `0x` and its hexadecimal digits, or `0` for none
+-- a number in hexadecimal: `0x` and its digits
+abbrev pub hexadecimal : ℕ → List ℕ
+hexadecimal n = codes "0x" ++ digits 16 false n
+
+-- an address: its hexadecimal digits, or `0` for none
 unfoldable pub address_word : ℕ → List ℕ
-address_word address = if nat_eq address 0 then codes "0" else codes "0x" ++ digits 16 false address
+address_word address = if nat_eq address 0 then codes "0" else hexadecimal address
 
 -- the bits of the accesses that a protection allows
 abbrev pub bits_of_prot : Prot → ℕ
@@ -40,10 +45,14 @@ access_word Read = codes "r"
 access_word Write = codes "w"
 access_word Exec = codes "x"
 
+-- the words of an mmap(2) with its offset as this word
+abbrev pub mapping_words : MmapArgs → List ℕ → List (List ℕ)
+mapping_words args offset = codes "mmap" ∷ address_word args.addr ∷ decimal args.len ∷ prot_word args.prot
+    ∷ printed map_flags args.flags ∷ signed_decimal args.fd ∷ offset ∷ []
+
 -- the words of a call; a touch has none, since no line asks for one
 unfoldable pub call_words : Call → List (List ℕ)
-call_words (Mmap args) = codes "mmap" ∷ address_word args.addr ∷ decimal args.len ∷ prot_word args.prot
-    ∷ printed map_flags args.flags ∷ signed_decimal args.fd ∷ decimal args.offset ∷ []
+call_words (Mmap args) = mapping_words args (decimal args.offset)
 call_words (Munmap addr len) = codes "munmap" ∷ address_word addr ∷ decimal len ∷ []
 call_words (Mprotect addr len prot) = codes "mprotect" ∷ address_word addr ∷ decimal len ∷ prot_word prot ∷ []
 call_words (Mremap old old_len new_len flags new) = codes "mremap" ∷ address_word old ∷ decimal old_len ∷ decimal new_len
@@ -64,13 +73,25 @@ abbrev pub note_words : Option ℕ → List (List ℕ)
 note_words None = []
 note_words (Some number) = (note ++ decimal number) ∷ []
 
--- the words of a line: its thread, those of its operation, and the line that it names
-unfoldable pub line_words : TraceLine → List (List ℕ)
-line_words line = decimal line.thread ∷ (op_words line.op ++ note_words line.after)
+-- the words of a line whose operation has these: its thread, those words, and the line that it names
+abbrev pub words_around : List (List ℕ) → TraceLine → List (List ℕ)
+words_around words line = decimal line.thread ∷ (words ++ note_words line.after)
 
--- the text of a line: its words with a space between each two
+-- the words of a line
+unfoldable pub line_words : TraceLine → List (List ℕ)
+line_words line = words_around (op_words line.op) line
+
+-- the text of a line whose operation is written so: its words with a space between each two
+abbrev pub text_by : (Op → List (List ℕ)) → TraceLine → List ℕ
+text_by write line = join_with_byte (byte " ") (words_around (write line.op) line)
+
+-- the bytes of that line: its text, and a newline
+abbrev pub line_text_by : (Op → List (List ℕ)) → TraceLine → List ℕ
+line_text_by write line = text_by write line ++ codes "\n"
+
+-- the text of a line
 unfoldable pub text_of : TraceLine → List ℕ
-text_of line = join_with_byte (byte " ") (line_words line)
+text_of line = text_by op_words line
 
 -- the bytes of a line: its text, and a newline
 abbrev pub line_text : TraceLine → List ℕ

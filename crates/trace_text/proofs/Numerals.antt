@@ -1,19 +1,19 @@
--- For `loads_are_traces`: numbers are read as they were printed.
+-- Numbers are read as they were printed.
 use Rattle.std.proofs.Common.{◌≡◌, ℕ, zero, suc, ◌+◌, ◌/◌, ◌%◌, ◌^◌, ◌<◌, ◌≤◌, ◌==◌, Bool, true, false, ◌&&◌, nat_eq, nat_le, List, [], ◌∷◌, ◌++◌, length, drop, codes, All, Some, None, Ok, ok_or, option_and_then, if◌then◌else◌, refl, sym, ap, ◌∙◌, arith}
 use Rattle.std.proofs.Math.Nat.{pow-suc}
 use Rattle.std.specs.Char.{is_digit, digit_value}
 use Rattle.std.specs.Fmt.{digits, digits_onto, digit_glyph, decimal}
 use Rattle.std.specs.List.{list_all, starts_with}
 use Rattle.std.specs.Str.Parse.{AllDigits, IsNumeral, digits_value}
-use Rattle.std.proofs.lemmas.Bool.{and_from, lt-ltb, le-leb, cond-true, cond-false, cond_both, eqb-true}
+use Rattle.std.proofs.lemmas.Bool.{and_from, lt-ltb, le-leb, cond-true, cond-false, cond_both, eqb-true, ne_eqb}
 use Rattle.std.proofs.lemmas.Bool.Decides.{nat_tests}
 use Rattle.std.proofs.lemmas.Fmt.{decimal_digit, decimal_is_IsNumeral, digits_is_IsNumeral, length-decimal-le}
 use Rattle.std.proofs.lemmas.List.Elements.{All-nil, All-cons, All-append}
 use Rattle.trace_reader.specs.declared.fault.Cause.TheVariants.{Number}
 use Rattle.trace_reader.specs.Fields.{number}
 use Rattle.trace_reader.specs.Numbers.{digits_of, number_of, decimal_of, thread_of}
-use Rattle.gen_load.specs.LineTexts.{address_word}
-use Rattle.gen_load.proofs.PlainWords.{IsPlain, IsWord}
+use Rattle.trace_text.specs.LineTexts.{hexadecimal, address_word}
+use Rattle.trace_text.proofs.PlainWords.{IsPlain, IsWord}
 
 digit-plain : (base c : ℕ) → base ≤ 16 → digit_value c < base → IsPlain c
 digit-plain base c small digit = let low : 32 < c = grind (arith, nat_tests) in let high : c < 127 = grind (arith, nat_tests) in (low, high)
@@ -124,15 +124,15 @@ hex-spells n fits = let is = hex_is_IsNumeral n fits in record {
   fits = fits;
 }
 
-number-hex : (n : ℕ) → n < 2 ^ 64 → number (codes "0x" ++ digits 16 false n) ≡ Ok n
+pub number-hexadecimal : (n : ℕ) → n < 2 ^ 64 → number (hexadecimal n) ≡ Ok n
 unfolding number number_of
-number-hex n fits = ap (λ o. ok_or o Number) (digits_of-numeral 16 16 n (digits 16 false n) (hex-spells n fits))
+number-hexadecimal n fits = ap (λ o. ok_or o Number) (digits_of-numeral 16 16 n (digits 16 false n) (hex-spells n fits))
 
 -- an address is read as it was printed
 pub number-address : (n : ℕ) → n < 2 ^ 64 → number (address_word n) ≡ Ok n
 unfolding address_word
 number-address n fits = cond_both (nat_eq n 0) (codes "0") (codes "0x" ++ digits 16 false n) (λ (word : List ℕ). number word ≡ Ok n)
-    (λ none. none_read n (eqb-true n 0 none)) (λ _. number-hex n fits)
+    (λ none. none_read n (eqb-true n 0 none)) (λ _. number-hexadecimal n fits)
   where
     none_read : (k : ℕ) → k ≡ 0 → number (codes "0") ≡ Ok k
     none_read k none = ap number (sym (decimal_digit 0 (omega arith))) ∙ number-decimal 0 (omega arith) ∙ ap Ok (sym none)
@@ -143,14 +143,25 @@ zero_x = All-cons IsPlain 48 (120 ∷ []) (omega arith, omega arith) (All-cons I
 zero_plain : IsWord (codes "0")
 zero_plain = record { some = omega arith; plain = All-cons IsPlain 48 [] (omega arith, omega arith) (All-nil IsPlain) }
 
+pub hexadecimal-word : (n : ℕ) → n < 2 ^ 64 → IsWord (hexadecimal n)
+hexadecimal-word n fits = record {
+  some = omega arith;
+  plain = All-append IsPlain (codes "0x") (digits 16 false n) zero_x (digits-plain 16 (digits 16 false n) (omega arith) (hex_is_IsNumeral n fits).0.1);
+}
+
 pub address-word : (n : ℕ) → n < 2 ^ 64 → IsWord (address_word n)
 unfolding address_word
 address-word n fits = cond_both (nat_eq n 0) (codes "0") (codes "0x" ++ digits 16 false n) IsWord
-    (λ _. zero_plain)
-    (λ _. record {
-      some = omega arith;
-      plain = All-append IsPlain (codes "0x") (digits 16 false n) zero_x (digits-plain 16 (digits 16 false n) (omega arith) (hex_is_IsNumeral n fits).0.1);
-    })
+    (λ _. zero_plain) (λ _. hexadecimal-word n fits)
+
+pub length-hexadecimal : (n : ℕ) → n < 2 ^ 64 → length (hexadecimal n) ≤ 18
+length-hexadecimal n fits = let short = hex-short n fits in omega arith
+
+-- an address that is there
+pub address_word-some : (address : ℕ) → 0 < address → address_word address ≡ hexadecimal address
+unfolding address_word
+address_word-some address some = let apart : nat_eq address 0 ≡ false = ne_eqb address 0 (λ none. omega arith) in
+    cond-false (nat_eq address 0) (codes "0") (hexadecimal address) apart
 
 pub length-address : (n : ℕ) → n < 2 ^ 64 → length (address_word n) ≤ 18
 unfolding address_word

@@ -1,4 +1,4 @@
--- For `loads_are_traces`: words without blanks, joined by spaces.
+-- Words without blanks, joined by spaces.
 use Rattle.std.proofs.Common.{◌≡◌, ℕ, ◌+◌, ◌<◌, ◌≤◌, false, List, [], ◌∷◌, length, filter, All, refl, ap, ◌∙◌, arith, length-append}
 use Rattle.std.specs.List.{slice_split, join_with_byte}
 use Rattle.std.proofs.lemmas.Bool.{cond-true, ne_eqb, not_from_false}

@@ -1,7 +1,7 @@
--- For `printed_lines_are_read` and `loads_are_traces`: the words of a line are read as that line.
-use Rattle.std.proofs.Common.{◌≡◌, ℕ, ◌-◌, ◌^◌, ◌<◌, ◌≤◌, Bool, true, false, not, ◌&&◌, nat_eq, nat_lt, List, [], ◌∷◌, ◌++◌, length, take, drop, codes, Option, Some, None, is_some, IfSome, Ok, All, refl, sym, ap, ◌∙◌, arith, if◌then◌else◌}
+-- The words of a line are read as that line.
+use Rattle.std.proofs.Common.{◌≡◌, ℕ, ◌-◌, ◌^◌, ◌<◌, Bool, true, false, not, ◌&&◌, nat_eq, nat_lt, List, [], ◌∷◌, ◌++◌, length, take, drop, Option, Some, None, is_some, IfSome, Ok, All, refl, ap, ◌∙◌, arith, if◌then◌else◌}
 use Rattle.std.specs.Fmt.{decimal}
-use Rattle.std.specs.List.{starts_with}
+use Rattle.std.specs.List.{starts_with, join_with_byte}
 use Rattle.std.proofs.Math.Seq.{take-append_seam}
 use Rattle.std.proofs.lemmas.Bool.{cond_both, cond-true, and_parts, and_from, ltb-true, lt-ltb, both_ways}
 use Rattle.std.proofs.lemmas.List.{append-nil, length_push, get_or_push}
@@ -11,10 +11,10 @@ use Rattle.trace_reader.specs.declared.trace.TraceLine.{TraceLine}
 use Rattle.trace_reader.specs.Operations.{note, last_word, note_of, without_note, line_named, line_of}
 use Rattle.trace_reader.specs.Values.{IsLineValue}
 use Rattle.trace_reader.specs.Words.{words_of}
-use Rattle.gen_load.specs.LineTexts.{op_words, note_words, line_words, text_of, line_of_words, line_read, HasNames}
-use Rattle.gen_load.proofs.PlainWords.{IsPlain, IsWord, words_of-join}
-use Rattle.gen_load.proofs.Numerals.{decimal-word, decimal_of-decimal, thread_of-decimal}
-use Rattle.gen_load.proofs.Operations.{begins_other, IsField, plain_from_test, IsReadable, op-readable}
+use Rattle.trace_text.specs.LineTexts.{op_words, note_words, words_around, text_of, line_of_words, line_read, HasNames}
+use Rattle.trace_text.proofs.PlainWords.{IsPlain, IsWord, words_of-join}
+use Rattle.trace_text.proofs.Numerals.{decimal-word, decimal_of-decimal, thread_of-decimal}
+use Rattle.trace_text.proofs.Operations.{begins_other, IsField, plain_from_test, IsReadFrom, op-readable}
 
 -- ---- words without a note
 
@@ -71,23 +71,24 @@ without_note-push fields line some =
 
 -- ---- a line
 
-line_of-words : (number thread : ℕ) (op : Op) (after : Option ℕ) → thread < 64 → IsReadable op → IfSome after (λ n. n < 2 ^ 64)
-    → line_of number (decimal thread) (op_words op ++ note_words after)
+line_of-words : (number thread : ℕ) (words : List (List ℕ)) (op : Op) (after : Option ℕ) → thread < 64 → IsReadFrom words op
+    → IfSome after (λ n. n < 2 ^ 64)
+    → line_of number (decimal thread) (words ++ note_words after)
     ≡ Ok (record { number = number; thread = thread; op = op; after = after })
 unfolding line_of line_named
-line_of-words number thread op None few is small =
-    ap (line_of number (decimal thread)) (append-nil (op_words op))
+line_of-words number thread words op None few is small =
+    ap (line_of number (decimal thread)) (append-nil words)
     ∙ rw (
       thread_of-decimal thread few,
-      without_note-fields (op_words op) is.fields,
-      note_of-fields (op_words op) is.fields,
+      without_note-fields words is.fields,
+      note_of-fields words is.fields,
       is.reads,
       is.right,
     ) refl
-line_of-words number thread op (Some n) few is small = rw (
+line_of-words number thread words op (Some n) few is small = rw (
   thread_of-decimal thread few,
-  without_note-push (op_words op) (decimal n) is.some,
-  note_of-push (op_words op) (decimal n) is.some,
+  without_note-push words (decimal n) is.some,
+  note_of-push words (decimal n) is.some,
   is.reads,
   decimal_of-decimal n small,
   is.right,
@@ -101,28 +102,37 @@ note-words (Some n) small =
       plain = All-append IsPlain note (decimal n) (plain_from_test note refl) (decimal-word n small).plain;
     }) (All-nil IsWord)
 
+-- a line that is read from these words of its operation
+pub record IsLineFrom (words : List (List ℕ)) (line : TraceLine) : Type 0 where
+  pub thread : line.thread < 64
+  pub from : IsReadFrom words line.op
+  pub after : IfSome line.after (λ number. number < 2 ^ 64)
+
 -- the words of a line, none of them empty or with a blank
-pub line-words : (line : TraceLine) → IsLineValue line → HasNames line.op → All IsWord (line_words line)
-unfolding line_words
-line-words line is has =
+pub words_around-are : (words : List (List ℕ)) (line : TraceLine) → IsLineFrom words line → All IsWord (words_around words line)
+words_around-are words line is =
     let thread = is.thread in
-    All-cons IsWord (decimal line.thread) (op_words line.op ++ note_words line.after) (decimal-word line.thread (omega arith))
-    (All-append IsWord (op_words line.op) (note_words line.after)
-    (All-weaker IsField IsWord (λ field h. h.word) (op_words line.op) (op-readable line.op is.op has).fields)
+    All-cons IsWord (decimal line.thread) (words ++ note_words line.after) (decimal-word line.thread (omega arith))
+    (All-append IsWord words (note_words line.after) (All-weaker IsField IsWord (λ field h. h.word) words is.from.fields)
     (note-words line.after is.after))
 
 -- they are those of its text
-pub words_of-text : (line : TraceLine) → IsLineValue line → HasNames line.op → words_of (text_of line) ≡ line_words line
-unfolding text_of line_words
-words_of-text line is has =
-    words_of-join (decimal line.thread) (op_words line.op ++ note_words line.after) (line-words line is has)
+pub words_of-around : (words : List (List ℕ)) (line : TraceLine) → IsLineFrom words line
+    → words_of (join_with_byte 32 (words_around words line)) ≡ words_around words line
+words_of-around words line is =
+    words_of-join (decimal line.thread) (words ++ note_words line.after) (words_around-are words line is)
 
 -- and are read as it
-pub line_of-printed : (line : TraceLine) → IsLineValue line → HasNames line.op
-    → line_of line.number (decimal line.thread) (op_words line.op ++ note_words line.after) ≡ Ok line
-line_of-printed line is has =
-    line_of-words line.number line.thread line.op line.after is.thread (op-readable line.op is.op has) is.after
+pub line_of-around : (words : List (List ℕ)) (line : TraceLine) → IsLineFrom words line
+    → line_of line.number (decimal line.thread) (words ++ note_words line.after) ≡ Ok line
+line_of-around words line is = line_of-words line.number line.thread words line.op line.after is.thread is.from is.after
+
+-- so it is for the words with which each operation is printed
+pub printed_line : (line : TraceLine) → IsLineValue line → HasNames line.op → IsLineFrom (op_words line.op) line
+printed_line line is has = record { thread = is.thread; from = op-readable line.op is.op has; after = is.after }
 
 pub line_read-printed : (line : TraceLine) → IsLineValue line → HasNames line.op → line_read line.number (text_of line) ≡ Ok line
-unfolding line_words
-line_read-printed line is has = ap (line_of_words line.number) (words_of-text line is has) ∙ line_of-printed line is has
+unfolding text_of
+line_read-printed line is has =
+    let from = printed_line line is has in
+    ap (line_of_words line.number) (words_of-around (op_words line.op) line from) ∙ line_of-around (op_words line.op) line from

@@ -1,0 +1,5 @@
+pub mod PlainWords
+pub mod Numerals
+pub mod Operations
+pub mod PrintedLines
+pub mod LinesRead
