@@ -1,0 +1,6 @@
+pub mod Words
+pub mod LineRead
+pub mod Ordered
+pub mod Bytes
+pub mod Answers
+pub mod Searching

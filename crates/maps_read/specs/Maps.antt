@@ -1,0 +1,48 @@
+-- Which list of lines a maps text is, or else which line is bad first and for which cause.
+use Rattle.std.specs.Prelude.{ℕ, ◌-◌, ◌^◌, ◌<◌, ◌≤◌, Bool, ◌&&◌, List, [], ◌∷◌, ◌++◌, length, nat_lt, nat_le, slice_get, Option, Some, None, Result, Ok, Err, All, AllPairs, if◌then◌else◌}
+use Rattle.trace_reader.specs.declared.fault.Cause.{Cause}
+use Rattle.trace_reader.specs.declared.fault.Cause.TheVariants.{MapsOrder}
+use Rattle.trace_reader.specs.declared.fault.TraceFault.{TraceFault}
+use Rattle.trace_reader.specs.Causes.{◌>>=◌}
+use Rattle.trace_reader.specs.Grammar.{lines_leave}
+use Rattle.trace_reader.specs.Lines.{trace_limit}
+use Rattle.trace_reader.specs.RawLines.{RawLine, raw_lines, text_within}
+use Rattle.maps_read.specs.declared.maps.MapsLine.{MapsLine}
+use Rattle.maps_read.specs.declared.reading.TheConstants.{LINE_LIMIT}
+use Rattle.maps_read.specs.Fields.{line_of}
+
+-- fewer than 2^32 lines; each begins below its end, and not below the end of a line before it
+pub record IsMaps (lines : List MapsLine) : Type 0 where
+  pub few : length lines < 2 ^ 32
+  pub spans : All (λ line. line.lo < line.hi) lines
+  pub apart : AllPairs (λ earlier later. earlier.hi ≤ later.lo) lines
+
+-- where a line ends, and 0 where there is none
+abbrev pub hi_or_zero : Option MapsLine → ℕ
+hi_or_zero None = 0
+hi_or_zero (Some line) = line.hi
+
+-- where the last of these lines ends, and 0 where there is none
+abbrev pub end_of : List MapsLine → ℕ
+end_of lines = hi_or_zero (slice_get lines (length lines - 1))
+
+-- whether a line begins below its end, and not below the end of the lines before it
+abbrev pub is_in_order : ℕ → MapsLine → Bool
+is_in_order end line = nat_lt line.lo line.hi && nat_le end line.lo
+
+-- the line that a raw line is, behind lines that end here
+unfoldable pub next_line : ℕ → RawLine → Result MapsLine Cause
+next_line end raw = do
+  text ← text_within LINE_LIMIT trace_limit raw
+  line ← line_of text
+  if is_in_order end line then Ok line else Err MapsOrder
+
+-- the lines so far, and a raw line behind them
+unfoldable pub after_line : List MapsLine → RawLine → Result (List MapsLine) Cause
+after_line before raw = do
+  line ← next_line (end_of before) raw
+  Ok (before ++ line ∷ [])
+
+-- the lines of a maps text, or its first bad line and the cause
+unfoldable pub maps_of : List ℕ → Result (List MapsLine) TraceFault
+maps_of bytes = lines_leave after_line [] (raw_lines bytes)

@@ -1,0 +1,77 @@
+//! What is printed for an address.
+
+ghost use Rattle.std.specs.Prelude.{◌≡◌, ◌<◌, IfOk, IfErr, IfSome, Ok, length, slice_get};
+ghost use Rattle.trace_reader.specs.RawLines.{raw_lines};
+ghost use Rattle.maps_read.specs.Query.{query_answer, query_text, without_spaces_after};
+ghost use Rattle.maps_read.specs.Reading.{IsFault};
+
+use crate::querying::query;
+use crate::reading::read_maps;
+use mm_types::{NoMemory, Steps};
+use std::alloc::Global;
+use trace_reader::{ReadError, first_line};
+
+/// The name of the counter of `answer_of`.
+struct Comparisons;
+
+/// Reads bytes as a maps text, and prints the first line that ends above an address, in bytes: the line as it stands there,
+/// without the spaces at its end, and a newline; or `none` and a newline where no line does.
+///
+/// `ReadError::Bad` comes exactly where the bytes are no maps text, with their first bad line and its cause, as `read_maps` has
+/// it. `ReadError::NoMemory` comes where memory runs out.
+#[tactic(auto, unfolding(crate::specs::Query::query_answer))]
+pub fn answer_of(alloc: Global, bytes: &[u8], address: u64) -> Result<Vec<u8>, ReadError>
+    ensures text { IfOk result (λ text. query_answer address bytes.now ≡ Ok text.items) }
+    ensures bad { IfErr result (λ error. IsFault error (query_answer address bytes.now)) }
+{
+    let maps = read_maps(alloc, bytes)?;
+    let mut steps = Steps::<Comparisons>::new();
+    let place = query(&maps, address, &mut steps);
+    match query_text(alloc, bytes, place) {
+        Ok(text) => Ok(text),
+        Err(NoMemory) => Err(ReadError::NoMemory),
+    }
+}
+
+/// The line of the bytes that has so many lines before it, as it stands there, without the spaces at its end, and a newline; or
+/// `none` and a newline. The place is one that `query` found among the lines of these bytes.
+#[tactic(auto, unfolding(crate::specs::Query::query_text))]
+pub fn query_text(alloc: Global, bytes: &[u8], place: Option<u32>) -> Result<Vec<u8>, NoMemory>
+    requires { IfSome place (λ place. place < length (raw_lines bytes.now)) }
+    ensures { IfOk result (λ text. text.items ≡ query_text bytes.now place) }
+{
+    let line = match place {
+        Some(place) => without_spaces_after(text_at(bytes, place)),
+        None => b"none",
+    };
+    let mut text = Vec::new(alloc);
+    text.extend_from_slice(line)?;
+    text.push(b'\n')?;
+    Ok(text)
+}
+
+/// The text of the line that has so many lines before it.
+fn text_at(bytes: &[u8], place: u32) -> &[u8]
+    requires { place < length (raw_lines bytes.now) }
+    ensures { IfSome (slice_get (raw_lines bytes.now) place) (λ line. result.now ≡ line.text) }
+{
+    let mut rest = bytes;
+    for passed in 0..place {
+        let (_, after) = first_line(rest, u64::from(passed) + 1, bytes.len() - rest.len());
+        rest = after;
+    }
+    let (line, _) = first_line(rest, u64::from(place) + 1, bytes.len() - rest.len());
+    line.text
+}
+
+/// A text without the spaces at its end.
+#[tactic(auto, unfolding(crate::specs::Query::without_spaces_after))]
+fn without_spaces_after(text: &[u8]) -> &[u8]
+    ensures { result.now ≡ without_spaces_after text.now }
+{
+    let mut len = text.len();
+    while 0 < len && text[len - 1] == b' ' {
+        len -= 1;
+    }
+    &text[..len]
+}
