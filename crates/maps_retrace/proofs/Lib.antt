@@ -1,0 +1,14 @@
+pub mod PutLast
+pub mod OpenFiles
+pub mod Mapped
+pub mod FileReading
+pub mod RawMaps
+pub mod Texts
+pub mod Kept
+pub mod Following
+pub mod Walks
+pub mod Traces
+pub mod Made
+pub mod MappingTexts
+pub mod Steps
+pub mod Fronts

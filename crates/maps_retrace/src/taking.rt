@@ -1,0 +1,133 @@
+//! What is taken of a maps text, line by line.
+
+ghost use Rattle.std.specs.Prelude.{◌≡◌, ◌≤◌, length};
+ghost use Rattle.trace_reader.specs.Reading.{Gives};
+ghost use Rattle.mm_types.specs.declared.config.TheConstants.{MOST_FILES};
+ghost use Rattle.maps_retrace.specs.Retracing.{nothing_taken, areas_with, with_next_file, with_file, with_line};
+ghost use Rattle.maps_retrace.specs.Taking.{IsTaken, what_taken};
+
+use crate::areas::{area_of, is_text_of, may_follow};
+use crate::file_lines::{FIRST_DESCRIPTOR, are_one_file, file_place, files_opened};
+use maps_read::MapsLine;
+use mm_types::{DEFAULT_MIN, Files, MOST_FILES, NoMemory, Record};
+use std::alloc::Global;
+use trace_reader::{CallError, Cause};
+
+/// What was taken of the lines so far.
+#[derive(Drop)]
+pub(crate) struct Taken<'a> {
+    /// The lines that show a file first.
+    pub(crate) named: Vec<&'a MapsLine>,
+    /// For each of them its file.
+    opened: Vec<Files>,
+    /// The areas of all lines.
+    pub(crate) areas: Vec<Record>,
+}
+
+impl<'a> Taken<'a> {
+    /// Before the first line.
+    pub(crate) fn new(alloc: Global) -> Taken<'a>
+        ensures { what_taken result ≡ nothing_taken }
+    {
+        Taken {
+            named: Vec::new(alloc),
+            opened: Vec::new(alloc),
+            areas: Vec::new(alloc),
+        }
+    }
+
+    /// Takes a line, which has this text, or says that it is not ours.
+    #[tactic(auto, unfolding(crate::specs::Retracing::with_line))]
+    pub(crate) fn add(
+        &mut self,
+        alloc: Global,
+        line: &'a MapsLine,
+        text: &[u8],
+    ) -> Result<(), CallError>
+        requires { IsTaken (what_taken self.old) }
+        ensures { Gives (λ _. what_taken self.new) result (with_line (what_taken self.old) line.now text.now) }
+    {
+        if line.name.as_str().is_empty() {
+            let none = Files::of(Vec::new(alloc));
+            return push_area(alloc, &mut self.areas, &none, 0, line, text);
+        }
+        let place = self.place_of(alloc, line)?;
+        let object = place as u32 + 1;
+        push_area(
+            alloc,
+            &mut self.areas,
+            &self.opened[place],
+            object,
+            line,
+            text,
+        )
+    }
+
+    /// The place of the file of a line, which is taken where the line shows it first.
+    #[tactic(auto, unfolding(crate::specs::Retracing::with_file))]
+    fn place_of(&mut self, alloc: Global, line: &'a MapsLine) -> Result<usize, CallError>
+        requires { IsTaken (what_taken self.old) }
+        ensures { Gives (λ place. (what_taken self.new, place)) result (with_file (what_taken self.old) line.now) }
+    {
+        match file_place(&self.named, line) {
+            Some(place) => Ok(place),
+            None => {
+                let place = self.named.len();
+                match self.add_file(alloc, line) {
+                    Ok(()) => Ok(place),
+                    Err(error) => Err(error),
+                }
+            }
+        }
+    }
+
+    /// Takes the file of a line that shows it first.
+    #[tactic(auto, unfolding(crate::specs::Retracing::with_next_file))]
+    fn add_file(&mut self, alloc: Global, line: &'a MapsLine) -> Result<(), CallError>
+        requires { IsTaken (what_taken self.old) }
+        ensures { Gives (λ _. what_taken self.new) result (with_next_file (what_taken self.old) line.now) }
+    {
+        let place = self.named.len();
+        if MOST_FILES <= place {
+            return Err(CallError::Bad(Cause::NotOurs));
+        }
+        let fd = FIRST_DESCRIPTOR + place as u32;
+        let files = match files_opened(alloc, fd, line) {
+            Ok(files) => files,
+            Err(NoMemory) => return Err(CallError::NoMemory),
+        };
+        if !are_one_file(fd, files.items()) {
+            return Err(CallError::Bad(Cause::NotOurs));
+        }
+        self.named.push(line)?;
+        self.opened.push(files)?;
+        Ok(())
+    }
+}
+
+/// Appends the area of a line that shows these files, none or one, or says that the line is not ours.
+#[tactic(auto, unfolding(crate::specs::Retracing::areas_with, crate::specs::Retracing::is_ours))]
+fn push_area(
+    alloc: Global,
+    areas: &mut Vec<Record>,
+    files: &Files,
+    object: u32,
+    line: &MapsLine,
+    text: &[u8],
+) -> Result<(), CallError>
+    requires files { length files.now ≤ 1 }
+    requires object { object ≤ MOST_FILES }
+    ensures { Gives (λ _. areas.new.items) result (areas_with areas.old.items files.now object line.now text.now) }
+{
+    let shows = match is_text_of(alloc, files, line, text) {
+        Ok(shows) => shows,
+        Err(NoMemory) => return Err(CallError::NoMemory),
+    };
+    let area = area_of(object, line);
+    if shows && may_follow(areas, &area) && DEFAULT_MIN <= line.lo {
+        areas.push(area)?;
+        Ok(())
+    } else {
+        Err(CallError::Bad(Cause::NotOurs))
+    }
+}
