@@ -14,6 +14,7 @@ ghost use Rattle.vma_drive.specs.Sharing.{AreShares};
 use crate::busy::is_whole;
 use crate::rounds::{Telling, count_rounds, rounds_of, tellings_of};
 use crate::telling::tell_round;
+use crate::told::{Told, Untold};
 use crate::working::{run_op, run_workers};
 use fault_path::Pass;
 use history::{Callers, places_by_caller};
@@ -120,8 +121,33 @@ pub fn in_order<N: SpaceName, R: Wait>(
     ensures late { All (IsLate (length (seen_by pass.old))) (own_by pass.new) }
     ensures grown { HaveGrown pass.new }
 {
+    in_order_with(rt, alloc, space, pass, trace, &Untold)
+}
+
+/// The same, where each line is told before and after its operation.
+pub(crate) fn in_order_with<N: SpaceName, R: Wait, T: Told<R>>(
+    rt: &R,
+    alloc: Global,
+    space: &Space<N>,
+    pass: &mut Pass,
+    trace: &Trace,
+    told: &T,
+) -> Result<(), NoMemory>
+    requires pass { IsPassOf N.name pass.old }
+    requires unused { IsUnused pass.old }
+    requires left { length trace.now.lines ≤ pass.old.left }
+    requires lines { AskThemselves trace.now.lines }
+    ensures pass { IsPassOf N.name pass.new }
+    ensures later { IsLater pass.old pass.new }
+    ensures begun { (count : ℕ) × (done_by pass.new ≡ asked (take count trace.now.lines)) }
+    ensures done { OnOk result (done_by pass.new ≡ asked trace.now.lines) }
+    ensures late { All (IsLate (length (seen_by pass.old))) (own_by pass.new) }
+    ensures grown { HaveGrown pass.new }
+{
     for line in trace.lines.items() {
+        told.before(rt, line.number);
         run_op(rt, alloc, space, pass, line.op)?;
+        told.after(rt, line.number);
     }
     Ok(())
 }

@@ -1,11 +1,11 @@
--- Serves `closed_child` and `with_children`: what a child begins with, and what its run is.
+-- Serves `closed_child` and the runs of children: what a child begins with, and what its run is.
 use Rattle.std.proofs.Common.{ℕ, zero, suc, ◌≡◌, ◌+◌, ◌<◌, ◌≤◌, ◌^◌, ◌∙◌, refl, sym, ap, subst, List, [], ◌∷◌, ◌++◌, length, get_or, map, take, take-take, slice_get, Some, Result, Ok, Err, All, arith}
 use Rattle.std.specs.Prelude.{IfOk, Vec}
 use Rattle.std.specs.Option.{option_map}
 use Rattle.std.specs.declared.alloc.Global.{Global}
 use Rattle.std.proofs.lemmas.List.{length-map, length-take, take-map, take_more}
 use Rattle.std.proofs.lemmas.List.Elements.{All-map}
-use Rattle.std.proofs.lemmas.Option.{slice_get-get_or, slice_get-map, slice_get_within}
+use Rattle.std.proofs.lemmas.Option.{get_or_from_slice_get, slice_get-get_or, slice_get-map, slice_get_within}
 use Rattle.mm_types.specs.Config.{IsValidConfig}
 use Rattle.mm_types.specs.declared.call.Entry.{Entry}
 use Rattle.mm_types.specs.declared.call.Seen.{Seen}
@@ -155,18 +155,7 @@ reads_later trace parent fork run shown is same = λ k d within.
     ∙ ap (option_map (λ (log : Vec Seen Global). log.items)) (slice_get-get_or shown k d within) in
     subst (λ (v : ℕ). All (λ (read : Seen). v ≤ version_of read) log) (inherited_count parent fork.version is.within) (is.run_is.later k log found)
 
--- ---- runs one after another
-
--- the journal of the first
-pub first_journal : (runs children : List ClosedView) (run found : ClosedView) (journal : List Entry) → runs ≡ run ∷ children
-    → found ≡ get_or runs 0 found → journal ≡ found.journal → journal ≡ run.journal
-first_journal runs children run found journal begun first is =
-    is ∙ ap (λ (r : ClosedView). r.journal) (first ∙ ap (λ (l : List ClosedView). get_or l 0 found) begun)
-
-pub fork_at : (lines : List TraceLine) (run : ClosedView) (forks : List Fork) (index : ℕ) (d : Fork) (journal : List Entry)
-    → All (IsForkOf lines run.journal) forks → index < length forks → journal ≡ run.journal → IsForkOf lines journal (get_or forks index d)
-fork_at lines run forks index d journal all within same =
-    subst (λ (j : List Entry). IsForkOf lines j (get_or forks index d)) (sym same) (all index d within)
+-- ---- runs of children
 
 pub runs_more : (trace : Trace) (parent : List Entry) (forks : List Fork) (runs : List ClosedView) (fork : Fork) (run : ClosedView)
     → AreRunsOfChildren trace parent forks runs → IsRunOfChild trace parent fork run
@@ -176,18 +165,57 @@ runs_more trace parent [] (other ∷ runs) fork run are is = absurd are
 runs_more trace parent (first ∷ forks) [] fork run are is = absurd are
 runs_more trace parent (first ∷ forks) (other ∷ runs) fork run are is = (are.0, runs_more trace parent forks runs fork run are.1 is)
 
--- one run more behind the parent's
-pub more_children : (trace : Trace) (run : ClosedView) (forks : List Fork) (index : ℕ) (d : Fork) (journal : List Entry) (old new children : List ClosedView)
-    (child : ClosedView) → index < length forks → journal ≡ run.journal → old ≡ run ∷ children → new ≡ old ++ child ∷ []
-    → AreRunsOfChildren trace run.journal (take index forks) children → IsRunOfChild trace journal (get_or forks index d) child
-    → (more : List ClosedView) × (new ≡ run ∷ more) × AreRunsOfChildren trace run.journal (take (index + 1) forks) more
-more_children trace run forks index d journal old new children child within same begun pushed are is = (
-  children ++ child ∷ [],
-  pushed ∙ ap (λ (l : List ClosedView). l ++ child ∷ []) begun,
-  subst (λ (l : List Fork). AreRunsOfChildren trace run.journal l (children ++ child ∷ [])) (sym (take_more forks index d within))
-      (runs_more trace run.journal (take index forks) children (get_or forks index d) child are
-      (subst (λ (j : List Entry). IsRunOfChild trace j (get_or forks index d) child) same is)),
+-- one run more
+pub more_children : (trace : Trace) (parent : List Entry) (forks : List Fork) (index : ℕ) (d : Fork) (old new : List ClosedView)
+    (child : ClosedView) → index < length forks → new ≡ old ++ child ∷ []
+    → AreRunsOfChildren trace parent (take index forks) old → IsRunOfChild trace parent (get_or forks index d) child
+    → AreRunsOfChildren trace parent (take (index + 1) forks) new
+more_children trace parent forks index d old new child within pushed are is =
+    subst (λ (l : List ClosedView). AreRunsOfChildren trace parent (take (index + 1) forks) l) (sym pushed)
+    (subst (λ (l : List Fork). AreRunsOfChildren trace parent l (old ++ child ∷ [])) (sym (take_more forks index d within))
+    (runs_more trace parent (take index forks) old (get_or forks index d) child are is))
+
+-- a run for each fork, each of its own
+pub children_are : (trace : Trace) (parent : List Entry) (forks : List Fork) (runs : List ClosedView) → length runs ≡ length forks
+    → ((place : ℕ) (fork : Fork) (run : ClosedView) → slice_get forks place ≡ Some fork → slice_get runs place ≡ Some run
+    → IsRunOfChild trace parent fork run)
+    → AreRunsOfChildren trace parent forks runs
+children_are trace parent [] [] many each = tt
+children_are trace parent [] (run ∷ runs) many each = absurd (omega (arith, many))
+children_are trace parent (fork ∷ forks) [] many each = absurd (omega (arith, many))
+children_are trace parent (fork ∷ forks) (run ∷ runs) many each = (
+  each 0 fork run refl refl,
+  children_are trace parent forks runs (omega (arith, many)) (λ place other found is ended. each (suc place) other found is ended),
 )
+
+-- what a worker ended with: a run of its fork, or an error
+abbrev pub Ended : {E : Type 0} → Trace → List Entry → List Fork → ℕ → Result ClosedView E → Type 0
+Ended trace parent forks place result = IfOk result (λ run. (fork : Fork) → slice_get forks place ≡ Some fork → IsRunOfChild trace parent fork run)
+
+-- workers of which none ended with an error
+pub all_ended : {E : Type 0} (trace : Trace) (parent : List Entry) (forks : List Fork) (runs : List ClosedView) (results : List (Result ClosedView E))
+    → results ≡ map (λ run. Ok run) runs → length results ≡ length forks
+    → ((place : ℕ) (d : Result ClosedView E) → place < length forks → Ended trace parent forks place (get_or results place d))
+    → AreRunsOfChildren trace parent forks runs
+all_ended {E} trace parent forks runs results same many each =
+    let ok : ClosedView → Result ClosedView E = λ run. Ok run in
+    let count : length runs ≡ length forks = sym (length-map runs ok) ∙ ap (λ (l : List (Result ClosedView E)). length l) (sym same) ∙ many in
+    children_are trace parent forks runs count
+    (λ place fork run is found.
+    let there : slice_get results place ≡ Some (ok run) =
+    ap (λ (l : List (Result ClosedView E)). slice_get l place) same ∙ slice_get-map ok runs place ∙ ap (option_map ok) found in
+    let ended : Ended trace parent forks place (ok run) =
+    subst (Ended trace parent forks place) (get_or_from_slice_get results place (ok run) (ok run) there)
+    (each place (ok run) (slice_get_within forks place fork is)) in
+    ended fork is)
+
+pub ended_result : {E F : Type 0} (trace : Trace) (parent : List Entry) (forks : List Fork) (results : List (Result ClosedView E))
+    (gathered : Result (Vec ClosedView Global) F) → length results ≡ length forks
+    → ((place : ℕ) (d : Result ClosedView E) → place < length forks → Ended trace parent forks place (get_or results place d))
+    → IfOk gathered (λ runs. results ≡ map (λ run. Ok run) runs.items)
+    → IfOk gathered (λ runs. AreRunsOfChildren trace parent forks runs.items)
+ended_result trace parent forks results (Ok runs) many each same = all_ended trace parent forks runs.items results same many each
+ended_result trace parent forks results (Err error) many each same = tt
 
 -- there are as many as forks, and each is of its fork
 pub runs_count : (trace : Trace) (parent : List Entry) (forks : List Fork) (runs : List ClosedView) → AreRunsOfChildren trace parent forks runs

@@ -12,9 +12,9 @@ use Rattle.clap.specs.Simple.{built}
 use Rattle.clap.specs.Walk.{Rule, Text, Walk, finished, idle, positional, nothing_held, settled_rows, walk_from, walked}
 use Rattle.clap.specs.Words.{matches_of, takes}
 use Rattle.clap.proofs.OnLiterals.{clap_on_literals}
-use Rattle.trace_reader.specs.Numbers.{decimal_of, digits_of}
+use Rattle.trace_reader.specs.Numbers.{decimal_of, digits_of, number_of}
 use Rattle.vma_replay.specs.declared.words.Job.{Job}
-use Rattle.vma_replay.specs.Jobs.{generate_words, job_of_words, named_job, operation_count}
+use Rattle.vma_replay.specs.Jobs.{generate_words, job_of_words, named_job, operation_count, query_words}
 use Rattle.vma_replay.specs.CommandLine.{begins_with_dash, job_of_rows, words_command}
 
 -- a text that does not begin with `-`
@@ -128,10 +128,14 @@ named_by_words (w ∷ v ∷ ws) none =
     ap (λ walk. fold (walked rules []) walk (map string_bytes ws)) begun ∙ after_words t (u ∷ []) ws second.1 in
     ap job_of_rows (matches_walk _ ∙ ap (λ walk. finished rules walk.held) whole) ∙ more_words t u (map string_bytes ws)
 
--- `clap` takes a word alone, and one with two words after it
+-- `clap` takes a word alone, and one with one or two words after it
 one_taken : (t : Text) → Plain t → takes words_command (t ∷ []) ≡ true
 unfolding clap_on_literals words_command
 one_taken t plain = rw (no_dashes t plain, no_long t plain, no_short t plain) refl
+
+two_taken : (t u : Text) → Plain t → Plain u → takes words_command (t ∷ u ∷ []) ≡ true
+unfolding clap_on_literals words_command
+two_taken t u first second = rw (no_dashes t first, no_long t first, no_short t first, no_dashes u second, no_long u second, no_short u second) refl
 
 three_taken : (t u v : Text) → Plain t → Plain u → Plain v → takes words_command (t ∷ u ∷ v ∷ []) ≡ true
 unfolding clap_on_literals words_command
@@ -147,13 +151,22 @@ three_taken t u v first second third = rw (
   no_short v third,
 ) refl
 
--- two words, or more than three, are none of the accepted lists
-no_pair : (a b c d : Bool) (x : Option Job) → x ≡ None → (if a then x else if b then x else if c then x else if d then x else None) ≡ None
-no_pair true b c d x none = none
-no_pair false true c d x none = none
-no_pair false false true d x none = none
-no_pair false false false true x none = none
-no_pair false false false false x none = refl
+-- more than three words are none of the accepted lists
+none_named : (a b c d e f : Bool) (x : Option Job) → x ≡ None
+    → (if a then x else if b then x else if c then x else if d then x else if e then x else if f then x else None) ≡ None
+none_named true b c d e f x none = none
+none_named false true c d e f x none = none
+none_named false false true d e f x none = none
+none_named false false false true e f x none = none
+none_named false false false false true f x none = none
+none_named false false false false false true x none = none
+none_named false false false false false false x none = refl
+
+none_of : (name : Text) (x : Option Job) → x ≡ None → (if bytes_eq name (codes "serial") then x else if bytes_eq name (codes "threads") then x
+    else if bytes_eq name (codes "steps") then x else if bytes_eq name (codes "retrace") then x
+    else if bytes_eq name (codes "query") then x else if bytes_eq name (codes "generate") then x else None) ≡ None
+none_of name = none_named (bytes_eq name (codes "serial")) (bytes_eq name (codes "threads")) (bytes_eq name (codes "steps"))
+    (bytes_eq name (codes "retrace")) (bytes_eq name (codes "query")) (bytes_eq name (codes "generate"))
 
 -- words that `clap` refuses name no job
 pub refused : (words : List (String Global)) → list_any begins_with_dash words ≡ false
@@ -161,15 +174,16 @@ pub refused : (words : List (String Global)) → list_any begins_with_dash words
 unfolding named_job
 refused [] none refuses = refl
 refused (w ∷ []) none refuses = absurd (refuses (one_taken (string_bytes w) (neither (begins_with_dash w) false none).0))
-refused (w ∷ v ∷ []) none refuses = no_pair (bytes_eq (string_bytes w) (codes "serial")) (bytes_eq (string_bytes w) (codes "threads")) (bytes_eq (string_bytes w) (codes "steps"))
-    (bytes_eq (string_bytes w) (codes "generate")) None refl
+refused (w ∷ v ∷ []) none refuses =
+    let first = neither (begins_with_dash w) (list_any begins_with_dash (v ∷ [])) none in
+    let second = neither (begins_with_dash v) false first.1 in
+    absurd (refuses (two_taken (string_bytes w) (string_bytes v) first.0 second.0))
 refused (w ∷ v ∷ u ∷ []) none refuses =
     let first = neither (begins_with_dash w) (list_any begins_with_dash (v ∷ u ∷ [])) none in
     let second = neither (begins_with_dash v) (list_any begins_with_dash (u ∷ [])) first.1 in
     let third = neither (begins_with_dash u) false second.1 in
     absurd (refuses (three_taken (string_bytes w) (string_bytes v) (string_bytes u) first.0 second.0 third.0))
-refused (w ∷ v ∷ u ∷ x ∷ ws) none refuses = no_pair (bytes_eq (string_bytes w) (codes "serial")) (bytes_eq (string_bytes w) (codes "threads")) (bytes_eq (string_bytes w) (codes "steps"))
-    (bytes_eq (string_bytes w) (codes "generate")) None refl
+refused (w ∷ v ∷ u ∷ x ∷ ws) none refuses = none_of (string_bytes w) None refl
 
 -- and so do words of which one begins with `-`
 not_dash_named : (name t : Text) → (slice_index name 0 == 45) ≡ false → (slice_index t 0 == 45) ≡ true → bytes_eq t name ≡ false
@@ -182,6 +196,13 @@ never : (a b : Bool) (n : ℕ) → (if a && (b && false) then Some n else None) 
 never true true n = refl
 never true false n = refl
 never false b n = refl
+
+no_number : (t : Text) → (slice_index t 0 == 45) ≡ true → number_of t ≡ None
+unfolding digits_of number_of
+no_number [] dash = absurd (cc)
+no_number (c ∷ t) dash =
+    let is : c ≡ 45 = eqb-true c 45 dash in
+    rw is (never (nat_lt 0 (length (45 ∷ t))) (nat_le (length (45 ∷ t)) 20) (digits_value 10 (45 ∷ t)))
 
 no_decimal : (t : Text) → (slice_index t 0 == 45) ≡ true → decimal_of t ≡ None
 unfolding digits_of
@@ -201,6 +222,8 @@ first_dash name rest dash = rw (
   not_dash_named (codes "serial") name refl dash,
   not_dash_named (codes "threads") name refl dash,
   not_dash_named (codes "steps") name refl dash,
+  not_dash_named (codes "retrace") name refl dash,
+  not_dash_named (codes "query") name refl dash,
   not_dash_named (codes "generate") name refl dash,
 ) refl
 
@@ -221,6 +244,15 @@ dash_after v (u ∷ []) dash = elim (either (begins_with_dash v) (list_any begin
     no_seed job is (Some count) = refl
 dash_after v (u ∷ x ∷ ws) dash = refl
 
+-- nor with `query`
+dash_queried : (v : String Global) (ws : List (String Global)) → list_any begins_with_dash (v ∷ ws) ≡ true
+    → query_words (map string_bytes (v ∷ ws)) ≡ None
+dash_queried v [] dash = elim (either (begins_with_dash v) false dash) [
+  | inl first ↦ rw (no_number (string_bytes v) first) refl
+  | inr none ↦ absurd (cc)
+]
+dash_queried v (u ∷ ws) dash = refl
+
 pub dash_refused : (words : List (String Global)) → list_any begins_with_dash words ≡ true → job_of_words words ≡ None
 unfolding named_job
 dash_refused [] dash = refl
@@ -230,7 +262,5 @@ dash_refused (w ∷ []) dash = elim (either (begins_with_dash w) false dash) [
 ]
 dash_refused (w ∷ v ∷ ws) dash = elim (either (begins_with_dash w) (list_any begins_with_dash (v ∷ ws)) dash) [
   | inl first ↦ first_dash (string_bytes w) (map string_bytes (v ∷ ws)) first
-  | inr later ↦ rw (dash_after v ws later)
-      (no_pair (bytes_eq (string_bytes w) (codes "serial")) (bytes_eq (string_bytes w) (codes "threads")) (bytes_eq (string_bytes w) (codes "steps"))
-      (bytes_eq (string_bytes w) (codes "generate")) None refl)
+  | inr later ↦ rw (dash_after v ws later, dash_queried v ws later) (none_of (string_bytes w) None refl)
 ]

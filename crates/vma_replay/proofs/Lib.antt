@@ -13,3 +13,4 @@ pub mod Fronts
 pub mod SerialRuns
 pub mod Alike
 pub mod Summaries
+pub mod Retraced

@@ -1,4 +1,4 @@
--- Serves `read_source` and `run_source`: the bytes that were taken from a source, up to its end or past the limit, settle what it is read as.
+-- Serves `read_source` and `convert_source`: the bytes that were taken from a source, up to its end or past the limit, settle what it is read as.
 use Rattle.std.proofs.Common.{◌≡◌, ◌≤◌, ◌<◌, ℕ, ◌+◌, List, ◌++◌, length, take, Option, Some, None, Result, Ok, Err, IfSome, sym, ap, subst, ◌∙◌, inl, inr, arith, append-nil}
 use Rattle.std.proofs.lemmas.Bool.{cases_lt}
 use Rattle.std.proofs.lemmas.List.{take-append-le}
@@ -10,14 +10,17 @@ use Rattle.trace_reader.specs.declared.fault.TraceFault.{TraceFault}
 use Rattle.trace_reader.specs.declared.trace.Trace.{Trace}
 use Rattle.trace_reader.specs.Lines.{trace_limit}
 use Rattle.trace_reader.specs.Reading.{GivesTrace}
-use Rattle.step_script.specs.Output.{script_output}
 use Rattle.step_script.specs.Reading.{IsFault}
 use Rattle.vma_replay.specs.declared.status.Status.{Status}
-use Rattle.vma_replay.specs.Replaying.{Takes}
+use Rattle.vma_replay.specs.declared.words.Conversion.{Conversion}
+use Rattle.vma_replay.specs.declared.words.Conversion.TheVariants as conversions
+use Rattle.vma_replay.specs.Replaying.{Takes, converted, most_converted}
 use Rattle.vma_replay.specs.Reading.{IsReading, IsTaking, refused_as}
 use Rattle.trace_reader.specs.Grammar.{trace_of}
 use Rattle.trace_reader.proofs.Beginnings.{trace_of-front, trace_within}
 use Rattle.step_script.proofs.Scripts.{output-front, output-within}
+use Rattle.maps_read.proofs.Answers.{query_answer-front, query_answer-within}
+use Rattle.maps_retrace.proofs.Fronts.{retraced-front, retraced-within}
 
 -- Of a function that the first `limit + 1` bytes settle: what follows more than `limit` bytes does not change it.
 read-append : {A : Type 0} (read : List ℕ → A) (limit : ℕ)
@@ -39,36 +42,39 @@ taken_settles read limit same (Some input) (Some rest) bytes answer moved end e 
 ]
 
 -- One byte more than the limit settles what bytes are read as, and bytes that are read are within it.
-record IsBounded {Y : Type 0} (read : List ℕ → Result Y TraceFault) : Type 0 where
-  front : (bytes : List ℕ) → read (take (trace_limit + 1) bytes) ≡ read bytes
-  within : (bytes : List ℕ) (found : Y) → read bytes ≡ Ok found → length bytes ≤ trace_limit
+record IsBounded {Y : Type 0} (read : List ℕ → Result Y TraceFault) (limit : ℕ) : Type 0 where
+  front : (bytes : List ℕ) → read (take (limit + 1) bytes) ≡ read bytes
+  within : (bytes : List ℕ) (found : Y) → read bytes ≡ Ok found → length bytes ≤ limit
 
 -- so what was taken gives the answer of the whole
-settled : {Y : Type 0} (read : List ℕ → Result Y TraceFault) → IsBounded read → (old new : Option (List ℕ)) (bytes : List ℕ)
-    (answer : Result Y TraceFault) → Takes trace_limit old new bytes → read bytes ≡ answer → IfSome old (λ input. read input ≡ answer)
-settled read bounded old new bytes answer taken e = taken_settles read trace_limit bounded.front old new bytes answer taken.moved taken.whole e
+settled : {Y : Type 0} (read : List ℕ → Result Y TraceFault) (limit : ℕ) → IsBounded read limit → (old new : Option (List ℕ)) (bytes : List ℕ)
+    (answer : Result Y TraceFault) → Takes limit old new bytes → read bytes ≡ answer → IfSome old (λ input. read input ≡ answer)
+settled read limit bounded old new bytes answer taken e = taken_settles read limit bounded.front old new bytes answer taken.moved taken.whole e
 
 -- where what was taken is read, the source gave it whole
-found_whole : {Y : Type 0} (read : List ℕ → Result Y TraceFault) → IsBounded read → (old new : SourceView) (bytes : List ℕ) (found : Y) → IsTaking trace_limit old new (Ok bytes) → read bytes ≡ Ok found
-    → IsReading read trace_limit old new (Ok found)
-found_whole read bounded old new bytes found taken is =
-    (taken.0, (bytes, taken.1), taken.1.whole (bounded.within bytes found is), settled read bounded old.left new.left bytes (Ok found) taken.1 is)
+found_whole : {Y : Type 0} (read : List ℕ → Result Y TraceFault) (limit : ℕ) → IsBounded read limit → (old new : SourceView) (bytes : List ℕ)
+    (found : Y) → IsTaking limit old new (Ok bytes) → read bytes ≡ Ok found → IsReading read limit old new (Ok found)
+found_whole read limit bounded old new bytes found taken is =
+    (taken.0, (bytes, taken.1), taken.1.whole (bounded.within bytes found is), settled read limit bounded old.left new.left bytes (Ok found) taken.1 is)
 
 -- where it is not, it has the source's first bad line, or memory ran out
-refused_first : {Y : Type 0} (read : List ℕ → Result Y TraceFault) → IsBounded read → (old new : SourceView) (bytes : List ℕ) (error : ReadError) (status : Status) → IsTaking trace_limit old new (Ok bytes) → IsFault error (read bytes)
-    → status ≡ refused_as error → IsReading read trace_limit old new (Err status)
-refused_first {Y} read bounded old new bytes error status taken fault is =
-    subst (λ (s : Status). IsReading read trace_limit old new (Err s)) (sym is) (by_error error fault)
+refused_first : {Y : Type 0} (read : List ℕ → Result Y TraceFault) (limit : ℕ) → IsBounded read limit → (old new : SourceView) (bytes : List ℕ)
+    (error : ReadError) (status : Status) → IsTaking limit old new (Ok bytes) → IsFault error (read bytes)
+    → status ≡ refused_as error → IsReading read limit old new (Err status)
+refused_first {Y} read limit bounded old new bytes error status taken fault is =
+    subst (λ (s : Status). IsReading read limit old new (Err s)) (sym is) (by_error error fault)
   where
-    by_error : (error : ReadError) → IsFault error (read bytes) → IsReading read trace_limit old new (Err (refused_as error))
-    by_error (reads.Bad first) fault = (taken.0, (bytes, taken.1), settled read bounded old.left new.left bytes (Err first) taken.1 fault)
+    by_error : (error : ReadError) → IsFault error (read bytes) → IsReading read limit old new (Err (refused_as error))
+    by_error (reads.Bad first) fault = (taken.0, (bytes, taken.1), settled read limit bounded old.left new.left bytes (Err first) taken.1 fault)
     by_error reads.NoMemory fault = taken.0
 
-bounded_trace : IsBounded trace_of
+bounded_trace : IsBounded trace_of trace_limit
 bounded_trace = record { front = trace_of-front; within = trace_within }
 
-bounded_script : IsBounded script_output
-bounded_script = record { front = output-front; within = output-within }
+bounded : (conversion : Conversion) → IsBounded (converted conversion) (most_converted conversion)
+bounded conversions.Steps = record { front = output-front; within = output-within }
+bounded (conversions.Query address) = record { front = query_answer-front address; within = query_answer-within address }
+bounded conversions.Retrace = record { front = retraced-front; within = retraced-within }
 
 -- what the reader of traces answers in place of a trace
 trace_fault : (error : ReadError) (read : Result Trace TraceFault) → GivesTrace (Err error) read → IsFault error read
@@ -78,20 +84,21 @@ trace_fault reads.NoMemory read is = is
 -- of traces
 pub reads_trace : (old new : SourceView) (bytes : List ℕ) (trace : Trace)
     → IsTaking trace_limit old new (Ok bytes) → trace_of bytes ≡ Ok trace → IsReading trace_of trace_limit old new (Ok trace)
-reads_trace = found_whole trace_of bounded_trace
+reads_trace = found_whole trace_of trace_limit bounded_trace
 
 pub reads_no_trace : (old new : SourceView) (bytes : List ℕ) (error : ReadError) (status : Status)
     → IsTaking trace_limit old new (Ok bytes) → GivesTrace (Err error) (trace_of bytes) → status ≡ refused_as error
     → IsReading trace_of trace_limit old new (Err status)
 reads_no_trace old new bytes error status taken given =
-    refused_first trace_of bounded_trace old new bytes error status taken (trace_fault error (trace_of bytes) given)
+    refused_first trace_of trace_limit bounded_trace old new bytes error status taken (trace_fault error (trace_of bytes) given)
 
--- of scripts
-pub reads_script : (old new : SourceView) (bytes text : List ℕ)
-    → IsTaking trace_limit old new (Ok bytes) → script_output bytes ≡ Ok text → IsReading script_output trace_limit old new (Ok text)
-reads_script = found_whole script_output bounded_script
+-- of what is turned into a text
+pub converts : (conversion : Conversion) (old new : SourceView) (bytes text : List ℕ)
+    → IsTaking (most_converted conversion) old new (Ok bytes) → converted conversion bytes ≡ Ok text
+    → IsReading (converted conversion) (most_converted conversion) old new (Ok text)
+converts conversion = found_whole (converted conversion) (most_converted conversion) (bounded conversion)
 
-pub reads_no_script : (old new : SourceView) (bytes : List ℕ) (error : ReadError) (status : Status)
-    → IsTaking trace_limit old new (Ok bytes) → IsFault error (script_output bytes) → status ≡ refused_as error
-    → IsReading script_output trace_limit old new (Err status)
-reads_no_script = refused_first script_output bounded_script
+pub converts_nothing : (conversion : Conversion) (old new : SourceView) (bytes : List ℕ) (error : ReadError) (status : Status)
+    → IsTaking (most_converted conversion) old new (Ok bytes) → IsFault error (converted conversion bytes) → status ≡ refused_as error
+    → IsReading (converted conversion) (most_converted conversion) old new (Err status)
+converts_nothing conversion = refused_first (converted conversion) (most_converted conversion) (bounded conversion)

@@ -1,8 +1,9 @@
 -- What the words after the program's name ask for.
 use Rattle.std.specs.Prelude.{ℕ, Bool, List, [], ◌∷◌, map, codes, bytes_eq, string_bytes, String, Option, Some, None, is_some, option_and_then, nat_le, if◌then◌else◌}
 use Rattle.std.specs.declared.alloc.Global.{Global}
-use Rattle.trace_reader.specs.Numbers.{decimal_of}
+use Rattle.trace_reader.specs.Numbers.{decimal_of, number_of}
 use Rattle.gen_load.specs.declared.loading.TheConstants.{MOST_OPERATIONS}
+use Rattle.vma_replay.specs.declared.words.Conversion.TheVariants as conversions
 use Rattle.vma_replay.specs.declared.words.Job.{Job}
 use Rattle.vma_replay.specs.declared.words.Job.TheVariants as jobs
 use Rattle.vma_replay.specs.declared.words.Mode.{Mode}
@@ -27,12 +28,19 @@ abbrev pub generate_words : List (List ℕ) → Option Job
 generate_words (count ∷ seed ∷ []) = generate_job count seed
 generate_words words = None
 
--- The job that a first word and the words after it name: each kind of work has its first word. There are four kinds of accepted lists:
--- `serial`, `threads` and `steps`, each alone, and `generate COUNT SEED`.
+-- the job of the words after `query`: an address, which is a number as the lines of a trace have it
+abbrev pub query_words : List (List ℕ) → Option Job
+query_words (address ∷ []) = option_and_then (λ at. Some (jobs.Convert (conversions.Query at))) (number_of address)
+query_words words = None
+
+-- The job that a first word and the words after it name: each kind of work has its first word. The accepted lists are `serial`, `threads`,
+-- `steps` and `retrace`, each alone, `query ADDRESS`, and `generate COUNT SEED`.
 unfoldable pub named_job : List ℕ → List (List ℕ) → Option Job
 named_job name words = if bytes_eq name (codes "serial") then alone (jobs.Replay modes.Serial) words
     else if bytes_eq name (codes "threads") then alone (jobs.Replay modes.Threads) words
-    else if bytes_eq name (codes "steps") then alone jobs.Steps words
+    else if bytes_eq name (codes "steps") then alone (jobs.Convert conversions.Steps) words
+    else if bytes_eq name (codes "retrace") then alone (jobs.Convert conversions.Retrace) words
+    else if bytes_eq name (codes "query") then query_words words
     else if bytes_eq name (codes "generate") then generate_words words else None
 
 -- the job that words name

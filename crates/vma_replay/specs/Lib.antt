@@ -9,3 +9,4 @@ pub mod Giving
 pub mod Families
 pub mod Tallies
 pub mod CommandLine
+pub mod Retraced

@@ -21,6 +21,8 @@ use Rattle.trace_reader.specs.Grammar.{trace_of}
 use Rattle.trace_reader.specs.Lines.{trace_limit}
 use Rattle.gen_load.specs.Loads.{load_trace}
 use Rattle.vma_replay.specs.declared.forks.Fork.{Fork}
+use Rattle.vma_replay.specs.declared.words.Conversion.{Conversion}
+use Rattle.vma_replay.specs.declared.words.Conversion.TheVariants as conversions
 use Rattle.vma_replay.specs.declared.words.Job.{Job}
 use Rattle.vma_replay.specs.declared.words.Job.TheVariants as jobs
 use Rattle.vma_replay.specs.declared.words.Mode.{Mode}
@@ -31,6 +33,8 @@ use Rattle.vma_replay.specs.Forks.{forks_of}
 use Rattle.vma_replay.specs.Output.{output_text, child_text, serial_output}
 use Rattle.history.specs.CallerPlaces.{callers_of}
 use Rattle.step_script.specs.Output.{script_output}
+use Rattle.maps_read.specs.Query.{query_answer}
+use Rattle.maps_retrace.specs.Retracing.{retraced_of}
 use Rattle.vma_replay.specs.Jobs.{job_of_words}
 use Rattle.vma_replay.specs.Summaries.{summary_text}
 
@@ -116,15 +120,16 @@ pub record Work : Type 1 where
   pub fault : List ℕ → Option TraceFault
   pub gives : List ℕ → List ClosedView → List ℕ → Type 0
 
--- Work that turns an input into a text, with no space: this is the text of an input, or its first bad line.
-abbrev pub text_work : ℕ → (List ℕ → Result (List ℕ) TraceFault) → Work
-text_work most text_of = record {
-  mode = None;
-  reads = Some most;
-  opens = false;
-  fault = λ input. result_err (text_of input);
-  gives = λ input runs text. (runs ≡ []) × (text_of input ≡ Ok text);
-}
+-- The text that an input is turned into, or its first bad line: of a script its output, of a maps text the line that answers a question, or
+-- the trace that makes it.
+abbrev pub converted : Conversion → List ℕ → Result (List ℕ) TraceFault
+converted conversions.Steps = script_output
+converted (conversions.Query address) = query_answer address
+converted conversions.Retrace = retraced_of
+
+-- the most bytes that the input of a conversion may have
+abbrev pub most_converted : Conversion → ℕ
+most_converted conversion = trace_limit
 
 -- the table
 abbrev pub work_of : Job → Work
@@ -135,7 +140,13 @@ work_of (jobs.Replay mode) = record {
   fault = λ input. result_err (trace_of input);
   gives = λ input runs text. IsOkAnd (trace_of input) (λ trace. GivesRuns mode trace runs text);
 }
-work_of jobs.Steps = text_work trace_limit script_output
+work_of (jobs.Convert conversion) = record {
+  mode = None;
+  reads = Some (most_converted conversion);
+  opens = false;
+  fault = λ input. result_err (converted conversion input);
+  gives = λ input runs text. (runs ≡ []) × (converted conversion input ≡ Ok text);
+}
 work_of (jobs.Generate count seed) = record {
   mode = None;
   reads = None;

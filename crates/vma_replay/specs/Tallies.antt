@@ -23,5 +23,5 @@ tally_of run = record {
 -- a job that is in its limits
 abbrev pub IsInLimits : Job → Type 0
 IsInLimits (jobs.Replay mode) = Unit {0}
-IsInLimits jobs.Steps = Unit {0}
+IsInLimits (jobs.Convert conversion) = Unit {0}
 IsInLimits (jobs.Generate count seed) = count ≤ MOST_OPERATIONS

@@ -1,11 +1,11 @@
 //! The closed runs of a trace: that of its parent, and those of its children.
-ghost use Rattle.std.specs.Prelude.{◌≡◌, ◌∷◌, All, IfOk, List, is_some};
+ghost use Rattle.std.specs.Prelude.{◌≡◌, ◌<◌, All, IfOk, Ok, Some, is_some, length, map, slice_get};
 ghost use Rattle.std.specs.List.{list_any};
-ghost use Rattle.mm_space.specs.Closing.{ClosedView};
 ghost use Rattle.mm_fork.specs.Children.{parent_trace, child_trace};
 ghost use Rattle.trace_reader.specs.Values.{IsTraceValue, child_of};
 ghost use Rattle.vma_replay.specs.Families.{AreRunsOfChildren, IsFamily, IsForkOf, IsOfParent};
 ghost use Rattle.vma_replay.specs.Replaying.{IsRunOfChild};
+ghost use Rattle.vma_replay.specs.declared.forks.Fork.{Fork};
 
 use crate::forks::{Fork, forks_of};
 use crate::printing::run_history;
@@ -18,9 +18,10 @@ use mm_space::Closed;
 use mm_types::{Entry, NoMemory};
 use std::alloc::Global;
 use std::sync::Wait;
+use std::thread;
 use std::thread::Threads;
 use trace_reader::{Lines, Op, Trace, TraceLine};
-use vma_drive::run_child;
+use vma_drive::{Gated, Told, Untold, run_child};
 
 /// The closed runs of a trace, the parent's first and then one for each child, by ascending child, with the history and the forks of the
 /// parent.
@@ -83,7 +84,16 @@ pub(crate) fn closed_family<R: Threads + Wait + Sync, G: Gate>(
     let run = closed_run(rt, alloc, mode, parent, gate)?;
     let history = run_history(alloc, mode, parent, &run)?;
     let forks = forks_of(alloc, parent.lines.items(), history.items())?;
-    let runs = with_children(rt, alloc, trace, run, forks.as_slice())?;
+    let mut runs = children_runs(
+        rt,
+        alloc,
+        mode,
+        trace,
+        run.journal(),
+        forks.as_slice(),
+        gate,
+    )?;
+    runs.insert(0, run)?;
     Ok(Family {
         history,
         forks,
@@ -91,36 +101,91 @@ pub(crate) fn closed_family<R: Threads + Wait + Sync, G: Gate>(
     })
 }
 
-/// The closed run of a parent, and after it that of a child for each fork, which is made here.
-fn with_children<R: Wait>(
+/// The closed runs of the children of a parent that has run, one for each fork, which are made here.
+fn children_runs<R: Threads + Wait + Sync, G: Gate>(
+    rt: &R,
+    alloc: Global,
+    mode: Mode,
+    trace: &Trace,
+    parent: &[Entry],
+    forks: &[Fork],
+    gate: &G,
+) -> Result<Vec<Closed>, NoMemory>
+    requires trace { IsTraceValue trace.now }
+    requires parent { IsOfParent trace.now.config parent.now }
+    requires forks { All (IsForkOf trace.now.lines parent.now) forks.now }
+    ensures { IfOk result (λ runs. AreRunsOfChildren trace.now parent.now forks.now runs.items) }
+{
+    match mode {
+        Mode::Serial => run_in_turn(rt, alloc, trace, parent, forks),
+        Mode::Threads => run_at_once(rt, alloc, trace, parent, forks, gate),
+    }
+}
+
+/// Runs children one after the other. What the space of one takes is given back before the next begins.
+fn run_in_turn<R: Wait>(
     rt: &R,
     alloc: Global,
     trace: &Trace,
-    run: Closed,
+    parent: &[Entry],
     forks: &[Fork],
 ) -> Result<Vec<Closed>, NoMemory>
     requires trace { IsTraceValue trace.now }
-    requires parent { IsOfParent trace.now.config run.journal }
-    requires forks { All (IsForkOf trace.now.lines run.journal) forks.now }
-    ensures { IfOk result (λ runs. (children : List ClosedView) × (runs.items ≡ run ∷ children)
-        × AreRunsOfChildren trace.now run.journal forks.now children) }
+    requires parent { IsOfParent trace.now.config parent.now }
+    requires forks { All (IsForkOf trace.now.lines parent.now) forks.now }
+    ensures { IfOk result (λ runs. AreRunsOfChildren trace.now parent.now forks.now runs.items) }
 {
-    let mut runs = Vec::with_capacity(alloc, forks.len().saturating_add(1))?;
-    runs.push(run)?;
+    let mut runs = Vec::with_capacity(alloc, forks.len())?;
     for fork in forks {
-        let child = closed_child(rt, alloc, trace, runs[0].journal(), fork)?;
+        let child = closed_child(rt, alloc, trace, parent, fork, &Untold)?;
         runs.push(child)?;
     }
     Ok(runs)
 }
 
+/// Runs children at once, each in a thread of its own. The gate is called before and after each of their operations.
+fn run_at_once<R: Threads + Wait + Sync, G: Gate>(
+    rt: &R,
+    alloc: Global,
+    trace: &Trace,
+    parent: &[Entry],
+    forks: &[Fork],
+    gate: &G,
+) -> Result<Vec<Closed>, NoMemory>
+    requires trace { IsTraceValue trace.now }
+    requires parent { IsOfParent trace.now.config parent.now }
+    requires forks { All (IsForkOf trace.now.lines parent.now) forks.now }
+    ensures { IfOk result (λ runs. AreRunsOfChildren trace.now parent.now forks.now runs.items) }
+{
+    let worker = |place: usize| -> Result<Closed, NoMemory>
+        requires { (place < length forks.now) × IsTraceValue trace.now × IsOfParent trace.now.config parent.now
+            × All (IsForkOf trace.now.lines parent.now) forks.now }
+        ensures { IfOk result (λ run. (fork : Fork) → slice_get forks.entry.now place ≡ Some fork
+            → IsRunOfChild trace.entry.now parent.entry.now fork run) }
+    { closed_child(rt, alloc, trace, parent, &forks[place], &Gated(gate)) };
+    let ended = thread::map_indices(rt, alloc, forks.len(), &worker)?;
+    runs_of(alloc, ended)
+}
+
+/// The runs that workers ended with. Refused where memory ran out in one.
+fn runs_of(alloc: Global, ended: Vec<Result<Closed, NoMemory>>) -> Result<Vec<Closed>, NoMemory>
+    ensures { IfOk result (λ runs. ended.items ≡ map (λ run. Ok run) runs.items) }
+{
+    let mut runs = Vec::with_capacity(alloc, ended.len())?;
+    for run in ended {
+        runs.push(run?)?;
+    }
+    Ok(runs)
+}
+
 /// Runs the lines of a child over a space that begins with what its parent had at the fork, and closes it.
-fn closed_child<R: Wait>(
+fn closed_child<R: Wait, T: Told<R>>(
     rt: &R,
     alloc: Global,
     trace: &Trace,
     parent: &[Entry],
     fork: &Fork,
+    told: &T,
 ) -> Result<Closed, NoMemory>
     requires trace { IsTraceValue trace.now }
     requires parent { IsOfParent trace.now.config parent.now }
@@ -129,5 +194,5 @@ fn closed_child<R: Wait>(
 {
     let before = inherit(alloc, parent, fork.version)?;
     let child = child_of(alloc, trace, fork.child)?;
-    run_child(rt, alloc, &child, before.as_slice())
+    run_child(rt, alloc, &child, before.as_slice(), told)
 }

@@ -1,5 +1,6 @@
 //! The replayer: reads a trace, replays it over an address space, and writes every reply and the final list of areas; or reads a script,
-//! and writes what each of its steps results in; or replays a generated trace, and writes a summary of what it did.
+//! and writes what each of its steps results in; or reads a maps text, and writes one of its lines, or the trace that makes it; or replays a
+//! generated trace, and writes a summary of what it did.
 #![tactic(auto)]
 
 mod families;
@@ -32,6 +33,8 @@ mod table_tests;
 #[cfg(test)]
 mod tests;
 #[cfg(test)]
+mod text_tests;
+#[cfg(test)]
 mod thread_tests;
 mod words;
 
@@ -43,4 +46,4 @@ pub use run::replay;
 pub use status::{Status, status_line, status_number};
 pub use summary::Summary;
 pub use trace_reader::Cause;
-pub use words::{Job, Mode};
+pub use words::{Conversion, Job, Mode};

@@ -1,27 +1,51 @@
-//! Small random traces of two to eight threads, whose operations come in many orders. The history of each run is judged.
-ghost use Rattle.std.specs.Prelude.{◌<◌, ◌≤◌};
+//! Small random traces of two to 64 threads, which grow areas, name lines and fork, and a longer one in which areas grow towards each
+//! other. Their operations come in many orders, and the history of each space is judged.
+ghost use Rattle.std.specs.Prelude.{◌<◌, ◌≤◌, IfOk, List};
+ghost use Rattle.mm_types.specs.declared.call.Entry.{Entry};
+ghost use Rattle.trace_reader.specs.Values.{IsTraceValue};
+ghost use Rattle.vma_replay.specs.Families.{AreRunsOfChildren};
+ghost use Rattle.vma_replay.specs.Replaying.{IsRunOfChild};
 
+use crate::families::{Family, closed_family, parent_of};
+use crate::forks::Fork;
 use crate::printing::run_history;
 use crate::reading::read_source;
 use crate::running::closed_run;
 use crate::words::Mode;
-use history::check;
+use history::{MOST_THREADS, check};
 use io_edge::{Gate, SureSource};
-use mm_types::NoMemory;
+use mm_fork::{check_child, check_parent, child_history, inherit};
+use mm_space::Closed;
+use mm_types::{Call, Entry, NoMemory};
 use std::alloc::Global;
 use std::fmt::Write;
 use std::process::Abort;
 use std::sync::Wait;
 use std::sync::atomic::{AtomicU64, Ordering};
 use std::test::Fail;
-use std::thread;
 use std::thread::Threads;
+use std::{fmt, thread};
+use trace_reader::{MOST_LINES, Trace};
 
-/// How many traces are run.
-const TRACES: u64 = 60;
+/// How many small traces are run.
+const TRACES: u64 = 2_000;
 
-/// How many operations a trace has.
-const OPERATIONS: usize = 30;
+/// How many operations a small trace has.
+const OPERATIONS: u64 = 30;
+
+/// The number of the first of them.
+const FIRST_LINE: u64 = 3;
+
+/// How many children a small trace has at most.
+const MOST_CHILDREN: u64 = 3;
+
+/// How many rounds the areas grow that grow towards each other.
+const ROUNDS: u64 = 200;
+
+/// How a page is mapped of an area that grows, and how another is.
+const GROWS: &str = "PROT_READ|PROT_WRITE MAP_PRIVATE|MAP_ANONYMOUS|MAP_FIXED|MAP_GROWSDOWN -1 0";
+
+const PLAIN: &str = "PROT_READ MAP_PRIVATE|MAP_ANONYMOUS|MAP_FIXED -1 0";
 
 /// A gate that gives up its turn from no times to seven before an operation, so that other threads come between.
 #[derive(Drop)]
@@ -42,10 +66,10 @@ impl Gate for Yielding {
 
 /// Numbers that follow from a seed, by a linear congruence.
 #[derive(Drop)]
-struct Draw(u64);
+pub(crate) struct Draw(pub(crate) u64);
 
 impl Draw {
-    fn below(&mut self, bound: u64) -> u64
+    pub(crate) fn below(&mut self, bound: u64) -> u64
         requires { 1 ≤ bound }
         ensures { result < bound }
     {
@@ -57,61 +81,218 @@ impl Draw {
     }
 }
 
-/// Appends an operation of one of so many threads, over twelve pages.
-fn push_operation(text: &mut String, draw: &mut Draw, threads: u64) -> Result<(), NoMemory>
-    requires { 1 ≤ threads }
-{
-    let thread = draw.below(threads);
-    let address = 0x10_0000 + 4096 * draw.below(12);
-    let length = 4096 * (1 + draw.below(4));
-    let written = match draw.below(8) {
-        0 | 1 => writeln!(
-            text,
-            "{thread} mmap 0x{address:x} {length} PROT_READ|PROT_WRITE MAP_PRIVATE|MAP_ANONYMOUS|MAP_FIXED -1 0"
-        ),
-        2 => writeln!(
-            text,
-            "{thread} mmap 0 {length} PROT_READ MAP_PRIVATE|MAP_ANONYMOUS -1 0"
-        ),
-        3 => writeln!(text, "{thread} munmap 0x{address:x} {length}"),
-        4 => writeln!(text, "{thread} mprotect 0x{address:x} {length} PROT_READ"),
-        5 => writeln!(
-            text,
-            "{thread} mremap 0x{address:x} 4096 {length} MREMAP_MAYMOVE"
-        ),
-        6 => writeln!(text, "{thread} maps"),
-        _ => writeln!(text, "{thread} fault 0x{address:x} w"),
-    };
-    written.map_err(|_| NoMemory)
+/// A call of the parent that may be named: its line and its thread.
+#[derive(Clone, Copy, Debug, PartialEq, Eq)]
+struct Told {
+    line: u64,
+    thread: u64,
+}
+
+/// A small trace while it is written.
+#[derive(Drop)]
+struct Draft {
+    text: String,
+    draw: Draw,
+    /// How many threads the parent has at most, by number from 0.
+    threads: u64,
+    /// How many children were forked, by number behind these threads.
+    children: u64,
+    /// Where an area that grows was mapped last.
+    stack: u64,
+    calls: Vec<Told>,
+}
+
+impl Draft {
+    fn new(alloc: Global, seed: u64) -> Result<Draft, NoMemory> {
+        let mut draw = Draw(seed);
+        let others = (1u64 << (1 + draw.below(6))).saturating_sub(1);
+        let threads = draw.below(others.max(1)).saturating_add(2);
+        Ok(Draft {
+            text: String::from_str(alloc, "vmatrace 1\nlimit areas 12\n")?,
+            draw,
+            threads,
+            children: 0,
+            stack: 0x10_0000,
+            calls: Vec::new(alloc),
+        })
+    }
+
+    /// Appends the line of this number.
+    fn push_line(&mut self, line: u64) -> Result<(), NoMemory> {
+        if self.children > 0 && self.draw.below(3) == 0 {
+            let child = self.draw.below(self.children.max(1));
+            let thread = self.threads.saturating_add(child);
+            let _is_call = self.push_operation(thread)?;
+        } else {
+            let thread = self.draw.below(self.threads.max(1));
+            if self.may_fork() && self.draw.below(10) == 0 {
+                self.push_fork(thread)?;
+            } else if self.push_operation(thread)? {
+                self.push_name(thread)?;
+                self.calls.push(Told { line, thread })?;
+            } else {
+                self.push_name(thread)?;
+            }
+        }
+        self.text.push_str("\n")?;
+        Ok(())
+    }
+
+    fn may_fork(&self) -> bool {
+        self.children < MOST_CHILDREN && self.threads.saturating_add(self.children) < 64
+    }
+
+    fn push_fork(&mut self, thread: u64) -> Result<(), NoMemory> {
+        let child = self.threads.saturating_add(self.children);
+        self.children = self.children.saturating_add(1);
+        write!(self.text, "{thread} fork {child}").map_err(|_| NoMemory)
+    }
+
+    /// Appends an operation of a thread, over 24 pages, and answers whether it is a call.
+    fn push_operation(&mut self, thread: u64) -> Result<bool, NoMemory> {
+        let address = 0x10_0000 + 4096 * self.draw.below(24);
+        let length = 4096 * (1 + self.draw.below(4));
+        let kind = self.draw.below(12);
+        if kind < 3 {
+            self.stack = address;
+        }
+        let below = self.stack.saturating_sub(4096 * (1 + self.draw.below(2)));
+        let text = &mut self.text;
+        let written = match kind {
+            0 | 1 | 2 => write!(text, "{thread} mmap 0x{address:x} {length} {GROWS}"),
+            3 => write!(text, "{thread} mmap 0x{address:x} {length} {PLAIN}"),
+            4 => write!(
+                text,
+                "{thread} mmap 0 {length} PROT_READ MAP_PRIVATE|MAP_ANONYMOUS -1 0"
+            ),
+            5 => write!(text, "{thread} munmap 0x{address:x} {length}"),
+            6 => write!(text, "{thread} mprotect 0x{address:x} {length} PROT_READ"),
+            7 => write!(
+                text,
+                "{thread} mremap 0x{address:x} 4096 {length} MREMAP_MAYMOVE"
+            ),
+            8 => write!(text, "{thread} maps"),
+            9 => write!(text, "{thread} fault 0x{address:x} w"),
+            _ => write!(text, "{thread} fault 0x{below:x} w"),
+        };
+        written.map_err(|_| NoMemory)?;
+        Ok(kind < 8)
+    }
+
+    /// Has the line of a thread name a call above it of another thread, now and then.
+    fn push_name(&mut self, thread: u64) -> Result<(), NoMemory> {
+        let draw = self.draw.below(64) as usize;
+        if let Some(call) = self.calls.get(draw)
+            && call.thread != thread
+        {
+            write!(self.text, " after={}", call.line).map_err(|_| NoMemory)?;
+        }
+        Ok(())
+    }
 }
 
 /// The text of a trace that follows from a seed, with a small limit of areas.
 fn small_trace(alloc: Global, seed: u64) -> Result<String, NoMemory> {
-    let mut draw = Draw(seed);
-    let threads = 2 + draw.below(7);
-    let mut text = String::from_str(alloc, "vmatrace 1\nlimit areas 12\n")?;
-    for _ in 0..OPERATIONS {
-        push_operation(&mut text, &mut draw, threads)?;
+    let mut draft = Draft::new(alloc, seed)?;
+    for line in FIRST_LINE..FIRST_LINE + OPERATIONS {
+        draft.push_line(line)?;
     }
-    Ok(text)
+    Ok(draft.text)
 }
 
-/// Runs a small trace in threads, and has the history of the run judged.
+/// The trace that a text is.
+fn read_text<R: Abort>(rt: &R, alloc: Global, text: &str) -> Result<Trace, Fail>
+    ensures { IfOk result IsTraceValue }
+{
+    let mut source = SureSource::new(Vec::from_slice(alloc, text.as_bytes())?);
+    match read_source(alloc, &mut source) {
+        Ok(trace) => Ok(trace),
+        Err(_) => panic!(rt; "this is no trace:\n{text}"),
+    }
+}
+
+/// Runs a small trace in threads, and has the history of each space judged.
 fn judge<R: Threads + Wait + Sync + Abort>(
     rt: &R,
     alloc: Global,
     seed: u64,
     gate: &Yielding,
-) -> Result<(), Fail> {
+) -> Result<Family, Fail> {
     let text = small_trace(alloc, seed)?;
-    let mut source = SureSource::new(Vec::from_slice(alloc, text.as_bytes())?);
-    let Ok(trace) = read_source(alloc, &mut source) else {
-        panic!(rt; "the text of seed {seed} is no trace")
-    };
-    let run = closed_run(rt, alloc, Mode::Threads, &trace, gate)?;
-    let history = run_history(alloc, Mode::Threads, &trace, &run)?;
-    assert!(rt; check(alloc, &trace, &history).is_ok(), "of seed {seed}");
+    let trace = read_text(rt, alloc, text.as_str())?;
+    let parent = parent_of(alloc, &trace)?;
+    let family = closed_family(rt, alloc, Mode::Threads, &trace, &parent, gate)?;
+    let judged = check_parent(alloc, &trace, &family.history);
+    assert!(rt; judged.is_ok(), "the parent of seed {seed}");
+    let runs = family.runs.as_slice();
+    judge_children(
+        rt,
+        alloc,
+        &trace,
+        runs[0].journal(),
+        family.forks.as_slice(),
+        &runs[1..],
+    )?;
+    Ok(family)
+}
+
+/// Has the histories of children judged, of which there is a run for each fork.
+fn judge_children<R: Abort>(
+    rt: &R,
+    alloc: Global,
+    trace: &Trace,
+    journal: &[Entry],
+    forks: &[Fork],
+    runs: &[Closed],
+) -> Result<(), Fail>
+    requires trace { IsTraceValue trace.now }
+    requires runs { (parent : List Entry) × AreRunsOfChildren trace.now parent forks.now runs.now }
+{
+    for (place, fork) in forks.iter().enumerate() {
+        if let Some(run) = runs.get(place) {
+            judge_child(rt, alloc, trace, journal, fork, run)?;
+        }
+    }
     Ok(())
+}
+
+/// Has the history of a child judged, by the journal of its parent.
+fn judge_child<R: Abort>(
+    rt: &R,
+    alloc: Global,
+    trace: &Trace,
+    journal: &[Entry],
+    fork: &Fork,
+    run: &Closed,
+) -> Result<(), Fail>
+    requires trace { IsTraceValue trace.now }
+    requires run { (parent : List Entry) × IsRunOfChild trace.now parent fork.now run.now }
+{
+    assert!(rt; fork.version <= journal.len() as u64);
+    assert!(rt;
+        journal
+            .iter()
+            .all(|entry| entry.caller < MOST_THREADS as u32)
+    );
+    let before = inherit(alloc, journal, fork.version)?;
+    assert!(rt; before.len() <= MOST_LINES);
+    let history = child_history(alloc, fork.version, run.journal(), run.logs())?;
+    let judged = check_child(alloc, trace, fork.child, before.as_slice(), &history);
+    assert!(rt;
+        judged.is_ok(),
+        "child {} of line {}",
+        fork.child,
+        fork.line
+    );
+    Ok(())
+}
+
+/// How many faults of a journal grew an area.
+fn count_grown(journal: &[Entry]) -> usize {
+    journal
+        .iter()
+        .filter(|entry| matches!(entry.call, Call::Touch { .. }))
+        .count()
 }
 
 #[test]
@@ -119,8 +300,71 @@ fn histories_of_small_runs_are_judged_legal(rt: HostRuntime) -> Result<(), Fail>
     let gate = Yielding {
         operations: AtomicU64::new(0),
     };
+    let (mut grown, mut forks) = (0usize, 0usize);
     for seed in 0..TRACES {
-        judge(&rt, rt.alloc(), seed, &gate)?;
+        let family = judge(&rt, rt.alloc(), seed, &gate)?;
+        forks = forks.saturating_add(family.forks.len());
+        for run in &family.runs {
+            grown = grown.saturating_add(count_grown(run.journal()));
+        }
     }
+    assert!(rt; grown > 0 && forks > 0);
+    Ok(())
+}
+
+/// The address of one of 32 pages.
+fn address_of(page: u64) -> u64
+    requires { page < 32 }
+{
+    0x10_0000 + 4096 * page
+}
+
+/// Appends one round of a trace in which thread 0 has an area grow down, and thread 1 has one grow up towards it, by pages that join it, and
+/// down at its other end, while threads 2 and 3 map and unmap pages between the two. Step 0 begins anew.
+fn push_round(text: &mut String, step: u64) -> fmt::Result
+    requires { step < 8 }
+{
+    if step == 0 {
+        writeln!(text, "0 munmap 0x{:x} 32768", address_of(17))?;
+        writeln!(text, "1 munmap 0x{:x} 32768", address_of(0))?;
+        writeln!(text, "1 munmap 0x{:x} 32768", address_of(9))?;
+    }
+    writeln!(text, "0 fault 0x{:x} w", address_of(24 - step))?;
+    writeln!(text, "1 mmap 0x{:x} 4096 {GROWS}", address_of(9 + step))?;
+    writeln!(text, "1 fault 0x{:x} w", address_of(7 - step))?;
+    for (thread, page) in [(2, 12), (3, 19)] {
+        let address = address_of(page);
+        writeln!(text, "{thread} mmap 0x{address:x} 8192 {PLAIN}")?;
+        writeln!(text, "{thread} munmap 0x{address:x} 8192")?;
+    }
+    Ok(())
+}
+
+/// The text of that trace.
+fn growing_trace(alloc: Global) -> Result<String, NoMemory> {
+    let mut text = String::from_str(alloc, "vmatrace 1\nlimit areas 64\n")?;
+    for (thread, page) in [(0, 25), (1, 8)] {
+        writeln!(text, "{thread} mmap 0x{:x} 4096 {GROWS}", address_of(page)).map_err(
+            |_| NoMemory,
+        )?;
+    }
+    for round in 0..ROUNDS {
+        push_round(&mut text, round % 8).map_err(|_| NoMemory)?;
+    }
+    Ok(text)
+}
+
+#[test]
+fn areas_grow_towards_each_other(rt: HostRuntime) -> Result<(), Fail> {
+    let alloc = rt.alloc();
+    let gate = Yielding {
+        operations: AtomicU64::new(0),
+    };
+    let trace = read_text(&rt, alloc, growing_trace(alloc)?.as_str())?;
+    let run = closed_run(&rt, alloc, Mode::Threads, &trace, &gate)?;
+    let history = run_history(alloc, Mode::Threads, &trace, &run)?;
+    assert!(rt; check(alloc, &trace, &history).is_ok());
+    // Nobody is in the way of the lower end, nor of three steps of eight of the other area.
+    assert!(rt; count_grown(run.journal()) >= 275);
     Ok(())
 }

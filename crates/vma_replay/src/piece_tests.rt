@@ -1,6 +1,7 @@
 //! Inputs that are cut short or that break one rule, and inputs and outputs that move in pieces.
 ghost use Rattle.std.specs.Prelude.{None};
 
+use crate::tests::words;
 use crate::{Cause, Status, replay};
 use io_edge::{Failed, GiveFault, PlainGate, Sink, Source, SureSource};
 use std::alloc::Global;
@@ -168,5 +169,46 @@ fn gives_whole_pieces(rt: HostRuntime) -> Result<(), Fail> {
         sink.pieces.as_slice(),
         [65_536, 65_536, output.len().saturating_sub(131_072)].as_slice()
     );
+    Ok(())
+}
+
+/// Whether each piece but the last has 65,536 bytes, and the last has no more.
+fn are_whole(pieces: &[usize]) -> bool {
+    match pieces {
+        [front @ .., last] => front.iter().all(|piece| *piece == 65_536) && *last <= 65_536,
+        [] => true,
+    }
+}
+
+#[test]
+fn each_job_gives_whole_pieces(rt: HostRuntime) -> Result<(), Fail> {
+    let alloc = rt.alloc();
+    let trace = repeated(alloc, b"0 fault 0x10000 r\n", 5000)?;
+    // The parent's output fills no piece alone, nor does the child's.
+    let mut forked = repeated(alloc, b"0 fault 0x10000 r\n", 1500)?;
+    forked.extend_from_slice(b"0 fork 1\n")?;
+    for _ in 0..1500 {
+        forked.extend_from_slice(b"1 fault 0x10000 r\n")?;
+    }
+    let mut script = Vec::from_slice(alloc, b"vmasteps 1\nlock 1 1\nadd 0 0\nbegin\n")?;
+    for _ in 0..2000 {
+        script.extend_from_slice(b"mark 0\n")?;
+    }
+    let jobs: [(&[&str], &[u8], usize); 5] = [
+        (&["threads"], trace.as_slice(), 3),
+        (&["serial"], forked.as_slice(), 2),
+        (&["threads"], forked.as_slice(), 2),
+        (&["steps"], script.as_slice(), 2),
+        (&["generate", "1000", "1"], b"", 1),
+    ];
+    for (list, input, count) in jobs {
+        let mut source = SureSource::new(Vec::from_slice(alloc, input)?);
+        let mut sink = ShortSink::new(alloc, usize::MAX);
+        let words = words(alloc, list)?;
+        let status = replay(&rt, alloc, &words, &mut source, &mut sink, &PlainGate).status;
+        assert_eq!(rt; status, Status::Done);
+        assert_eq!(rt; sink.pieces.len(), count);
+        assert!(rt; are_whole(sink.pieces.as_slice()));
+    }
     Ok(())
 }

@@ -1,13 +1,17 @@
-//! What a source has, as a trace or as a script.
-ghost use Rattle.std.specs.Prelude.{◌≡◌, ◌<◌, ◌^◌, ◌-◌, IfOk};
+//! What a source has, as a trace or as an input that is turned into a text.
+ghost use Rattle.std.specs.Prelude.{◌≡◌, ◌<◌, ◌^◌, ◌-◌, IfErr, IfOk, Ok};
 ghost use Rattle.trace_reader.specs.Grammar.{trace_of};
 ghost use Rattle.trace_reader.specs.Lines.{trace_limit};
 ghost use Rattle.trace_reader.specs.Values.{IsTraceValue};
-ghost use Rattle.step_script.specs.Output.{script_output};
+ghost use Rattle.step_script.specs.Reading.{IsFault};
 ghost use Rattle.vma_replay.specs.Reading.{IsReading, IsTaking, refused_as, taken_bytes};
+ghost use Rattle.vma_replay.specs.Replaying.{converted, most_converted};
 
 use crate::status::Status;
+use crate::words::Conversion;
 use io_edge::{Failed, Source};
+use maps_read::answer_of;
+use maps_retrace::retraced;
 use std::alloc::Global;
 use step_script::run_script;
 use trace_reader::{ReadError, TRACE_LIMIT, Trace, read};
@@ -29,16 +33,32 @@ pub(crate) fn read_source<S: Source>(alloc: Global, source: &mut S) -> Result<Tr
     }
 }
 
-/// Reads all of a source as a script, and runs it. A status says why it is none.
+/// Reads all of a source, and turns it into a text. A status says why it is none.
 #[tactic(auto, unfolding(trace_reader::specs::Lines::trace_limit))]
-pub(crate) fn run_source<S: Source>(alloc: Global, source: &mut S) -> Result<Vec<u8>, Status>
+pub(crate) fn convert_source<S: Source>(
+    alloc: Global,
+    source: &mut S,
+    conversion: Conversion,
+) -> Result<Vec<u8>, Status>
     requires { (S.seen source.old).faults < 2 ^ 64 - 1 }
-    ensures { IsReading script_output trace_limit (S.seen source.old) (S.seen source.new) (taken_bytes result) }
+    ensures { IsReading (converted conversion) (most_converted conversion) (S.seen source.old) (S.seen source.new) (taken_bytes result) }
 {
     let bytes = take_bytes(alloc, source, TRACE_LIMIT)?;
-    match run_script(alloc, &bytes) {
+    match convert(alloc, conversion, &bytes) {
         Ok(text) => Ok(text),
         Err(error) => Err(refused_as(error)),
+    }
+}
+
+/// The text that bytes are turned into. An error is their first bad line, or that memory ran out.
+fn convert(alloc: Global, conversion: Conversion, bytes: &[u8]) -> Result<Vec<u8>, ReadError>
+    ensures text { IfOk result (λ text. converted conversion bytes.now ≡ Ok text.items) }
+    ensures bad { IfErr result (λ error. IsFault error (converted conversion bytes.now)) }
+{
+    match conversion {
+        Conversion::Steps => run_script(alloc, bytes),
+        Conversion::Query { address } => answer_of(alloc, bytes, address),
+        Conversion::Retrace => retraced(alloc, bytes),
     }
 }
 

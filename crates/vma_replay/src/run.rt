@@ -11,7 +11,7 @@ ghost use Rattle.vma_replay.specs.Replaying.{GivesAll, GivesSerialOutput, GivesB
 
 use crate::generating::give_summary;
 use crate::giving::{give_run, give_text};
-use crate::reading::{read_source, run_source};
+use crate::reading::{convert_source, read_source};
 use crate::replayed::Replayed;
 use crate::status::Status;
 use crate::words::{Job, WordsFault, job_of};
@@ -25,8 +25,9 @@ use std::thread::Threads;
 /// `threads` those of each thread of the trace in a thread of its own, where the gate is called before and after each line. A thread that
 /// a line forks is the one thread of a child space, which begins with what its parent had there, and runs once the parent is closed.
 /// `steps` alone reads a script from the source, and gives what each of its steps results in and the state after it; no space is opened.
-/// `generate COUNT SEED` runs the generated trace of COUNT operations, at most 400,000, and a seed in the order of its lines, and gives
-/// its summary; the source is left as it is.
+/// `query ADDRESS` and `retrace` read a maps text, as proc_pid_maps(5) has it: the first gives the line of the area that covers an address,
+/// in bytes, or of the next one, or `none`; the second the trace that makes these areas. `generate COUNT SEED` runs the generated trace of
+/// COUNT operations, at most 400,000, and a seed in the order of its lines, and gives its summary; the source is left as it is.
 ///
 /// On `Words`, `Trace` and `ReadFault` nothing is given to the sink. On `WriteFault` what was given is a beginning of an
 /// output, and not all of it; on `NoMemory` a beginning. Words that are not accepted leave the source untouched too.
@@ -44,8 +45,8 @@ pub fn replay<R: Threads + Wait + Sync, S: Source, K: Sink, G: Gate>(
     requires sink_count_has_room { (K.seen sink.old).faults < 2 ^ 64 - 1 }
 
     // The headline: in a mode, what was given is the text of the histories of the closed runs, of the parent and of each child, and these
-    // are legal and of the trace that was read; in `steps`, it is the text of the script that was read; in `generate`, it is the summary of the generated
-    // trace, which was run once, in the order of its lines.
+    // are legal and of the trace that was read; in `steps`, `query` and `retrace`, it is the text that the input is turned into; in `generate`,
+    // it is the summary of the generated trace, which was run once, in the order of its lines.
     ensures output { result.status ≡ Status.Done → IsSomeAnd (job_of_words words.now) (λ job.
         GivesAll (work_of job) (S.seen source.old).left result.runs (K.seen sink.old) (K.seen sink.new)) }
     ensures serial_output { result.status ≡ Status.Done → mode_of_words words.now ≡ Some Serial → IfSome (S.seen source.old).left (λ input.
@@ -56,7 +57,7 @@ pub fn replay<R: Threads + Wait + Sync, S: Source, K: Sink, G: Gate>(
     ensures no_space { opens_a_space words.now ≡ false → result.runs ≡ [] }
     ensures counts_stand_still { result.status ≡ Status.Done → ((S.seen source.new).faults ≡ (S.seen source.old).faults) × ((K.seen sink.new).faults ≡ (K.seen sink.old).faults) }
 
-    // What was read: in a mode and in `steps` all of the input, or enough to tell that it is no trace or no script; and else nothing.
+    // What was read: in all but `generate` all of the input, or enough to tell that it is not of its form; and else nothing.
     ensures whole_input_read { reads_the_source words.now ≡ true → result.status ≡ Status.Done → IsAtEnd (S.seen source.new).left }
     ensures enough_read { reads_the_source words.now ≡ true → (result.status ≡ Status.Done) ⊎ ((line : ℕ) × (cause : Cause) × (result.status ≡ Status.Trace line cause))
         → IsSomeAnd (most_of_words words.now) (λ most. ReadsEnough most (S.seen source.old).left (S.seen source.new).left) }
@@ -93,7 +94,7 @@ pub fn replay<R: Threads + Wait + Sync, S: Source, K: Sink, G: Gate>(
             Ok(trace) => give_run(rt, alloc, mode, sink, &trace, gate),
             Err(status) => Replayed::without_runs(alloc, status),
         },
-        Ok(Job::Steps) => match run_source(alloc, source) {
+        Ok(Job::Convert(conversion)) => match convert_source(alloc, source, conversion) {
             Ok(text) => give_text(alloc, sink, &text),
             Err(status) => Replayed::without_runs(alloc, status),
         },

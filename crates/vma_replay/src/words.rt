@@ -1,7 +1,7 @@
 ghost use Rattle.std.specs.Prelude.{◌≡◌, ◌≤◌, IfErr, IfOk, IfSome, Err, None, Some, map, string_bytes, true};
 ghost use Rattle.std.specs.List.{list_any};
 ghost use Rattle.clap.specs.Words.{app_of, found_of, matches_of, rows_of, takes};
-ghost use Rattle.vma_replay.specs.Jobs.{alone, generate_job, generate_words, job_of_words, named_job, operation_count};
+ghost use Rattle.vma_replay.specs.Jobs.{alone, generate_job, generate_words, job_of_words, named_job, operation_count, query_words};
 ghost use Rattle.vma_replay.specs.CommandLine.{begins_with_dash, job_of_rows, words_command};
 ghost use Rattle.vma_replay.specs.Tallies.{IsInLimits};
 
@@ -9,7 +9,7 @@ use clap::error::ErrorKind;
 use clap::{Arg, ArgMatches, Command};
 use gen_load::MOST_OPERATIONS;
 use std::alloc::{AllocError, Global};
-use trace_reader::decimal_of;
+use trace_reader::{decimal_of, number_of};
 
 /// The name of the argument that is the mode.
 const MODE: &str = "mode";
@@ -26,13 +26,24 @@ pub enum Mode {
     Threads,
 }
 
+/// What text is made of an input, over which no space is opened.
+#[derive(Clone, Copy, Debug, PartialEq, Eq)]
+pub enum Conversion {
+    /// Of a script: what each of its steps results in, and the state after it.
+    Steps,
+    /// Of a maps text: the line of the area that covers an address, in bytes, or of the next one.
+    Query { address: u64 },
+    /// Of a maps text: the trace that makes these areas.
+    Retrace,
+}
+
 /// What the words after the program's name ask for.
 #[derive(Clone, Copy, Debug, PartialEq, Eq)]
 pub enum Job {
     /// To read a trace, run its lines in a mode, and give all replies and the final list of areas.
     Replay(Mode),
-    /// To read a script, make its steps, and give what each results in and the state after it.
-    Steps,
+    /// To read an input, and give the text that it is turned into.
+    Convert(Conversion),
     /// To run the generated trace of so many operations and a seed in the order of its lines, and give its summary.
     Generate { count: u32, seed: u64 },
 }
@@ -46,8 +57,8 @@ pub(crate) enum WordsFault {
     NoMemory,
 }
 
-/// The job that words name: `serial`, `threads` and `steps`, each alone, and `generate` with a count of operations and a seed name one.
-/// No word may begin with `-`, so there are no options and no `--`.
+/// The job that words name: `serial`, `threads`, `steps` and `retrace`, each alone, `query` with an address, and `generate` with a count
+/// of operations and a seed name one. No word may begin with `-`, so there are no options and no `--`.
 #[tactic(auto, using(crate::proofs::CommandLine::named_by_words, crate::proofs::CommandLine::refused, crate::proofs::CommandLine::dash_refused))]
 pub(crate) fn job_of(alloc: Global, words: &[String]) -> Result<Job, WordsFault>
     ensures job { IfOk result (λ job. job_of_words words.now ≡ Some job) }
@@ -106,7 +117,9 @@ fn named_job(name: &str, rest: &[&str]) -> Option<Job>
     match name {
         "serial" => alone(Job::Replay(Mode::Serial), rest),
         "threads" => alone(Job::Replay(Mode::Threads), rest),
-        "steps" => alone(Job::Steps, rest),
+        "steps" => alone(Job::Convert(Conversion::Steps), rest),
+        "retrace" => alone(Job::Convert(Conversion::Retrace), rest),
+        "query" => query_words(rest),
         "generate" => generate_words(rest),
         _ => None,
     }
@@ -119,6 +132,19 @@ fn alone(job: Job, rest: &[&str]) -> Option<Job>
     ensures limits { IfSome result IsInLimits }
 {
     if rest.is_empty() { Some(job) } else { None }
+}
+
+/// The job of the words after `query`: an address, which is a number as the lines of a trace have it.
+fn query_words(rest: &[&str]) -> Option<Job>
+    ensures job { result ≡ query_words (map (λ word. word.now) rest.now) }
+    ensures limits { IfSome result IsInLimits }
+{
+    match rest {
+        [address] => Some(Job::Convert(Conversion::Query {
+            address: number_of(address)?,
+        })),
+        _ => None,
+    }
 }
 
 /// The job of the words after `generate`.

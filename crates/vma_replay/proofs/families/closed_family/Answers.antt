@@ -1,6 +1,8 @@
 -- The proof of `closed_family`: the parent's trace is one, its history is legal, and its forks are those of its children.
-use Rattle.std.proofs.Common.{◌∙◌, rules}
+use Rattle.std.proofs.Common.{◌∙◌, List, All, subst, sym, rules}
+use Rattle.mm_types.specs.declared.call.Entry.{Entry}
 use Rattle.trace_reader.specs.Values.{IsTraceValue}
+use Rattle.vma_replay.specs.Families.{AreRunsOfChildren, IsForkOf, IsOfParent}
 use Rattle.vma_replay.proofs.Parents.{bears, family_made, few_lines, found_right, legal_items, low_threads, parent_value}
 use Rattle.vma_replay.proofs.families.closed_family.Goals as goal
 
@@ -26,16 +28,24 @@ forks_of-requires-clause-legal g c =
     (parent_value c.args.trace.now c.args.parent.now c.requires.parent c.requires.trace) c.in_ok-run.ensures.run c.items.ensures
     c.in_ok-history.ensures c.items-2.ensures
 
-pub with_children-requires-clause-parent : goal.with_children-requires-clause-parent
-with_children-requires-clause-parent g c =
-    bears c.args.mode c.args.trace.now c.args.parent.now c.in_ok-run.run' c.requires.trace c.requires.parent c.in_ok-run.ensures.run
+pub children_runs-requires-clause-parent : goal.children_runs-requires-clause-parent
+children_runs-requires-clause-parent g c lifetimes outlives =
+    subst (IsOfParent c.args.trace.now.config) (sym c.journal.ensures)
+    (bears c.args.mode c.args.trace.now c.args.parent.now c.in_ok-run.run' c.requires.trace c.requires.parent c.in_ok-run.ensures.run)
 
-pub with_children-requires-clause-forks : goal.with_children-requires-clause-forks
-with_children-requires-clause-forks g c = found_right c.args.trace.now c.args.parent.now c.args.mode c.in_ok-run.run' c.items.result.now
+pub children_runs-requires-clause-forks : goal.children_runs-requires-clause-forks
+children_runs-requires-clause-forks g c lifetimes outlives =
+    subst (λ (journal : List Entry). All (IsForkOf c.args.trace.now.lines journal) c.as_slice.result.now) (sym c.journal.ensures)
+    (found_right c.args.trace.now c.args.parent.now c.args.mode c.in_ok-run.run' c.items.result.now
     c.in_ok-history.history c.items-2.result.now _ c.requires.trace c.in_ok-run.ensures.run c.requires.parent c.items.ensures c.in_ok-history.ensures
-    c.items-2.ensures (c.as_slice.ensures.value ∙ c.in_ok-forks.ensures)
+    c.items-2.ensures (c.as_slice.ensures.value ∙ c.in_ok-forks.ensures))
 
 pub returns : goal.returns
 returns g c = family_made c.args.trace.now c.args.parent.now c.args.mode c.in_ok-run.run' c.items.result.now c.in_ok-history.history
-    c.items-2.result.now c.in_ok-forks.forks.items c.as_slice.result.now c.in_ok-runs.runs.items c.in_ok-run.ensures.run c.in_ok-run.ensures.list c.requires.parent c.items.ensures c.in_ok-history.ensures
-    c.items-2.ensures c.in_ok-forks.ensures c.as_slice.ensures.value c.in_ok-runs.ensures
+    c.items-2.result.now c.in_ok-forks.forks.items c.as_slice.result.now _ c.in_ok-run.ensures.run c.in_ok-run.ensures.list c.requires.parent
+    c.items.ensures c.in_ok-history.ensures c.items-2.ensures c.in_ok-forks.ensures c.as_slice.ensures.value (
+      c.in_ok-runs.runs.items,
+      c.in_ok-insert.ensures.items,
+      subst (λ (journal : List Entry). AreRunsOfChildren c.args.trace.now journal c.as_slice.result.now c.in_ok-runs.runs.items) c.journal.ensures
+          c.in_ok-runs.ensures,
+    )

@@ -1,9 +1,9 @@
--- The proof of `in_order`: it ran a beginning of the lines, and all of them at the end.
+-- The proof of `in_order_with`: it ran a beginning of the lines, and all of them at the end.
 use Rattle.std.proofs.Common.{◌≤◌, List, length, subst}
 use Rattle.trace_reader.specs.declared.trace.TraceLine.{TraceLine}
 use Rattle.vma_drive.proofs.RanLines.{ran_none, ran_shown, ran_no_more, asks_shown}
 use Rattle.vma_drive.proofs.Unused.{begun_alone, done_alone, late_alone, grown_alone}
-use Rattle.vma_drive.proofs.driving.in_order.Goals as goal
+use Rattle.vma_drive.proofs.driving.in_order_with.Goals as goal
 
 pub returns-in_err-run_op-clause-begun : goal.returns-in_err-run_op-clause-begun
 returns-in_err-run_op-clause-begun g c = (

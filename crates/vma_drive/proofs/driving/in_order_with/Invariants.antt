@@ -1,7 +1,7 @@
--- The proof of `in_order`: what its loop keeps.
+-- The proof of `in_order_with`: what its loop keeps.
 use Rattle.mm_space.specs.Names.{IsPassOf}
 use Rattle.vma_drive.proofs.RanLines.{RanTo}
-use Rattle.vma_drive.proofs.driving.in_order.Given as goal
+use Rattle.vma_drive.proofs.driving.in_order_with.Given as goal
 
 abbrev pub invariant-loop-line : goal.invariant-loop-line
 invariant-loop-line g l = record {
