@@ -1,0 +1,143 @@
+"""Outputs of `serial` compared: where two part first, and in which way."""
+import re
+from collections import namedtuple
+
+from .traces import PAGE
+
+ITEM = re.compile(r"L(\d+) t(\d+) v(\d+) = (.*)")
+AREA = re.compile(r"([0-9a-f]{8,})-([0-9a-f]{8,}) ([r-][w-][x-][sp]) ([0-9a-f]{8,}) ([0-9a-f]{2,}:[0-9a-f]{2,}) (\d+) *(.*)")
+RESULT = re.compile(r"0|0x[0-9a-f]+|-1 E[A-Z0-9]+|SIG(SEGV|BUS) [A-Z_]+|served [0-9a-f]+-[0-9a-f]+ [rwxsp-]{4} page \d+|"
+                    r"child \d+ areas \d+|maps \d+")
+FACTS = ["permissions", "offset", "device", "inode", "name"]  # of a page in a list
+
+# A result, a list or the head of a child, with the lines below its first. `number` is a line of the trace, None for a last list.
+Part = namedtuple("Part", "number thread version result lines")
+# How two outputs part: the operation, what is answered here and there, the line of the trace, and the lines of both outputs.
+Difference = namedtuple("Difference", "operation here there number here_lines there_lines")
+
+
+def kind_of(difference):
+    return difference[:3]
+
+
+def parts_of(output):
+    """The parts of an output. A line that is of no form stands for itself."""
+    lines = output.split("\n")
+    if lines[-1] == "":
+        lines.pop()
+    parts = []
+    for line in lines:
+        item = ITEM.fullmatch(line)
+        if item:
+            number, thread, version, result = item.groups()
+            parts.append(Part(int(number), int(thread), int(version), result, [line]))
+        elif AREA.fullmatch(line) and parts and parts[-1].result.startswith("maps"):
+            parts[-1].lines.append(line)
+        else:
+            parts.append(Part(None, None, None, line, [line]))
+    return parts
+
+
+def first_difference(here, there, words, last_lists=True):
+    """The first difference of two outputs, as texts. `words` has the operation of each line of the trace. The lists at the end are
+    compared where it is so wanted."""
+    if here == there:
+        return None
+    heres, theres = parts_of(here), parts_of(there)
+    for place, right in enumerate(heres):
+        if place == len(theres):
+            return Difference(words.get(right.number, "list"), "an answer", "the output ends", right.number, right.lines, [])
+        given = theres[place]
+        if right == given or not last_lists and right.number is None and is_list(right) and is_list(given):
+            continue
+        return difference_of(right, given, words)
+    if len(theres) > len(heres):
+        return Difference("output", "the end", "the output goes on", None, [], theres[len(heres)].lines)
+    if not there.endswith("\n"):
+        return Difference("output", "a newline", "no newline at the end", None, [], theres[-1].lines[-1:])
+    return None  # no more than the lists at the end
+
+
+def is_list(part):
+    return part.result.startswith("maps ")
+
+
+def difference_of(right, given, words):
+    operation = words.get(right.number, "list" if is_list(right) else "output")
+
+    def told(here, there):
+        return Difference(operation, here, there, right.number, right.lines, given.lines)
+
+    if given.number is None and (right.number is not None or is_list(right) != is_list(given)):
+        is_known = is_list(given) or given.result.startswith("child ")
+        return told("an answer", "the output goes on with something else" if is_known else "a line of no known form")
+    if (right.number, right.thread) != (given.number, given.thread):
+        return told("an answer", "the answer to another line")
+    if not RESULT.fullmatch(given.result) and right.number is not None:
+        return told("an answer", "a line of no known form")
+    if right.lines[1:] == given.lines[1:] and right.result == given.result:
+        return told("a version", "another version")
+    if is_list(right) and is_list(given):
+        return told(*list_difference(right.lines[1:], given.lines))
+    return told(*answers_of(right.result, given.result))
+
+
+def answers_of(here, there):
+    """Two results that are not equal, in words that do not depend on addresses."""
+    short = [answer_of(result) for result in (here, there)]
+    if short[0] == short[1] == "served":
+        return "served", "served otherwise"
+    return (short[0], short[1] if short[0] != short[1] else short[1].replace("an ", "another ", 1))
+
+
+def answer_of(result):
+    for start, short in (("0x", "an address"), ("served", "served"), ("child", "a child"), ("maps", "a list")):
+        if result.startswith(start):
+            return short
+    return result
+
+
+# Lists
+
+
+def areas_of(lines):
+    """The areas that lines of a list tell: first and last page and the facts, or None where they are no list."""
+    areas = []
+    for line in lines:
+        fields = AREA.fullmatch(line)
+        if fields is None:
+            return None
+        lo, hi, permissions, offset, device, inode, name = fields.groups()
+        areas.append((int(lo, 16) // PAGE, int(hi, 16) // PAGE, (permissions, int(offset, 16) // PAGE, device, inode, name)))
+    return areas
+
+
+def facts_at(area, page):
+    """What an area says of one of its pages. Its offset runs on where it maps an object."""
+    permissions, offset, device, inode, name = area[2]
+    is_plain = inode == "0" and name in ("", "[heap]")
+    return permissions, offset if is_plain else offset + page - area[0], device, inode, name
+
+
+def list_difference(here, there):
+    """How two lists part: by what a page is mapped to, or by the borders of areas alone."""
+    count, *there = there
+    areas = areas_of(here), areas_of(there)
+    if areas[1] is None or count.split(" ")[-1] != str(len(there)):
+        return "a list", "a list of no known form"
+    pages = sorted({page for side in areas for lo, hi, _ in side for page in (lo, hi)})
+    for page in pages:
+        found = [next((facts_at(area, page) for area in side if area[0] <= page < area[1]), None) for side in areas]
+        if found[0] != found[1]:
+            return fact_difference(*found)
+    if len(areas[0]) != len(areas[1]):
+        joined = len(areas[0]) < len(areas[1])
+        return ("list: joined", "list: apart") if joined else ("list: apart", "list: joined")
+    return "list: a border", "list: another border" if areas[0] != areas[1] else "list: the same in other letters"
+
+
+def fact_difference(here, there):
+    if here is None or there is None:
+        return ("list: not mapped", "list: mapped") if here is None else ("list: mapped", "list: not mapped")
+    fact = next(name for name, *facts in zip(FACTS, here, there) if facts[0] != facts[1])
+    return f"list: {fact}", f"list: other {fact}"
