@@ -140,7 +140,8 @@ def is_mremap(test, here="-1 E", there=""):
 def has_several(seen):
     lo, hi = seen.pages()
     keeps_size = seen.fixed is not None and pages_of(seen.arguments[1]) == pages_of(seen.arguments[2])
-    return keeps_size and len(areas_in(seen.areas, lo, hi)) > 1
+    area = area_at(seen.areas, lo)
+    return keeps_size and area is not None and area.hi < hi
 
 
 def is_past_limit(seen):
@@ -356,7 +357,7 @@ CASES = [Case(*row) for row in (
     ("mremap-too-long", "mremap to a length above user memory", is_mremap(is_too_long, "-1 ENOMEM", "-1 EINVAL")),
     ("mremap-object-end", "mremap of a file past page 2^51 - 1", is_mremap(is_past_object, "-1 EINVAL")),
     ("seal-other-error", "mremap of a sealed area that fails for another reason too", is_seal_other_error),
-    ("mremap-several", "mremap of several areas at once to a fixed place", is_mremap(has_several, "-1 EFAULT")),
+    ("mremap-several", "mremap of several areas, or of one and a hole behind it, to a fixed place", is_mremap(has_several, "-1 EFAULT")),
     ("seal-fixed-cut", "mremap to a fixed place with a smaller size, a sealed page in what is cut", is_seal_cut),
     ("mremap-cut-first", "mremap to a fixed place with a smaller size, refused", is_cut_first),
     ("seal-kept", "mremap with a sealed page in what stays", is_seal_kept),
