@@ -2,8 +2,8 @@
 
 use area_list::sound;
 use mm_types::{
-    ADDRESS_LIMIT, Access, AreaList, Call, Config, Errno, Files, MAP_ANONYMOUS, MAP_FIXED,
-    MAP_GROWSDOWN, MAP_PRIVATE, MAP_SHARED, MmapArgs, Page, Prot, Reply, Verdict, WIDE_LIMIT,
+    ADDRESS_LIMIT, Access, Call, Config, Errno, Files, MAP_ANONYMOUS, MAP_FIXED, MAP_GROWSDOWN,
+    MAP_PRIVATE, MAP_SHARED, MmapArgs, NoMemory, Page, Prot, Reply, Verdict, WIDE_LIMIT,
 };
 use std::process::Abort;
 use std::test::Fail;
@@ -51,11 +51,17 @@ fn makes(rt: &impl Abort, space: &mut PlainSpace<'_>, calls: &[(Call, Reply)]) {
 }
 
 /// The addresses at which the areas begin and end.
-fn lists(rt: &impl Abort, space: &PlainSpace<'_>, spans: &[(u64, u64)]) {
-    assert_eq!(rt; space.list().len(), spans.len());
-    for (area, (lo, hi)) in space.list().iter().zip(spans) {
+fn lists(
+    rt: &(impl Abort + AllocGlobal),
+    space: &PlainSpace<'_>,
+    spans: &[(u64, u64)],
+) -> Result<(), NoMemory> {
+    let list = space.copy_list(rt.alloc())?;
+    assert_eq!(rt; list.items().len(), spans.len());
+    for (area, (lo, hi)) in list.items().iter().zip(spans) {
         assert!(rt; area.span.lo == lo / 4096 && area.span.hi == hi / 4096);
     }
+    Ok(())
 }
 
 #[test]
@@ -89,7 +95,7 @@ fn high_hints(rt: HostRuntime) -> Result<(), Fail> {
             (0x7fff_ffff_e000, 0x8000_0000_0000),
             (0xff_ffff_ffff_e000, 0xff_ffff_ffff_f000),
         ],
-    );
+    )?;
     Ok(())
 }
 
@@ -145,7 +151,7 @@ fn growing_areas(rt: HostRuntime) -> Result<(), Fail> {
     grows(&rt, &mut space, 0xfe, 0x102);
     assert_eq!(rt; space.verdict(Page(0xfd), Access::Write), Verdict::MapErr);
     assert!(rt; !space.grows(Page(0xfd), Access::Write));
-    lists(&rt, &space, &[(0xf_c000, 0xf_d000), (0xf_e000, 0x10_2000)]);
+    lists(&rt, &space, &[(0xf_c000, 0xf_d000), (0xf_e000, 0x10_2000)])?;
     Ok(())
 }
 
@@ -189,8 +195,8 @@ fn heap_and_seals(rt: HostRuntime) -> Result<(), Fail> {
             (start + 4096, 0x5555_5557_b000),
             (0x5555_5557_c000, 0x5555_5557_d000),
         ],
-    );
-    let list = AreaList::of(space.list().to_vec(rt.alloc())?);
+    )?;
+    let list = space.copy_list(rt.alloc())?;
     assert!(rt; sound(&config, &list));
     Ok(())
 }

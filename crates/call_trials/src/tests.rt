@@ -87,7 +87,8 @@ fn compare_call(
     let wanted = model_step(alloc, config, model.counters, &model.list, &call)?;
     assert!(rt; space.counters().objects < u32::MAX);
     assert_eq!(rt; space.call(&call), wanted.reply, "{call:?}");
-    assert!(rt; space.list() == wanted.list.items(), "{call:?}");
+    let list = space.copy_list(alloc)?;
+    assert!(rt; list.items() == wanted.list.items(), "{call:?}");
     assert!(rt; space.counters() == wanted.counters, "{call:?}");
     Ok(wanted)
 }

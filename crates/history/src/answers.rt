@@ -7,6 +7,7 @@ use crate::items::Content;
 use crate::same::{same_call, same_list, same_reply, same_verdict};
 use mm_types::{AreaList, Call, NoMemory, Record, Reply, Verdict};
 use std::alloc::Global;
+use sys_calls::PlainSpace;
 
 /// What an item answers, or what was expected of it: a call with its reply, the verdict on a fault, a list of areas, or nothing where there
 /// is no item or no line.
@@ -71,26 +72,34 @@ impl Answer {
 }
 
 impl Expected {
-    /// The answer, with a copy of the areas where it is the list.
-    pub(crate) fn answer(&self, alloc: Global, areas: &[Record]) -> Result<Answer, NoMemory>
-        ensures { IfOk result (λ answer. answer ≡ shown areas.now self.now) }
+    /// The answer over an address space, with a copy of its areas where it is the list.
+    pub(crate) fn answer(&self, alloc: Global, space: &PlainSpace<'_>) -> Result<Answer, NoMemory>
+        ensures { IfOk result (λ answer. answer ≡ shown space.now.space.areas self.now) }
     {
         match self {
             Expected::Call(call, reply) => Ok(Answer::Call(*call, *reply)),
             Expected::Fault(verdict) => Ok(Answer::Fault(*verdict)),
-            Expected::List => Ok(Answer::List(copied(alloc, areas)?)),
+            Expected::List => Ok(Answer::List(space.copy_list(alloc)?)),
             Expected::Nothing => Ok(Answer::Nothing),
         }
     }
 
-    /// Whether an item answers this over these areas.
-    pub(crate) fn is_in(&self, areas: &[Record], content: &Content) -> bool
-        ensures { IsTrue result ↔ (shown areas.now self.now ≡ answer_in content.now) }
+    /// Whether an item answers this over an address space. Its areas are asked for only where the item is a list.
+    pub(crate) fn is_in(
+        &self,
+        alloc: Global,
+        space: &PlainSpace<'_>,
+        content: &Content,
+    ) -> Result<bool, NoMemory>
+        ensures { IfOk result (λ is. IsTrue is ↔ (shown space.now.space.areas self.now ≡ answer_in content.now)) }
     {
         match content {
-            Content::Called(call, reply) => self.is_call(call, reply),
-            Content::Fault { verdict, .. } => self.is_verdict(verdict),
-            Content::List(list) => self.is_list() && same_list(list.items(), areas),
+            Content::Called(call, reply) => Ok(self.is_call(call, reply)),
+            Content::Fault { verdict, .. } => Ok(self.is_verdict(verdict)),
+            Content::List(list) => {
+                let areas = space.copy_list(alloc)?;
+                Ok(self.is_list() && same_list(list.items(), areas.items()))
+            }
         }
     }
 

@@ -111,10 +111,11 @@ impl<'a> Walk<'a> {
             }));
         }
         let expected = run_line(&mut self.space, line);
-        if !expected.is_in(self.space.list(), &item.content) {
+        let is_answered = expected.is_in(alloc, &self.space, &item.content)?;
+        if !is_answered {
             return Err(CheckFault::Bad(BadEntry {
                 place: place as u64 + 1,
-                expected: expected.answer(alloc, self.space.list())?,
+                expected: expected.answer(alloc, &self.space)?,
                 found: Answer::of(alloc, &item.content)?,
             }));
         }
@@ -147,7 +148,7 @@ impl<'a> Walk<'a> {
         let expected = run_line(&mut self.space, line);
         Err(CheckFault::Bad(BadEntry {
             place: case.items.len() as u64 + 1,
-            expected: expected.answer(alloc, self.space.list())?,
+            expected: expected.answer(alloc, &self.space)?,
             found: Answer::Nothing,
         }))
     }

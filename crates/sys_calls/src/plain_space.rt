@@ -1,5 +1,5 @@
 //! An address space without locks.
-ghost use Rattle.std.specs.Prelude.{◌≡◌, ◌≤◌, ◌<◌, ◌+◌, ◌-◌, ◌^◌, IfOk};
+ghost use Rattle.std.specs.Prelude.{◌≡◌, ◌≤◌, ◌<◌, ◌+◌, ◌-◌, ◌^◌, length, IfOk};
 ghost use Rattle.mm_types.specs.Config.{IsValidConfig};
 ghost use Rattle.area_list.specs.Areas.{IsSound};
 ghost use Rattle.area_rules.specs.Steps.{step, opening};
@@ -8,18 +8,19 @@ ghost use Rattle.area_rules.specs.Tables.{counters_of};
 ghost use Rattle.area_rules.specs.Verdicts.{verdict};
 
 use crate::plans::plan_call;
-use mm_types::{Access, Call, Config, Counters, NoMemory, Page, Record, Reply, Verdict};
-use split_merge::Plan;
+use area_chunks::AreaChunks;
+use mm_types::{Access, AreaList, Call, Config, Counters, NoMemory, Page, Reply, Verdict};
+use split_merge::{Areas, Plan};
 use std::alloc::Global;
 use std::marker::Model;
-use sys_map::{VecAreas, grows, verdict};
+use sys_map::{grows, verdict};
 
 /// An address space without locks, for calls one after another. Contracts see it as the space of the model with its
 /// configuration. All memory of its calls is taken when it is made.
 #[derive(Drop)]
 pub struct PlainSpace<'a> {
     config: &'a Config,
-    areas: VecAreas,
+    areas: AreaChunks,
     counters: Counters,
     /// Empty between two calls.
     plan: Plan,
@@ -44,7 +45,7 @@ impl<'a> PlainSpace<'a> {
         requires { IsValidConfig config.now }
         ensures { IfOk result (λ space. space ≡ record { config = config.now; space = opening config.now }) }
     {
-        let areas = VecAreas::with_room(alloc, config)?;
+        let areas = AreaChunks::with_room(alloc, config)?;
         let plan = Plan::with_room(alloc, config.areas)?;
         Ok(PlainSpace {
             config,
@@ -54,8 +55,8 @@ impl<'a> PlainSpace<'a> {
         })
     }
 
-    /// Makes a call, and returns what the kernel does. A call costs what its plan costs: a few searches by page, and the
-    /// areas after those that change move at most once.
+    /// Makes a call, and returns what the kernel does. A call costs what its plan costs: a few searches by page, and for each
+    /// change the chunk of the list that it is in.
     pub fn call(&mut self, call: &Call) -> Reply
         requires room { self.old.space.objects < 2 ^ 32 - 1 }
         ensures reply { result ≡ (step self.old.config self.old.space call.now).reply }
@@ -90,12 +91,19 @@ impl<'a> PlainSpace<'a> {
         grows(self.config, &self.areas, page, access)
     }
 
-    /// The areas, in order. They are sound for the configuration.
-    pub fn list(&self) -> &[Record]
-        ensures list { result.now ≡ self.now.space.areas }
+    /// A copy of the list of areas, which is sound for the configuration. `NoMemory` where there is none for it.
+    pub fn copy_list(&self, alloc: Global) -> Result<AreaList, NoMemory>
+        ensures list { IfOk result (λ list. list ≡ self.now.space.areas) }
         ensures sound { IsSound self.now.config self.now.space.areas }
     {
-        self.areas.list()
+        self.areas.copy_list(alloc)
+    }
+
+    /// How many areas there are.
+    pub fn count(&self) -> u64
+        ensures { result ≡ length self.now.space.areas }
+    {
+        self.areas.count()
     }
 
     /// What it keeps besides the areas: how many objects are numbered, and the break.

@@ -1,9 +1,10 @@
 //! Calls of every kind one after another, with replies, areas and verdicts worked by hand.
+ghost use Rattle.std.specs.Prelude.{◌<◌, ◌^◌};
 
 use crate::PlainSpace;
 use mm_types::{
     Access, Attr, Call, Config, Errno, FileRow, Files, MAP_ANONYMOUS, MAP_FIXED, MAP_PRIVATE,
-    MAP_SHARED, MREMAP_MAYMOVE, MmapArgs, Page, Prot, Record, Reply, Span, Text, Verdict,
+    MAP_SHARED, MREMAP_MAYMOVE, MmapArgs, NoMemory, Page, Prot, Record, Reply, Span, Text, Verdict,
 };
 use std::alloc::{AllocError, Global};
 use std::process::Abort;
@@ -106,12 +107,20 @@ fn area(lo: u64, hi: u64, prot: Prot, object: u32, offset: u64) -> Record {
 }
 
 /// Makes calls one after another, each with its reply, and compares the areas after them.
-fn makes(rt: &impl Abort, space: &mut PlainSpace<'_>, calls: &[(Call, Reply)], areas: &[Record]) {
+fn makes(
+    rt: &(impl Abort + AllocGlobal),
+    space: &mut PlainSpace<'_>,
+    calls: &[(Call, Reply)],
+    areas: &[Record],
+) -> Result<(), NoMemory> {
     for (call, reply) in calls {
         assert!(rt; space.counters().objects < u32::MAX);
         assert_eq!(rt; space.call(call), *reply, "{call:?}");
     }
-    assert_eq!(rt; space.list(), areas);
+    let list = space.copy_list(rt.alloc())?;
+    assert_eq!(rt; list.items(), areas);
+    assert_eq!(rt; space.count(), areas.len() as u64);
+    Ok(())
 }
 
 #[test]
@@ -150,7 +159,7 @@ fn calls_and_faults(rt: HostRuntime) -> Result<(), Fail> {
             area(0x25, 0x26, READ, 0, 0),
             area(0x26, 0x28, READ_WRITE, 0, 0),
         ],
-    );
+    )?;
     let file = area(0x24, 0x26, READ_WRITE, 1, 1);
     makes(
         &rt,
@@ -165,7 +174,7 @@ fn calls_and_faults(rt: HostRuntime) -> Result<(), Fail> {
             file,
             area(0x26, 0x29, READ_WRITE, 0, 0),
         ],
-    );
+    )?;
     faults(&rt, &space, file);
     makes(
         &rt,
@@ -186,7 +195,7 @@ fn calls_and_faults(rt: HostRuntime) -> Result<(), Fail> {
             area(0x25, 0x26, READ_WRITE, 1, 2),
             area(0x26, 0x29, READ_WRITE, 0, 0),
         ],
-    );
+    )?;
     assert_eq!(rt; space.counters().objects, 3);
     Ok(())
 }
@@ -209,4 +218,83 @@ fn faults(rt: &impl Abort, space: &PlainSpace<'_>, file: Record) {
     for (page, access, verdict) in cases {
         assert_eq!(rt; space.verdict(Page(page), access), verdict);
     }
+}
+
+/// How many rounds of areas come and go, each in a part of the memory of its own, and how many areas come in a round.
+const ROUNDS: u64 = 16;
+
+const COMING: u64 = 200;
+
+/// Maps one page at a fixed place, or unmaps it if it is mapped, in the space and in a sorted list of the mapped pages.
+fn turn_page(
+    rt: &impl Abort,
+    space: &mut PlainSpace<'_>,
+    pages: &mut Vec<u64>,
+    page: u64,
+) -> Result<(), AllocError>
+    requires { page < 2 ^ 20 }
+{
+    let place = pages.partition_point(|other| *other < page);
+    let is_mapped = place < pages.len() && pages[place] == page;
+    assert!(rt; space.counters().objects < u32::MAX);
+    if is_mapped {
+        assert_eq!(rt; space.call(&unmapping(page * 4096, 4096)), Reply::Zero);
+        pages.remove(place);
+    } else {
+        let call = Call::Mmap(MmapArgs {
+            addr: page * 4096,
+            len: 4096,
+            prot: READ,
+            flags: MAP_PRIVATE | MAP_ANONYMOUS | MAP_FIXED,
+            fd: -1,
+            offset: 0,
+        });
+        assert_eq!(rt; space.call(&call), Reply::Addr(page * 4096));
+        pages.insert(place, page)?;
+    }
+    Ok(())
+}
+
+/// Compares the areas, of one page each, with a sorted list of the mapped pages.
+fn has_pages(
+    rt: &(impl Abort + AllocGlobal),
+    space: &PlainSpace<'_>,
+    pages: &[u64],
+) -> Result<(), NoMemory> {
+    let list = space.copy_list(rt.alloc())?;
+    assert_eq!(rt; list.items().len(), pages.len());
+    for (area, page) in list.items().iter().zip(pages) {
+        assert_eq!(rt; area.span.lo, *page);
+    }
+    assert_eq!(rt; space.count(), pages.len() as u64);
+    Ok(())
+}
+
+/// In each round many areas come, so that chunks are divided, and most go again, so that few areas are left in many chunks; after
+/// some rounds no chunk is spare, and all areas are shared out anew.
+#[test]
+fn many_areas(rt: HostRuntime) -> Result<(), Fail> {
+    let config = Config {
+        top: 0x7fff_0000_0000,
+        areas: 700,
+        ..config(rt.alloc())?
+    };
+    assert!(rt; config.valid());
+    let mut space = PlainSpace::new(rt.alloc(), &config)?;
+    let mut pages = Vec::new(rt.alloc());
+    for round in 0..ROUNDS {
+        for coming in 0..COMING {
+            // Neither from the lowest page up nor from the highest down.
+            let page = 0x100 + round * 512 + 2 * (coming * 77 % COMING);
+            turn_page(&rt, &mut space, &mut pages, page)?;
+        }
+        has_pages(&rt, &space, pages.as_slice())?;
+        for going in 0..COMING {
+            if going % 60 != 0 {
+                turn_page(&rt, &mut space, &mut pages, 0x100 + round * 512 + 2 * going)?;
+            }
+        }
+        has_pages(&rt, &space, pages.as_slice())?;
+    }
+    Ok(())
 }

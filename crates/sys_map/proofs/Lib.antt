@@ -1,13 +1,3 @@
-pub mod Splicing
-pub mod Fronting
-pub mod Editing
-pub mod Going
-pub mod Leaving
-pub mod Coming
-pub mod Unsealed
-pub mod Ranging
-pub mod InOrder
-pub mod Scanning
 pub mod Cutting
 pub mod MmapCases
 pub mod TouchCases

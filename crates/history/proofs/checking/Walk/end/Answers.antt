@@ -1,6 +1,5 @@
 -- The proof of `Walk::end`: what follows where no line is left, and where one is.
-use Rattle.std.proofs.Common.{◌∙◌, refl, ap, List}
-use Rattle.mm_types.specs.declared.area.Record.{Record}
+use Rattle.std.proofs.Common.{refl}
 use Rattle.history.specs.Walks.{shown}
 use Rattle.history.proofs.Walking.{walked_room, ends_legal, ends_early}
 use Rattle.history.proofs.checking.Walk.end.Goals as goal
@@ -17,4 +16,4 @@ returns-clause-refused c =
     (c.in-Some.ensures c.args.case.now.lines.now _ c.requires.progress)
     (c.next_line-line.ensures _ c.requires.progress)
     c.run_line-expected.ensures.answer refl
-    (c.in_ok-answer.ensures ∙ ap (λ (areas : List Record). shown areas c.run_line-expected.result) c.list.ensures.list) refl
+    c.in_ok-answer.ensures refl

@@ -1,8 +1,7 @@
 -- The proof of `Walk::judge`: what it calls may be called, and what follows of a good item and of a wrong one.
-use Rattle.std.proofs.Common.{◌∙◌, refl, sym, ap, List, slice_index_or}
+use Rattle.std.proofs.Common.{◌∙◌, refl, sym, slice_index_or}
 use Rattle.std.proofs.lemmas.Bool.{false≢true}
 use Rattle.std.proofs.lemmas.Option.{slice_get-get_or}
-use Rattle.mm_types.specs.declared.area.Record.{Record}
 use Rattle.history.specs.Walks.{shown}
 use Rattle.history.proofs.Walking.{walked_room, counts_room, walked_more, refused_wrong}
 use Rattle.history.proofs.checking.Walk.judge.Goals as goal
@@ -21,19 +20,18 @@ returns-clause-ok c =
     (slice_get-get_or c.args.case.now.items.now c.args.place _ c.requires.within)
     (c.next_line-line.ensures _ c.requires.walked.progress) (c.if-not-can_stand.ensures.0 refl)
     c.run_line-expected.ensures.answer
-    (ap (λ (areas : List Record). shown areas c.run_line-expected.result) (sym c.list.ensures.list) ∙ c.if-not-is_in.ensures.0 refl)
+    (c.in_ok-is_answered.ensures.0 c.if-not-is_answered.false)
     c.run_line-expected.ensures.space c.run_line-expected.ensures.config c.run_line-expected.ensures.objects
     c.pass.ensures.answered c.pass.ensures.places c.pass.ensures.callers c.pass.ensures.version c.pass.ensures.lowest
 
-pub returns-then-not-is_in-clause-refused : goal.returns-then-not-is_in-clause-refused
-returns-then-not-is_in-clause-refused c =
+pub returns-then-not-is_answered-clause-refused : goal.returns-then-not-is_answered-clause-refused
+returns-then-not-is_answered-clause-refused c =
     refused_wrong _ _ _ (slice_index_or c.args.case.now.items.now c.args.place c.index-case-place.result) c.next_line-line.result
     (shown c.run_line-expected.new.space.space.areas c.run_line-expected.result) _ c.requires.walked
     (slice_get-get_or c.args.case.now.items.now c.args.place _ c.requires.within)
     (c.next_line-line.ensures _ c.requires.walked.progress) (c.if-not-can_stand.ensures.0 refl)
     c.run_line-expected.ensures.answer
-    (λ same. false≢true
-    (c.if-not-is_in.ensures.1 (ap (λ (areas : List Record). shown areas c.run_line-expected.result) c.list.ensures.list ∙ same)))
+    (λ same. false≢true (sym c.if-not-is_answered.true ∙ c.in_ok-is_answered.ensures.1 same))
     refl
-    (c.in_ok-answer.ensures ∙ ap (λ (areas : List Record). shown areas c.run_line-expected.result) c.list-then-not-is_in.ensures.list)
+    c.in_ok-answer.ensures
     c.in_ok-of-2.ensures

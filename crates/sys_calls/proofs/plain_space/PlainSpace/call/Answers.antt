@@ -5,7 +5,7 @@ use Rattle.area_rules.specs.Steps.{step, IsReady}
 use Rattle.area_rules.specs.Tables.{space_of}
 use Rattle.area_rules.proofs.Stepping.{step_objects}
 use Rattle.split_merge.specs.Plans.{PlanView, IsKept}
-use Rattle.sys_map.specs.Stored.{Stored}
+use Rattle.area_chunks.specs.Stored.{Stored}
 use Rattle.sys_calls.specs.declared.plain_space.PlainSpace.TheInside.{Inside}
 use Rattle.sys_calls.specs.Kept.{IsPlain}
 use Rattle.sys_calls.specs.Plain.{PlainView}

@@ -6,7 +6,7 @@ use Rattle.mm_types.specs.declared.call.Counters.{Counters}
 use Rattle.area_rules.specs.Growing.{AreGrowersPrivate}
 use Rattle.area_rules.specs.Tables.{AddressSpace}
 use Rattle.split_merge.specs.Plans.{PlanView, IsKept}
-use Rattle.sys_map.specs.Stored.{Stored}
+use Rattle.area_chunks.specs.Stored.{Stored}
 use Rattle.sys_calls.specs.Plain.{PlainView}
 use Rattle.sys_calls.proofs.Keeping.{opened_space, heap_bounded}
 use Rattle.sys_calls.proofs.plain_space.PlainSpace.new.Goals as goal

@@ -1,0 +1,4 @@
+pub mod BinarySearch
+pub mod Chunks
+pub mod Gaps
+pub mod Stored

@@ -1,0 +1,94 @@
+//! Plans, carried out on a store.
+ghost use Rattle.std.specs.Prelude.{◌≡◌, ◌≢◌, ◌≤◌, ◌+◌, false, ◌∷◌, [], length, All, AllPairs, Contains, vec_capacity};
+ghost use Rattle.split_merge.specs.Plans.{applied, olds_of, news_of, without, with_all};
+ghost use Rattle.area_chunks.specs.BinarySearch.{BeginsRise, BeginsAscend};
+ghost use Rattle.area_chunks.specs.Chunks.{areas_of};
+ghost use Rattle.area_chunks.specs.Stored.{IsSane, StaysSane};
+
+use crate::store::Store;
+use split_merge::Change;
+
+/// Removes the area that a change takes away.
+fn remove_old(store: &mut Store, change: &Change)
+    requires sane { IsSane store.old }
+    requires ascend { BeginsAscend (areas_of store.old.chunks.items) }
+    requires member { All (Contains (areas_of store.old.chunks.items)) (olds_of (change.now ∷ [])) }
+    ensures areas { areas_of store.new.chunks.items ≡ without (olds_of (change.now ∷ [])) (areas_of store.old.chunks.items) }
+    ensures stays { StaysSane store.old store.new }
+{
+    if let Some(old) = change.old() {
+        store.remove(&old);
+    }
+}
+
+/// Removes the areas that the changes take away, from the last change on.
+fn remove_olds(store: &mut Store, changes: &[Change])
+    requires sane { IsSane store.old }
+    requires ascend { BeginsAscend (areas_of store.old.chunks.items) }
+    requires members { All (Contains (areas_of store.old.chunks.items)) (olds_of changes.now) }
+    requires distinct { AllPairs (λ a b. a ≢ b) (olds_of changes.now) }
+    ensures areas { areas_of store.new.chunks.items ≡ without (olds_of changes.now) (areas_of store.old.chunks.items) }
+    ensures stays { StaysSane store.old store.new }
+{
+    let mut left = changes.len();
+    while left > 0 {
+        left -= 1;
+        remove_old(store, &changes[left]);
+    }
+}
+
+/// Inserts the area that a change brings.
+fn insert_new(store: &mut Store, change: &Change)
+    requires sane { IsSane store.old }
+    requires rise { BeginsRise (areas_of store.old.chunks.items) }
+    requires few { length (areas_of store.old.chunks.items) + length (news_of (change.now ∷ [])) ≤ vec_capacity store.old.whole }
+    ensures areas { areas_of store.new.chunks.items ≡ with_all (news_of (change.now ∷ [])) (areas_of store.old.chunks.items) }
+    ensures rise { BeginsRise (areas_of store.new.chunks.items) }
+    ensures stays { StaysSane store.old store.new }
+{
+    if let Some(new) = change.new() {
+        store.insert(new);
+    }
+}
+
+/// Inserts the areas that the changes bring.
+fn insert_news(store: &mut Store, changes: &[Change])
+    requires sane { IsSane store.old }
+    requires rise { BeginsRise (areas_of store.old.chunks.items) }
+    requires few { length (areas_of store.old.chunks.items) + length (news_of changes.now) ≤ vec_capacity store.old.whole }
+    ensures areas { areas_of store.new.chunks.items ≡ with_all (news_of changes.now) (areas_of store.old.chunks.items) }
+    ensures stays { StaysSane store.old store.new }
+{
+    for change in changes {
+        insert_new(store, change);
+    }
+}
+
+/// Whether the changes bring a sealed area.
+pub(crate) fn brings_sealed(changes: &[Change]) -> bool
+    ensures { result ≡ false → All (λ new. new.attr.sealed ≡ false) (news_of changes.now) }
+{
+    for change in changes {
+        if let Some(new) = change.new() {
+            if new.attr.sealed {
+                return true;
+            }
+        }
+    }
+    false
+}
+
+/// Changes a list by the changes of a plan, one after the other.
+#[tactic(auto, unfolding(split_merge::specs::Plans::applied))]
+pub(crate) fn carry_out(store: &mut Store, changes: &[Change])
+    requires sane { IsSane store.old }
+    requires ascend { BeginsAscend (areas_of store.old.chunks.items) }
+    requires members { All (Contains (areas_of store.old.chunks.items)) (olds_of changes.now) }
+    requires distinct { AllPairs (λ a b. a ≢ b) (olds_of changes.now) }
+    requires few { length (applied changes.now (areas_of store.old.chunks.items)) ≤ vec_capacity store.old.whole }
+    ensures areas { areas_of store.new.chunks.items ≡ applied changes.now (areas_of store.old.chunks.items) }
+    ensures stays { StaysSane store.old store.new }
+{
+    remove_olds(store, changes);
+    insert_news(store, changes);
+}
