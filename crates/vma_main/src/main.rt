@@ -1,8 +1,10 @@
 //! Replays a trace: `vma_main serial` and `vma_main threads` read it from standard input and write every reply and the final
 //! list of areas to standard output. `serial` runs its lines in their order, and `threads` those of each thread of the trace in a
 //! thread of its own. `vma_main steps` reads a script from standard input and writes what each of its steps results in, and the state
-//! after it. `vma_main generate COUNT SEED` runs a generated trace of COUNT operations, at most 400,000, and writes a summary of what it
-//! did; it reads nothing. Where that fails, a line on standard error says why, and the exit status is 2 to 6.
+//! after it. `vma_main query ADDRESS` and `vma_main retrace` read a maps text, and write one of its lines, or a trace that makes it.
+//! `vma_main check` reads a trace and a text, and writes whether the text is an output of the trace. `vma_main generate COUNT SEED`
+//! runs a generated trace of COUNT operations, at most 400,000, and writes a summary of what it did; it reads nothing. Where that
+//! fails, a line on standard error says why, and the exit status is 2 to 6.
 #![tactic(auto)]
 
 use io_edge::{PlainGate, StdSink, StdSource};

@@ -14,7 +14,8 @@ use Rattle.mm_fork.specs.Children.{inherited, child_history_of, child_lines, par
 use Rattle.mm_fork.proofs.Alike.{same_history}
 use Rattle.vma_replay.specs.declared.forks.Fork.{Fork}
 use Rattle.vma_replay.specs.declared.words.Mode.TheVariants as modes
-use Rattle.vma_replay.specs.Output.{child_text, output_text}
+use Rattle.output_text.specs.Output.{output_text}
+use Rattle.vma_replay.specs.ChildTexts.{child_text}
 use Rattle.vma_replay.specs.Forks.{forks_of}
 use Rattle.vma_replay.specs.Replaying.{AreChildrenGiven, GivesRuns, IsChildGiven, history_of_run}
 use Rattle.vma_replay.proofs.RunTexts.{serial_is}

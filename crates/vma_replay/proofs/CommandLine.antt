@@ -152,21 +152,22 @@ three_taken t u v first second third = rw (
 ) refl
 
 -- more than three words are none of the accepted lists
-none_named : (a b c d e f : Bool) (x : Option Job) → x ≡ None
-    → (if a then x else if b then x else if c then x else if d then x else if e then x else if f then x else None) ≡ None
-none_named true b c d e f x none = none
-none_named false true c d e f x none = none
-none_named false false true d e f x none = none
-none_named false false false true e f x none = none
-none_named false false false false true f x none = none
-none_named false false false false false true x none = none
-none_named false false false false false false x none = refl
+none_named : (a b c d e f g : Bool) (x : Option Job) → x ≡ None
+    → (if a then x else if b then x else if c then x else if d then x else if e then x else if f then x else if g then x else None) ≡ None
+none_named true b c d e f g x none = none
+none_named false true c d e f g x none = none
+none_named false false true d e f g x none = none
+none_named false false false true e f g x none = none
+none_named false false false false true f g x none = none
+none_named false false false false false true g x none = none
+none_named false false false false false false true x none = none
+none_named false false false false false false false x none = refl
 
 none_of : (name : Text) (x : Option Job) → x ≡ None → (if bytes_eq name (codes "serial") then x else if bytes_eq name (codes "threads") then x
-    else if bytes_eq name (codes "steps") then x else if bytes_eq name (codes "retrace") then x
+    else if bytes_eq name (codes "steps") then x else if bytes_eq name (codes "retrace") then x else if bytes_eq name (codes "check") then x
     else if bytes_eq name (codes "query") then x else if bytes_eq name (codes "generate") then x else None) ≡ None
 none_of name = none_named (bytes_eq name (codes "serial")) (bytes_eq name (codes "threads")) (bytes_eq name (codes "steps"))
-    (bytes_eq name (codes "retrace")) (bytes_eq name (codes "query")) (bytes_eq name (codes "generate"))
+    (bytes_eq name (codes "retrace")) (bytes_eq name (codes "check")) (bytes_eq name (codes "query")) (bytes_eq name (codes "generate"))
 
 -- words that `clap` refuses name no job
 pub refused : (words : List (String Global)) → list_any begins_with_dash words ≡ false
@@ -223,6 +224,7 @@ first_dash name rest dash = rw (
   not_dash_named (codes "threads") name refl dash,
   not_dash_named (codes "steps") name refl dash,
   not_dash_named (codes "retrace") name refl dash,
+  not_dash_named (codes "check") name refl dash,
   not_dash_named (codes "query") name refl dash,
   not_dash_named (codes "generate") name refl dash,
 ) refl

@@ -19,7 +19,8 @@ use Rattle.mm_fork.proofs.Traces.{parent_is_trace}
 use Rattle.vma_replay.specs.declared.forks.Fork.{Fork}
 use Rattle.vma_replay.specs.declared.words.Mode.{Mode}
 use Rattle.vma_replay.specs.declared.words.Mode.TheVariants as modes
-use Rattle.vma_replay.specs.Output.{child_line, child_text, listed_text, output_text, serial_output}
+use Rattle.output_text.specs.Output.{listed_text, output_text, serial_output}
+use Rattle.vma_replay.specs.ChildTexts.{child_line, child_text}
 use Rattle.vma_replay.specs.Forks.{forks_of}
 use Rattle.vma_replay.specs.Families.{AreRunsOfChildren, IsFamily, text_of_child, text_of_children, text_of_family}
 use Rattle.vma_replay.specs.Giving.{BeginsAsSerial, GivesAnOutput}

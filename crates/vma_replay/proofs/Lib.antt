@@ -3,6 +3,7 @@ pub mod Pieces
 pub mod Outputs
 pub mod Doing
 pub mod Taken
+pub mod CheckTaken
 pub mod CommandLine
 pub mod Telling
 pub mod RunTexts

@@ -41,7 +41,7 @@ use Rattle.vma_drive.proofs.NamesShared.{few_callers}
 use Rattle.vma_replay.specs.declared.forks.Fork.{Fork}
 use Rattle.vma_replay.specs.declared.words.Mode.{Mode}
 use Rattle.vma_replay.specs.declared.words.Mode.TheVariants as modes
-use Rattle.vma_replay.specs.Output.{told_by}
+use Rattle.output_text.specs.Output.{told_by}
 use Rattle.vma_replay.specs.Forks.{fork_of, forks_from, forks_of}
 use Rattle.vma_replay.specs.Families.{AreLegal, AreRunsOfChildren, IsFamily, IsForkOf, IsOfParent}
 use Rattle.vma_replay.specs.Replaying.{IsRunOf, history_of_run}

@@ -32,7 +32,7 @@ use Rattle.vma_replay.specs.declared.forks.Fork.{Fork}
 use Rattle.vma_replay.specs.declared.words.Conversion.TheVariants as conversions
 use Rattle.vma_replay.specs.declared.words.Mode.TheVariants as modes
 use Rattle.vma_replay.specs.Forks.{fork_of, forks_from, forks_of}
-use Rattle.vma_replay.specs.Output.{content_text, item_text, told_by, maps_text, listed_text, output_text, serial_output}
+use Rattle.output_text.specs.Output.{content_text, item_text, told_by, maps_text, listed_text, output_text, serial_output}
 use Rattle.vma_replay.specs.Replaying.{AreChildrenGiven, GivesRuns, converted, history_of_run}
 use Rattle.vma_replay.specs.Retraced.{address_line, address_lines, output_with, EndsWith}
 use Rattle.vma_replay.proofs.RunTexts.{serial_is}

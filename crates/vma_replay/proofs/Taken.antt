@@ -1,4 +1,4 @@
--- Serves `read_source` and `convert_source`: the bytes that were taken from a source, up to its end or past the limit, settle what it is read as.
+-- Serves the functions that read a source: the bytes that were taken from a source, up to its end or past the limit, settle what it is read as.
 use Rattle.std.proofs.Common.{◌≡◌, ◌≤◌, ◌<◌, ℕ, ◌+◌, List, ◌++◌, length, take, Option, Some, None, Result, Ok, Err, IfSome, sym, ap, subst, ◌∙◌, inl, inr, arith, append-nil}
 use Rattle.std.proofs.lemmas.Bool.{cases_lt}
 use Rattle.std.proofs.lemmas.List.{take-append-le}
@@ -42,9 +42,9 @@ taken_settles read limit same (Some input) (Some rest) bytes answer moved end e 
 ]
 
 -- One byte more than the limit settles what bytes are read as, and bytes that are read are within it.
-record IsBounded {Y : Type 0} (read : List ℕ → Result Y TraceFault) (limit : ℕ) : Type 0 where
-  front : (bytes : List ℕ) → read (take (limit + 1) bytes) ≡ read bytes
-  within : (bytes : List ℕ) (found : Y) → read bytes ≡ Ok found → length bytes ≤ limit
+pub record IsBounded {Y : Type 0} (read : List ℕ → Result Y TraceFault) (limit : ℕ) : Type 0 where
+  pub front : (bytes : List ℕ) → read (take (limit + 1) bytes) ≡ read bytes
+  pub within : (bytes : List ℕ) (found : Y) → read bytes ≡ Ok found → length bytes ≤ limit
 
 -- so what was taken gives the answer of the whole
 settled : {Y : Type 0} (read : List ℕ → Result Y TraceFault) (limit : ℕ) → IsBounded read limit → (old new : Option (List ℕ)) (bytes : List ℕ)
@@ -52,13 +52,13 @@ settled : {Y : Type 0} (read : List ℕ → Result Y TraceFault) (limit : ℕ) �
 settled read limit bounded old new bytes answer taken e = taken_settles read limit bounded.front old new bytes answer taken.moved taken.whole e
 
 -- where what was taken is read, the source gave it whole
-found_whole : {Y : Type 0} (read : List ℕ → Result Y TraceFault) (limit : ℕ) → IsBounded read limit → (old new : SourceView) (bytes : List ℕ)
+pub found_whole : {Y : Type 0} (read : List ℕ → Result Y TraceFault) (limit : ℕ) → IsBounded read limit → (old new : SourceView) (bytes : List ℕ)
     (found : Y) → IsTaking limit old new (Ok bytes) → read bytes ≡ Ok found → IsReading read limit old new (Ok found)
 found_whole read limit bounded old new bytes found taken is =
     (taken.0, (bytes, taken.1), taken.1.whole (bounded.within bytes found is), settled read limit bounded old.left new.left bytes (Ok found) taken.1 is)
 
 -- where it is not, it has the source's first bad line, or memory ran out
-refused_first : {Y : Type 0} (read : List ℕ → Result Y TraceFault) (limit : ℕ) → IsBounded read limit → (old new : SourceView) (bytes : List ℕ)
+pub refused_first : {Y : Type 0} (read : List ℕ → Result Y TraceFault) (limit : ℕ) → IsBounded read limit → (old new : SourceView) (bytes : List ℕ)
     (error : ReadError) (status : Status) → IsTaking limit old new (Ok bytes) → IsFault error (read bytes)
     → status ≡ refused_as error → IsReading read limit old new (Err status)
 refused_first {Y} read limit bounded old new bytes error status taken fault is =

@@ -12,7 +12,7 @@ use Rattle.std.proofs.lemmas.Grind.{get_or_default_zero}
 use Rattle.history.specs.declared.items.Item.{Item}
 use Rattle.trace_reader.specs.declared.trace.TraceLine.{TraceLine}
 use Rattle.history.specs.Histories.{lines_of, items_of, line_of, op_of, read_as}
-use Rattle.vma_replay.specs.Output.{told_by}
+use Rattle.output_text.specs.Output.{told_by}
 use Rattle.vma_replay.specs.Families.{AreLegal}
 use Rattle.history.specs.CallerPlaces.{ArePlaces}
 

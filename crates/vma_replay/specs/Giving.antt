@@ -9,7 +9,7 @@ use Rattle.vma_replay.specs.declared.status.Status.{Status}
 use Rattle.vma_replay.specs.declared.status.Status.TheVariants as statuses
 use Rattle.vma_replay.specs.declared.words.Mode.{Mode}
 use Rattle.vma_replay.specs.declared.words.Mode.TheVariants as modes
-use Rattle.vma_replay.specs.Output.{serial_output}
+use Rattle.output_text.specs.Output.{serial_output}
 use Rattle.vma_replay.specs.Replaying.{BeginsWith, GivesRuns, RunsGenerated}
 use Rattle.vma_replay.specs.Summaries.{summary_text}
 

@@ -34,12 +34,13 @@ query_words (address ∷ []) = option_and_then (λ at. Some (jobs.Convert (conve
 query_words words = None
 
 -- The job that a first word and the words after it name: each kind of work has its first word. The accepted lists are `serial`, `threads`,
--- `steps` and `retrace`, each alone, `query ADDRESS`, and `generate COUNT SEED`.
+-- `steps`, `retrace` and `check`, each alone, `query ADDRESS`, and `generate COUNT SEED`.
 unfoldable pub named_job : List ℕ → List (List ℕ) → Option Job
 named_job name words = if bytes_eq name (codes "serial") then alone (jobs.Replay modes.Serial) words
     else if bytes_eq name (codes "threads") then alone (jobs.Replay modes.Threads) words
     else if bytes_eq name (codes "steps") then alone (jobs.Convert conversions.Steps) words
     else if bytes_eq name (codes "retrace") then alone (jobs.Convert conversions.Retrace) words
+    else if bytes_eq name (codes "check") then alone jobs.Check words
     else if bytes_eq name (codes "query") then query_words words
     else if bytes_eq name (codes "generate") then generate_words words else None
 

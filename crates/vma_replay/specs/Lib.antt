@@ -1,4 +1,4 @@
-pub mod Output
+pub mod ChildTexts
 pub mod Statuses
 pub mod Jobs
 pub mod Summaries

@@ -1,11 +1,13 @@
--- No public clause cites what stands here: what the functions result in that take bytes and read them as a trace or as a script.
-use Rattle.std.specs.Prelude.{ℕ, ◌≡◌, ◌+◌, List, Vec, Result, Ok, Err, IfSome}
+-- No public clause cites what stands here: what the functions result in that take bytes and read them.
+use Rattle.std.specs.Prelude.{ℕ, ◌≡◌, ◌+◌, List, Vec, Result, Ok, Err, IfSome, IsOkAnd}
 use Rattle.std.specs.declared.alloc.Global.{Global}
 use Rattle.std.specs.Io.KnownBytes.{IsAtEnd}
 use Rattle.io_edge.specs.Edge.{SourceView, FailedLast}
 use Rattle.trace_reader.specs.declared.fault.ReadError.{ReadError}
 use Rattle.trace_reader.specs.declared.fault.ReadError.TheVariants as reads
 use Rattle.trace_reader.specs.declared.fault.TraceFault.{TraceFault}
+use Rattle.output_check.specs.Input.{check_limit, input_of}
+use Rattle.output_check.specs.Checked.{IsCheckedAs}
 use Rattle.vma_replay.specs.declared.status.Status.{Status}
 use Rattle.vma_replay.specs.declared.status.Status.TheVariants as statuses
 use Rattle.vma_replay.specs.Replaying.{Takes, ReadsEnough}
@@ -41,3 +43,9 @@ IsReading read most old new (Err statuses.NoMemory) = new.faults ≡ old.faults
 IsReading read most old new (Err statuses.Done) = ⊥
 IsReading read most old new (Err statuses.Words) = ⊥
 IsReading read most old new (Err statuses.WriteFault) = ⊥
+
+-- what taking the bytes of a check and judging their text results in
+abbrev pub IsChecking : SourceView → SourceView → Result (List ℕ) Status → Type 0
+IsChecking old new (Ok text) = (new.faults ≡ old.faults) × ReadsEnough check_limit old.left new.left × IsAtEnd new.left
+    × IfSome old.left (λ input. IsOkAnd (input_of input) (λ parts. IsCheckedAs parts text))
+IsChecking old new (Err status) = IsReading input_of check_limit old new (Err status)

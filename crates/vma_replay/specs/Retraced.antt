@@ -9,7 +9,7 @@ use Rattle.trace_reader.specs.Grammar.{trace_of}
 use Rattle.maps_retrace.specs.Mappings.{mapping_line}
 use Rattle.mm_space.specs.Closing.{ClosedView}
 use Rattle.vma_replay.specs.declared.words.Mode.TheVariants as modes
-use Rattle.vma_replay.specs.Output.{start_text, reply_text, serial_output}
+use Rattle.output_text.specs.Output.{start_text, reply_text, serial_output}
 use Rattle.vma_replay.specs.Replaying.{GivesRuns}
 
 -- the answer to the line of this number that maps an area: the address where the area begins, at this version

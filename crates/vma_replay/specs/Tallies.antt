@@ -24,4 +24,5 @@ tally_of run = record {
 abbrev pub IsInLimits : Job → Type 0
 IsInLimits (jobs.Replay mode) = Unit {0}
 IsInLimits (jobs.Convert conversion) = Unit {0}
+IsInLimits jobs.Check = Unit {0}
 IsInLimits (jobs.Generate count seed) = count ≤ MOST_OPERATIONS

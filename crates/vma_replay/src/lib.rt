@@ -1,6 +1,7 @@
 //! The replayer: reads a trace, replays it over an address space, and writes every reply and the final list of areas; or reads a script,
-//! and writes what each of its steps results in; or reads a maps text, and writes one of its lines, or the trace that makes it; or replays a
-//! generated trace, and writes a summary of what it did.
+//! and writes what each of its steps results in; or reads a maps text, and writes one of its lines, or the trace that makes it; or reads a
+//! trace and a text, and writes whether the text is a legal output of the trace; or replays a generated trace, and writes a summary of what
+//! it did.
 #![tactic(auto)]
 
 mod families;
@@ -16,7 +17,6 @@ mod laws;
 mod load_tests;
 #[cfg(test)]
 mod order_tests;
-mod output;
 #[cfg(test)]
 mod piece_tests;
 mod printing;

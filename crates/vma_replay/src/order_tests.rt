@@ -1,5 +1,6 @@
-//! Small random traces of two to 64 threads, which grow areas, name lines and fork, and a longer one in which areas grow towards each
-//! other. Their operations come in many orders, and the history of each space is judged.
+//! Small random traces of two to 64 threads, which grow and seal areas, move the break, name lines and fork, and a longer one in which
+//! areas grow towards each other. Their operations come in many orders, and the history of each space is judged. Where no line forks,
+//! `check` judges the text too, as it is and with a wrong line.
 ghost use Rattle.std.specs.Prelude.{◌<◌, ◌≤◌, IfOk, List};
 ghost use Rattle.mm_types.specs.declared.call.Entry.{Entry};
 ghost use Rattle.trace_reader.specs.Values.{IsTraceValue};
@@ -8,12 +9,13 @@ ghost use Rattle.vma_replay.specs.Replaying.{IsRunOfChild};
 
 use crate::families::{Family, closed_family, parent_of};
 use crate::forks::Fork;
-use crate::printing::run_history;
+use crate::printing::{give_family, run_history};
 use crate::reading::read_source;
 use crate::running::closed_run;
+use crate::text_tests::judged;
 use crate::words::Mode;
 use history::{MOST_THREADS, check};
-use io_edge::{Gate, SureSource};
+use io_edge::{Gate, SureSink, SureSource};
 use mm_fork::{check_child, check_parent, child_history, inherit};
 use mm_space::Closed;
 use mm_types::{Call, Entry, NoMemory};
@@ -34,7 +36,7 @@ const TRACES: u64 = 2_000;
 const OPERATIONS: u64 = 30;
 
 /// The number of the first of them.
-const FIRST_LINE: u64 = 3;
+const FIRST_LINE: u64 = 4;
 
 /// How many children a small trace has at most.
 const MOST_CHILDREN: u64 = 3;
@@ -95,7 +97,9 @@ struct Draft {
     draw: Draw,
     /// How many threads the parent has at most, by number from 0.
     threads: u64,
-    /// How many children were forked, by number behind these threads.
+    /// How many children may be forked.
+    most_children: u64,
+    /// How many were, by number behind these threads.
     children: u64,
     /// Where an area that grows was mapped last.
     stack: u64,
@@ -107,10 +111,12 @@ impl Draft {
         let mut draw = Draw(seed);
         let others = (1u64 << (1 + draw.below(6))).saturating_sub(1);
         let threads = draw.below(others.max(1)).saturating_add(2);
+        let most_children = draw.below(MOST_CHILDREN + 1);
         Ok(Draft {
-            text: String::from_str(alloc, "vmatrace 1\nlimit areas 12\n")?,
+            text: String::from_str(alloc, "vmatrace 1\nlimit areas 12\nheap 0x200000\n")?,
             draw,
             threads,
+            most_children,
             children: 0,
             stack: 0x10_0000,
             calls: Vec::new(alloc),
@@ -139,7 +145,7 @@ impl Draft {
     }
 
     fn may_fork(&self) -> bool {
-        self.children < MOST_CHILDREN && self.threads.saturating_add(self.children) < 64
+        self.children < self.most_children && self.threads.saturating_add(self.children) < 64
     }
 
     fn push_fork(&mut self, thread: u64) -> Result<(), NoMemory> {
@@ -152,10 +158,11 @@ impl Draft {
     fn push_operation(&mut self, thread: u64) -> Result<bool, NoMemory> {
         let address = 0x10_0000 + 4096 * self.draw.below(24);
         let length = 4096 * (1 + self.draw.below(4));
-        let kind = self.draw.below(12);
+        let kind = self.draw.below(14);
         if kind < 3 {
             self.stack = address;
         }
+        let heap = 0x20_0000 + length;
         let below = self.stack.saturating_sub(4096 * (1 + self.draw.below(2)));
         let text = &mut self.text;
         let written = match kind {
@@ -171,12 +178,14 @@ impl Draft {
                 text,
                 "{thread} mremap 0x{address:x} 4096 {length} MREMAP_MAYMOVE"
             ),
-            8 => write!(text, "{thread} maps"),
-            9 => write!(text, "{thread} fault 0x{address:x} w"),
+            8 => write!(text, "{thread} brk 0x{heap:x}"),
+            9 => write!(text, "{thread} mseal 0x{address:x} 4096 0"),
+            10 => write!(text, "{thread} maps"),
+            11 => write!(text, "{thread} fault 0x{address:x} w"),
             _ => write!(text, "{thread} fault 0x{below:x} w"),
         };
         written.map_err(|_| NoMemory)?;
-        Ok(kind < 8)
+        Ok(kind < 10)
     }
 
     /// Has the line of a thread name a call above it of another thread, now and then.
@@ -211,7 +220,7 @@ fn read_text<R: Abort>(rt: &R, alloc: Global, text: &str) -> Result<Trace, Fail>
     }
 }
 
-/// Runs a small trace in threads, and has the history of each space judged.
+/// Runs a small trace in threads, and has the history of each space judged, and its text where no line forks.
 fn judge<R: Threads + Wait + Sync + Abort>(
     rt: &R,
     alloc: Global,
@@ -233,7 +242,47 @@ fn judge<R: Threads + Wait + Sync + Abort>(
         family.forks.as_slice(),
         &runs[1..],
     )?;
+    if family.forks.is_empty() {
+        let mut sink = SureSink::new(alloc);
+        let given = give_family(alloc, &mut sink, &trace, &parent, &family);
+        assert!(rt; given.is_ok());
+        judge_text(rt, alloc, text.as_str(), sink.bytes(), seed)?;
+    }
     Ok(family)
+}
+
+/// Has the text of a run judged by `check`, and the same with one line that ends with another byte than any right line.
+fn judge_text<R: Threads + Wait + Sync + Abort>(
+    rt: &R,
+    alloc: Global,
+    trace: &str,
+    text: &[u8],
+    seed: u64,
+) -> Result<(), Fail> {
+    let legal = judged(rt, alloc, trace.as_bytes(), text)?;
+    assert_eq!(rt; legal.bytes(), b"legal\n".as_slice(), "seed {seed}");
+    let count = text.iter().filter(|byte| **byte == b'\n').count();
+    let line = seed as usize % count.max(1);
+    let wrong = with_wrong_line(alloc, text, line)?;
+    let bad = judged(rt, alloc, trace.as_bytes(), wrong.as_slice())?;
+    let wanted = format!(in alloc; "bad {}\n", line.saturating_add(1))?;
+    assert_eq!(rt; bad.bytes(), wanted.as_str().as_bytes(), "seed {seed}");
+    Ok(())
+}
+
+/// A text with a byte more at the end of one of its lines, counted from 0.
+fn with_wrong_line(alloc: Global, text: &[u8], line: usize) -> Result<Vec<u8>, Fail> {
+    let mut wrong = Vec::new(alloc);
+    for (place, part) in text.split(|byte| *byte == b'\n').enumerate() {
+        if place > 0 {
+            wrong.push(b'\n')?;
+        }
+        wrong.extend_from_slice(part)?;
+        if place == line {
+            wrong.push(b'X')?;
+        }
+    }
+    Ok(wrong)
 }
 
 /// Has the histories of children judged, of which there is a run for each fork.

@@ -1,5 +1,5 @@
 //! The text of closed runs, which is given while it is printed: each history stands whole before its first byte is given.
-ghost use Rattle.std.specs.Prelude.{◌≡◌, ◌≤◌, ◌<◌, ◌^◌, ◌-◌, [], All, IfOk, List, length};
+ghost use Rattle.std.specs.Prelude.{◌≡◌, ◌≤◌, ◌<◌, ◌^◌, ◌-◌, ◌++◌, [], All, IfOk, OnOk, List, length};
 ghost use Rattle.mm_types.specs.MapsText.{list_text};
 ghost use Rattle.mm_types.specs.declared.call.Entry.{Entry};
 ghost use Rattle.trace_reader.specs.declared.limits.TheConstants.{MOST_LINES};
@@ -7,18 +7,16 @@ ghost use Rattle.trace_reader.specs.Values.{IsTraceValue, child_of};
 ghost use Rattle.history.specs.declared.callers.TheConstants.{MOST_THREADS};
 ghost use Rattle.history.specs.CallerPlaces.{ArePlaces};
 ghost use Rattle.mm_fork.specs.Children.{parent_trace};
+ghost use Rattle.output_text.specs.Output.{content_text, item_text, listed_text, maps_text, result_text, told_by};
+ghost use Rattle.vma_replay.specs.ChildTexts.{child_line};
 ghost use Rattle.vma_replay.specs.Families.{AreLegal, AreRunsOfChildren, IsFamily, text_of_child, text_of_children, text_of_family};
 ghost use Rattle.vma_replay.specs.Giving.{IsGivingText, IsPrinting};
-ghost use Rattle.vma_replay.specs.Output.{content_text, item_text, listed_text, maps_text, result_text, told_by};
 ghost use Rattle.vma_replay.specs.Replaying.{IsRunOf, IsRunOfChild, history_of_run};
 ghost use Rattle.vma_replay.specs.declared.words.Mode.{Mode};
 
 use crate::families::Family;
 use crate::forks::Fork;
 use crate::giving::{MOST_GIVEN, end_line, give_all, give_full};
-use crate::output::{
-    push_child_line, push_count, push_forked, push_reply, push_start, push_verdict,
-};
 use crate::status::Status;
 use crate::words::Mode;
 use history::{Content, History, Item, gather, label, places_by_caller};
@@ -27,7 +25,9 @@ use maps_print::push_line;
 use mm_fork::{child_history, lines_of_child};
 use mm_space::Closed;
 use mm_types::{Files, NoMemory, Record};
+use output_text::{push_count, push_forked, push_reply, push_start, push_verdict};
 use std::alloc::Global;
+use std::io::Write;
 use trace_reader::{Op, Trace, TraceLine};
 
 /// Room for a piece of the output, and for a line of a usual length that goes past its end.
@@ -140,6 +140,19 @@ fn print_child<K: Sink>(
         history.items(),
         areas,
     )
+}
+
+/// Appends the line before those of a child: `child <C> of L<line> v<version>`.
+#[tactic(auto, unfolding(crate::specs::ChildTexts::child_line))]
+fn push_child_line(text: &mut Vec<u8>, fork: &Fork) -> Result<(), NoMemory>
+    ensures { OnOk result (text.new.items ≡ text.old.items ++ child_line fork.now) }
+{
+    let Fork {
+        child,
+        line,
+        version,
+    } = *fork;
+    write!(text, "child {child} of L{line} v{version}\n").map_err(|_| NoMemory)
 }
 
 /// Prints a legal history of lines, each item with the line that it answers, and after it a list. Of the text no more than a piece and a

@@ -1,10 +1,10 @@
-//! What a source has, as a trace or as an input that is turned into a text.
+//! What a source has, as a trace, as an input that is turned into a text, or as a trace and a text that is judged.
 ghost use Rattle.std.specs.Prelude.{◌≡◌, ◌<◌, ◌^◌, ◌-◌, IfErr, IfOk, Ok};
 ghost use Rattle.trace_reader.specs.Grammar.{trace_of};
 ghost use Rattle.trace_reader.specs.Lines.{trace_limit};
 ghost use Rattle.trace_reader.specs.Values.{IsTraceValue};
 ghost use Rattle.step_script.specs.Reading.{IsFault};
-ghost use Rattle.vma_replay.specs.Reading.{IsReading, IsTaking, refused_as, taken_bytes};
+ghost use Rattle.vma_replay.specs.Reading.{IsChecking, IsReading, IsTaking, refused_as, taken_bytes};
 ghost use Rattle.vma_replay.specs.Replaying.{converted, most_converted};
 
 use crate::status::Status;
@@ -12,12 +12,16 @@ use crate::words::Conversion;
 use io_edge::{Failed, Source};
 use maps_read::answer_of;
 use maps_retrace::retraced;
+use output_check::{TEXT_LIMIT, checked};
 use std::alloc::Global;
 use step_script::run_script;
 use trace_reader::{ReadError, TRACE_LIMIT, Trace, read};
 
 /// How many bytes a read asks for at most.
 const PIECE: usize = 65_536;
+
+/// The most bytes that a check reads of what it judges: those of a trace, of the line `==`, and of a text.
+const CHECK_LIMIT: usize = TRACE_LIMIT + 3 + TEXT_LIMIT;
 
 /// Reads all of a source as a trace. A status says why it is none.
 #[tactic(auto, unfolding(trace_reader::specs::Lines::trace_limit))]
@@ -59,6 +63,19 @@ fn convert(alloc: Global, conversion: Conversion, bytes: &[u8]) -> Result<Vec<u8
         Conversion::Steps => run_script(alloc, bytes),
         Conversion::Query { address } => answer_of(alloc, bytes, address),
         Conversion::Retrace => retraced(alloc, bytes),
+    }
+}
+
+/// Reads all of a source, and tells whether the text behind its trace is a legal output of it. A status says why it has no such parts.
+#[tactic(auto, unfolding(output_check::specs::Input::check_limit, trace_reader::specs::Lines::trace_limit))]
+pub(crate) fn check_source<S: Source>(alloc: Global, source: &mut S) -> Result<Vec<u8>, Status>
+    requires { (S.seen source.old).faults < 2 ^ 64 - 1 }
+    ensures { IsChecking (S.seen source.old) (S.seen source.new) (taken_bytes result) }
+{
+    let bytes = take_bytes(alloc, source, CHECK_LIMIT)?;
+    match checked(alloc, &bytes) {
+        Ok(text) => Ok(text),
+        Err(error) => Err(refused_as(error)),
     }
 }
 

@@ -11,7 +11,7 @@ ghost use Rattle.vma_replay.specs.Replaying.{GivesAll, GivesSerialOutput, GivesB
 
 use crate::generating::give_summary;
 use crate::giving::{give_run, give_text};
-use crate::reading::{convert_source, read_source};
+use crate::reading::{check_source, convert_source, read_source};
 use crate::replayed::Replayed;
 use crate::status::Status;
 use crate::words::{Job, WordsFault, job_of};
@@ -26,8 +26,10 @@ use std::thread::Threads;
 /// a line forks is the one thread of a child space, which begins with what its parent had there, and runs once the parent is closed.
 /// `steps` alone reads a script from the source, and gives what each of its steps results in and the state after it; no space is opened.
 /// `query ADDRESS` and `retrace` read a maps text, as proc_pid_maps(5) has it: the first gives the line of the area that covers an address,
-/// in bytes, or of the next one, or `none`; the second the trace that makes these areas. `generate COUNT SEED` runs the generated trace of
-/// COUNT operations, at most 400,000, and a seed in the order of its lines, and gives its summary; the source is left as it is.
+/// in bytes, or of the next one, or `none`; the second the trace that makes these areas. `check` reads a trace, a line `==` and a text, and
+/// gives `legal` where the text is that of a legal history of the trace, and else `bad` and the number of its first bad line. `generate COUNT
+/// SEED` runs the generated trace of COUNT operations, at most 400,000, and a seed in the order of its lines, and gives its summary; the
+/// source is left as it is.
 ///
 /// On `Words`, `Trace` and `ReadFault` nothing is given to the sink. On `WriteFault` what was given is a beginning of an
 /// output, and not all of it; on `NoMemory` a beginning. Words that are not accepted leave the source untouched too.
@@ -45,8 +47,9 @@ pub fn replay<R: Threads + Wait + Sync, S: Source, K: Sink, G: Gate>(
     requires sink_count_has_room { (K.seen sink.old).faults < 2 ^ 64 - 1 }
 
     // The headline: in a mode, what was given is the text of the histories of the closed runs, of the parent and of each child, and these
-    // are legal and of the trace that was read; in `steps`, `query` and `retrace`, it is the text that the input is turned into; in `generate`,
-    // it is the summary of the generated trace, which was run once, in the order of its lines.
+    // are legal and of the trace that was read; in `steps`, `query` and `retrace`, it is the text that the input is turned into; in `check`, it
+    // tells rightly what is judged of the input's text; in `generate`, it is the summary of the generated trace, which was run once, in the
+    // order of its lines.
     ensures output { result.status ≡ Status.Done → IsSomeAnd (job_of_words words.now) (λ job.
         GivesAll (work_of job) (S.seen source.old).left result.runs (K.seen sink.old) (K.seen sink.new)) }
     ensures serial_output { result.status ≡ Status.Done → mode_of_words words.now ≡ Some Serial → IfSome (S.seen source.old).left (λ input.
@@ -95,6 +98,10 @@ pub fn replay<R: Threads + Wait + Sync, S: Source, K: Sink, G: Gate>(
             Err(status) => Replayed::without_runs(alloc, status),
         },
         Ok(Job::Convert(conversion)) => match convert_source(alloc, source, conversion) {
+            Ok(text) => give_text(alloc, sink, &text),
+            Err(status) => Replayed::without_runs(alloc, status),
+        },
+        Ok(Job::Check) => match check_source(alloc, source) {
             Ok(text) => give_text(alloc, sink, &text),
             Err(status) => Replayed::without_runs(alloc, status),
         },

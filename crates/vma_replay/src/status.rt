@@ -13,8 +13,8 @@ pub enum Status {
     Done,
     /// The words are none of the accepted lists.
     Words,
-    /// The input is no trace, in `steps` no script, and in `query` and `retrace` no maps text that they take: the first bad line, counted
-    /// from 1, and its cause.
+    /// The input is no trace, in `steps` no script, in `query` and `retrace` no maps text that they take, and in `check` no trace with a text
+    /// behind it: the first bad line, counted from 1, and its cause.
     Trace { line: u64, cause: Cause },
     /// The source failed.
     ReadFault,

@@ -1,5 +1,5 @@
 //! Texts that are made of a maps text: the line for an address, and the trace that makes its areas. The areas are two anonymous pages, with
-//! a page between them, and those that random traces leave.
+//! a page between them, and those that random traces leave. And what is judged of a text that stands behind its trace.
 
 use crate::order_tests::Draw;
 use crate::tests::words;
@@ -27,6 +27,34 @@ const TRACE_OUTPUT: &[u8] = b"L2 t0 v1 = 0x7ffff7ffc000\n\
       maps 2\n\
       7ffff7ffc000-7ffff7ffd000 rw-p 00000000 00:00 0 \n\
       7ffff7ffe000-7ffff7fff000 rw-p 00000000 00:00 0 \n";
+
+/// A trace in which a thread reads a page that another one maps and writes, and the line behind it.
+const READER: &[u8] = b"vmatrace 1\n\
+      0 mmap 0x100000 4096 PROT_READ|PROT_WRITE MAP_PRIVATE|MAP_ANONYMOUS|MAP_FIXED -1 0\n\
+      0 fault 0x100000 w\n\
+      1 fault 0x100000 r\n\
+      ==\n";
+
+/// Its output where the read comes first.
+const READ_FIRST: &[u8] = b"L4 t1 v0 = SIGSEGV SEGV_MAPERR\n\
+      L2 t0 v1 = 0x100000\n\
+      L3 t0 v1 = served 00100000-00101000 rw-p page 0\n\
+      maps 1\n\
+      00100000-00101000 rw-p 00000000 00:00 0 \n";
+
+/// Its output where the read comes after the mapping.
+const READ_LAST: &[u8] = b"L2 t0 v1 = 0x100000\n\
+      L3 t0 v1 = served 00100000-00101000 rw-p page 0\n\
+      L4 t1 v1 = served 00100000-00101000 rw-p page 0\n\
+      maps 1\n\
+      00100000-00101000 rw-p 00000000 00:00 0 \n";
+
+/// That output with the line of the read moved to the front.
+const READ_MOVED: &[u8] = b"L4 t1 v1 = served 00100000-00101000 rw-p page 0\n\
+      L2 t0 v1 = 0x100000\n\
+      L3 t0 v1 = served 00100000-00101000 rw-p page 0\n\
+      maps 1\n\
+      00100000-00101000 rw-p 00000000 00:00 0 \n";
 
 /// The lines of the two pages, as an answer shows them.
 const FIRST_LINE: &[u8] = b"7ffff7ffc000-7ffff7ffd000 rw-p 00000000 00:00 0\n";
@@ -73,14 +101,36 @@ fn each_job_gives_its_text(rt: HostRuntime) -> Result<(), Fail> {
 }
 
 #[test]
+fn texts_are_judged(rt: HostRuntime) -> Result<(), Fail> {
+    let rows: [(&[u8], &[u8]); 6] = [
+        (READ_FIRST, b"legal\n"),
+        (READ_LAST, b"legal\n"),
+        (READ_MOVED, b"bad 1\n"),
+        // The last line has 41 bytes.
+        (&READ_LAST[..READ_LAST.len() - 41], b"bad 5\n"),
+        (&READ_LAST[..READ_LAST.len() - 1], b"bad 5\n"),
+        (b"", b"bad 1\n"),
+    ];
+    for (text, output) in rows {
+        let mut input = Vec::from_slice(rt.alloc(), READER)?;
+        input.extend_from_slice(text)?;
+        let left = expect(&rt, rt.alloc(), &["check"], &input, Status::Done, output)?;
+        assert_eq!(rt; left, 0);
+    }
+    Ok(())
+}
+
+#[test]
 fn words_that_are_no_question_read_nothing(rt: HostRuntime) -> Result<(), Fail> {
-    let lists: [&[&str]; 6] = [
+    let lists: [&[&str]; 8] = [
         &["query"],
         &["query", "x"],
         &["query", "18446744073709551616"],
         &["query", "1", "2"],
         &["retrace", "1"],
         &["retrace", ""],
+        &["check", "1"],
+        &["check", "check"],
     ];
     for list in lists {
         let left = expect(&rt, rt.alloc(), list, MAPS, Status::Words, b"")?;
@@ -90,8 +140,8 @@ fn words_that_are_no_question_read_nothing(rt: HostRuntime) -> Result<(), Fail> 
 }
 
 #[test]
-fn gives_nothing_for_what_is_no_maps_text(rt: HostRuntime) -> Result<(), Fail> {
-    let rows: [(&[&str], &[u8], u64, Cause); 6] = [
+fn gives_nothing_for_what_has_another_form(rt: HostRuntime) -> Result<(), Fail> {
+    let rows: [(&[&str], &[u8], u64, Cause); 10] = [
         (&["query", "0"], b"vmatrace 1\n", 1, Cause::MapsLine),
         (&["query", "0"], &MAPS[..MAPS.len() - 1], 2, Cause::NoEnd),
         (
@@ -108,6 +158,16 @@ fn gives_nothing_for_what_is_no_maps_text(rt: HostRuntime) -> Result<(), Fail> {
             b"00010000-00011000 r--p 00000000 00:00 0 \n00011000-00012000 r--p 00000000 00:00 0 \n",
             2,
             Cause::NotOurs,
+        ),
+        // No line is `==`, or it does not end.
+        (&["check"], READ_LAST, 1, Cause::Header),
+        (&["check"], TRACE, 4, Cause::NoEnd),
+        (&["check"], &READER[..READER.len() - 1], 5, Cause::NoEnd),
+        (
+            &["check"],
+            b"vmatrace 1\n0 fork 1\n==\nmaps 0\n",
+            2,
+            Cause::Child,
         ),
     ];
     for (list, input, line, cause) in rows {
@@ -181,6 +241,19 @@ fn given<R: Threads + Wait + Sync + Abort>(
     Ok(sink)
 }
 
+/// What `check` gives for a trace and a text.
+pub(crate) fn judged<R: Threads + Wait + Sync + Abort>(
+    rt: &R,
+    alloc: Global,
+    trace: &[u8],
+    text: &[u8],
+) -> Result<SureSink, Fail> {
+    let mut input = Vec::from_slice(alloc, trace)?;
+    input.extend_from_slice(b"==\n")?;
+    input.extend_from_slice(text)?;
+    given(rt, alloc, "check", &input)
+}
+
 /// The lines of areas of an output: those that are neither a reply nor tell how many areas there are.
 fn areas_of(alloc: Global, output: &[u8]) -> Result<Vec<u8>, Fail> {
     let mut areas = Vec::new(alloc);
@@ -206,8 +279,10 @@ fn a_trace_of_a_final_list_ends_with_it(rt: HostRuntime) -> Result<(), Fail> {
         assert!(rt; areas.len() > 0, "seed {seed}");
         let left = areas_of(alloc, second.bytes())?;
         assert_eq!(rt; left.as_slice(), areas.as_slice(), "seed {seed}");
-        // Each hundredth runs as it was made, in a whole space.
+        // Each hundredth runs as it was made, in a whole space, and its first output is judged.
         if seed % 100 == 0 {
+            let legal = judged(&rt, alloc, trace.as_str().as_bytes(), first.bytes())?;
+            assert_eq!(rt; legal.bytes(), b"legal\n".as_slice(), "seed {seed}");
             let whole = given(&rt, alloc, "serial", made.bytes())?;
             assert!(rt; whole.bytes().ends_with(areas.as_slice()), "seed {seed}");
         }

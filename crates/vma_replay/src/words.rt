@@ -44,6 +44,8 @@ pub enum Job {
     Replay(Mode),
     /// To read an input, and give the text that it is turned into.
     Convert(Conversion),
+    /// To read a trace and a text behind it, and tell whether the text is a legal output of the trace.
+    Check,
     /// To run the generated trace of so many operations and a seed in the order of its lines, and give its summary.
     Generate { count: u32, seed: u64 },
 }
@@ -57,8 +59,8 @@ pub(crate) enum WordsFault {
     NoMemory,
 }
 
-/// The job that words name: `serial`, `threads`, `steps` and `retrace`, each alone, `query` with an address, and `generate` with a count
-/// of operations and a seed name one. No word may begin with `-`, so there are no options and no `--`.
+/// The job that words name: `serial`, `threads`, `steps`, `retrace` and `check`, each alone, `query` with an address, and `generate` with
+/// a count of operations and a seed name one. No word may begin with `-`, so there are no options and no `--`.
 #[tactic(auto, using(crate::proofs::CommandLine::named_by_words, crate::proofs::CommandLine::refused, crate::proofs::CommandLine::dash_refused))]
 pub(crate) fn job_of(alloc: Global, words: &[String]) -> Result<Job, WordsFault>
     ensures job { IfOk result (λ job. job_of_words words.now ≡ Some job) }
@@ -119,6 +121,7 @@ fn named_job(name: &str, rest: &[&str]) -> Option<Job>
         "threads" => alone(Job::Replay(Mode::Threads), rest),
         "steps" => alone(Job::Convert(Conversion::Steps), rest),
         "retrace" => alone(Job::Convert(Conversion::Retrace), rest),
+        "check" => alone(Job::Check, rest),
         "query" => query_words(rest),
         "generate" => generate_words(rest),
         _ => None,

@@ -7,6 +7,7 @@ use Rattle.history.specs.declared.items.Item.{Item}
 use Rattle.trace_reader.specs.declared.trace.Trace.{Trace}
 use Rattle.vma_replay.specs.declared.forks.Fork.{Fork}
 use Rattle.vma_replay.specs.declared.words.Mode.{Mode}
+use Rattle.vma_replay.specs.declared.words.Mode.TheVariants as modes
 use Rattle.vma_replay.specs.Families.{AreRunsOfChildren, IsFamily}
 use Rattle.vma_replay.proofs.order_tests.judge.Goals as goal
 
@@ -24,3 +25,6 @@ behind_parent mode trace history forks seen runs rest family showing left =
 pub judge_children-requires-clause-runs : goal.judge_children-requires-clause-runs
 judge_children-requires-clause-runs g c = behind_parent _ c.in_ok-trace.trace _ _ _ _ _ c.in_ok-family.ensures c.as_slice.ensures.value
     (ap (λ runs. take (length runs - 1) (drop 1 runs)) c.as_slice-runs.ensures.value)
+
+pub give_family-given-requires-clause-family : goal.give_family-given-requires-clause-family
+give_family-given-requires-clause-family g c = (modes.Threads, c.in_ok-family.ensures)

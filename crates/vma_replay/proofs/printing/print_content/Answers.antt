@@ -1,6 +1,6 @@
 -- The proof of `print_content`: a text is appended and the line ended, or a list is printed.
 use Rattle.std.proofs.Common.{ap, refl}
-use Rattle.vma_replay.specs.Output.{content_text, maps_text}
+use Rattle.output_text.specs.Output.{content_text, maps_text}
 use Rattle.vma_replay.proofs.Pieces.{at_error, cut_none, printing_after, printing_as}
 use Rattle.vma_replay.proofs.printing.print_content.Goals as goal
 

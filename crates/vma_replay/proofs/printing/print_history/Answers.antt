@@ -1,6 +1,6 @@
 -- The proof of `print_history`: the items were printed, and then the list.
 use Rattle.std.proofs.Common.{refl}
-use Rattle.vma_replay.specs.Output.{listed_text}
+use Rattle.output_text.specs.Output.{listed_text}
 use Rattle.vma_replay.proofs.Pieces.{at_error, cut_more, cut_none, printing_then}
 use Rattle.vma_replay.proofs.printing.print_history.Goals as goal
 

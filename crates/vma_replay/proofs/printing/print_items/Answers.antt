@@ -1,6 +1,6 @@
 -- The proof of `print_items`: before the first item, at the next, and after the last.
 use Rattle.std.proofs.Common.{rules, refl, [], arith}
-use Rattle.vma_replay.specs.Output.{item_text}
+use Rattle.output_text.specs.Output.{item_text}
 use Rattle.vma_replay.proofs.Pieces.{at_error, cut_at, cut_none, prints_as, prints_none, prints_then}
 use Rattle.vma_replay.proofs.Telling.{here, told_none, told_all}
 use Rattle.vma_replay.proofs.printing.print_items.Goals as goal

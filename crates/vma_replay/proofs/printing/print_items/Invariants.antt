@@ -1,6 +1,6 @@
 -- The proof of `print_items`: the items so far were printed.
 use Rattle.std.proofs.Common.{ℕ, List, length}
-use Rattle.vma_replay.specs.Output.{item_text}
+use Rattle.output_text.specs.Output.{item_text}
 use Rattle.vma_replay.specs.Giving.{Prints}
 use Rattle.vma_replay.proofs.Telling.{Told}
 use Rattle.vma_replay.proofs.printing.print_items.Given as goal

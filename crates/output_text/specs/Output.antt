@@ -9,7 +9,6 @@ use Rattle.mm_types.specs.declared.call.Errno.{Errno}
 use Rattle.mm_types.specs.declared.call.Errno.TheVariants as errnos
 use Rattle.mm_types.specs.declared.call.Reply.{Reply}
 use Rattle.mm_types.specs.declared.call.Reply.TheVariants as replies
-use Rattle.mm_types.specs.declared.call.Entry.{Entry}
 use Rattle.mm_types.specs.declared.config.Config.{Config}
 use Rattle.mm_types.specs.declared.files.FileRow.{FileRow}
 use Rattle.history.specs.declared.items.Content.{Content}
@@ -21,7 +20,6 @@ use Rattle.trace_reader.specs.declared.trace.Trace.{Trace}
 use Rattle.trace_reader.specs.Values.{child_of}
 use Rattle.area_rules.specs.Steps.{after}
 use Rattle.history.specs.Histories.{line_of, journal_of, serial_history}
-use Rattle.vma_replay.specs.declared.forks.Fork.{Fork}
 
 -- the name of an error
 unfoldable pub errno_name : Errno → List ℕ
@@ -95,15 +93,6 @@ listed_text files lines items areas = told_by (item_text files) lines [] items +
 -- the items of a history, and after them the list after all its calls
 unfoldable pub output_text : Config → List TraceLine → List Item → List ℕ
 output_text config lines items = listed_text config.files lines items (after config (journal_of items)).areas
-
--- the line before those of a child: the child, the line that forked it, and the version of its parent there
-unfoldable pub child_line : Fork → List ℕ
-child_line fork = codes "child " ++ (decimal fork.child ++ (codes " of L" ++ (decimal fork.line ++ (codes " v" ++ (decimal fork.version ++ codes "\n")))))
-
--- the text of a child's history behind what it inherited: after its line its items, and then the list after all these calls
-unfoldable pub child_text : Config → List TraceLine → Fork → List Entry → List Item → List ℕ
-child_text config lines fork inherits items =
-    child_line fork ++ listed_text config.files lines items (after config (inherits ++ journal_of items)).areas
 
 -- the output of a trace that runs in the order of its lines
 unfoldable pub serial_output : Trace → List ℕ

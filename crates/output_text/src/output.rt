@@ -1,8 +1,7 @@
 //! The text of what a line results in, and of what stands before a list.
 ghost use Rattle.std.specs.Prelude.{◌≡◌, ◌++◌, OnOk, codes, decimal};
-ghost use Rattle.vma_replay.specs.Output.{child_line, errno_name, reply_text, served_text, verdict_text, start_text};
+ghost use Rattle.output_text.specs.Output.{errno_name, reply_text, served_text, verdict_text, start_text};
 
-use crate::forks::Fork;
 use itoa::Buffer;
 use maps_print::push_range;
 use mm_types::{Errno, NoMemory, Record, Reply, Verdict};
@@ -11,7 +10,7 @@ use trace_reader::TraceLine;
 
 /// Appends a fault's verdict.
 #[tactic(auto, unfolding(crate::specs::Output::verdict_text))]
-pub(crate) fn push_verdict(text: &mut Vec<u8>, verdict: Verdict) -> Result<(), NoMemory>
+pub fn push_verdict(text: &mut Vec<u8>, verdict: Verdict) -> Result<(), NoMemory>
     ensures { OnOk result (text.new.items ≡ text.old.items ++ verdict_text verdict) }
 {
     match verdict {
@@ -42,7 +41,7 @@ fn push_page(text: &mut Vec<u8>, index: u64) -> Result<(), NoMemory>
 }
 
 /// Appends a number in decimal.
-fn push_decimal(text: &mut Vec<u8>, number: u64) -> Result<(), NoMemory>
+pub fn push_decimal(text: &mut Vec<u8>, number: u64) -> Result<(), NoMemory>
     ensures { OnOk result (text.new.items ≡ text.old.items ++ decimal number) }
 {
     let mut buffer = Buffer::new();
@@ -52,7 +51,7 @@ fn push_decimal(text: &mut Vec<u8>, number: u64) -> Result<(), NoMemory>
 
 /// Appends what stands before what a line results in: `L<line> t<thread> v<version> = `.
 #[tactic(auto, unfolding(crate::specs::Output::start_text))]
-pub(crate) fn push_start(text: &mut Vec<u8>, line: &TraceLine, version: u64) -> Result<(), NoMemory>
+pub fn push_start(text: &mut Vec<u8>, line: &TraceLine, version: u64) -> Result<(), NoMemory>
     ensures { OnOk result (text.new.items ≡ text.old.items ++ start_text line.now version) }
 {
     text.push(b'L')?;
@@ -67,7 +66,7 @@ pub(crate) fn push_start(text: &mut Vec<u8>, line: &TraceLine, version: u64) -> 
 
 /// Appends a reply: an address, 0, -1 and the name of the error, or the area that a fault grew.
 #[tactic(auto, unfolding(crate::specs::Output::reply_text))]
-pub(crate) fn push_reply(text: &mut Vec<u8>, reply: Reply) -> Result<(), NoMemory>
+pub fn push_reply(text: &mut Vec<u8>, reply: Reply) -> Result<(), NoMemory>
     ensures { OnOk result (text.new.items ≡ text.old.items ++ reply_text reply) }
 {
     match reply {
@@ -99,29 +98,16 @@ fn errno_name(errno: Errno) -> &'static str
 }
 
 /// Appends how many areas a list has, which is the line before theirs.
-pub(crate) fn push_count(text: &mut Vec<u8>, count: usize) -> Result<(), NoMemory>
+pub fn push_count(text: &mut Vec<u8>, count: usize) -> Result<(), NoMemory>
     ensures { OnOk result (text.new.items ≡ text.old.items ++ (codes "maps " ++ (decimal count ++ codes "\n"))) }
 {
     write!(text, "maps {count}\n").map_err(|_| NoMemory)
 }
 
 /// Appends what a line results in that forks a child: the child, and how many areas it begins with.
-pub(crate) fn push_forked(text: &mut Vec<u8>, child: u32, count: usize) -> Result<(), NoMemory>
+pub fn push_forked(text: &mut Vec<u8>, child: u32, count: usize) -> Result<(), NoMemory>
     ensures { OnOk result (text.new.items ≡ text.old.items ++ (codes "child "
         ++ (decimal child ++ (codes " areas " ++ (decimal count ++ codes "\n"))))) }
 {
     write!(text, "child {child} areas {count}\n").map_err(|_| NoMemory)
-}
-
-/// Appends the line before those of a child: `child <C> of L<line> v<version>`.
-#[tactic(auto, unfolding(crate::specs::Output::child_line))]
-pub(crate) fn push_child_line(text: &mut Vec<u8>, fork: &Fork) -> Result<(), NoMemory>
-    ensures { OnOk result (text.new.items ≡ text.old.items ++ child_line fork.now) }
-{
-    let Fork {
-        child,
-        line,
-        version,
-    } = *fork;
-    write!(text, "child {child} of L{line} v{version}\n").map_err(|_| NoMemory)
 }

@@ -1,0 +1,4 @@
+mod Children
+pub mod Fronts
+pub mod Inputs
+mod Marks

@@ -1,0 +1,53 @@
+-- For `Walk::line_to_come`: what the number that a text tells says of the item that comes.
+use Rattle.std.proofs.Common.{ℕ, ◌≡◌, ◌^◌, ◌<◌, ◌∙◌, sym, subst, List, length, All, Option, Some, None}
+use Rattle.std.specs.Prelude.{MatchOption}
+use Rattle.std.proofs.lemmas.List.Elements.{All-weaker}
+use Rattle.trace_reader.specs.declared.trace.Trace.{Trace}
+use Rattle.trace_reader.specs.declared.trace.TraceLine.{TraceLine}
+use Rattle.trace_reader.specs.Values.{IsLineValue, IsTraceValue}
+use Rattle.history.specs.declared.callers.TheConstants.{MOST_THREADS}
+use Rattle.history.specs.declared.items.Item.{Item}
+use Rattle.history.specs.Histories.{items_of}
+use Rattle.history.specs.Checking.{next_line}
+use Rattle.history.proofs.Lists.{at_place}
+use Rattle.history.proofs.Numbers.{own_place}
+use Rattle.output_judge.specs.declared.progress.Progress.{Progress}
+use Rattle.output_judge.specs.Judging.{IsReached, IsToCome, NoneIsToCome, Begins, NoneComes, TheOneComes}
+
+-- the threads of a trace are below the most
+pub few_threads : (trace : Trace) → IsTraceValue trace → All (λ line. line.thread < MOST_THREADS) trace.lines
+few_threads trace value =
+    All-weaker IsLineValue (λ (line : TraceLine). line.thread < MOST_THREADS) (λ line is. is.thread) trace.lines value.lines
+
+-- the number of a line of a trace has 64 bits
+pub number_fits : (trace : Trace) (before : List Item) (line : TraceLine) (caller : ℕ) → IsTraceValue trace
+    → next_line trace.lines before caller ≡ Some line → line.number < 2 ^ 64
+number_fits trace before line caller value next =
+    let at = own_place trace.lines caller (length (items_of before caller)) line next in
+    (at_place IsLineValue trace.lines at.0 line value.lines at.1).number
+
+-- the line of the number comes, or none does
+pub come_from : (lines : List TraceLine) (before : List Item) (rest : List ℕ) (number : ℕ) (found : Option (TraceLine × ℕ))
+    → MatchOption found (NoneIsToCome lines before number) (λ found. IsToCome lines before number found.0 found.1)
+    → ((other : TraceLine) (teller : ℕ) → Begins lines before rest other teller → other.number ≡ number)
+    → MatchOption found (NoneComes lines before rest) (λ found. TheOneComes lines before rest found.0 found.1)
+come_from lines before rest number None none tells = λ line caller begins.
+    none line caller (record { next = begins.next; numbered = tells line caller begins; owned = begins.owned; told = begins.told })
+come_from lines before rest number (Some found) comes tells = record {
+  next = comes.next;
+  owned = comes.owned;
+  told = comes.told;
+  tells = λ other teller begins. tells other teller begins ∙ sym comes.numbered;
+}
+
+-- the same of lines that are those of the trace
+pub come_of : (lines given : List TraceLine) → given ≡ lines → (before : List Item) (rest : List ℕ) (number : ℕ) (progress : Progress)
+    (found : Option (TraceLine × ℕ)) → IsReached lines before progress
+    → ((items : List Item) → IsReached given items progress
+    → MatchOption found (NoneIsToCome given items number) (λ found. IsToCome given items number found.0 found.1))
+    → ((other : TraceLine) (teller : ℕ) → Begins lines before rest other teller → other.number ≡ number)
+    → MatchOption found (NoneComes lines before rest) (λ found. TheOneComes lines before rest found.0 found.1)
+come_of lines given same before rest number progress found reached comes tells =
+    come_from lines before rest number found
+    (subst (λ (l : List TraceLine). MatchOption found (NoneIsToCome l before number) (λ found. IsToCome l before number found.0 found.1)) same
+    (comes before (subst (λ (l : List TraceLine). IsReached l before progress) (sym same) reached))) tells

@@ -1,0 +1,4 @@
+pub mod TextLines
+pub mod Judgements
+pub mod Printed
+pub mod Judging

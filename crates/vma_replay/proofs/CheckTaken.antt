@@ -1,0 +1,50 @@
+-- Serves `check_source`: the bytes that were taken from a source settle which trace and which text it gives, and so what is judged.
+use Rattle.std.proofs.Common.{ℕ, ◌≡◌, refl, sym, subst, List, Option, Some, None, Result, Ok, Err, IfSome}
+use Rattle.std.specs.Prelude.{IsOkAnd}
+use Rattle.io_edge.specs.Edge.{SourceView}
+use Rattle.trace_reader.specs.declared.fault.ReadError.{ReadError}
+use Rattle.trace_reader.specs.declared.fault.ReadError.TheVariants as reads
+use Rattle.trace_reader.specs.declared.fault.TraceFault.{TraceFault}
+use Rattle.step_script.specs.Reading.{IsFault}
+use Rattle.output_check.specs.Input.{CheckInput, check_limit, input_of}
+use Rattle.output_check.specs.Reading.{IsFault as IsInputFault}
+use Rattle.output_check.specs.Checked.{IsCheckedAs}
+use Rattle.output_check.proofs.Fronts.{input_of-front}
+use Rattle.output_check.proofs.Inputs.{input_within}
+use Rattle.vma_replay.specs.declared.status.Status.{Status}
+use Rattle.vma_replay.specs.Reading.{IsChecking, IsReading, IsTaking, refused_as}
+use Rattle.vma_replay.proofs.Taken.{IsBounded, found_whole, refused_first}
+
+bounded_input : IsBounded input_of check_limit
+bounded_input = record { front = input_of-front; within = input_within }
+
+-- a text that tells what is judged is that of some parts
+judged_parts : (read : Result CheckInput TraceFault) (text : List ℕ) → IsOkAnd read (λ parts. IsCheckedAs parts text)
+    → (parts : CheckInput) × (read ≡ Ok parts) × IsCheckedAs parts text
+judged_parts (Ok parts) text judged = (parts, refl, judged)
+judged_parts (Err first) text judged = absurd judged
+
+-- so it is for the whole of a source that has these parts
+judged_whole : (left : Option (List ℕ)) (parts : CheckInput) (text : List ℕ) → IsCheckedAs parts text
+    → IfSome left (λ input. input_of input ≡ Ok parts) → IfSome left (λ input. IsOkAnd (input_of input) (λ parts. IsCheckedAs parts text))
+judged_whole None parts text judged read = tt
+judged_whole (Some input) parts text judged read =
+    subst (λ (r : Result CheckInput TraceFault). IsOkAnd r (λ parts. IsCheckedAs parts text)) (sym read) judged
+
+input_fault : (error : ReadError) (read : Result CheckInput TraceFault) → IsInputFault error read → IsFault error read
+input_fault (reads.Bad first) read is = is
+input_fault reads.NoMemory read is = is
+
+-- where what was taken is judged, the source gave it whole
+pub checks : (old new : SourceView) (bytes text : List ℕ) → IsTaking check_limit old new (Ok bytes)
+    → IsOkAnd (input_of bytes) (λ parts. IsCheckedAs parts text) → IsChecking old new (Ok text)
+checks old new bytes text taken judged =
+    let found = judged_parts (input_of bytes) text judged in
+    let whole = found_whole input_of check_limit bounded_input old new bytes found.0 taken found.1 in
+    (whole.0, whole.1, whole.2, judged_whole old.left found.0 text found.2 whole.3)
+
+-- where it is not, it has the source's first bad line, or memory ran out
+pub checks_nothing : (old new : SourceView) (bytes : List ℕ) (error : ReadError) (status : Status) → IsTaking check_limit old new (Ok bytes)
+    → IsInputFault error (input_of bytes) → status ≡ refused_as error → IsReading input_of check_limit old new (Err status)
+checks_nothing old new bytes error status taken fault =
+    refused_first input_of check_limit bounded_input old new bytes error status taken (input_fault error (input_of bytes) fault)
