@@ -13,8 +13,8 @@ use Rattle.area_list.proofs.Elements.{Pairs, Each-weaker, Pairs-weaker}
 use Rattle.split_merge.specs.Finding.{first_from, last_before}
 use Rattle.split_merge.proofs.Counting.{Pairs-from_AllPairs}
 use Rattle.split_merge.proofs.Walking.{filter_none}
-use Rattle.area_chunks.specs.Chunks.{areas_of, low_of, high_of, IsSome, AreInOrder, AreApart}
-use Rattle.area_chunks.specs.Gaps.{IsAscending}
+use Rattle.area_chunks.specs.Internal.Chunks.{areas_of, low_of, high_of, IsSome, AreInOrder, AreApart}
+use Rattle.area_chunks.specs.Internal.Gaps.{IsAscending}
 use Rattle.area_chunks.proofs.Going.{ascending_pairs}
 use Rattle.area_chunks.proofs.InOrder.{AllPairs-from_Pairs}
 use Rattle.area_chunks.proofs.Locating.{comes_into, all_behind, pairs_within, some_at, rise_by_none}

@@ -1,19 +1,16 @@
 -- For `remove_olds`, `insert_news` and others: lists in which areas go out and come in one by one.
-use Rattle.std.proofs.Common.{◌≡◌, ◌≤◌, ◌<◌, ◌+◌, ◌⊎◌, inl, inr, ℕ, nat_lt, List, [], ◌∷◌, ◌++◌, length, take, drop, get_or, Some, refl, ap, ◌∙◌, sym, subst, All, arith}
+use Rattle.std.proofs.Common.{◌≡◌, ◌≤◌, ◌<◌, ◌+◌, ◌⊎◌, inl, inr, ℕ, nat_lt, List, [], ◌∷◌, ◌++◌, length, take, drop, get_or, refl, ap, ◌∙◌, sym, arith}
 use Rattle.std.specs.Option.{option_to_list}
 use Rattle.std.specs.List.{Contains}
 use Rattle.std.proofs.lemmas.Bool.{cases_lt, ltb-true}
-use Rattle.std.proofs.lemmas.List.Elements.{All-head, All-from_recursion, recursion_from_All}
 use Rattle.std.proofs.lemmas.List.Sums.{prefix_len_passes}
-use Rattle.std.proofs.lemmas.Option.{same_Some}
 use Rattle.std.proofs.lemmas.List.{drop_more, take-append-drop}
 use Rattle.mm_types.specs.declared.area.Record.{Record}
-use Rattle.area_list.proofs.Elements.{Each-left, Each-right}
 use Rattle.split_merge.specs.declared.plan.Change.{Change}
 use Rattle.split_merge.specs.declared.plan.Change.TheVariants.{Detach, Alter, Add}
-use Rattle.split_merge.specs.Plans.{old_of, new_of, olds_of, news_of}
+use Rattle.split_merge.specs.Plans.{new_of, olds_of, news_of}
 use Rattle.split_merge.proofs.Replacing.{olds_of-append, news_of-append}
-use Rattle.area_chunks.specs.BinarySearch.{begins_below}
+use Rattle.area_chunks.specs.Internal.BinarySearch.{begins_below}
 
 -- an area of a list has its place within it
 pub begins_member : (areas : List Record) (old : Record) → Contains areas old → begins_below old.span.lo areas < length areas
@@ -26,12 +23,6 @@ begins_member areas old member = by (cases_lt (begins_below old.span.lo areas) (
         let lower = ltb-true (get_or areas member.0 old).span.lo old.span.lo passes in
         omega (arith, lower, ap (λ (area : Record). area.span.lo) member.2)
 
--- the area that a change takes away is one that all take away
-pub old_member : (P : Record → Type 0) (change : Change) (old : Record) → old_of change ≡ Some old → All P (olds_of (change ∷ [])) → P old
-old_member P (Detach other) old is each = subst P (same_Some other old is) (All-head P other [] each)
-old_member P (Alter other new) old is each = subst P (same_Some other old is) (All-head P other [] each)
-old_member P (Add new) old is each = cc
-
 -- the areas that the changes take away, around the change at a place
 pub olds_around : (changes : List Change) (place : ℕ) (d : Change) → place < length changes
     → olds_of changes ≡ olds_of (take place changes) ++ (olds_of (get_or changes place d ∷ []) ++ olds_of (drop (place + 1) changes))
@@ -40,22 +31,6 @@ olds_around changes place d within =
     ∙ olds_of-append (take place changes) (drop place changes)
     ∙ ap (λ rest. olds_of (take place changes) ++ olds_of rest) (drop_more changes place d within)
     ∙ ap (λ rest. olds_of (take place changes) ++ rest) (olds_of-append (get_or changes place d ∷ []) (drop (place + 1) changes))
-
--- what each area has that the changes take away, each has that one of them takes away
-pub olds_at : (P : Record → Type 0) (changes : List Change) (place : ℕ) (d : Change) → place < length changes → All P (olds_of changes)
-    → All P (olds_of (get_or changes place d ∷ []))
-olds_at P changes place d within each =
-    All-from_recursion P (olds_of (get_or changes place d ∷ []))
-    (Each-left P (olds_of (get_or changes place d ∷ [])) (olds_of (drop (place + 1) changes))
-    (Each-right P (olds_of (take place changes)) (olds_of (get_or changes place d ∷ []) ++ olds_of (drop (place + 1) changes))
-    (recursion_from_All P (olds_of (take place changes) ++ (olds_of (get_or changes place d ∷ []) ++ olds_of (drop (place + 1) changes)))
-    (subst (λ olds. All P olds) (olds_around changes place d within) each))))
-
--- the areas that a change takes away and brings, if there are any
-pub olds_single : (change : Change) → olds_of (change ∷ []) ≡ option_to_list (old_of change)
-olds_single (Detach old) = refl
-olds_single (Alter old new) = refl
-olds_single (Add new) = refl
 
 pub news_single : (change : Change) → news_of (change ∷ []) ≡ option_to_list (new_of change)
 news_single (Detach old) = refl

@@ -7,7 +7,7 @@ use Rattle.mm_types.specs.declared.area.Record.{Record}
 use Rattle.area_list.specs.Changes.{insert_area}
 use Rattle.area_list.proofs.Elements.{Each-append, Each-left, Each-right}
 use Rattle.split_merge.proofs.Counting.{length-with_all}
-use Rattle.area_chunks.specs.Chunks.{areas_of, IsFilled, AreOthersFilled}
+use Rattle.area_chunks.specs.Internal.Chunks.{areas_of, IsFilled, AreOthersFilled}
 use Rattle.area_chunks.proofs.Parting.{areas_of-append, parts_at, areas_at, areas_set}
 
 each_filled : (chunks : List (List Record)) (place : ℕ) → place < length chunks → All IsFilled chunks
@@ -71,11 +71,6 @@ emptied_areas chunks place within empty =
     nothing : (chunk : List Record) → length chunk ≤ 0 → chunk ≡ []
     nothing [] none = refl
     nothing (area ∷ areas) none = absurd (omega (arith, none))
-
-pub emptied_filled : (chunks : List (List Record)) (place : ℕ) → AreOthersFilled chunks place → All IsFilled (take place chunks ++ drop (place + 1) chunks)
-emptied_filled chunks place others = All-from_recursion IsFilled (take place chunks ++ drop (place + 1) chunks)
-    (Each-append IsFilled (take place chunks) (drop (place + 1) chunks) (recursion_from_All IsFilled (take place chunks) others.front)
-    (recursion_from_All IsFilled (drop (place + 1) chunks) others.back))
 
 -- an area more
 pub one_longer : (new : Record) (areas : List Record) → length (insert_area new areas) ≡ length areas + 1

@@ -1,7 +1,7 @@
 -- For `AreaChunks::apply`, `Chunk::from`, `Chunk::before` and others: canonical lists lie in ascending order, by index.
-use Rattle.std.proofs.Common.{◌≡◌, ◌≤◌, ◌<◌, ◌+◌, ℕ, Bool, true, false, if◌then◌else◌, nat_le, nat_lt, ◌⊎◌, inl, inr, subst, List, [], ◌∷◌, take, get_or, slice_get, Some, None, refl, ap, ◌∙◌, sym, All, AllPairs, arith}
+use Rattle.std.proofs.Common.{◌≡◌, ◌≤◌, ◌<◌, ◌+◌, ℕ, Bool, true, false, if◌then◌else◌, nat_le, nat_lt, ◌⊎◌, List, [], ◌∷◌, take, slice_get, Some, None, refl, ap, ◌∙◌, sym, All, AllPairs, arith}
 use Rattle.std.specs.List.{filter, last_or, AllByRecursion as Each}
-use Rattle.std.proofs.lemmas.Bool.{cases_eq, cond-true, cond-false, ltb-false, leb-true, leb-false, lt-ltb, le-ltb}
+use Rattle.std.proofs.lemmas.Bool.{cond-true, cond-false, ltb-false, leb-true, leb-false, lt-ltb, le-ltb}
 use Rattle.std.proofs.lemmas.List.Elements.{All-from_recursion}
 use Rattle.std.proofs.lemmas.List.Kept.{AllPairs-cons}
 use Rattle.std.proofs.Math.Numerals.{one-add}
@@ -13,8 +13,8 @@ use Rattle.area_list.proofs.Order.{Before}
 use Rattle.split_merge.specs.Finding.{first_from, last_before}
 use Rattle.split_merge.proofs.Ascending.{Below, ascending}
 use Rattle.split_merge.proofs.Walking.{in_order, filter_none}
-use Rattle.area_chunks.specs.BinarySearch.{begins_below, ends_by, EndsRise, BeginsAscend, EndsAscend}
-use Rattle.area_chunks.specs.Chunks.{areas_of, IsFilled, AreApart}
+use Rattle.area_chunks.specs.Internal.BinarySearch.{begins_below, ends_by, BeginsAscend, EndsAscend}
+use Rattle.area_chunks.specs.Internal.Chunks.{areas_of, IsFilled, AreApart}
 
 pub AllPairs-from_Pairs : {A : Type 0} (R : A → A → Type 0) (xs : List A) → Pairs R xs → AllPairs R xs
 AllPairs-from_Pairs R [] pairs = λ i j d before within. absurd (omega arith)
@@ -36,13 +36,6 @@ ends_pairs (area ∷ areas) valid order = (
 
 pub ends_ascend : (end : ℕ) (areas : List Record) → IsCanonical end areas → EndsAscend areas
 ends_ascend end areas c = let o = in_order end areas c in AllPairs-from_Pairs EndsBelow areas (ends_pairs areas o.valid o.ordered)
-
-pub ends_rise : (end : ℕ) (areas : List Record) → IsCanonical end areas → EndsRise areas
-ends_rise end areas c i j d order within = by (cases_eq i j)
-  where
-    by : (i ≡ j) ⊎ (i ≡ j → ⊥) → (get_or areas i d).span.hi ≤ (get_or areas j d).span.hi
-    by (inl same) = subst (λ k. (get_or areas i d).span.hi ≤ (get_or areas k d).span.hi) same (omega arith)
-    by (inr apart) = omega (arith, ends_ascend end areas c i j d (omega arith) within)
 
 -- the first area that ends above a page stands after those that do not
 pub from_is : (areas : List Record) (page : ℕ) → slice_get areas (ends_by page areas) ≡ first_from areas page

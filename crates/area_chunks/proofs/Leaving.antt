@@ -8,7 +8,7 @@ use Rattle.split_merge.specs.declared.plan.Change.{Change}
 use Rattle.split_merge.specs.Plans.{olds_of, starts_alike, without}
 use Rattle.split_merge.proofs.Counting.{Pairs-from_AllPairs, unlike}
 use Rattle.split_merge.proofs.Lists.{Pairs-right, Pairs-across}
-use Rattle.area_chunks.specs.BinarySearch.{BeginsAscend}
+use Rattle.area_chunks.specs.Internal.BinarySearch.{BeginsAscend}
 use Rattle.area_chunks.proofs.Editing.{olds_around, olds_from}
 use Rattle.area_chunks.proofs.Going.{ascending_pairs, contains_without, without-append, without_swap}
 

@@ -12,8 +12,8 @@ use Rattle.area_list.proofs.Elements.{Pairs, Each-right, Each-weaker, Pairs-weak
 use Rattle.split_merge.specs.Plans.{without}
 use Rattle.split_merge.proofs.Ascending.{Below}
 use Rattle.split_merge.proofs.Lists.{Pairs-right}
-use Rattle.area_chunks.specs.BinarySearch.{BeginsRise, BeginsAscend}
-use Rattle.area_chunks.specs.Chunks.{areas_of, low_of, IsSome}
+use Rattle.area_chunks.specs.Internal.BinarySearch.{BeginsRise, BeginsAscend}
+use Rattle.area_chunks.specs.Internal.Chunks.{areas_of, low_of, IsSome}
 use Rattle.area_chunks.proofs.Going.{ascending_pairs}
 use Rattle.area_chunks.proofs.InOrder.{AllPairs-from_Pairs}
 use Rattle.area_chunks.proofs.Parting.{areas_of-append, areas_at, areas_set, rise_pairs, Pairs-left, NotAbove, back_stops, front_below, back_from}

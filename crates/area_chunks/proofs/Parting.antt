@@ -10,7 +10,7 @@ use Rattle.mm_types.specs.declared.area.Record.{Record}
 use Rattle.area_list.specs.Areas.{OfFirst}
 use Rattle.area_list.proofs.Elements.{Pairs, Each-append, Each-left, Each-right, Each-weaker}
 use Rattle.split_merge.proofs.Lists.{Pairs-right, Pairs-across}
-use Rattle.area_chunks.specs.Chunks.{areas_of, low_of, high_of, IsSome}
+use Rattle.area_chunks.specs.Internal.Chunks.{areas_of, low_of, high_of, IsSome}
 use Rattle.area_chunks.proofs.InOrder.{AllPairs-from_Pairs}
 
 pub areas_of-append : (xs ys : List (List Record)) → areas_of (xs ++ ys) ≡ areas_of xs ++ areas_of ys

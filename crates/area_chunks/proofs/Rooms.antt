@@ -1,12 +1,14 @@
 -- For `highest_below` and `low_place`: room that is found in one chunk is free of all areas.
-use Rattle.std.proofs.Common.{◌≡◌, ◌≤◌, ◌<◌, ◌+◌, ◌-◌, ℕ, Bool, true, false, ◌&&◌, ◌||◌, if◌then◌else◌, nat_le, List, [], ◌∷◌, ◌++◌, length, take, drop, get_or, Option, Some, None, refl, ap, ◌∙◌, sym, subst, All, max, arith}
+use Rattle.std.proofs.Common.{◌≡◌, ◌≤◌, ◌<◌, ◌+◌, ◌-◌, ℕ, Bool, true, false, ◌&&◌, ◌||◌, if◌then◌else◌, nat_le, List, [], ◌∷◌, ◌++◌, length, map, take, drop, get_or, Option, Some, None, refl, ap, ◌∙◌, sym, subst, All, max, arith}
 use Rattle.std.specs.List.{Contains, AllByRecursion as Each}
 use Rattle.std.proofs.lemmas.Bool.{leb-true, leb-false}
 use Rattle.std.proofs.lemmas.Bool.Decides.{nat_tests}
-use Rattle.std.proofs.lemmas.List.{append-nil, drop_more, take_more}
+use Rattle.std.proofs.lemmas.List.{append-nil, drop_more, map-append, take_more}
 use Rattle.std.proofs.lemmas.List.Elements.{All-contains, All-from_recursion, recursion_from_All}
 use Rattle.std.proofs.lemmas.List.Folds.{list_all-append}
 use Rattle.mm_types.specs.declared.area.Record.{Record}
+use Rattle.mm_types.specs.declared.area.Span.{Span}
+use Rattle.mm_types.specs.Searches.{is_clear_of}
 use Rattle.area_list.proofs.Elements.{Each-append, Each-left, Each-weaker}
 use Rattle.area_rules.specs.declared.placement.Bounds.{Bounds}
 use Rattle.area_rules.specs.declared.placement.TheConstants.{FLOOR, WINDOW_END}
@@ -14,8 +16,8 @@ use Rattle.area_rules.specs.Placement.{is_free, highest_below, low_place}
 use Rattle.area_rules.proofs.Placing.{low_found, low_none}
 use Rattle.split_merge.proofs.Ascending.{Below}
 use Rattle.split_merge.proofs.Lists.{Pairs-right, Pairs-across}
-use Rattle.area_chunks.specs.Chunks.{areas_of, AreApart}
-use Rattle.area_chunks.specs.Gaps.{HasRoomBelow, HasRoomAbove}
+use Rattle.area_chunks.specs.Internal.Chunks.{areas_of, AreApart}
+use Rattle.area_chunks.specs.Internal.Gaps.{HasRoomBelow, HasRoomAbove}
 use Rattle.area_chunks.proofs.Among.{EndsBelow, ends_below}
 use Rattle.area_chunks.proofs.Going.{ascending_pairs}
 use Rattle.area_chunks.proofs.Locating.{pairs_at}
@@ -24,7 +26,8 @@ use Rattle.area_chunks.proofs.Searching.{highest_found, highest_none}
 
 is_free-append : (xs ys : List Record) (pages start : ℕ) → is_free (xs ++ ys) pages start ≡ (is_free xs pages start && is_free ys pages start)
 unfolding is_free
-is_free-append xs ys pages start = list_all-append (λ (a : Record). nat_le (start + pages) a.span.lo || nat_le a.span.hi start) xs ys
+is_free-append xs ys pages start = ap (λ (spans : List Span). is_clear_of spans pages start) (map-append (λ (a : Record). a.span) xs ys)
+    ∙ list_all-append (λ (s : Span). nat_le (start + pages) s.lo || nat_le s.hi start) (map (λ (a : Record). a.span) xs) (map (λ (a : Record). a.span) ys)
 
 lower_test : (lo hi start pages : ℕ) (rest : Bool) → hi ≤ start → rest ≡ true → ((nat_le (start + pages) lo || nat_le hi start) && rest) ≡ true
 lower_test lo hi start pages rest below is = grind (arith, nat_tests)

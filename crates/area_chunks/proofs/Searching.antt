@@ -11,8 +11,8 @@ use Rattle.std.proofs.lemmas.Bool.{cases_lt, cases_eq, ltb-true, ltb-false, leb-
 use Rattle.mm_types.specs.declared.area.Record.{Record}
 use Rattle.area_rules.specs.declared.placement.Bounds.{Bounds}
 use Rattle.area_rules.specs.Placement.{is_free, highest_below, high_place}
-use Rattle.area_rules.proofs.Placing.{high_found, high_none}
-use Rattle.area_chunks.specs.BinarySearch.{begins_below, ends_by, BeginsRise, EndsRise}
+use Rattle.area_rules.proofs.Placing.{free_each, high_found, high_none}
+use Rattle.area_chunks.specs.Internal.BinarySearch.{begins_below, ends_by, BeginsRise, EndsRise}
 use Rattle.area_chunks.proofs.Fronting.{last_is}
 
 -- a list that ascends does not fall
@@ -67,9 +67,8 @@ taken_tests lo hi start pages begins ends = grind (arith, nat_tests)
 -- where an area has one of the pages they are not free
 pub not_free : (areas : List Record) (pages start place : ℕ) (area : Record) → IsAt areas place area → area.span.lo < start + pages → start < area.span.hi
     → is_free areas pages start ≡ false
-unfolding is_free
 not_free areas pages start place area at begins ends =
-    list_all_at (λ (a : Record). nat_le (start + pages) a.span.lo || nat_le a.span.hi start) areas place area at.within
+    free_each areas pages start ∙ list_all_at (λ (a : Record). nat_le (start + pages) a.span.lo || nat_le a.span.hi start) areas place area at.within
     (ap (λ (a : Record). nat_le (start + pages) a.span.lo || nat_le a.span.hi start) (at.there area)
     ∙ taken_tests area.span.lo area.span.hi start pages begins ends)
 
@@ -82,9 +81,8 @@ pub free_between : (areas : List Record) (pages start place : ℕ)
     → ((k : ℕ) (d : Record) → k < place → k < length areas → (get_or areas k d).span.hi ≤ start)
     → ((k : ℕ) (d : Record) → place ≤ k → k < length areas → start + pages ≤ (get_or areas k d).span.lo)
     → is_free areas pages start ≡ true
-unfolding is_free
 free_between areas pages start place before after =
-    list_all-from_AllPass (λ (a : Record). nat_le (start + pages) a.span.lo || nat_le a.span.hi start) areas
+    free_each areas pages start ∙ list_all-from_AllPass (λ (a : Record). nat_le (start + pages) a.span.lo || nat_le a.span.hi start) areas
     (λ k d within. free_tests (get_or areas k d).span.lo (get_or areas k d).span.hi start pages (elim (cases_lt k place) [
       | inl front ↦ inr (before k d front within)
       | inr back ↦ inl (after k d back within)

@@ -3,8 +3,8 @@ use Rattle.std.proofs.Common.{◌≡◌, ◌≤◌, ◌<◌, ◌+◌, inl, inr, 
 use Rattle.std.proofs.lemmas.Bool.{cases_lt}
 use Rattle.mm_types.specs.declared.area.Record.{Record}
 use Rattle.area_rules.specs.Placement.{is_free}
-use Rattle.area_chunks.specs.Chunks.{low_of, high_of}
-use Rattle.area_chunks.specs.Gaps.{HasGapsUpTo}
+use Rattle.area_chunks.specs.Internal.Chunks.{low_of, high_of}
+use Rattle.area_chunks.specs.Internal.Gaps.{HasGapsUpTo}
 use Rattle.area_chunks.proofs.Searching.{taken_tests}
 
 first_false : (a b : Bool) → a ≡ false → (a && b) ≡ false

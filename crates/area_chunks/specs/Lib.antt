@@ -1,4 +1,2 @@
-pub mod BinarySearch
-pub mod Chunks
-pub mod Gaps
 pub mod Stored
+pub mod Internal

@@ -4,7 +4,7 @@ use Rattle.mm_types.specs.declared.area.Record.{Record}
 use Rattle.area_rules.specs.declared.placement.Bounds.{Bounds}
 use Rattle.split_merge.specs.Plans.{IsKept}
 use Rattle.area_chunks.specs.declared.store.Store.{Store}
-use Rattle.area_chunks.specs.Chunks.{areas_of, IsFilled}
+use Rattle.area_chunks.specs.Internal.Chunks.{areas_of, IsFilled}
 
 -- a list of areas with the numbers by which it goes
 pub record Stored : Type 0 where

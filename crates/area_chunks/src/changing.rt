@@ -1,8 +1,8 @@
 //! Plans, carried out on a store.
 ghost use Rattle.std.specs.Prelude.{◌≡◌, ◌≢◌, ◌≤◌, ◌+◌, false, ◌∷◌, [], length, All, AllPairs, Contains, vec_capacity};
 ghost use Rattle.split_merge.specs.Plans.{applied, olds_of, news_of, without, with_all};
-ghost use Rattle.area_chunks.specs.BinarySearch.{BeginsRise, BeginsAscend};
-ghost use Rattle.area_chunks.specs.Chunks.{areas_of};
+ghost use Rattle.area_chunks.specs.Internal.BinarySearch.{BeginsRise, BeginsAscend};
+ghost use Rattle.area_chunks.specs.Internal.Chunks.{areas_of};
 ghost use Rattle.area_chunks.specs.Stored.{IsSane, StaysSane};
 
 use crate::store::Store;

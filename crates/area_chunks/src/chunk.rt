@@ -3,9 +3,9 @@ ghost use Rattle.std.specs.Prelude.{◌≡◌, ◌≤◌, ◌<◌, ◌+◌, [], 
 ghost use Rattle.area_list.specs.Changes.{insert_area};
 ghost use Rattle.split_merge.specs.Plans.{without};
 ghost use Rattle.split_merge.specs.Finding.{first_from, last_before};
-ghost use Rattle.area_chunks.specs.BinarySearch.{BeginsRise, BeginsAscend};
-ghost use Rattle.area_chunks.specs.Chunks.{low_of, high_of};
-ghost use Rattle.area_chunks.specs.Gaps.{IsAscending, HasScannedDown, HasScannedUp};
+ghost use Rattle.area_chunks.specs.Internal.BinarySearch.{BeginsRise, BeginsAscend};
+ghost use Rattle.area_chunks.specs.Internal.Chunks.{low_of, high_of};
+ghost use Rattle.area_chunks.specs.Internal.Gaps.{IsAscending, HasScannedDown, HasScannedUp};
 
 use crate::binary_search::{area_at, begins_below, ends_by, last_of};
 use crate::scanning::{Scan, scan_down, scan_up, widest_gap};
@@ -43,7 +43,7 @@ impl Model for Chunk {
     ghost use Rattle.std.specs.Prelude.{List};
     ghost use Rattle.std.specs.Vec.{vec_capacity};
     ghost use Rattle.mm_types.specs.declared.area.Record.{Record};
-    ghost use Rattle.area_chunks.specs.Gaps.{IsWellFilled};
+    ghost use Rattle.area_chunks.specs.Internal.Gaps.{IsWellFilled};
 
     ghost Value = { List Record };
 

@@ -26,7 +26,7 @@ pub struct AreaChunks {
 }
 
 impl Model for AreaChunks {
-    ghost use Rattle.area_chunks.specs.Chunks.{areas_of};
+    ghost use Rattle.area_chunks.specs.Internal.Chunks.{areas_of};
     ghost use Rattle.area_chunks.specs.Stored.{Stored, IsWellStored};
 
     ghost Value = { Stored };

@@ -2,7 +2,7 @@
 ghost use Rattle.std.specs.Prelude.{◌≡◌, ◌≤◌, nat_le, nat_lt, length};
 ghost use Rattle.std.specs.List.{prefix_len};
 ghost use Rattle.split_merge.specs.Finding.{first_from, last_before};
-ghost use Rattle.area_chunks.specs.Chunks.{areas_of, low_of, high_of, AreInOrder, AreApart};
+ghost use Rattle.area_chunks.specs.Internal.Chunks.{areas_of, low_of, high_of, AreInOrder, AreApart};
 
 use crate::chunk::Chunk;
 use mm_types::Record;

@@ -2,7 +2,7 @@
 ghost use Rattle.std.specs.Prelude.{◌≡◌, ◌-◌, ◌≤◌, if◌then◌else◌, nat_le, ◌+◌, Some, None};
 ghost use Rattle.area_rules.specs.declared.placement.TheConstants.{WINDOW_END};
 ghost use Rattle.area_rules.specs.Placement.{highest_below, low_place, place_low, place_high};
-ghost use Rattle.area_chunks.specs.Chunks.{areas_of, AreApart};
+ghost use Rattle.area_chunks.specs.Internal.Chunks.{areas_of, AreApart};
 
 use crate::chunk::Chunk;
 use crate::finding::{beginning_below, ending_by};

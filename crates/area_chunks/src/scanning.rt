@@ -1,7 +1,7 @@
 //! Gaps between the areas of one chunk: the widest, and the first one below or above a page that is wide enough.
 ghost use Rattle.std.specs.Prelude.{◌≡◌, ◌≤◌, ◌<◌, ◌+◌, true, false, ℕ};
 ghost use Rattle.area_list.specs.Areas.{OfFirst};
-ghost use Rattle.area_chunks.specs.Gaps.{HasGapsUpTo, IsAscending, HasScannedDown, HasScannedUp};
+ghost use Rattle.area_chunks.specs.Internal.Gaps.{HasGapsUpTo, IsAscending, HasScannedDown, HasScannedUp};
 
 use crate::binary_search::{area_at, begins_below, ends_by, last_of};
 use area_rules::fits;

@@ -2,8 +2,8 @@
 ghost use Rattle.std.specs.Prelude.{◌≡◌, ◌≤◌, ◌<◌, ◌+◌, ◌*◌, [], ◌∷◌, ◌++◌, length, All, Contains, IfOk, vec_len, vec_capacity, set, slice_index_or};
 ghost use Rattle.area_list.specs.Changes.{insert_area};
 ghost use Rattle.split_merge.specs.Plans.{without};
-ghost use Rattle.area_chunks.specs.BinarySearch.{BeginsRise, BeginsAscend};
-ghost use Rattle.area_chunks.specs.Chunks.{areas_of, IsFilled, AreOthersFilled};
+ghost use Rattle.area_chunks.specs.Internal.BinarySearch.{BeginsRise, BeginsAscend};
+ghost use Rattle.area_chunks.specs.Internal.Chunks.{areas_of, IsFilled, AreOthersFilled};
 ghost use Rattle.area_chunks.specs.Stored.{IsRoomy, IsSane, StaysSane};
 
 use crate::chunk::{Chunk, HALF, append};

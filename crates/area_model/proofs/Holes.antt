@@ -24,11 +24,8 @@ no_hole span areas all = rw (least_none (λ page. nat_le span.lo page && is_none
 pub hole_at : (span : Span) (areas : List Record) (hole : ℕ) → span.lo ≤ hole → hole < span.hi → area_at areas hole ≡ None
     → ((page : ℕ) → span.lo ≤ page → page < hole → is_none (area_at areas page) ≡ false) → has_hole span areas ≡ true
 unfolding has_hole
-hole_at span areas hole above below unmapped all = rw (least_is (λ page. nat_le span.lo page && is_none (area_at areas page)) span.hi hole (record {
-  below = below;
-  passing = rw unmapped (grind (arith, nat_tests));
-  none_lesser = λ page less. mapped_tests span.lo page (is_none (area_at areas page)) (λ from. all page from less);
-}))
+hole_at span areas hole above below unmapped all = rw (least_is (λ page. nat_le span.lo page && is_none (area_at areas page)) span.hi hole
+    below (rw unmapped (grind (arith, nat_tests))) (λ page less. mapped_tests span.lo page (is_none (area_at areas page)) (λ from. all page from less)))
 
 mapped_by : (found : Option Record) (area : Record) → found ≡ Some area → is_none found ≡ false
 mapped_by found area is = rw is

@@ -1,23 +1,31 @@
 //! Where a new area goes that names no fixed place. Everything is counted in pages, but the hint is an address.
-ghost use Rattle.std.specs.Prelude.{◌≡◌, ◌<◌, ◌≤◌, ◌+◌, ◌^◌, IfSome, max};
+ghost use Rattle.std.specs.Prelude.{◌≡◌, ◌<◌, ◌≤◌, ◌+◌, ◌^◌, ◌||◌, IfSome, max, nat_le};
+ghost use Rattle.std.specs.List.{list_all};
 ghost use Rattle.area_rules.specs.Placement.{is_free, hinted_place, highest_below, low_place, place_low, place};
-ghost use Rattle.area_rules.specs.Blockers.{blocker};
+ghost use Rattle.area_rules.specs.Internal.Blockers.{blocker};
 ghost use Rattle.area_rules.specs.declared.placement.TheConstants.{WINDOW_END};
 
 use area_rules::{Bounds, FLOOR, WINDOW_END, fits, hint_page, is_high, window_end};
 use mm_types::Record;
 
 /// Whether no area has one of so many pages from this start on.
-#[tactic(auto, unfolding(area_rules::specs::Placement::is_free))]
 pub(crate) fn is_free(areas: &[Record], pages: u64, start: u64) -> bool
     requires { start + pages < 2 ^ 64 }
     ensures { result ≡ is_free areas.now pages start }
+{
+    is_each_clear(areas, pages, start)
+}
+
+/// Whether each area begins behind so many pages from this start on, or ends before them.
+fn is_each_clear(areas: &[Record], pages: u64, start: u64) -> bool
+    requires { start + pages < 2 ^ 64 }
+    ensures { result ≡ list_all (λ area. nat_le (start + pages) area.span.lo || nat_le area.span.hi start) areas.now }
 {
     areas.iter().all(|area| start + pages <= area.span.lo || area.span.hi <= start)
 }
 
 /// The first area that has one of so many pages from this start on.
-#[tactic(auto, unfolding(area_rules::specs::Blockers::blocker))]
+#[tactic(auto, unfolding(area_rules::specs::Internal::Blockers::blocker))]
 fn blocker(areas: &[Record], pages: u64, start: u64) -> Option<Record>
     requires { start + pages < 2 ^ 64 }
     ensures { result ≡ blocker areas.now pages start }

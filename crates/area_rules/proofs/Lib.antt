@@ -23,3 +23,5 @@ pub mod Touching
 pub mod Breaks
 pub mod Sealing
 pub mod SealedPages
+pub mod PageLaws
+pub mod PagesAbout

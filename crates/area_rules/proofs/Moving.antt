@@ -43,7 +43,7 @@ each_clear (area ∷ areas) pages start free =
     clear lo hi end start h = grind (arith, nat_tests)
 
 -- what a page of the new range is mapped to
-abbrev carried_page : Record → MremapArgs → (start page : ℕ) → MappedPage
+abbrev pub carried_page : Record → MremapArgs → (start page : ℕ) → MappedPage
 carried_page area args start page = record {
   attr = area.attr;
   object = area.object;

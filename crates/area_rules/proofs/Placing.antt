@@ -1,13 +1,22 @@
 -- For the searches of the code: what blocks a place, and where a search stands.
-use Rattle.std.proofs.Common.{◌≡◌, ℕ, ◌+◌, ◌-◌, ◌<◌, ◌≤◌, ◌&&◌, ◌||◌, Bool, true, false, cond, nat_lt, nat_le, List, [], ◌∷◌, Option, Some, None, refl, max, arith}
+use Rattle.std.proofs.Common.{◌≡◌, ℕ, ◌+◌, ◌-◌, ◌<◌, ◌≤◌, ◌&&◌, ◌||◌, Bool, true, false, cond, nat_lt, nat_le, List, [], ◌∷◌, Option, Some, None, refl, ◌∙◌, max, arith}
+use Rattle.std.specs.List.{list_all}
 use Rattle.std.proofs.lemmas.Bool.Decides.{nat_tests}
+use Rattle.std.proofs.lemmas.List.Folds.{list_all-map}
+use Rattle.mm_types.specs.declared.area.Span.{Span}
 use Rattle.mm_types.specs.declared.area.Record.{Record}
 use Rattle.area_rules.specs.declared.placement.Bounds.{Bounds}
 use Rattle.area_rules.specs.declared.placement.TheConstants.{FLOOR, WINDOW_END}
 use Rattle.area_rules.specs.Placement.{is_free, highest_below, high_place, low_place}
-use Rattle.area_rules.specs.Blockers.{blocker}
+use Rattle.area_rules.specs.Internal.Blockers.{blocker}
 use Rattle.area_list.proofs.Finding.{find_passes, find_fails_all}
 use Rattle.area_rules.proofs.Searching.{greatest_is, greatest_none, least_is, least_none}
+
+-- no area has one of the pages
+pub free_each : (areas : List Record) (pages start : ℕ)
+    → is_free areas pages start ≡ list_all (λ (a : Record). nat_le (start + pages) a.span.lo || nat_le a.span.hi start) areas
+unfolding is_free
+free_each areas pages start = list_all-map (λ (s : Span). nat_le (start + pages) s.lo || nat_le s.hi start) (λ (a : Record). a.span) areas
 
 -- one area, by its numbers: it is in the way, or the place is free of it
 tests_free : (lo hi start pages : ℕ) (area : Record) (found : Option Record) (rest : Bool)
@@ -39,9 +48,9 @@ taken_tests lo hi start pages begins ends = grind (arith, nat_tests)
 -- no place that has a page of it is free
 pub taken : (areas : List Record) (pages start : ℕ) (area : Record) (other : ℕ) → blocker areas pages start ≡ Some area
     → area.span.lo < other + pages → other < area.span.hi → is_free areas pages other ≡ false
-unfolding blocker is_free
+unfolding blocker
 taken areas pages start area other found begins ends =
-    find_fails_all _ (λ (a : Record). nat_le (other + pages) a.span.lo || nat_le a.span.hi other) areas area found
+    free_each areas pages other ∙ find_fails_all _ (λ (a : Record). nat_le (other + pages) a.span.lo || nat_le a.span.hi other) areas area found
     (taken_tests area.span.lo area.span.hi other pages begins ends)
 
 -- what the test of a loop says
@@ -71,11 +80,9 @@ found_tests low start end last free above within is = grind (arith, nat_tests)
 pub highest_found : (bounds : Bounds) (end : ℕ) (areas : List Record) (pages last : ℕ) → bounds.low + pages ≤ last → last ≤ end
     → ((start : ℕ) → last < start + pages → start + pages ≤ end → is_free areas pages start ≡ false)
     → is_free areas pages (last - pages) ≡ true → highest_below bounds end areas pages ≡ Some (last - pages)
-highest_found bounds end areas pages last room within none free = greatest_is _ _ _ (record {
-  below = omega arith;
-  passing = found_tests bounds.low (last - pages) (last - pages + pages) end (is_free areas pages (last - pages)) (omega arith) (omega arith) free;
-  none_greater = λ start above below. higher_tests bounds.low end pages start (is_free areas pages start) (none start (omega arith));
-})
+highest_found bounds end areas pages last room within none free = greatest_is _ _ _ (omega arith)
+    (found_tests bounds.low (last - pages) (last - pages + pages) end (is_free areas pages (last - pages)) (omega arith) (omega arith) free)
+    (λ start above below. higher_tests bounds.low end pages start (is_free areas pages start) (none start (omega arith)))
 
 -- the search below the top has nothing to try any more
 pub high_none : (bounds : Bounds) (areas : List Record) (pages end : ℕ) → end < bounds.low + pages
@@ -109,8 +116,6 @@ pub low_found : (bounds : Bounds) (areas : List Record) (pages next : ℕ) → m
     → ((start : ℕ) → max FLOOR bounds.low ≤ start → start < next → is_free areas pages start ≡ false)
     → is_free areas pages next ≡ true → low_place bounds areas pages ≡ Some next
 unfolding low_place
-low_found bounds areas pages next above room none free = least_is _ _ _ (record {
-  below = omega arith;
-  passing = found_tests (max FLOOR bounds.low) next (next + pages) WINDOW_END (is_free areas pages next) above room free;
-  none_lesser = λ start less. lower_tests (max FLOOR bounds.low) WINDOW_END pages start (is_free areas pages start) (λ from. none start from less);
-})
+low_found bounds areas pages next above room none free = least_is _ _ _ (omega arith)
+    (found_tests (max FLOOR bounds.low) next (next + pages) WINDOW_END (is_free areas pages next) above room free)
+    (λ start less. lower_tests (max FLOOR bounds.low) WINDOW_END pages start (is_free areas pages start) (λ from. none start from less))

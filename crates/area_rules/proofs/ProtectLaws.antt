@@ -42,12 +42,12 @@ stop_is prot range areas some = at (least_below stops range.hi) refl
     }
     at (Some stop) found =
         let least = least_some stops range.hi stop found in
-        let here = stopped_at range.lo stop (may_have prot (area_at areas stop)) least.passing in
+        let here = stopped_at range.lo stop (may_have prot (area_at areas stop)) least.1 in
         record {
           begins = here.0;
-          ends = omega (arith, least.below);
+          ends = omega (arith, least.0);
           before = λ page low high. goes_on range.lo page (may_have prot (area_at areas page)) low
-              (least.none_lesser page high);
+              (least.2 page high);
           stopped = λ less. here.1;
         }
 

@@ -251,6 +251,41 @@ lengthened_canonical config areas args area valid c r found more room =
     put_canonical (page_of config.limit) (carried_area area (added_range args).lo (added_range args)) areas
     (grown_good config areas args area valid c r found more room) c
 
+-- what holds of each change that there is, by its case, holds of the change
+pub change_cases : (Q : Moved → Type 0) (config : Config) (areas : List Record) (area : Record)
+    (args : MremapArgs) (change : Moved)
+    → ((start : ℕ) → MovesTo config areas args start → Q (moved areas area args start))
+    → (lengthens args ≡ false → Q (record { areas = shrunk_list areas args; page = page_of args.old }))
+    → (lengthens args ≡ true → has_room config areas args ≡ true
+    → Q (record { areas = lengthened_list areas area args; page = page_of args.old }))
+    → mremap_change config areas area args ≡ Some change → Q change
+unfolding mremap_change
+change_cases Q config areas area args change moves shrinks runs_on =
+    cond_both (moves_to args) _ _ (λ o. o ≡ Some change → Q change)
+    (λ fixed e. at _ e (moves (page_of args.new) (inl (fixed, refl))))
+    (λ free. cond_both (not (lengthens args)) _ _ (λ o. o ≡ Some change → Q change)
+    (λ less e. at _ e (shrinks (is_false (lengthens args) less)))
+    (λ more. cond_both (has_room config areas args) _ _ (λ o. o ≡ Some change → Q change)
+    (λ room e. at _ e (runs_on (is_true (lengthens args) more) room))
+    (λ none. placed (new_place config areas args) free (is_true (lengthens args) more) none refl)))
+  where
+    at : (there : Moved) → Some there ≡ Some change → Q there → Q change
+    at there e q = subst Q (same_Some there change e) q
+
+    is_true : (b : Bool) → not b ≡ false → b ≡ true
+    is_true true h = refl
+    is_true false h = cc
+
+    is_false : (b : Bool) → not b ≡ true → b ≡ false
+    is_false true h = cc
+    is_false false h = refl
+
+    placed : (found : Option ℕ) → moves_to args ≡ false → lengthens args ≡ true → has_room config areas args ≡ false
+        → new_place config areas args ≡ found → option_map (moved areas area args) found ≡ Some change → Q change
+    placed None free more none is e = cc
+    placed (Some start) free more none is e =
+        at (moved areas area args start) e (moves start (inr (free, more, none, is)))
+
 -- what holds of the list after each change that there is, holds of the list after the change
 pub change_both : (Q : List Record → Type 0) (config : Config) (areas : List Record) (area : Record)
     (args : MremapArgs) (change : Moved)
@@ -258,28 +293,8 @@ pub change_both : (Q : List Record → Type 0) (config : Config) (areas : List R
     → Q (shrunk_list areas args)
     → (lengthens args ≡ true → has_room config areas args ≡ true → Q (lengthened_list areas area args))
     → mremap_change config areas area args ≡ Some change → Q change.areas
-unfolding mremap_change
 change_both Q config areas area args change moves shrinks runs_on =
-    cond_both (moves_to args) _ _ (λ o. o ≡ Some change → Q change.areas)
-    (λ fixed e. at _ e (moves (page_of args.new) (inl (fixed, refl))))
-    (λ free. cond_both (not (lengthens args)) _ _ (λ o. o ≡ Some change → Q change.areas)
-    (λ less e. at _ e shrinks)
-    (λ more. cond_both (has_room config areas args) _ _ (λ o. o ≡ Some change → Q change.areas)
-    (λ room e. at _ e (runs_on (is_true (lengthens args) more) room))
-    (λ none. placed (new_place config areas args) free (is_true (lengthens args) more) none refl)))
-  where
-    at : (there : Moved) → Some there ≡ Some change → Q there.areas → Q change.areas
-    at there e q = subst (λ m. Q m.areas) (same_Some there change e) q
-
-    is_true : (b : Bool) → not b ≡ false → b ≡ true
-    is_true true h = refl
-    is_true false h = cc
-
-    placed : (found : Option ℕ) → moves_to args ≡ false → lengthens args ≡ true → has_room config areas args ≡ false
-        → new_place config areas args ≡ found → option_map (moved areas area args) found ≡ Some change → Q change.areas
-    placed None free more none is e = cc
-    placed (Some start) free more none is e =
-        at (moved areas area args start) e (moves start (inr (free, more, none, is)))
+    change_cases (λ m. Q m.areas) config areas area args change moves (λ same. shrinks) runs_on
 
 -- what holds of each refusal, and of the outcome of the change that the tests let pass, holds of the outcome of mremap
 pub mremap_cases : (P : Outcome → Type 0) (config : Config) (space : AddressSpace) (args : MremapArgs)

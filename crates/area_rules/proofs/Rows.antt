@@ -7,7 +7,7 @@ use Rattle.mm_types.specs.declared.call.Reply.{Reply}
 use Rattle.mm_types.specs.declared.call.Reply.TheVariants.{Refused}
 use Rattle.area_rules.specs.Tables.{AddressSpace, Outcome, unless_refused, unless_answered}
 use Rattle.mm_types.specs.Rows.{first_row}
-use Rattle.area_list.proofs.Elements.{Each-left, Each-right}
+use Rattle.area_list.proofs.Elements.{Each-right}
 
 -- where a row and those behind it give no answer, its test fails
 row_false : {A : Type 0} (test : Bool) (answer : A) (rest : Option A) → (if test then Some answer else rest) ≡ None
@@ -31,17 +31,6 @@ pub unless_refused_cases : (P : Outcome → Type 0) (space : AddressSpace) (refu
     → P (unless_refused space refusal done)
 unless_refused_cases P space (Some errno) done refused through = refused errno
 unless_refused_cases P space None done refused through = through refl
-
--- what holds of an address space, and of the one after the call where nothing refuses it, holds after the call
-pub unless_refused_both : (P : AddressSpace → Type 0) (space : AddressSpace) (refusal : Option Errno)
-    (done : Outcome)
-    → P space → (refusal ≡ None → P done.space) → P (unless_refused space refusal done).space
-unless_refused_both P space (Some errno) done kept through = kept
-unless_refused_both P space None done kept through = through refl
-
--- none of two tables holds: none of the first
-pub NoneHolds-left : {A : Type 0} (rows more : List (Bool × A)) → NoneHolds (rows ++ more) → NoneHolds rows
-NoneHolds-left rows more h = Each-left (λ row. row.0 ≡ false) rows more h
 
 -- and none of the second
 pub NoneHolds-right : {A : Type 0} (rows more : List (Bool × A)) → NoneHolds (rows ++ more) → NoneHolds more

@@ -119,8 +119,8 @@ page_from_hole span areas hole = at (least_below fails span.hi) refl hole
         → HasPageWith (λ page. page_map areas page ≡ None) span
     at (Some page) is some =
         let least = least_some fails span.hi page is in
-        let tests = low span.lo page (is_none (area_at areas page)) least.passing in
-        record { page = page; within = inside span page tests.0 least.below; holds = at_unmapped areas page tests.1 }
+        let tests = low span.lo page (is_none (area_at areas page)) least.1 in
+        record { page = page; within = inside span page tests.0 least.0; holds = at_unmapped areas page tests.1 }
     at None is some = cc
 
 -- a page that is not mapped makes a hole

@@ -350,12 +350,6 @@ others_unsealed config space (Mseal addr len flags) other =
     mseal_cases (λ o. o.space.objects ≡ space.objects) config space addr len flags (λ errno. refl) (λ none. refl)
     (λ s. refl)
 
--- the same with the seals
-pub others_number_none : (config : Config) (space : AddressSpace) (call : Call) → ((args : MmapArgs) → call ≡ Mmap args → ⊥)
-    → (step config space call).space.objects ≡ space.objects
-others_number_none config space call other =
-    step_both (λ s. s.objects ≡ space.objects) config space call refl (others_unsealed config space call other)
-
 -- mmap keeps the objects counted
 mmap_counted : (config : Config) (space : AddressSpace) (args : MmapArgs) → AllCounted space
     → length config.files ≤ space.objects → AllCounted (mmap config space args).space

@@ -25,11 +25,8 @@ stop_at_end prot range areas all = rw (least_none (λ page. nat_le range.lo page
 pub stop_before : (prot : Prot) (range : Span) (areas : List Record) (stop : ℕ) → range.lo ≤ stop → stop < range.hi → may_have prot (area_at areas stop) ≡ false
     → ((page : ℕ) → range.lo ≤ page → page < stop → may_have prot (area_at areas page) ≡ true) → stop_of prot range areas ≡ stop
 unfolding stop_of
-stop_before prot range areas stop above below denied all = rw (least_is (λ page. nat_le range.lo page && not (may_have prot (area_at areas page))) range.hi stop (record {
-  below = below;
-  passing = grind (arith, nat_tests);
-  none_lesser = λ page less. stop_tests range.lo page (may_have prot (area_at areas page)) (λ from. all page from less);
-}))
+stop_before prot range areas stop above below denied all = rw (least_is (λ page. nat_le range.lo page && not (may_have prot (area_at areas page))) range.hi stop
+    below (grind (arith, nat_tests)) (λ page less. stop_tests range.lo page (may_have prot (area_at areas page)) (λ from. all page from less)))
 
 pub may_not_unmapped : (prot : Prot) (found : Option Record) → found ≡ None → may_have prot found ≡ false
 unfolding may_have

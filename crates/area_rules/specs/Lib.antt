@@ -1,7 +1,6 @@
 pub mod Tables
 pub mod Accesses
 pub mod Placement
-pub mod Blockers
 pub mod Growing
 pub mod Seals
 pub mod Mmap
@@ -14,3 +13,5 @@ pub mod Verdicts
 pub mod Steps
 pub mod Journals
 pub mod Laws
+pub mod Pages
+pub mod Internal

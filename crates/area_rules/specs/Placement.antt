@@ -1,9 +1,9 @@
 -- Where a new area goes that names no fixed place.
-use Rattle.std.specs.Prelude.{ℕ, zero, suc, ◌+◌, ◌≡◌, ◌<◌, max, Bool, true, false, ◌&&◌, ◌||◌, if◌then◌else◌, nat_eq, nat_lt, nat_le, List, Option, Some, None, option_and_then}
-use Rattle.std.specs.List.{list_all}
+use Rattle.std.specs.Prelude.{ℕ, zero, suc, ◌+◌, max, Bool, false, ◌&&◌, ◌||◌, if◌then◌else◌, map, nat_eq, nat_lt, nat_le, List, Option, Some, None, option_and_then}
 use Rattle.std.specs.Option.{option_or, option_map_or}
 use Rattle.mm_types.specs.declared.area.Record.{Record}
 use Rattle.mm_types.specs.declared.config.Config.{Config}
+use Rattle.mm_types.specs.Searches.{is_clear_of}
 use Rattle.area_rules.specs.declared.placement.Bounds.{Bounds}
 use Rattle.area_rules.specs.declared.placement.TheConstants.{FLOOR, WINDOW_END}
 use Rattle.area_list.specs.Areas.{page_of}
@@ -18,21 +18,9 @@ unfoldable pub least_below : (ℕ → Bool) → ℕ → Option ℕ
 least_below passes zero = None
 least_below passes (suc n) = option_or (least_below passes n) (if passes n then Some n else None)
 
--- a number is the greatest below the bound that passes where it is below the bound and passes, and no greater one does
-pub record IsGreatest (passes : ℕ → Bool) (bound : ℕ) (n : ℕ) : Type 0 where
-  pub below : n < bound
-  pub passing : passes n ≡ true
-  pub none_greater : (m : ℕ) → n < m → m < bound → passes m ≡ false
-
--- a number is the least below the bound that passes where it is below the bound and passes, and no lesser one does
-pub record IsLeast (passes : ℕ → Bool) (bound : ℕ) (n : ℕ) : Type 0 where
-  pub below : n < bound
-  pub passing : passes n ≡ true
-  pub none_lesser : (m : ℕ) → m < n → passes m ≡ false
-
--- no number below the bound passes
-abbrev pub NonePasses : (ℕ → Bool) → ℕ → Type 0
-NonePasses passes bound = (n : ℕ) → n < bound → passes n ≡ false
+-- whether a number is below the bound and passes the test
+abbrev pub passes_below : (ℕ → Bool) → ℕ → ℕ → Bool
+passes_below passes bound n = nat_lt n bound && passes n
 
 -- the pages between which a configuration places areas
 abbrev pub bounds_of : Config → Bounds
@@ -40,7 +28,7 @@ bounds_of config = record { low = page_of config.min; top = page_of config.top; 
 
 -- whether no area has one of so many pages from this start on
 unfoldable pub is_free : List Record → ℕ → ℕ → Bool
-is_free areas pages start = list_all (λ area. nat_le (start + pages) area.span.lo || nat_le area.span.hi start) areas
+is_free areas pages start = is_clear_of (map (λ area. area.span) areas) pages start
 
 -- The page of a hint: a hint below one page is none, and another is raised to the lowest page.
 unfoldable pub hint_page : Bounds → ℕ → Option ℕ

@@ -13,6 +13,7 @@ mod mremap_request;
 mod mseal_request;
 mod munmap_request;
 mod new_call_laws;
+mod page_laws;
 mod placement;
 mod placement_laws;
 mod seals;
@@ -37,6 +38,10 @@ pub use munmap_request::range_of;
 pub use new_call_laws::{
     brk_changes_the_pages_between, growth_maps_one_page, mseal_seals_the_range, sealed_pages_stay,
     seals_and_holes_are_of_pages,
+};
+pub use page_laws::{
+    calls_change_only_their_pages, mmap_changes_its_pages, mprotect_changes_its_pages,
+    mremap_changes_its_pages, munmap_changes_its_pages,
 };
 pub use placement::{Bounds, FLOOR, WINDOW_END, bounds_of, fits, hint_page, is_high, window_end};
 pub use placement_laws::{

@@ -8,25 +8,26 @@ ghost use Rattle.area_list.specs.Areas.{page_of};
 ghost use Rattle.area_rules.specs.declared.placement.Bounds.{Bounds};
 ghost use Rattle.area_rules.specs.declared.placement.TheConstants.{FLOOR, WINDOW_END};
 ghost use Rattle.area_rules.specs.Tables.{pages_of};
-ghost use Rattle.area_rules.specs.Placement.{greatest_below, least_below, IsGreatest, IsLeast, NonePasses};
+ghost use Rattle.mm_types.specs.Searches.{IsGreatest, IsLeast, NonePasses};
+ghost use Rattle.area_rules.specs.Placement.{greatest_below, least_below, passes_below};
 ghost use Rattle.area_rules.specs.Placement.{bounds_of, is_free, is_high, high_place, place_low, place};
 
 /// The search from above finds the greatest number below a bound that passes a test, and nothing exactly where none
 /// passes.
 pub fn greatest_below_finds_the_greatest()
     ensures found { (passes : ℕ → Bool) (bound n : ℕ) →
-        (greatest_below passes bound ≡ Some n) ↔ IsGreatest passes bound n }
+        (greatest_below passes bound ≡ Some n) ↔ IsGreatest (passes_below passes bound) n }
     ensures none { (passes : ℕ → Bool) (bound : ℕ) →
-        (greatest_below passes bound ≡ None) ↔ NonePasses passes bound }
+        (greatest_below passes bound ≡ None) ↔ NonePasses (passes_below passes bound) }
 {}
 
 /// The search from below finds the least number below a bound that passes a test, and nothing exactly where none
 /// passes.
 pub fn least_below_finds_the_least()
     ensures found { (passes : ℕ → Bool) (bound n : ℕ) →
-        (least_below passes bound ≡ Some n) ↔ IsLeast passes bound n }
+        (least_below passes bound ≡ Some n) ↔ IsLeast (passes_below passes bound) n }
     ensures none { (passes : ℕ → Bool) (bound : ℕ) →
-        (least_below passes bound ≡ None) ↔ NonePasses passes bound }
+        (least_below passes bound ≡ None) ↔ NonePasses (passes_below passes bound) }
 {}
 
 /// The second search begins at a third of user memory, rounded up to a page.

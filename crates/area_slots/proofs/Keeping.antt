@@ -88,11 +88,6 @@ taken_from free rest left count slot is once =
         let bit : ◌≡◌ {A = ℕ} (if nat_lt slot count then 1 else 0) 0 = grind (arith, nat_tests, above) in
         absurd (omega arith)
 
-pub once_taken : (free rest : List ℕ) (left : List Leaving) (count slot : ℕ) → free ≡ rest ++ slot ∷ [] → Once free left count → Once rest left count
-once_taken free rest left count slot is once other =
-    let here = subst (λ (slots : List ℕ). times other slots + times_left other left ≤ (if nat_lt other count then 1 else 0)) is (once other) in
-    omega (arith, sum_by_push (one_at other) rest slot, here)
-
 -- the first that left is free again
 pub once_freed : (free : List ℕ) (leaving : Leaving) (left : List Leaving) (count : ℕ) → Once free (leaving ∷ left) count
     → Once (free ++ leaving.slot ∷ []) left count

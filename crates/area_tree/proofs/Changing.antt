@@ -7,7 +7,7 @@ use Rattle.area_rules.specs.Placement.{is_free}
 use Rattle.maple_items.specs.Pairs.{overwritten}
 use Rattle.maple_gap.specs.Gaps.{first_from, slot_in}
 use Rattle.span_tree.specs.SpanTrees.{SpanView, ArePairs}
-use Rattle.area_tree.specs.declared.shown.Shown.{Shown}
+use Rattle.area_tree.specs.declared.shown.ShownArea.{ShownArea}
 use Rattle.area_tree.specs.declared.tree.AreaTree.TheInside.{Inside}
 use Rattle.area_tree.specs.AreaTrees.{AreaTreeView, shown_of, areas_of, times_shown, AreRecords}
 use Rattle.area_tree.specs.Kept.{view_of, IsAreaTree}
@@ -52,14 +52,14 @@ pub less_shown : (fields : Inside) (view : AreaTreeView) (tree : SpanView) (slot
     → tree.pairs ≡ overwritten area.span.lo area.span.hi 0 fields.tree.pairs → Contains (shown_of view) (record { slot = slot; area = area })
     → IsPermutation (record { slot = slot; area = area } ∷ shown_of (record { tree = tree; records = fields.records.items; bounds = fields.bounds })) (shown_of view)
 less_shown fields view tree slot area kept is order stored member =
-    let shown : Shown = record { slot = slot; area = area } in
+    let shown : ShownArea = record { slot = slot; area = area } in
     let told = less fields view slot area kept is order member in
     subst (λ (v : AreaTreeView). IsPermutation (shown ∷ shown_of (record { tree = tree; records = fields.records.items; bounds = fields.bounds })) (shown_of v)) is
     (subst (λ ps. IsPermutation (shown ∷ shown_of (record { tree = record tree { pairs = ps }; records = fields.records.items; bounds = fields.bounds })) (shown_of (view_of fields)))
     (sym stored) told.shown_is)
 
 -- a slot for free pages is put in
-pub more : (fields : Inside) (view : AreaTreeView) (shown : Shown) → IsAreaTree fields → view_of fields ≡ view → InOrder fields
+pub more : (fields : Inside) (view : AreaTreeView) (shown : ShownArea) → IsAreaTree fields → view_of fields ≡ view → InOrder fields
     → shown.area.span.lo < shown.area.span.hi
     → is_free (areas_of view) (shown.area.span.hi - shown.area.span.lo) shown.area.span.lo ≡ true
     → shown.slot < 2 * view.tree.areas + 2
@@ -71,7 +71,7 @@ more fields view shown kept is order pages free slot none =
     (subst (λ (v : AreaTreeView). is_free (areas_of v) (shown.area.span.hi - shown.area.span.lo) shown.area.span.lo ≡ true) (sym is) free)
     (subst (λ (v : AreaTreeView). times_shown shown.slot (shown_of v) ≡ 0) (sym is) none)
 
-pub more_shown : (fields : Inside) (view : AreaTreeView) (tree : SpanView) (shown : Shown) → view_of fields ≡ view
+pub more_shown : (fields : Inside) (view : AreaTreeView) (tree : SpanView) (shown : ShownArea) → view_of fields ≡ view
     → tree.pairs ≡ overwritten shown.area.span.lo shown.area.span.hi (shown.slot + 1) fields.tree.pairs
     → IsOneMore fields.records.items shown fields.tree.pairs (overwritten shown.area.span.lo shown.area.span.hi (shown.slot + 1) fields.tree.pairs)
     → IsPermutation (shown ∷ shown_of view) (shown_of (record { tree = tree; records = set fields.records.items shown.slot shown.area; bounds = fields.bounds }))
@@ -100,7 +100,7 @@ same_pages fields view slot old area kept is order member same =
 
 pub changed : (fields : Inside) (view : AreaTreeView) (slot : ℕ) (old area : Record) → IsAreaTree fields → view_of fields ≡ view → InOrder fields
     → times_shown slot (shown_of view) ≤ 1 → Contains (shown_of view) (record { slot = slot; area = old })
-    → (rest : List Shown) × IsPermutation (record { slot = slot; area = old } ∷ rest) (shown_of view)
+    → (rest : List ShownArea) × IsPermutation (record { slot = slot; area = old } ∷ rest) (shown_of view)
     × IsPermutation (record { slot = slot; area = area } ∷ rest) (shown_of (record { tree = fields.tree; records = set fields.records.items slot area; bounds = fields.bounds }))
 changed fields view slot old area kept is order once member =
     let told = updated fields.records.items slot old area fields.tree.pairs (within fields view slot old kept is order member)

@@ -10,11 +10,11 @@ use Rattle.mm_types.specs.declared.area.Span.{Span}
 use Rattle.mm_types.specs.declared.area.Record.{Record}
 use Rattle.mm_types.specs.declared.slot.Slot.{Slot}
 use Rattle.maple_node.specs.Trees.{Pair}
-use Rattle.maple_gap.specs.Gaps.{first_from, last_before, slot_in}
+use Rattle.maple_gap.specs.Gaps.{span_of, first_from, last_before, slot_in}
 use Rattle.split_merge.specs.Finding.{first_from as first_area, last_before as last_area}
 use Rattle.span_tree.specs.SpanTrees.{ArePairs}
-use Rattle.area_tree.specs.declared.shown.Shown.{Shown}
-use Rattle.area_tree.specs.AreaTrees.{area_in, shown_at, areas_shown, span_of, AreRecords}
+use Rattle.area_tree.specs.declared.shown.ShownArea.{ShownArea}
+use Rattle.area_tree.specs.AreaTrees.{area_in, shown_at, areas_shown, AreRecords}
 use Rattle.area_tree.proofs.Order.{each_pair, contained_twice}
 
 -- what a slot shows, if there is one
@@ -104,7 +104,7 @@ slot_found records slots limit area pairs are spans member = (
     none = record { lo = 0; hi = 0; slot = 0 }
 
     found : (k : ℕ) × (k < length pairs) × ((d : Pair) → area_in records (get_or pairs k d).slot ≡ area)
-    found = contained_twice (λ (s : Shown). s.area) (shown_at records) pairs area member
+    found = contained_twice (λ (s : ShownArea). s.area) (shown_at records) pairs area member
 
     k : ℕ
     k = found.0

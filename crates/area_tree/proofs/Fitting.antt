@@ -1,33 +1,27 @@
 -- For `AreaTree::place`: free pages among pairs, and among the areas that their slots show.
-use Rattle.std.proofs.Common.{ℕ, ◌≡◌, ◌<◌, ◌+◌, ◌∙◌, max, Bool, true, List, [], ◌∷◌, map, Option, Some, None, refl, sym, ap, arith}
-use Rattle.std.specs.Prelude.{MatchOption, nat_le, ◌&&◌, ◌||◌}
-use Rattle.std.specs.List.{list_all}
+use Rattle.std.proofs.Common.{ℕ, ◌≡◌, ◌<◌, ◌+◌, ◌∙◌, max, Bool, true, List, map, Option, Some, None, refl, sym, ap, arith}
+use Rattle.std.specs.Prelude.{MatchOption, nat_le, ◌&&◌}
 use Rattle.std.specs.Option.{option_or}
 use Rattle.std.proofs.lemmas.Bool.{and_parts, leb-true}
-use Rattle.std.proofs.lemmas.List.Elements.{All-head, All-tail}
 use Rattle.mm_types.specs.declared.area.Span.{Span}
 use Rattle.mm_types.specs.declared.area.Page.{Page}
 use Rattle.mm_types.specs.declared.area.Record.{Record}
+use Rattle.mm_types.specs.Searches.{IsGreatest, IsLeast, NonePasses, is_clear_of}
 use Rattle.area_rules.specs.declared.placement.Bounds.{Bounds}
 use Rattle.area_rules.specs.declared.placement.TheConstants.{FLOOR, WINDOW_END}
 use Rattle.area_rules.specs.Placement.{is_free, greatest_below, least_below, high_place, low_place, place_high, place_low}
 use Rattle.area_rules.proofs.Searching.{greatest_is, greatest_none, least_is, least_none}
 use Rattle.maple_node.specs.Trees.{Pair}
-use Rattle.maple_gap.specs.Gaps.{fits, IsGreatest, IsLeast, NonePasses}
-use Rattle.maple_gap.specs.Gaps as gaps
+use Rattle.maple_gap.specs.Gaps.{span_of, fits}
 use Rattle.split_merge.specs.PageNumbers.{page_number}
-use Rattle.area_tree.specs.AreaTrees.{area_in, shown_at, areas_shown, span_of, AreRecords}
+use Rattle.area_tree.specs.AreaTrees.{shown_at, areas_shown, AreRecords}
+use Rattle.area_tree.proofs.Order.{areas_spans}
 
 -- pages that no pair has are those that no area has
 free_same : (records : List Record) (pages start : ℕ) (pairs : List Pair) → AreRecords records pairs
-    → gaps.is_free pairs pages start ≡ is_free (areas_shown (map (shown_at records) pairs)) pages start
-unfolding is_free gaps.is_free
-free_same records pages start [] spans = refl
-free_same records pages start (pair ∷ pairs) spans =
-    let span = All-head (λ (p : Pair). (area_in records p.slot).span ≡ span_of p) pair pairs spans in
-    ap (λ (s : Span). (nat_le (start + pages) s.lo || nat_le s.hi start) && list_all (λ (p : Pair). nat_le (start + pages) p.lo || nat_le p.hi start) pairs) (sym span)
-    ∙ ap (λ (b : Bool). (nat_le (start + pages) (area_in records pair.slot).span.lo || nat_le (area_in records pair.slot).span.hi start) && b)
-    (free_same records pages start pairs (All-tail (λ (p : Pair). (area_in records p.slot).span ≡ span_of p) pair pairs spans))
+    → is_clear_of (map span_of pairs) pages start ≡ is_free (areas_shown (map (shown_at records) pairs)) pages start
+unfolding is_free
+free_same records pages start pairs spans = ap (λ (s : List Span). is_clear_of s pages start) (areas_spans records pairs spans)
 
 -- whether pages are free from a page up to another
 passes_at : List Record → ℕ → ℕ → ℕ → ℕ → Bool
@@ -51,21 +45,15 @@ greatest_found : (passes others : ℕ → Bool) (bound : ℕ) (result : Option P
     → ((n : ℕ) → others n ≡ true → n < bound) → MatchOption result (NonePasses passes) (λ (page : Page). IsGreatest passes page.0)
     → page_number result ≡ greatest_below others bound
 greatest_found passes others bound None same below found = sym (greatest_none others bound (λ n _. sym (same n) ∙ found n))
-greatest_found passes others bound (Some page) same below found = sym (greatest_is others bound page.0 (record {
-  below = below page.0 (sym (same page.0) ∙ found.passing);
-  passing = sym (same page.0) ∙ found.passing;
-  none_greater = λ m above _. sym (same m) ∙ found.none_greater m above;
-}))
+greatest_found passes others bound (Some page) same below found = sym (greatest_is others bound page.0 (below page.0 (sym (same page.0) ∙ found.passing))
+    (sym (same page.0) ∙ found.passing) (λ m above _. sym (same m) ∙ found.none_greater m above))
 
 least_found : (passes others : ℕ → Bool) (bound : ℕ) (result : Option Page) → ((n : ℕ) → passes n ≡ others n)
     → ((n : ℕ) → others n ≡ true → n < bound) → MatchOption result (NonePasses passes) (λ (page : Page). IsLeast passes page.0)
     → page_number result ≡ least_below others bound
 least_found passes others bound None same below found = sym (least_none others bound (λ n _. sym (same n) ∙ found n))
-least_found passes others bound (Some page) same below found = sym (least_is others bound page.0 (record {
-  below = below page.0 (sym (same page.0) ∙ found.passing);
-  passing = sym (same page.0) ∙ found.passing;
-  none_lesser = λ m under. sym (same m) ∙ found.none_lesser m under;
-}))
+least_found passes others bound (Some page) same below found = sym (least_is others bound page.0 (below page.0 (sym (same page.0) ∙ found.passing))
+    (sym (same page.0) ∙ found.passing) (λ m under. sym (same m) ∙ found.none_lesser m under))
 
 -- the two searches
 pub high_found : (records : List Record) (bounds : Bounds) (pages : ℕ) (pairs : List Pair) (result : Option Page) → AreRecords records pairs

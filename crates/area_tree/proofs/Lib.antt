@@ -7,3 +7,6 @@ pub mod Fitting
 pub mod Changing
 pub mod Holding
 pub mod Unsealed
+pub mod Freeing
+pub mod Paging
+pub mod Reshaped

@@ -7,7 +7,8 @@ use Rattle.mm_types.specs.declared.area.Span.{Span}
 use Rattle.mm_types.specs.declared.area.Record.{Record}
 use Rattle.maple_node.specs.Trees.{Pair}
 use Rattle.span_tree.specs.SpanTrees.{ArePairs}
-use Rattle.area_tree.specs.AreaTrees.{area_in, shown_at, areas_shown, span_of, AreasRise, AreRecords}
+use Rattle.maple_gap.specs.Gaps.{span_of}
+use Rattle.area_tree.specs.AreaTrees.{area_in, shown_at, areas_shown, AreasRise, AreRecords}
 
 -- a list of pairs ends at the limit or below it
 pub pairs_end : (slots limit start : ℕ) (pairs : List Pair) → ArePairs slots limit start pairs → start ≤ limit

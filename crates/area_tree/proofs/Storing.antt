@@ -1,4 +1,4 @@
--- For `AreaTree::remove` and `AreaTree::insert`: pairs in order with some pages overwritten.
+-- For `AreaTree::remove`, `AreaTree::insert` and others: pairs in order with some pages overwritten.
 use Rattle.std.proofs.Common.{ℕ, zero, suc, ◌≡◌, ◌<◌, ◌≤◌, ◌+◌, ◌-◌, min, max, true, false, nat_eq, List, [], ◌∷◌, ◌++◌, length, get_or, All, refl, ap, ◌∙◌, arith, ◌⊎◌, inl, inr}
 use Rattle.std.specs.Prelude.{nat_lt}
 use Rattle.std.specs.List.{flat_map, insert, remove}
@@ -16,7 +16,7 @@ lower_whole page pair some upto =
     let all : min pair.hi page ≡ pair.hi = omega arith in
     rw (test, all) refl
 
-lower_away : (page : ℕ) (pair : Pair) → page ≤ pair.lo → lower_part page pair ≡ []
+pub lower_away : (page : ℕ) (pair : Pair) → page ≤ pair.lo → lower_part page pair ≡ []
 lower_away page pair begins =
     let test : nat_lt pair.lo page ≡ false = le-ltb pair.lo page begins in rw test refl
 
@@ -26,25 +26,25 @@ upper_whole page pair some begins =
     let all : max pair.lo page ≡ pair.lo = omega arith in
     rw (test, all) refl
 
-upper_away : (page : ℕ) (pair : Pair) → pair.hi ≤ page → upper_part page pair ≡ []
+pub upper_away : (page : ℕ) (pair : Pair) → pair.hi ≤ page → upper_part page pair ≡ []
 upper_away page pair upto =
     let test : nat_lt page pair.hi ≡ false = le-ltb page pair.hi upto in rw test refl
 
 -- and of pairs above it
-lower_none : (slots limit start page : ℕ) (pairs : List Pair) → ArePairs slots limit start pairs → page ≤ start → flat_map (lower_part page) pairs ≡ []
+pub lower_none : (slots limit start page : ℕ) (pairs : List Pair) → ArePairs slots limit start pairs → page ≤ start → flat_map (lower_part page) pairs ≡ []
 lower_none slots limit start page [] are upto = refl
 lower_none slots limit start page (pair ∷ pairs) are upto =
     ap (λ (ps : List Pair). ps ++ flat_map (lower_part page) pairs) (lower_away page pair (omega (arith, are.0)))
     ∙ lower_none slots limit pair.hi page pairs are.3 (omega (arith, are.0, are.1))
 
-upper_all : (slots limit start page : ℕ) (pairs : List Pair) → ArePairs slots limit start pairs → page ≤ start → flat_map (upper_part page) pairs ≡ pairs
+pub upper_all : (slots limit start page : ℕ) (pairs : List Pair) → ArePairs slots limit start pairs → page ≤ start → flat_map (upper_part page) pairs ≡ pairs
 upper_all slots limit start page [] are upto = refl
 upper_all slots limit start page (pair ∷ pairs) are upto =
     ap (λ (ps : List Pair). ps ++ flat_map (upper_part page) pairs) (upper_whole page pair are.1 (omega (arith, are.0)))
     ∙ ap (λ (ps : List Pair). pair ∷ ps) (upper_all slots limit pair.hi page pairs are.3 (omega (arith, are.0, are.1)))
 
 -- a pair below the pages stays
-stays : (lo hi word : ℕ) (pair : Pair) (pairs : List Pair) → pair.lo < pair.hi → pair.hi ≤ lo → lo < hi
+pub stays : (lo hi word : ℕ) (pair : Pair) (pairs : List Pair) → pair.lo < pair.hi → pair.hi ≤ lo → lo < hi
     → overwritten lo hi word (pair ∷ pairs) ≡ pair ∷ overwritten lo hi word pairs
 stays lo hi word pair pairs some upto pages =
     ap (λ (ps : List Pair). (ps ++ flat_map (lower_part lo) pairs) ++ (middle ++ (upper_part hi pair ++ flat_map (upper_part hi) pairs))) (lower_whole lo pair some upto)

@@ -1,13 +1,15 @@
 -- What contracts see of a tree of areas.
-use Rattle.std.specs.Prelude.{ℕ, ◌≡◌, ◌≤◌, ◌<◌, false, List, [], ◌∷◌, All, map, sum_by, slice_index_or}
+use Rattle.std.specs.Prelude.{ℕ, ◌≡◌, ◌≤◌, ◌<◌, ◌-◌, ◌⊎◌, true, false, List, [], ◌∷◌, All, map, sum_by, slice_index_or}
 use Rattle.mm_types.specs.declared.area.Span.{Span}
 use Rattle.mm_types.specs.declared.area.Prot.{Prot}
 use Rattle.mm_types.specs.declared.area.Record.{Record}
 use Rattle.area_rules.specs.declared.placement.Bounds.{Bounds}
+use Rattle.area_rules.specs.Placement.{is_free}
 use Rattle.maple_node.specs.Trees.{Pair}
+use Rattle.maple_gap.specs.Gaps.{span_of}
 use Rattle.area_slots.specs.Slots.{one_at}
 use Rattle.span_tree.specs.SpanTrees.{SpanView}
-use Rattle.area_tree.specs.declared.shown.Shown.{Shown}
+use Rattle.area_tree.specs.declared.shown.ShownArea.{ShownArea}
 
 -- the tree of spans and slots, what each slot shows or showed last, and the pages between which areas are placed
 pub record AreaTreeView : Type 0 where
@@ -33,15 +35,15 @@ abbrev pub area_in : List Record → ℕ → Record
 area_in records slot = slice_index_or records slot no_area
 
 -- the slot of a pair, with what it shows
-abbrev pub shown_at : List Record → Pair → Shown
+abbrev pub shown_at : List Record → Pair → ShownArea
 shown_at records pair = record { slot = pair.slot; area = area_in records pair.slot }
 
 -- the slots of the tree in order, each with the area that it shows
-abbrev pub shown_of : AreaTreeView → List Shown
+abbrev pub shown_of : AreaTreeView → List ShownArea
 shown_of areas = map (shown_at areas.records) areas.tree.pairs
 
 -- the areas that are shown
-abbrev pub areas_shown : List Shown → List Record
+abbrev pub areas_shown : List ShownArea → List Record
 areas_shown shown = map (λ s. s.area) shown
 
 -- the areas, in order
@@ -49,12 +51,8 @@ abbrev pub areas_of : AreaTreeView → List Record
 areas_of areas = areas_shown (shown_of areas)
 
 -- how often a slot shows an area
-abbrev pub times_shown : ℕ → List Shown → ℕ
+abbrev pub times_shown : ℕ → List ShownArea → ℕ
 times_shown slot shown = sum_by (λ s. one_at slot s.slot) shown
-
--- the pages of a pair
-abbrev pub span_of : Pair → Span
-span_of pair = record { lo = pair.lo; hi = pair.hi }
 
 -- areas from a page on stand in order, up to a limit, each has a page, and no two have a page in common
 abbrev pub AreasRise : ℕ → ℕ → List Record → Type 0
@@ -64,3 +62,14 @@ AreasRise limit start (area ∷ areas) = (start ≤ area.span.lo) × (area.span.
 -- what the slot of each pair shows has the pages of the pair
 abbrev pub AreRecords : List Record → List Pair → Type 0
 AreRecords records pairs = All (λ pair. (area_in records pair.slot).span ≡ span_of pair) pairs
+
+-- a part of a span, with a page, that has one of its ends and fewer pages
+abbrev pub IsEndOf : Span → Span → Type 0
+IsEndOf part whole = (part.lo < part.hi) × (((part.lo ≡ whole.lo) × (part.hi < whole.hi)) ⊎ ((whole.lo < part.lo) × (part.hi ≡ whole.hi)))
+
+-- a span has the pages of another, and those that it adds are below the limit, and no area has them
+pub record IsRoomFor (limit : ℕ) (areas : List Record) (old new : Span) : Type 0 where
+  pub under : new.lo ≤ old.lo
+  pub over : old.hi ≤ new.hi
+  pub below : new.lo < old.lo → is_free areas (old.lo - new.lo) new.lo ≡ true
+  pub above : old.hi < new.hi → (new.hi ≤ limit) × (is_free areas (new.hi - old.hi) old.hi ≡ true)

@@ -1,3 +1,3 @@
 pub mod AreaTrees
 pub mod Kept
-pub mod Tests
+pub mod Internal

@@ -5,10 +5,11 @@
 
 mod listing;
 mod placing;
+mod resizing;
 mod shown;
 mod tree;
 
-pub use shown::Shown;
+pub use shown::ShownArea;
 pub use tree::AreaTree;
 
 #[cfg(test)]

@@ -28,7 +28,7 @@ pub(crate) const NO_AREA: Record = Record {
 
 /// An area, and the slot that shows it.
 #[derive(Clone, Copy, Debug, PartialEq, Eq)]
-pub struct Shown {
+pub struct ShownArea {
     pub slot: u32,
     pub area: Record,
 }

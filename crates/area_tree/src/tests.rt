@@ -1,9 +1,9 @@
 //! Trees of two areas.
 ghost use Rattle.std.specs.Prelude.{◌≡◌, [], IfOk};
-ghost use Rattle.area_tree.specs.Tests.{IsOpened, Holds, shown_pages, two};
+ghost use Rattle.area_tree.specs.Internal.Tests.{IsOpened, Holds, shown_pages, two};
 
 use crate::shown::NO_AREA;
-use crate::{AreaTree, Shown};
+use crate::{AreaTree, ShownArea};
 use mm_types::{ADDRESS_LIMIT, Config, Files, NoMemory, Page, Record, Slot, Span};
 use node_slots::NodeTable;
 use span_tree::OpenCall;
@@ -13,11 +13,11 @@ use std::process::Abort;
 use std::sync::Wait;
 
 /// A slot, with an area of some pages.
-fn shown(slot: u32, lo: u64, hi: u64) -> Shown
+fn shown(slot: u32, lo: u64, hi: u64) -> ShownArea
     ensures { result ≡ shown_pages slot lo hi }
 {
     let span = Span { lo, hi };
-    Shown {
+    ShownArea {
         slot,
         area: Record { span, ..NO_AREA },
     }
@@ -88,6 +88,24 @@ fn show_other(rt: &impl Abort, tree: &mut AreaTree) -> Record
     other.area
 }
 
+/// The lower area loses its first two pages.
+fn shrink_lower(tree: &mut AreaTree)
+    requires { Holds tree.old two }
+{
+    let old = shown(3, 16, 20);
+    tree.shrink(&old.area, shown(3, 18, 20));
+}
+
+/// The lower area takes all pages up to the upper one, which are free.
+fn grow_lower(rt: &impl Abort, tree: &mut AreaTree)
+    requires { Holds tree.old two }
+{
+    let old = shown(3, 16, 20);
+    assert!(rt; tree.has_free(20, 30));
+    assert!(rt; !tree.has_free(20, 31));
+    tree.grow(&old.area, shown(3, 16, 30));
+}
+
 /// Areas are found beside a page, and placed in the highest room below the top, else in the lowest from the floor on.
 #[test]
 fn areas_are_found_and_placed(rt: HostRuntime) -> Result<(), NoMemory> {
@@ -125,5 +143,21 @@ fn a_slot_shows_another_area(rt: HostRuntime) -> Result<(), NoMemory> {
     assert_eq!(rt; tree.from(Page(22)), Some(other));
     let list = tree.into_list();
     assert_eq!(rt; list.items(), [shown(3, 16, 20).area, other].as_slice());
+    Ok(())
+}
+
+/// The pages that an area loses are free, and those that it takes are its own.
+#[test]
+fn an_area_gets_other_pages(rt: HostRuntime) -> Result<(), NoMemory> {
+    let mut less = two_areas(&rt, rt.alloc())?;
+    shrink_lower(&mut less);
+    assert_eq!(rt; less.count(), 2);
+    assert_eq!(rt; less.before(Page(18)), None);
+    assert_eq!(rt; less.from(Page(16)), Some(shown(3, 18, 20).area));
+    let mut more = two_areas(&rt, rt.alloc())?;
+    grow_lower(&rt, &mut more);
+    assert_eq!(rt; more.count(), 2);
+    assert_eq!(rt; more.from(Page(29)), Some(shown(3, 16, 30).area));
+    assert_eq!(rt; more.from(Page(30)), Some(shown(0, 30, 34).area));
     Ok(())
 }

@@ -6,10 +6,11 @@ ghost use Rattle.area_list.specs.Areas.{page_of};
 ghost use Rattle.area_rules.specs.Placement.{bounds_of, is_free};
 ghost use Rattle.node_slots.specs.Seats.{pins_of, AreOut};
 ghost use Rattle.span_tree.specs.SpanTrees.{IsFreshWriter, ArePairs};
-ghost use Rattle.area_tree.specs.declared.shown.Shown.{Shown};
-ghost use Rattle.area_tree.specs.AreaTrees.{no_area, shown_of, areas_of, times_shown, span_of, AreasRise};
+ghost use Rattle.area_tree.specs.declared.shown.ShownArea.{ShownArea};
+ghost use Rattle.maple_gap.specs.Gaps.{span_of};
+ghost use Rattle.area_tree.specs.AreaTrees.{no_area, shown_of, areas_of, times_shown, AreasRise};
 
-use crate::shown::{NO_AREA, Shown};
+use crate::shown::{NO_AREA, ShownArea};
 use area_list::page_of;
 use area_rules::{Bounds, bounds_of};
 use mm_types::{Config, NoMemory, Page, Record, Slot, slots_for};
@@ -109,11 +110,11 @@ impl AreaTree {
     }
 
     /// A slot of the tree shows another area, with the pages of the one before.
-    pub fn update(&mut self, shown: Shown)
+    pub fn update(&mut self, shown: ShownArea)
         requires member { (old : Record) × Contains (shown_of self.old) (record { slot = shown.slot; area = old }) × (old.span ≡ shown.area.span) }
         requires once { times_shown shown.slot (shown_of self.old) ≤ 1 }
         ensures shown { (old : Record) → Contains (shown_of self.old) (record { slot = shown.slot; area = old })
-            → (rest : List Shown) × IsPermutation (record { slot = shown.slot; area = old } ∷ rest) (shown_of self.old)
+            → (rest : List ShownArea) × IsPermutation (record { slot = shown.slot; area = old } ∷ rest) (shown_of self.old)
             × IsPermutation (shown ∷ rest) (shown_of self.new) }
         ensures same { self.new ≡ record self.old { records = slice_set self.old.records shown.slot shown.area } }
     {
@@ -123,7 +124,7 @@ impl AreaTree {
     }
 
     /// A slot that shows no area of the tree shows one at free pages.
-    pub fn insert(&mut self, shown: Shown)
+    pub fn insert(&mut self, shown: ShownArea)
         requires roomy { self.old.tree.roomy ≡ true }
         requires span { (shown.area.span.lo < shown.area.span.hi) × (shown.area.span.hi ≤ self.old.tree.limit) }
         requires pages { is_free (areas_of self.old) (shown.area.span.hi - shown.area.span.lo) shown.area.span.lo ≡ true }

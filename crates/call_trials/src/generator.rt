@@ -1,6 +1,5 @@
 //! Generated calls of every kind on few pages, so that areas split, touch, join, move, grow and are sealed.
-ghost use Rattle.std.specs.Prelude.{◌≤◌, ◌<◌};
-
+use draws::Draws;
 use mm_types::{Access, Call, MmapArgs, Page, Prot};
 
 /// The address of the lowest page that is used: the heap and most areas begin at it or above.
@@ -9,50 +8,41 @@ const BASE: u64 = 0xe000;
 /// The address of the last page of user memory where addresses are not wide.
 const HIGH: u64 = 0x7fff_ffff_e000;
 
-/// Numbers that follow from a seed, by a linear congruence.
+/// What makes the calls, by numbers that follow from a seed.
 #[derive(Drop)]
-pub(crate) struct Generator(pub(crate) u64);
+pub(crate) struct Generator {
+    draws: Draws,
+}
 
 impl Generator {
-    ghost use Rattle.std.specs.Prelude.{◌≤◌, ◌<◌};
-
-    fn below(&mut self, bound: u64) -> u64
-        requires { 1 ≤ bound }
-        ensures { result < bound }
-    {
-        self.0 = self
-            .0
-            .wrapping_mul(6364136223846793005)
-            .wrapping_add(1442695040888963407);
-        (self.0 >> 33) % bound
-    }
-
-    fn chance(&mut self) -> bool {
-        self.below(2) == 0
+    pub(crate) fn new(seed: u64) -> Generator {
+        Generator {
+            draws: Draws::new(seed),
+        }
     }
 
     /// An address on few pages, or now and then at the end of the window.
     fn address(&mut self) -> u64 {
-        if self.below(12) == 0 {
-            HIGH + 4096 * self.below(4)
+        if self.draws.below(12) == 0 {
+            HIGH + 4096 * self.draws.below(4)
         } else {
-            BASE + 4096 * self.below(28)
+            BASE + 4096 * self.draws.below(28)
         }
     }
 
     /// An address that may not be aligned.
     fn any_address(&mut self) -> u64 {
-        self.address() | if self.below(8) == 0 { 1 } else { 0 }
+        self.address() | if self.draws.below(8) == 0 { 1 } else { 0 }
     }
 
     fn length(&mut self) -> u64 {
-        4096 * self.below(7)
+        4096 * self.draws.below(7)
     }
 
     fn prot(&mut self) -> Prot {
         Prot {
-            read: self.chance(),
-            write: self.chance(),
+            read: self.draws.chance(),
+            write: self.draws.chance(),
             exec: false,
         }
     }
@@ -61,14 +51,18 @@ impl Generator {
         let flags = [
             0x22, 0x21, 0x32, 0x12, 0x1, 0x2, 0x10_0022, 0x31, 0x122, 0x132, 0x121, 0x102,
         ];
-        let place = self.below(12) as usize;
+        let place = self.draws.below(12) as usize;
         Call::Mmap(MmapArgs {
-            addr: if self.chance() { 0 } else { self.address() },
+            addr: if self.draws.chance() {
+                0
+            } else {
+                self.address()
+            },
             len: self.length(),
             prot: self.prot(),
             flags: flags[place],
-            fd: if self.chance() { 3 } else { 4 },
-            offset: 4096 * self.below(3),
+            fd: if self.draws.chance() { 3 } else { 4 },
+            offset: 4096 * self.draws.below(3),
         })
     }
 
@@ -77,13 +71,13 @@ impl Generator {
             old: self.address(),
             old_len: self.length(),
             new_len: self.length(),
-            flags: self.below(4) as u32,
+            flags: self.draws.below(4) as u32,
             new: self.address(),
         }
     }
 
     fn access(&mut self) -> Access {
-        match self.below(3) {
+        match self.draws.below(3) {
             0 => Access::Read,
             1 => Access::Write,
             _ => Access::Exec,
@@ -103,11 +97,11 @@ impl Generator {
 
     /// A call: one in 32 seals.
     pub(crate) fn call(&mut self) -> Call {
-        match self.below(32) {
+        match self.draws.below(32) {
             0 => Call::Mseal {
                 addr: self.any_address(),
                 len: self.length(),
-                flags: if self.below(8) == 0 { 1 } else { 0 },
+                flags: if self.draws.below(8) == 0 { 1 } else { 0 },
             },
             1..=7 => self.mmap(),
             8..=13 => Call::Munmap {

@@ -4,6 +4,8 @@
 #[cfg(test)]
 mod generator;
 #[cfg(test)]
+mod loads;
+#[cfg(test)]
 mod rows;
 #[cfg(test)]
 mod tests;

@@ -4,7 +4,8 @@ ghost use Rattle.std.specs.Prelude.{◌≤◌};
 use crate::generator::Generator;
 use area_model::{Stepped, grows, is_ready, model_step, model_verdict};
 use mm_types::{
-    ADDRESS_LIMIT, AreaList, Config, Counters, FileRow, Files, NoMemory, Reply, Text, WIDE_LIMIT,
+    ADDRESS_LIMIT, Access, AreaList, Call, Config, Counters, FileRow, Files, NoMemory, Page, Reply,
+    Text, WIDE_LIMIT,
 };
 use std::alloc::{AllocError, Global};
 use std::process::Abort;
@@ -43,12 +44,12 @@ fn config(alloc: Global, areas: u32, limit: u64) -> Result<Config, AllocError> {
     })
 }
 
-/// The space of the model with no area.
-fn opened(alloc: Global, config: &Config) -> Stepped {
+/// The space of the model with no area and so many files.
+pub(crate) fn opened(alloc: Global, config: &Config, objects: u32) -> Stepped {
     Stepped {
         list: AreaList::of(Vec::new(alloc)),
         counters: Counters {
-            objects: 2,
+            objects,
             brk: config.heap,
         },
         reply: Reply::Zero,
@@ -56,14 +57,14 @@ fn opened(alloc: Global, config: &Config) -> Stepped {
 }
 
 /// One fault, by the space and by the model.
-fn compare_fault(
+pub(crate) fn compare_fault(
     rt: &impl Abort,
     config: &Config,
     space: &PlainSpace<'_>,
     model: &Stepped,
-    generator: &mut Generator,
+    page: Page,
+    access: Access,
 ) {
-    let (page, access) = generator.fault();
     assert!(rt; is_ready(config, model.counters, &model.list));
     let grows = grows(config, &model.list, page, access);
     assert!(rt; space.grows(page, access) == grows);
@@ -74,19 +75,18 @@ fn compare_fault(
 }
 
 /// One call, by the space and by the model.
-fn compare_call(
+pub(crate) fn compare_call(
     rt: &impl Abort,
     alloc: Global,
     config: &Config,
     space: &mut PlainSpace<'_>,
     model: &Stepped,
-    generator: &mut Generator,
+    call: &Call,
 ) -> Result<Stepped, NoMemory> {
-    let call = generator.call();
     assert!(rt; is_ready(config, model.counters, &model.list));
-    let wanted = model_step(alloc, config, model.counters, &model.list, &call)?;
+    let wanted = model_step(alloc, config, model.counters, &model.list, call)?;
     assert!(rt; space.counters().objects < u32::MAX);
-    assert_eq!(rt; space.call(&call), wanted.reply, "{call:?}");
+    assert_eq!(rt; space.call(call), wanted.reply, "{call:?}");
     let list = space.copy_list(alloc)?;
     assert!(rt; list.items() == wanted.list.items(), "{call:?}");
     assert!(rt; space.counters() == wanted.counters, "{call:?}");
@@ -102,10 +102,12 @@ fn compare_space(
 ) -> Result<(), NoMemory> {
     assert!(rt; config.valid());
     let mut space = PlainSpace::new(alloc, config)?;
-    let mut model = opened(alloc, config);
+    let mut model = opened(alloc, config, 2);
     for _ in 0..CALLS {
-        model = compare_call(rt, alloc, config, &mut space, &model, generator)?;
-        compare_fault(rt, config, &space, &model, generator);
+        let call = generator.call();
+        model = compare_call(rt, alloc, config, &mut space, &model, &call)?;
+        let (page, access) = generator.fault();
+        compare_fault(rt, config, &space, &model, page, access);
     }
     Ok(())
 }
@@ -118,7 +120,7 @@ fn compare_spaces(
     seed: u64,
 ) -> Result<(), Fail> {
     let config = config(rt.alloc(), areas, limit)?;
-    let mut generator = Generator(seed);
+    let mut generator = Generator::new(seed);
     for _ in 0..34 {
         compare_space(rt, rt.alloc(), &config, &mut generator)?;
     }

@@ -7,7 +7,7 @@ use Rattle.lock_core.specs.Rows.{Exactly}
 use Rattle.atomic_table.specs.Seated.{TableId}
 use Rattle.vma_lock.specs.declared.view.View.{View}
 use Rattle.vma_lock.specs.Views.{begin_at, mark_at, write_at}
-use Rattle.vma_lock.specs.Small.{AreFree, ShowsOne}
+use Rattle.vma_lock.specs.Internal.Small.{AreFree, ShowsOne}
 use Rattle.vma_lock.proofs.Small.{enters_exactly}
 use Rattle.fault_path.specs.Passes.{PassView, ViewedTable, SitsAt, ArePasses}
 

@@ -14,7 +14,6 @@ use Rattle.mm_types.specs.declared.call.Entry.{Entry}
 use Rattle.mm_types.specs.declared.config.Config.{Config}
 use Rattle.mm_types.specs.declared.files.FileRow.{FileRow}
 use Rattle.mm_types.specs.Config.{IsValidConfig}
-use Rattle.mm_types.specs.Records.{IsValid}
 use Rattle.mm_types.specs.Packed.{packed, unpacked}
 use Rattle.mm_types.proofs.PackedWords.{unpacked_is, unpacked_none, length-packed}
 use Rattle.area_list.specs.Areas.{area_at, has_page, IsSound, index_of}
@@ -113,10 +112,6 @@ verdict_serves files page access area other index =
       ]
       | false ↦ λ is. absurd (cc)
     ]
-
--- an area that was unpacked is valid
-pub unpacked_valid : (row : List ℕ) (area : Record) → unpacked row ≡ Some area → IsValid area
-unpacked_valid row area is = (unpacked_is row area is).1
 
 -- the list after a journal that was seen is sound
 pub seen_sound : (config : Config) (journal : List Entry) → IsValidConfig config → length journal ≤ 2 ^ 31 → IsSound config (list_after config journal)

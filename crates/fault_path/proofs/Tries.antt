@@ -6,7 +6,7 @@ use Rattle.mm_types.specs.declared.area.Record.{Record}
 use Rattle.mm_types.specs.declared.slot.Slot.{Slot}
 use Rattle.lock_core.specs.declared.stage.Stage.TheVariants.{Out}
 use Rattle.vma_lock.specs.declared.view.View.{View}
-use Rattle.node_slots.specs.declared.view.Shown.{Shown}
+use Rattle.node_slots.specs.declared.view.ShownTree.{ShownTree}
 use Rattle.node_slots.specs.declared.view.NodeView.{NodeView}
 use Rattle.node_slots.specs.Views.{root_at, close_at}
 use Rattle.maple_read.specs.Walks.{slot_at}
@@ -16,13 +16,13 @@ use Rattle.fault_path.specs.Faults.{IsPaired, IsUnpaired, IsFound, IsMiss}
 use Rattle.fault_path.specs.Locking.{GoesOn, IsLocked, IsPairedNow, LocksSlot, MissesSlot}
 
 -- the tree that was loaded is the last one that the closed walker loaded
-pub last_is : (shown : Shown) (opened loaded walked closed : NodeView) (reads : ℕ) → loaded ≡ root_at opened shown
+pub last_is : (shown : ShownTree) (opened loaded walked closed : NodeView) (reads : ℕ) → loaded ≡ root_at opened shown
     → walked ≡ record loaded { words = loaded.words + reads } → closed ≡ close_at walked → closed.last ≡ Some shown
 last_is shown opened loaded walked closed reads load walk close =
     ap (λ (v : NodeView). v.last) close ∙ ap (λ (v : NodeView). v.last) walk ∙ ap (λ (v : NodeView). v.last) load
 
 -- the walker still has the tree of its snapshot after the walk, which pairs the slot that the walk found with the page
-pub paired_now : (page : ℕ) (slot : Slot) (found : Option Slot) (shown : Shown) (loaded walked : NodeView) (reads : ℕ) → loaded.snapshot ≡ Some shown
+pub paired_now : (page : ℕ) (slot : Slot) (found : Option Slot) (shown : ShownTree) (loaded walked : NodeView) (reads : ℕ) → loaded.snapshot ≡ Some shown
     → walked ≡ record loaded { words = loaded.words + reads } → option_map (λ (s : Slot). s.0) found ≡ slot_at page shown → found ≡ Some slot
     → IsPairedNow page slot.0 walked
 paired_now page slot found shown loaded walked reads snapshot walk told is = record {
@@ -32,7 +32,7 @@ paired_now page slot found shown loaded walked reads snapshot walk told is = rec
 }
 
 -- the tree pairs the slot that the walk found with the page
-pub paired : (page : ℕ) (slot : Slot) (found : Option Slot) (shown : Shown) (closed : NodeView) → closed.last ≡ Some shown
+pub paired : (page : ℕ) (slot : Slot) (found : Option Slot) (shown : ShownTree) (closed : NodeView) → closed.last ≡ Some shown
     → option_map (λ (s : Slot). s.0) found ≡ slot_at page shown → found ≡ Some slot → IsPaired page slot.0 closed
 paired page slot found shown closed last walk is = record {
   shown = shown;
@@ -41,7 +41,7 @@ paired page slot found shown closed last walk is = record {
 }
 
 -- the tree pairs no slot with the page, where the walk found none
-pub unpaired : (page tree : ℕ) (found : Option Slot) (shown : Shown) (closed : NodeView) → closed.last ≡ Some shown → shown.root.tree ≡ tree
+pub unpaired : (page tree : ℕ) (found : Option Slot) (shown : ShownTree) (closed : NodeView) → closed.last ≡ Some shown → shown.root.tree ≡ tree
     → option_map (λ (s : Slot). s.0) found ≡ slot_at page shown → found ≡ None → IsUnpaired page tree closed
 unpaired page tree found shown closed last number walk is = record {
   shown = shown;

@@ -8,7 +8,7 @@ use Rattle.node_slots.specs.Plays.{RowsExist}
 use Rattle.maple_node.specs.declared.item.Item.{Item}
 use Rattle.maple_node.specs.declared.root.Root.{Root}
 use Rattle.maple_node.specs.Levels.{item_at}
-use Rattle.node_slots.specs.declared.view.Shown.{Shown}
+use Rattle.node_slots.specs.declared.view.ShownTree.{ShownTree}
 use Rattle.node_slots.specs.declared.view.NodeView.{NodeView}
 use Rattle.node_slots.specs.Trees.{IsShown}
 use Rattle.node_slots.specs.Views.{root_at}
@@ -48,7 +48,7 @@ slot_within view root page slot loaded is =
     (sym (slot-entry view root page loaded shown loaded.snapshot) ∙ is)
 
 -- the reader of a loaded root has loaded it
-pub loaded_now : (opened loaded : NodeView) (root : Root) (shown : Shown) → shown.root ≡ root → IsShown opened.size.slots shown
+pub loaded_now : (opened loaded : NodeView) (root : Root) (shown : ShownTree) → shown.root ≡ root → IsShown opened.size.slots shown
     → RowsExist opened.size.rows shown → loaded ≡ root_at opened shown → HasLoaded loaded root
 loaded_now opened loaded root shown same layout exist is = record {
   shown = shown;

@@ -14,7 +14,7 @@ use Rattle.lock_core.specs.Facts.{list_after}
 use Rattle.maple_read.specs.Walks.{slot_at}
 use Rattle.vma_lock.specs.declared.view.View.{View}
 use Rattle.vma_lock.specs.Seats.{view}
-use Rattle.node_slots.specs.declared.view.Shown.{Shown}
+use Rattle.node_slots.specs.declared.view.ShownTree.{ShownTree}
 use Rattle.node_slots.specs.declared.view.NodeView.{NodeView}
 use Rattle.fault_path.specs.declared.fast.Miss.{Miss}
 use Rattle.fault_path.specs.declared.fast.Miss.TheVariants.{NoArea, Marked, Elsewhere}
@@ -29,13 +29,13 @@ pub record WalksOnce (old new : NodeView) : Type 0 where
 
 -- The tree that was loaded last pairs this slot with the page.
 pub record IsPaired (page slot : ℕ) (walked : NodeView) : Type 0 where
-  pub shown : Shown
+  pub shown : ShownTree
   pub loaded : walked.last ≡ Some shown
   pub pair : slot_at page shown ≡ Some slot
 
 -- The tree that was loaded last has this number, and pairs no slot with the page.
 pub record IsUnpaired (page tree : ℕ) (walked : NodeView) : Type 0 where
-  pub shown : Shown
+  pub shown : ShownTree
   pub loaded : walked.last ≡ Some shown
   pub number : shown.root.tree ≡ tree
   pub none : slot_at page shown ≡ None

@@ -2,5 +2,5 @@ pub mod Passes
 pub mod Faults
 pub mod Locking
 pub mod Holding
-pub mod Benches
 pub mod Notes
+pub mod Internal

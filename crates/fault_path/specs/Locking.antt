@@ -10,7 +10,7 @@ use Rattle.lock_core.specs.Facts.{list_after}
 use Rattle.maple_read.specs.Walks.{slot_at}
 use Rattle.vma_lock.specs.declared.view.View.{View}
 use Rattle.vma_lock.specs.Seats.{is_validated, row_of}
-use Rattle.node_slots.specs.declared.view.Shown.{Shown}
+use Rattle.node_slots.specs.declared.view.ShownTree.{ShownTree}
 use Rattle.node_slots.specs.declared.view.NodeView.{NodeView}
 use Rattle.fault_path.specs.declared.fast.Miss.{Miss}
 use Rattle.fault_path.specs.declared.fast.Miss.TheVariants.{NoArea, Marked, Elsewhere}
@@ -36,7 +36,7 @@ pub record IsLocked (area : Record) (view : View) : Type 0 where
 
 -- The tree of the walker's snapshot, which it has until its pin is closed, pairs this slot with the page.
 pub record IsPairedNow (page slot : ℕ) (walker : NodeView) : Type 0 where
-  pub shown : Shown
+  pub shown : ShownTree
   pub snapshot : walker.snapshot ≡ Some shown
   pub pair : slot_at page shown ≡ Some slot
 

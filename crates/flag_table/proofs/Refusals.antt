@@ -10,14 +10,14 @@ use Rattle.std.proofs.lemmas.Slice.Eq.{bytes_eq-Decides}
 use Rattle.flag_table.specs.Tables.{Row, Table, row_named, bits_of, names_of, words_of}
 use Rattle.flag_table.specs.Reading.{is_among, is_zero, fault_of, first_fault, unless_fault, read_words, reading}
 use Rattle.flag_table.specs.Laws.{IsSound, AreRows, IsFault, IsRefused}
-use Rattle.flag_table.specs.declared.fault.NameFault.{NameFault}
-use Rattle.flag_table.specs.declared.fault.NameFault.TheVariants.{Unknown, Twice}
+use Rattle.flag_table.specs.declared.error.NameError.{NameError}
+use Rattle.flag_table.specs.declared.error.NameError.TheVariants.{Unknown, Twice}
 use Rattle.flag_table.proofs.Names.{find-Contains, row_named-name, row_named-Some}
 use Rattle.flag_table.proofs.Texts.{AreRows-AreGood, first_fault-names}
 use Rattle.flag_table.proofs.Words.{named_rows, first_fault-append, AreGood-first_fault, fault_of-named}
 
 -- a first fault, with the words before the bad one and after it
-record BadWord (rows : List Row) (before words : List (List ℕ)) (fault : NameFault) : Type 0 where
+record BadWord (rows : List Row) (before words : List (List ℕ)) (fault : NameError) : Type 0 where
   good : List (List ℕ)
   word : List ℕ
   rest : List (List ℕ)
@@ -25,13 +25,13 @@ record BadWord (rows : List Row) (before words : List (List ℕ)) (fault : NameF
   are_good : first_fault rows before good ≡ None
   bad : fault_of rows (before ++ good) word ≡ Some fault
 
-bad_word : (rows : List Row) (before words : List (List ℕ)) (fault : NameFault) → first_fault rows before words
+bad_word : (rows : List Row) (before words : List (List ℕ)) (fault : NameError) → first_fault rows before words
     ≡ Some fault → BadWord rows before words fault
 bad_word rows before [] fault is = absurd (none-some fault is)
 bad_word rows before (word ∷ words) fault is =
     at_word (fault_of rows before word) refl is (bad_word rows (before ++ word ∷ []) words fault)
   where
-    at_word : (here : Option NameFault) → fault_of rows before word ≡ here
+    at_word : (here : Option NameError) → fault_of rows before word ≡ here
         → option_or here (first_fault rows (before ++ word ∷ []) words) ≡ Some fault
         → (first_fault rows (before ++ word ∷ []) words ≡ Some fault → BadWord rows (before ++ word ∷ []) words fault)
         → BadWord rows before (word ∷ words) fault
@@ -48,14 +48,14 @@ bad_word rows before (word ∷ words) fault is =
       word = found.word;
       rest = found.rest;
       words_are = ap (λ (ws : List (List ℕ)). word ∷ ws) found.words_are;
-      are_good = ap (λ (o : Option NameFault). option_or o (first_fault rows (before ++ word ∷ []) found.good)) at
+      are_good = ap (λ (o : Option NameError). option_or o (first_fault rows (before ++ word ∷ []) found.good)) at
           ∙ found.are_good;
       bad = ap (λ (b : List (List ℕ)). fault_of rows b found.word) (sym (append_assoc before (word ∷ []) found.good))
           ∙ found.bad;
     }
 
 -- the two faults of a word
-two_faults : (named : Option Row) (twice : Bool) (word : List ℕ) (fault : NameFault)
+two_faults : (named : Option Row) (twice : Bool) (word : List ℕ) (fault : NameError)
     → cond (is_none named) (Some (Unknown word)) (cond twice (Some (Twice word)) None) ≡ Some fault
     → ((named ≡ None) × (fault ≡ Unknown word)) ⊎ ((twice ≡ true) × (fault ≡ Twice word))
 two_faults None twice word fault is = inl (refl, cc)
@@ -89,14 +89,14 @@ among-Contains : (words : List (List ℕ)) (word : List ℕ) → Contains words 
 among-Contains words word has = list_any_at (λ (w : List ℕ). bytes_eq w word) words has.0 word has.1
     ((bytes_eq-Decides (get_or words has.0 word) word).1 has.2)
 
-unless_fault-Err : (first : Option NameFault) (bits : ℕ) (fault : NameFault) → unless_fault first bits ≡ Err fault
+unless_fault-Err : (first : Option NameError) (bits : ℕ) (fault : NameError) → unless_fault first bits ≡ Err fault
     → first ≡ Some fault
 unless_fault-Err None bits fault is = cc
 unless_fault-Err (Some first) bits fault is = ap Some cc
 
 -- the fault of a word after names
 fault_of-IsFault : (table : Table) → IsSound table → (named : List Row) → AreRows table named
-    → (word : List ℕ) (fault : NameFault)
+    → (word : List ℕ) (fault : NameError)
     → IsFault table named word fault → fault_of table.rows (names_of named) word ≡ Some fault
 fault_of-IsFault table sound named are word fault bad =
     let rows = table.rows in
@@ -116,7 +116,7 @@ fault_of-IsFault table sound named are word fault bad =
     bad
 
 -- words with a bad one
-IsRefused-words : (table : Table) (text : List ℕ) (fault : NameFault) → is_zero table text ≡ false
+IsRefused-words : (table : Table) (text : List ℕ) (fault : NameError) → is_zero table text ≡ false
     → read_words table.rows (words_of text) ≡ Err fault → IsRefused table text fault
 unfolding read_words
 IsRefused-words table text fault flags read =
@@ -141,7 +141,7 @@ IsRefused-words table text fault flags read =
           (two_faults (row_named rows found.word) (is_among found.good found.word) found.word fault found.bad);
     }
 
-read_words-IsRefused : (table : Table) (text : List ℕ) (fault : NameFault) → IsSound table → IsRefused table text fault
+read_words-IsRefused : (table : Table) (text : List ℕ) (fault : NameError) → IsSound table → IsRefused table text fault
     → read_words table.rows (words_of text) ≡ Err fault
 unfolding read_words
 read_words-IsRefused table text fault sound is =
@@ -149,18 +149,18 @@ read_words-IsRefused table text fault sound is =
     let names = names_of is.named in
     let first : first_fault rows [] (names ++ is.word ∷ is.rest) ≡ Some fault =
     first_fault-append rows [] names (is.word ∷ is.rest) (first_fault-names table sound is.named is.rows)
-    ∙ ap (λ (o : Option NameFault). option_or o (first_fault rows (names ++ is.word ∷ []) is.rest))
+    ∙ ap (λ (o : Option NameError). option_or o (first_fault rows (names ++ is.word ∷ []) is.rest))
     (fault_of-IsFault table sound is.named is.rows is.word fault is.bad) in
-    ap (read_words rows) is.words ∙ ap (λ (o : Option NameFault). unless_fault o
+    ap (read_words rows) is.words ∙ ap (λ (o : Option NameError). unless_fault o
     (bits_of (named_rows rows (names ++ is.word ∷ is.rest)))) first
 
 -- a text is refused for its first bad word
-pub reading-Err : (table : Table) (text : List ℕ) (fault : NameFault) → IsSound table
+pub reading-Err : (table : Table) (text : List ℕ) (fault : NameError) → IsSound table
     → (reading table text ≡ Err fault) ↔ IsRefused table text fault
 unfolding reading
 reading-Err table text fault sound =
     let words = read_words table.rows (words_of text) in
-    let P : Result ℕ NameFault → Type 0 = λ r. r ≡ Err fault → IsRefused table text fault in (
+    let P : Result ℕ NameError → Type 0 = λ r. r ≡ Err fault → IsRefused table text fault in (
       λ is. cond_both (is_zero table text) (Ok 0) words P (λ zero none. cc)
           (λ flags read. IsRefused-words table text fault flags read) is,
       λ is. ap (λ b. cond b (Ok 0) words) is.flags ∙ read_words-IsRefused table text fault sound is,

@@ -14,7 +14,7 @@ use Rattle.flag_table.specs.Reading.{is_among, is_zero, fault_of, first_fault, u
 use Rattle.mm_types.specs.Flags.{has_flag}
 use Rattle.flag_table.specs.Printing.{rows_with, printed}
 use Rattle.flag_table.specs.Laws.{IsSound, AreRows, IsNamed, IsFlagText, has_bar}
-use Rattle.flag_table.specs.declared.fault.NameFault.{NameFault}
+use Rattle.flag_table.specs.declared.error.NameError.{NameError}
 use Rattle.flag_table.proofs.Bits.{bits_of-filter, bits_of-within}
 use Rattle.flag_table.proofs.Joins.{words_of-no_bar, words_of-text_of}
 use Rattle.flag_table.proofs.Names.{row_named-name, name-apart}
@@ -22,7 +22,7 @@ use Rattle.flag_table.proofs.Prints.{printed-zero}
 use Rattle.flag_table.proofs.Words.{AreGood, named_rows, AreGood-first_fault, fault_of-named}
 
 -- what is read without a fault
-unless_fault-Ok : (fault : Option NameFault) (n bits : ℕ) → unless_fault fault n ≡ Ok bits → (fault ≡ None) × (bits ≡ n)
+unless_fault-Ok : (fault : Option NameError) (n bits : ℕ) → unless_fault fault n ≡ Ok bits → (fault ≡ None) × (bits ≡ n)
 unless_fault-Ok None n bits is = (refl, grind arith)
 unless_fault-Ok (Some fault) n bits is = cc
 
@@ -78,7 +78,7 @@ good_names table sound prior (row ∷ named) inside apart =
     let Apart : List Row → Type 0 = λ rs. AllPairs (λ a b. a.name ≢ b.name) rs in
     let rest = good_names table sound (prior ++ row ∷ []) named (All-tail (Contains rows) row named inside)
     (subst Apart (sym (append_assoc prior (row ∷ []) named)) apart) in
-    ap (λ (o : Option NameFault). option_or o (first_fault rows (before ++ row.name ∷ []) (map Name named))) good
+    ap (λ (o : Option NameError). option_or o (first_fault rows (before ++ row.name ∷ []) (map Name named))) good
     ∙ ap (λ (b : List (List ℕ)). first_fault rows b (map Name named)) (sym (map_push Name prior row)) ∙ rest
 
 pub first_fault-names : (table : Table) → IsSound table → (named : List Row) → AreRows table named
@@ -131,7 +131,7 @@ reading-names table sound text bits (row ∷ named) some are text_is bits_are =
     ∙ ap (is_zero table) same ∙ zero)) in
     let good : first_fault rows [] words ≡ None = first_fault-names table sound (row ∷ named) are in
     ap (λ b. cond b (Ok 0) (read_words rows (words_of text))) flags ∙ ap (read_words rows) cut
-    ∙ ap (λ (o : Option NameFault). unless_fault o (bits_of (named_rows rows words))) good
+    ∙ ap (λ (o : Option NameError). unless_fault o (bits_of (named_rows rows words))) good
     ∙ ap (λ (rs : List Row). Ok (bits_of rs)) (named_rows-names table sound (row ∷ named) inside) ∙ ap Ok (sym bits_are)
 
 -- a sound table reads these texts and no others
@@ -140,7 +140,7 @@ pub reading-Ok : (table : Table) (text : List ℕ) (bits : ℕ) → IsSound tabl
 unfolding reading
 reading-Ok table text bits sound =
     let words = read_words table.rows (words_of text) in
-    let P : Result ℕ NameFault → Type 0 = λ r. r ≡ Ok bits → IsFlagText table text bits in (
+    let P : Result ℕ NameError → Type 0 = λ r. r ≡ Ok bits → IsFlagText table text bits in (
       λ is. cond_both (is_zero table text) (Ok 0) words P (λ zero none. inl (zero, cc))
           (λ flags read. inr (IsNamed-words table text bits read)) is,
       λ is. ⊎_elim (λ none. ap (λ b. cond b (Ok 0) words) none.0 ∙ ap Ok (sym none.1))
@@ -193,7 +193,7 @@ HasRows-reading table text bits sound is = ⊎_elim
     ((reading-Ok table text bits sound).0 is)
 
 -- and so has what is answered for words
-pub HasRows-words : (table : Table) (text : List ℕ) (result : Result ℕ NameFault) → IsSound table → is_zero table text
+pub HasRows-words : (table : Table) (text : List ℕ) (result : Result ℕ NameError) → IsSound table → is_zero table text
     ≡ false
     → Gives result (read_words table.rows (words_of text)) → IfOk result (HasRows table)
 unfolding reading

@@ -14,8 +14,8 @@ use Rattle.flag_table.specs.Tables.{Row, Table, row_named, bits_of, bit_with_nam
 use Rattle.flag_table.specs.Reading.{Gives, is_among, fault_of, first_fault, unless_fault, read_words}
 use Rattle.mm_types.specs.Flags.{has_flag}
 use Rattle.flag_table.specs.Laws.{IsSound, IsOneBit}
-use Rattle.flag_table.specs.declared.fault.NameFault.{NameFault}
-use Rattle.flag_table.specs.declared.fault.NameFault.TheVariants.{Unknown, Twice, NoMemory}
+use Rattle.flag_table.specs.declared.error.NameError.{NameError}
+use Rattle.flag_table.specs.declared.error.NameError.TheVariants.{Unknown, Twice, NoMemory}
 use Rattle.flag_table.proofs.Bits.{bits_of-push, bits_of-and}
 use Rattle.flag_table.proofs.Names.{row_named-Some, same_test}
 use Rattle.flag_table.proofs.Pairs.{AllPairs-cons}
@@ -202,7 +202,7 @@ AreRead-push table sound words word bits bit read is absent =
     let new : is_among words word ≡ false = false_from_ne_true (is_among words word)
     (λ twice. absurd (omega (arith, one.1, pow_pos one.0, sym (ap (λ b. cond b row.0.bit 0) twice) ∙ both))) in record {
       good = first_fault-append rows [] words (word ∷ []) read.good
-          ∙ ap (λ (o : Option NameFault). option_or o None) (fault_of-named rows words word row.0 false row.1 new);
+          ∙ ap (λ (o : Option NameError). option_or o None) (fault_of-named rows words word row.0 false row.1 new);
       together = ap (bit_or bits) (sym row.2) ∙ ap (λ n. bit_or n row.0.bit) read.together
           ∙ sym (bits_of-push (named_rows rows words) row.0)
           ∙ ap bits_of (sym (filter_map-append (row_named rows) words (word ∷ [])
@@ -219,7 +219,7 @@ from_place all words word n front next = sym (take-append-drop n all)
     ∙ ap (λ (w : List ℕ). words ++ w ∷ drop (n + 1) all) (sym next.1)
 
 -- the first bad word decides
-pub read_words-bad : (rows : List Row) (all words : List (List ℕ)) (word : List ℕ) (bits n : ℕ) (fault : NameFault)
+pub read_words-bad : (rows : List Row) (all words : List (List ℕ)) (word : List ℕ) (bits n : ℕ) (fault : NameError)
     → AreRead rows words bits
     → words ≡ take n all → (n < length all) × (word ≡ get_or all n word)
     → fault_of rows words word ≡ Some fault → read_words rows all ≡ Err fault
@@ -228,20 +228,20 @@ read_words-bad rows all words word bits n fault read front next bad =
     let rest = drop (n + 1) all in
     let first : first_fault rows [] all ≡ Some fault = ap (first_fault rows []) (from_place all words word n front next)
     ∙ first_fault-append rows [] words (word ∷ rest) read.good
-    ∙ ap (λ (o : Option NameFault). option_or o (first_fault rows (words ++ word ∷ []) rest)) bad in
-    ap (λ (o : Option NameFault). unless_fault o (bits_of (named_rows rows all))) first
+    ∙ ap (λ (o : Option NameError). option_or o (first_fault rows (words ++ word ∷ []) rest)) bad in
+    ap (λ (o : Option NameError). unless_fault o (bits_of (named_rows rows all))) first
 
 -- where all words are good their bits are what is read
 pub read_words-good : (rows : List Row) (all words : List (List ℕ)) (bits : ℕ) → AreRead rows words bits → words ≡ all
     → read_words rows all ≡ Ok bits
 unfolding read_words
 read_words-good rows all words bits read whole = ap (read_words rows) (sym whole)
-    ∙ ap (λ (o : Option NameFault). unless_fault o (bits_of (named_rows rows words))) read.good
+    ∙ ap (λ (o : Option NameError). unless_fault o (bits_of (named_rows rows words))) read.good
     ∙ ap Ok (sym read.together)
 
 -- out of memory, in place of a fault
-pub Gives-NoMemory : (result read : Result ℕ NameFault) (fault : NameFault) → IsErrAnd result (λ e. e ≡ NoMemory)
+pub Gives-NoMemory : (result read : Result ℕ NameError) (fault : NameError) → IsErrAnd result (λ e. e ≡ NoMemory)
     → read ≡ Err fault → Gives result read
 Gives-NoMemory (Ok bits) read fault no_memory is = absurd no_memory
-Gives-NoMemory (Err e) read fault no_memory is = let P : NameFault → Type 0 = λ f. Gives (Err f) read in
+Gives-NoMemory (Err e) read fault no_memory is = let P : NameError → Type 0 = λ f. Gives (Err f) read in
     subst P (sym no_memory) (ap is_err is)

@@ -3,8 +3,8 @@ use Rattle.std.specs.Prelude.{ℕ, ◌≡◌, ◌≢◌, ◌==◌, ◌<◌, ◌^
 use Rattle.std.specs.List.{list_any}
 use Rattle.flag_table.specs.Tables.{Row, Table, bar, bits_of, names_of, text_of, words_of}
 use Rattle.flag_table.specs.Reading.{is_zero}
-use Rattle.flag_table.specs.declared.fault.NameFault.{NameFault}
-use Rattle.flag_table.specs.declared.fault.NameFault.TheVariants.{Unknown, Twice}
+use Rattle.flag_table.specs.declared.error.NameError.{NameError}
+use Rattle.flag_table.specs.declared.error.NameError.TheVariants.{Unknown, Twice}
 
 -- whether a bar stands in a text
 abbrev pub has_bar : List ℕ → Bool
@@ -43,12 +43,12 @@ abbrev pub IsFlagText : Table → List ℕ → ℕ → Type 0
 IsFlagText table text bits = ((is_zero table text ≡ true) × (bits ≡ 0)) ⊎ IsNamed table text bits
 
 -- the fault of a word after the names of these rows
-abbrev pub IsFault : Table → List Row → List ℕ → NameFault → Type 0
+abbrev pub IsFault : Table → List Row → List ℕ → NameError → Type 0
 IsFault table named word fault = (All (λ row. row.name ≢ word) table.rows × (fault ≡ Unknown word))
     ⊎ (Contains (names_of named) word × (fault ≡ Twice word))
 
 -- The text has a bad word, after the names of rows alone: the first bad one. This is its fault.
-pub record IsRefused (table : Table) (text : List ℕ) (fault : NameFault) : Type 0 where
+pub record IsRefused (table : Table) (text : List ℕ) (fault : NameError) : Type 0 where
   pub flags : is_zero table text ≡ false
   pub named : List Row
   pub word : List ℕ

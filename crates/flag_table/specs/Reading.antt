@@ -3,31 +3,31 @@ use Rattle.std.specs.Prelude.{ℕ, ◌≡◌, Bool, ◌||◌, List, [], ◌∷�
 use Rattle.std.specs.List.{list_any}
 use Rattle.std.specs.Option.{option_or}
 use Rattle.flag_table.specs.Tables.{Row, Table, bits_of, row_named, words_of}
-use Rattle.flag_table.specs.declared.fault.NameFault.{NameFault}
-use Rattle.flag_table.specs.declared.fault.NameFault.TheVariants.{Unknown, Twice, NoMemory}
+use Rattle.flag_table.specs.declared.error.NameError.{NameError}
+use Rattle.flag_table.specs.declared.error.NameError.TheVariants.{Unknown, Twice, NoMemory}
 
 -- whether a word is one of these
 abbrev pub is_among : List (List ℕ) → List ℕ → Bool
 is_among words word = list_any (λ other. bytes_eq other word) words
 
 -- what is wrong with a word after these: it names no row, or it is one of them
-abbrev pub fault_of : List Row → List (List ℕ) → List ℕ → Option NameFault
+abbrev pub fault_of : List Row → List (List ℕ) → List ℕ → Option NameError
 fault_of rows before word = if is_none (row_named rows word) then Some (Unknown word)
     else (if is_among before word then Some (Twice word) else None)
 
 -- the fault of the first bad one of these words, after the words before
-abbrev pub first_fault : List Row → List (List ℕ) → List (List ℕ) → Option NameFault
+abbrev pub first_fault : List Row → List (List ℕ) → List (List ℕ) → Option NameError
 first_fault rows before [] = None
 first_fault rows before (word ∷ words) =
     option_or (fault_of rows before word) (first_fault rows (before ++ word ∷ []) words)
 
 -- a fault where there is one, and else the bits
-abbrev pub unless_fault : Option NameFault → ℕ → Result ℕ NameFault
+abbrev pub unless_fault : Option NameError → ℕ → Result ℕ NameError
 unless_fault None bits = Ok bits
 unless_fault (Some fault) bits = Err fault
 
 -- the fault of the first bad word, or else the bits of the named rows together
-unfoldable pub read_words : List Row → List (List ℕ) → Result ℕ NameFault
+unfoldable pub read_words : List Row → List (List ℕ) → Result ℕ NameError
 read_words rows words = unless_fault (first_fault rows [] words) (bits_of (filter_map (row_named rows) words))
 
 -- whether a text is `0` or the name for no flag
@@ -35,11 +35,11 @@ unfoldable pub is_zero : Table → List ℕ → Bool
 is_zero table text = bytes_eq text (codes "0") || bytes_eq text table.zero
 
 -- what a text reads as: no flag, or the words between its bars
-unfoldable pub reading : Table → List ℕ → Result ℕ NameFault
+unfoldable pub reading : Table → List ℕ → Result ℕ NameError
 reading table text = if is_zero table text then Ok 0 else read_words table.rows (words_of text)
 
 -- An answer gives what was to be read, except that it may be out of memory in place of a fault.
-abbrev pub Gives : Result ℕ NameFault → Result ℕ NameFault → Type 0
+abbrev pub Gives : Result ℕ NameError → Result ℕ NameError → Type 0
 Gives (Ok bits) read = read ≡ Ok bits
 Gives (Err NoMemory) read = IsErr read
 Gives (Err (Unknown word)) read = read ≡ Err (Unknown word)

@@ -4,7 +4,7 @@ ghost use Rattle.std.specs.Prelude.{◌≡◌, ◌↔◌, ℕ, List, Ok, Err};
 ghost use Rattle.flag_table.specs.Laws.{IsSound, IsFlagText, IsRefused};
 ghost use Rattle.flag_table.specs.Printing.{printed};
 ghost use Rattle.flag_table.specs.Reading.{reading};
-ghost use Rattle.flag_table.specs.declared.fault.NameFault.{NameFault};
+ghost use Rattle.flag_table.specs.declared.error.NameError.{NameError};
 ghost use Rattle.flag_table.specs.Tables.{Table, HasRows, prot_flags, map_flags, mremap_flags};
 
 /// In each of the three tables names and bits are told apart.
@@ -28,6 +28,6 @@ pub fn flag_texts_are_read()
 
 /// A sound table refuses a text for its first bad word, and for that alone.
 pub fn bad_words_are_refused()
-    ensures { (table : Table) (text : List ℕ) (fault : NameFault) → IsSound table
+    ensures { (table : Table) (text : List ℕ) (fault : NameError) → IsSound table
         → (reading table text ≡ Err fault) ↔ IsRefused table text fault }
 {}

@@ -4,7 +4,7 @@ ghost use Rattle.flag_table.specs.Kinds.{table_of};
 ghost use Rattle.flag_table.specs.Reading.{read_words, Gives};
 ghost use Rattle.flag_table.specs.Printing.{printed, with_name};
 
-use crate::fault::NameFault;
+use crate::error::NameError;
 use crate::kind::{Kind, MAP_BITS, MREMAP_BITS, PROT_BITS};
 use mm_types::{NoMemory, Text, has_flag};
 use std::alloc::{AllocError, Global};
@@ -75,7 +75,7 @@ impl<const N: usize> FlagTable<N> {
     /// Reads a text of flags: `0`, the name that stands for no flag, or names joined by `|`, whose bits
     /// it gives together. The first bad name from the left is refused and kept, which alone takes memory.
     #[tactic(auto, unfolding(crate::specs::Reading::reading))]
-    pub fn read(&self, alloc: Global, text: &str) -> Result<u32, NameFault>
+    pub fn read(&self, alloc: Global, text: &str) -> Result<u32, NameError>
         ensures gives { Gives result (reading self.now text.now) }
         ensures rows { IfOk result (HasRows self.now) }
     {
@@ -97,15 +97,15 @@ impl<const N: usize> FlagTable<N> {
 }
 
 /// Reads the names between the bars.
-fn read_words(alloc: Global, kind: Kind, text: &str) -> Result<u32, NameFault>
+fn read_words(alloc: Global, kind: Kind, text: &str) -> Result<u32, NameError>
     ensures { Gives result (read_words (table_of kind).rows (words_of text.now)) }
 {
     let mut bits = 0;
     for word in text.split('|') {
         match kind.bit_named(word) {
-            None => return Err(NameFault::Unknown(copy_of(alloc, word)?)),
+            None => return Err(NameError::Unknown(copy_of(alloc, word)?)),
             // Each row has a bit of its own, so a bit that is there says that its name came before.
-            Some(bit) if has_flag(bits, bit) => return Err(NameFault::Twice(copy_of(alloc, word)?)),
+            Some(bit) if has_flag(bits, bit) => return Err(NameError::Twice(copy_of(alloc, word)?)),
             Some(bit) => bits |= bit,
         }
     }
@@ -153,16 +153,16 @@ mod tests {
     use super::*;
     use std::test::Fail;
 
-    fn unknown(answer: &Result<u32, NameFault>) -> Option<&str> {
+    fn unknown(answer: &Result<u32, NameError>) -> Option<&str> {
         match answer {
-            Err(NameFault::Unknown(name)) => Some(name.as_str()),
+            Err(NameError::Unknown(name)) => Some(name.as_str()),
             _ => None,
         }
     }
 
-    fn twice(answer: &Result<u32, NameFault>) -> Option<&str> {
+    fn twice(answer: &Result<u32, NameError>) -> Option<&str> {
         match answer {
-            Err(NameFault::Twice(name)) => Some(name.as_str()),
+            Err(NameError::Twice(name)) => Some(name.as_str()),
             _ => None,
         }
     }

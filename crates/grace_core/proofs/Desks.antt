@@ -5,7 +5,7 @@ use Rattle.std.proofs.lemmas.List.{at_drop_more}
 use Rattle.grace_core.specs.declared.clearing.Clearing.{Clearing}
 use Rattle.grace_core.specs.Core.{row_at}
 use Rattle.grace_core.specs.Steps.{least}
-use Rattle.grace_core.specs.Trees.{rows_of}
+use Rattle.grace_core.specs.Internal.Trees.{rows_of}
 
 -- a word of one row changes
 pub rows_of-set : (words : List ℕ) (row word : ℕ) → rows_of (set words row word) ≡ set (rows_of words) row (set (row_at (rows_of words) row) 0 word)

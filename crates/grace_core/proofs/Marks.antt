@@ -6,7 +6,7 @@ use Rattle.std.proofs.lemmas.List.{map_more, get_or-set_same, get_or-set_other}
 use Rattle.std.proofs.lemmas.List.Sums.{sum_by_push}
 use Rattle.mm_types.specs.declared.slot.Row.{Row}
 use Rattle.grace_core.specs.Core.{times, numbers_of}
-use Rattle.grace_core.specs.Trees.{AreMarks}
+use Rattle.grace_core.specs.Internal.Trees.{AreMarks}
 
 -- how often a row is listed with one more at the end
 pub times_more : (row : ℕ) (rows : List Row) (i : ℕ) (d : Row) → i < length rows

@@ -8,7 +8,7 @@ use Rattle.grace_core.specs.Core.{Tree, pin_at, clearing_at, is_free, is_open, n
 use Rattle.grace_core.specs.Steps.{turned, looked, new_clearing}
 use Rattle.grace_core.specs.Events.{after_open, after_root, after_close, after_fill, after_publish, after_scan, after_split, after_join}
 use Rattle.grace_core.specs.States.{opening, HasReader}
-use Rattle.grace_core.specs.Kept.{IsKept}
+use Rattle.grace_core.specs.Internal.Kept.{IsKept}
 use Rattle.grace_core.proofs.Keeping.{open_facts, root_facts, close_facts, fill_facts, publish_facts, scan_facts, split_facts, join_facts}
 use Rattle.grace_core.proofs.Opening.{opening_facts}
 

@@ -1,9 +1,8 @@
 pub mod Core
 pub mod Steps
 pub mod Facts
-pub mod Trees
 pub mod Events
 pub mod Refusals
 pub mod States
-pub mod Kept
 pub mod Laws
+pub mod Internal

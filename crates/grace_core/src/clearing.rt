@@ -1,5 +1,5 @@
 ghost use Rattle.std.specs.Prelude.{◌≡◌};
-ghost use Rattle.grace_core.specs.Steps.{looked};
+ghost use Rattle.grace_core.specs.Steps.{looked, least};
 
 /// What the scans of a reader's pin found.
 #[derive(Clone, Copy, Debug, PartialEq, Eq)]
@@ -15,9 +15,9 @@ pub struct Clearing {
 }
 
 impl Clearing {
-    /// With a scan that finds this pin while the tree of this number is present. An even pin clears the reader up to the present
-    /// tree. An odd one that is not the pin of the last scan clears it up to the tree that was present then.
-    pub(crate) fn looked(self, number: u64, pin: u64) -> Clearing
+    /// The same with one scan more, which finds this pin while the tree of this number is present. An even pin clears the reader
+    /// up to the present tree. An odd one that is not the pin of the last scan clears it up to the tree that was present then.
+    pub fn looked(self, number: u64, pin: u64) -> Clearing
         ensures { result ≡ looked number pin self }
     {
         let cleared = if pin % 2 == 0 {
@@ -34,4 +34,17 @@ impl Clearing {
             joined: self.joined,
         }
     }
+}
+
+/// The greatest tree, up to this one, up to which every reader is cleared that was not joined away.
+pub fn least(number: u64, clearings: &[Clearing]) -> u64
+    ensures { result ≡ least number clearings.now }
+{
+    let mut least = number;
+    for clearing in clearings {
+        if !clearing.joined {
+            least = least.min(clearing.cleared);
+        }
+    }
+    least
 }

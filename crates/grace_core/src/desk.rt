@@ -2,11 +2,11 @@
 
 ghost use Rattle.std.specs.Prelude.{◌≡◌, ◌<◌, ◌+◌, ◌^◌, nat_eq, All, find, IfOk, MatchResult, length};
 ghost use Rattle.grace_core.specs.Core.{times, is_free, waits, since_at, clearing_at, numbers_of};
-ghost use Rattle.grace_core.specs.Steps.{since_from, least, settled, filled, published, scanned, split, joined};
+ghost use Rattle.grace_core.specs.Steps.{since_from, settled, filled, published, scanned, split, joined};
 ghost use Rattle.grace_core.specs.Refusals.{is_unfit};
 ghost use Rattle.grace_core.specs.States.{opening_desk};
 
-use crate::clearing::Clearing;
+use crate::clearing::{Clearing, least};
 use crate::tree::GraceTree;
 use mm_types::{NoMemory, Row};
 use std::alloc::Global;
@@ -46,7 +46,7 @@ impl Model for GraceDesk {
 
     ghost Value = { Desk };
 
-    ghost use Rattle.grace_core.specs.Trees.{desk_of, IsSized};
+    ghost use Rattle.grace_core.specs.Internal.Trees.{desk_of, IsSized};
 
     ghost view = { desk_of };
 
@@ -196,19 +196,6 @@ impl GraceDesk {
         let least = least(self.tree.number(), self.clearings.as_slice());
         self.passed = self.passed.max(least);
     }
-}
-
-/// The greatest tree, up to this one, up to which every reader is cleared that was not joined away.
-fn least(number: u64, clearings: &[Clearing]) -> u64
-    ensures { result ≡ least number clearings.now }
-{
-    let mut least = number;
-    for clearing in clearings {
-        if !clearing.joined {
-            least = least.min(clearing.cleared);
-        }
-    }
-    least
 }
 
 /// Lets the rows of the old tree that the new one leaves out wait since the new one.

@@ -12,26 +12,26 @@ use std::marker::Model;
 
 /// The events, without their refusals.
 #[derive(Debug, Drop)]
-pub(crate) struct Protocol {
+pub(crate) struct GraceProtocol {
     desk: GraceDesk,
     pins: Vec<u64>,
     /// The tree whose root each reader loaded last since it opened.
     snapshots: Vec<Option<GraceTree>>,
 }
 
-impl Model for Protocol {
+impl Model for GraceProtocol {
     ghost use Rattle.grace_core.specs.Core.{Core};
 
     ghost Value = { Core };
 
-    ghost use Rattle.grace_core.specs.Kept.{core_of};
+    ghost use Rattle.grace_core.specs.Internal.Kept.{core_of};
 
     ghost view = { core_of };
 }
 
-impl Protocol {
+impl GraceProtocol {
     /// The state before anything happened.
-    pub(crate) fn new(alloc: Global, readers: u32, rows: u32) -> Result<Protocol, NoMemory>
+    pub(crate) fn new(alloc: Global, readers: u32, rows: u32) -> Result<GraceProtocol, NoMemory>
         requires { 0 < rows }
         ensures { IfOk result (λ state. state ≡ opening readers rows) }
     {
@@ -39,7 +39,7 @@ impl Protocol {
         for _ in 0..readers {
             snapshots.push(None)?;
         }
-        Ok(Protocol {
+        Ok(GraceProtocol {
             desk: GraceDesk::new(alloc, readers, rows)?,
             pins: vec![in alloc; 0; readers as usize]?,
             snapshots,

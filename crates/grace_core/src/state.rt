@@ -3,7 +3,7 @@ ghost use Rattle.grace_core.specs.Core.{pin_at, is_free, waits, root_of};
 ghost use Rattle.grace_core.specs.Facts.{Facts};
 ghost use Rattle.grace_core.specs.States.{opening, HasReader, HasRow};
 
-use crate::protocol::Protocol;
+use crate::protocol::GraceProtocol;
 use mm_types::{NoMemory, Row};
 use std::alloc::Global;
 use std::marker::Model;
@@ -11,7 +11,7 @@ use std::marker::Model;
 /// A state of the grace protocol, in which each row has one word.
 #[derive(Debug, Drop)]
 pub struct GraceState {
-    pub(crate) protocol: Protocol,
+    pub(crate) protocol: GraceProtocol,
 }
 
 impl Model for GraceState {
@@ -19,7 +19,7 @@ impl Model for GraceState {
 
     ghost Value = { Core };
 
-    ghost use Rattle.grace_core.specs.Kept.{IsKept};
+    ghost use Rattle.grace_core.specs.Internal.Kept.{IsKept};
 
     ghost view = { λ state. state.protocol };
 
@@ -34,7 +34,7 @@ impl GraceState {
         requires rows { 0 < rows }
         ensures { IfOk result (λ state. state ≡ opening readers rows) }
     {
-        let protocol = Protocol::new(alloc, readers, rows)?;
+        let protocol = GraceProtocol::new(alloc, readers, rows)?;
         Ok(GraceState { protocol })
     }
 

@@ -2,7 +2,7 @@
 
 ghost use Rattle.std.specs.Prelude.{◌≡◌, ◌<◌, ◌&&◌, not, All, IfOk, slice_index, length};
 ghost use Rattle.grace_core.specs.Core.{has_row, root_of, row_at, numbers_of};
-ghost use Rattle.grace_core.specs.Trees.{rows_of, AreMarks};
+ghost use Rattle.grace_core.specs.Internal.Trees.{rows_of, AreMarks};
 
 use mm_types::{NoMemory, Row};
 use std::alloc::Global;
@@ -24,7 +24,7 @@ impl Model for GraceTree {
 
     ghost Value = { Tree };
 
-    ghost use Rattle.grace_core.specs.Trees.{tree_of, IsMarked};
+    ghost use Rattle.grace_core.specs.Internal.Trees.{tree_of, IsMarked};
 
     ghost view = { tree_of };
 

@@ -10,16 +10,18 @@ use Rattle.std.proofs.lemmas.List.Elements.{All-nil, All-push, filter-append}
 use Rattle.std.proofs.lemmas.List.Sums.{length-filter, count_by-le-length}
 use Rattle.std.proofs.lemmas.Option.{slice_get-map, slice_get-get_or, slice_get_within, slice_get_past, get_or_from_slice_get, none-some, same_Some}
 use Rattle.trace_reader.specs.declared.trace.TraceLine.{TraceLine}
+use Rattle.trace_reader.specs.Values.{AreNumbered}
 use Rattle.history.specs.declared.items.Content.{Content}
 use Rattle.history.specs.declared.items.Content.TheVariants as contents
 use Rattle.history.specs.declared.items.Item.{Item}
-use Rattle.history.specs.declared.progress.Progress.{Progress}
+use Rattle.history.specs.declared.progress.Progress.TheInside.{Inside}
 use Rattle.history.specs.declared.callers.TheConstants.{MOST_THREADS}
 use Rattle.history.specs.Threads.{counts_below}
 use Rattle.history.specs.Histories.{caller_of, lines_of, items_of, is_call, journal_of}
 use Rattle.history.specs.CallerPlaces.{ArePlaces, StandAt}
 use Rattle.history.specs.Checking.{next_line}
-use Rattle.history.specs.Walks.{lowest_after, IsProgress, HasNoneLeft, IsLowestLeft}
+use Rattle.history.specs.Coming.{ProgressView, lowest_after, IsProgress, HasNoneLeft, IsLowestLeft}
+use Rattle.history.specs.Internal.Kept.{progress_of, IsPlaced}
 use Rattle.history.proofs.Lists.{slice_get_found}
 use Rattle.history.proofs.ThreadCounts.{items_within}
 use Rattle.history.proofs.Legal.{calls}
@@ -61,32 +63,59 @@ pub journal_within : (items : List Item) → length (journal_of items) ≤ lengt
 journal_within items = omega (arith, count_calls items, length-filter calls items, count_by-le-length calls items)
 
 -- before the first item
-pub progress_none : (lines : List TraceLine) (callers : ℕ) (progress : Progress) → progress.callers ≡ counts_below MOST_THREADS lines
-    → ArePlaces lines callers progress.places.items
-    → progress.answered.items ≡ replicate (length progress.places.items) 0 → progress.version ≡ 0 → progress.lowest ≡ 0
-    → IsProgress lines [] progress
+pub progress_none : (lines : List TraceLine) (callers : ℕ) (places : List (Vec ℕ Global)) (progress : ProgressView)
+    → ArePlaces lines callers places → progress.lines ≡ lines → progress.answered ≡ replicate callers 0 → progress.version ≡ 0
+    → progress.lowest ≡ 0 → IsProgress lines [] progress
 unfolding items_of journal_of
-progress_none lines callers progress threads placed none version lowest =
-    let count : ℕ = length progress.places.items in
+progress_none lines callers places progress placed its none version lowest =
+    let count : length progress.answered ≡ callers = ap (λ (l : List ℕ). length l) none ∙ length-replicate callers 0 in
     record {
-      threads = threads;
-      places = subst (λ (n : ℕ). ArePlaces lines n progress.places.items) (sym placed.all) placed;
-      all = ap (λ (l : List ℕ). length l) none ∙ length-replicate count 0;
-      answered = λ caller within. ap (λ (l : List ℕ). get_or l caller 0) none ∙ get_or-replicate count caller 0 0 within;
+      its_lines = its;
+      no_lines = λ caller past. placed.no_lines caller (omega (arith, count, past));
+      answered = λ caller within. ap (λ (l : List ℕ). get_or l caller 0) none ∙ get_or-replicate callers caller 0 0 (omega (arith, count, within));
       version = version;
       lowest = lowest;
       few = λ caller. omega arith;
-      callers = All-nil (λ (item : Item). item.caller < count);
+      callers = All-nil (λ (item : Item). item.caller < length progress.answered);
+    }
+
+-- the places are kept from the first item on
+pub placed_none : (callers : ℕ) (fields : Inside) → All (λ line. line.thread < MOST_THREADS) fields.lines.now → AreNumbered fields.lines.now
+    → fields.callers ≡ counts_below MOST_THREADS fields.lines.now → ArePlaces fields.lines.now callers fields.places.items
+    → fields.answered.items ≡ replicate callers 0 → IsPlaced fields
+placed_none callers fields threads numbered counted placed none =
+    let count : length fields.answered.items ≡ callers = ap (λ (l : List ℕ). length l) none ∙ length-replicate callers 0 in
+    record {
+      threads = threads;
+      numbered = numbered;
+      counted = counted;
+      places = subst (λ (n : ℕ). ArePlaces fields.lines.now n fields.places.items) (sym count) placed;
+    }
+
+-- and with one answer more
+pub placed_more : (old new : Inside) (caller count : ℕ) → IsPlaced old → new.lines ≡ old.lines → new.callers ≡ old.callers
+    → new.places ≡ old.places → new.answered.items ≡ set old.answered.items caller count → IsPlaced new
+placed_more old new caller count kept lines callers places pushed =
+    let same : length new.answered.items ≡ length old.answered.items =
+    ap (λ (l : List ℕ). length l) pushed ∙ length-set old.answered.items caller count in
+    let its : new.lines.now ≡ old.lines.now = ap (λ (l : Bor (List TraceLine)). l.now) lines in
+    record {
+      threads = subst (All (λ line. line.thread < MOST_THREADS)) (sym its) kept.threads;
+      numbered = subst AreNumbered (sym its) kept.numbered;
+      counted = callers ∙ kept.counted ∙ ap (counts_below MOST_THREADS) (sym its);
+      places = subst (λ (l : List TraceLine). ArePlaces l (length new.answered.items) new.places.items) (sym its)
+          (subst (λ (n : ℕ). ArePlaces old.lines.now n new.places.items) (sym same)
+          (subst (λ (v : Vec (Vec ℕ Global) Global). ArePlaces old.lines.now (length old.answered.items) v.items) (sym places) kept.places));
     }
 
 -- a caller with a line left is one of the callers, and has fewer items than lines
-pub left_within : (lines : List TraceLine) (before : List Item) (progress : Progress) (caller : ℕ) (line : TraceLine)
-    → IsProgress lines before progress → next_line lines before caller ≡ Some line → caller < length progress.places.items
-left_within lines before progress caller line is next = elim (cases_lt caller (length progress.places.items)) [
+pub left_within : (lines : List TraceLine) (before : List Item) (progress : ProgressView) (caller : ℕ) (line : TraceLine)
+    → IsProgress lines before progress → next_line lines before caller ≡ Some line → caller < length progress.answered
+left_within lines before progress caller line is next = elim (cases_lt caller (length progress.answered)) [
   | inl below ↦ below
   | inr past ↦
       let none : None ≡ next_line lines before caller =
-      sym (ap (λ (l : List TraceLine). slice_get l (length (items_of before caller))) (is.places.no_lines caller past)) in
+      sym (ap (λ (l : List TraceLine). slice_get l (length (items_of before caller))) (is.no_lines caller past)) in
       absurd (none-some line (none ∙ next))
 ]
 
@@ -101,47 +130,43 @@ never : (m n : ℕ) → (m ≡ n → ⊥) → ◌≡◌ {A = ℕ} (cond (nat_eq 
 never m n apart = cond-false (nat_eq m n) 1 0 (ne_eqb m n apart)
 
 -- after an item that answers the next line of its caller
-pub progress_more : (lines : List TraceLine) (before : List Item) (item : Item) (line : TraceLine) (old new : Progress)
-    → IsProgress lines before old → next_line lines before item.caller ≡ Some line
-    → item.version ≡ old.version + cond (is_call item.content) 1 0
-    → new.answered.items ≡ set old.answered.items item.caller (get_or old.answered.items item.caller 0 + 1)
-    → new.places ≡ old.places → new.callers ≡ old.callers → new.version ≡ item.version → new.lowest ≡ cond (is_call item.content) 0 item.caller
+pub progress_more : (lines : List TraceLine) (before : List Item) (item : Item) (line : TraceLine) (old new : ProgressView)
+    → IsProgress lines before old → next_line lines before item.caller ≡ Some line → new.lines ≡ old.lines
+    → new.answered ≡ set old.answered item.caller (get_or old.answered item.caller 0 + 1)
+    → new.version ≡ old.version + cond (is_call item.content) 1 0 → new.lowest ≡ cond (is_call item.content) 0 item.caller
     → IsProgress lines (before ++ item ∷ []) new
-progress_more lines before item line old new is next counted pushed same kept version lowest =
-    let size : length new.places.items ≡ length old.places.items = ap (λ (v : Vec (Vec ℕ Global) Global). length v.items) same in
-    let here : item.caller < length old.places.items = left_within lines before old item.caller line is next in
-    let within : item.caller < length old.answered.items = omega (arith, is.all) in
-    let one : ℕ → ℕ = λ caller. cond (nat_eq item.caller caller) 1 0 in
+progress_more lines before item line old new is next same pushed version lowest =
+    let here : item.caller < length old.answered = left_within lines before old item.caller line is next in
+    let size : length new.answered ≡ length old.answered =
+    ap (λ (l : List ℕ). length l) pushed ∙ length-set old.answered item.caller (get_or old.answered item.caller 0 + 1) in
     record {
-      threads = kept ∙ is.threads;
-      places = subst (λ (v : Vec (Vec ℕ Global) Global). ArePlaces lines (length v.items) v.items) (sym same) is.places;
-      all = ap (λ (l : List ℕ). length l) pushed ∙ length-set old.answered.items item.caller (get_or old.answered.items item.caller 0 + 1)
-          ∙ is.all ∙ sym size;
+      its_lines = same ∙ is.its_lines;
+      no_lines = λ caller past. is.no_lines caller (omega (arith, size, past));
       answered = λ caller low.
-          let was : get_or old.answered.items caller 0 ≡ length (items_of before caller) = is.answered caller (omega (arith, size)) in
-          let now : get_or new.answered.items caller 0 ≡ get_or (set old.answered.items item.caller (get_or old.answered.items item.caller 0 + 1)) caller 0 =
+          let was : get_or old.answered caller 0 ≡ length (items_of before caller) = is.answered caller (omega (arith, size, low)) in
+          let now : get_or new.answered caller 0 ≡ get_or (set old.answered item.caller (get_or old.answered item.caller 0 + 1)) caller 0 =
           ap (λ (l : List ℕ). get_or l caller 0) pushed in
           let more : length (items_of (before ++ item ∷ []) caller) ≡ length (items_of before caller) + cond (nat_eq item.caller caller) 1 0 =
           items_more before item caller in
           elim (cases_eq caller item.caller) [
             | inl own ↦
-                let set_here : get_or (set old.answered.items item.caller (get_or old.answered.items item.caller 0 + 1)) item.caller 0
-                ≡ get_or old.answered.items item.caller 0 + 1 =
-                get_or-set_same old.answered.items item.caller (get_or old.answered.items item.caller 0 + 1) 0 within in
-                let at_own : get_or (set old.answered.items item.caller (get_or old.answered.items item.caller 0 + 1)) caller 0
-                ≡ get_or old.answered.items caller 0 + 1 =
-                ap (λ (k : ℕ). get_or (set old.answered.items item.caller (get_or old.answered.items item.caller 0 + 1)) k 0) own ∙ set_here
-                ∙ ap (λ (k : ℕ). get_or old.answered.items k 0 + 1) (sym own) in
+                let set_here : get_or (set old.answered item.caller (get_or old.answered item.caller 0 + 1)) item.caller 0
+                ≡ get_or old.answered item.caller 0 + 1 =
+                get_or-set_same old.answered item.caller (get_or old.answered item.caller 0 + 1) 0 here in
+                let at_own : get_or (set old.answered item.caller (get_or old.answered item.caller 0 + 1)) caller 0
+                ≡ get_or old.answered caller 0 + 1 =
+                ap (λ (k : ℕ). get_or (set old.answered item.caller (get_or old.answered item.caller 0 + 1)) k 0) own ∙ set_here
+                ∙ ap (λ (k : ℕ). get_or old.answered k 0 + 1) (sym own) in
                 let one_more = once item.caller caller (sym own) in
                 omega (arith, was, now, more, at_own, one_more)
             | inr other ↦
-                let kept : get_or (set old.answered.items item.caller (get_or old.answered.items item.caller 0 + 1)) caller 0
-                ≡ get_or old.answered.items caller 0 =
-                get_or-set_other old.answered.items item.caller caller (get_or old.answered.items item.caller 0 + 1) 0 other in
+                let kept : get_or (set old.answered item.caller (get_or old.answered item.caller 0 + 1)) caller 0
+                ≡ get_or old.answered caller 0 =
+                get_or-set_other old.answered item.caller caller (get_or old.answered item.caller 0 + 1) 0 other in
                 let none_more = never item.caller caller (λ same. other (sym same)) in
                 omega (arith, was, now, more, kept, none_more)
           ];
-      version = version ∙ counted ∙ ap (λ (n : ℕ). n + cond (is_call item.content) 1 0) is.version ∙ sym (version_more before item);
+      version = version ∙ ap (λ (n : ℕ). n + cond (is_call item.content) 1 0) is.version ∙ sym (version_more before item);
       lowest = lowest ∙ sym (ap lowest_after (last_or-push None before item));
       few = λ caller.
           let more : length (items_of (before ++ item ∷ []) caller) ≡ length (items_of before caller) + cond (nat_eq item.caller caller) 1 0 =
@@ -157,13 +182,13 @@ progress_more lines before item line old new is next counted pushed same kept ve
                 omega (arith, more, none_more, is.few caller)
           ];
       callers = subst (λ (n : ℕ). All (λ (item : Item). item.caller < n) (before ++ item ∷ [])) (sym size)
-          (All-push (λ (item : Item). item.caller < length old.places.items) before item is.callers here);
+          (All-push (λ (item : Item). item.caller < length old.answered) before item is.callers here);
     }
 
 -- there are no more items than lines
-pub progress_within : (lines : List TraceLine) (before : List Item) (progress : Progress) → IsProgress lines before progress
+pub progress_within : (lines : List TraceLine) (before : List Item) (progress : ProgressView) → IsProgress lines before progress
     → length before ≤ length lines
-progress_within lines before progress is = items_within lines before (length progress.places.items) is.callers is.few
+progress_within lines before progress is = items_within lines before (length progress.answered) is.callers is.few
 
 -- no caller has more lines than there are
 pub lines_within : (lines : List TraceLine) (caller : ℕ) → length (lines_of lines caller) ≤ length lines
@@ -190,16 +215,35 @@ next_none : (line : Option TraceLine) → None ≡ option_map Some line → None
 next_none None same = refl
 next_none (Some line) same = absurd (cc)
 
+-- the fields of a `Progress`, where its callers are as far as some items say
+pub record IsAt (before : List Item) (fields : Inside) : Type 0 where
+  pub placed : IsPlaced fields
+  pub is : IsProgress fields.lines.now before (progress_of fields)
+
+-- what holds of the lines of its fields holds of the lines of the trace
+pub of_fields : (P : List TraceLine → Type 0) (lines : List TraceLine) (before : List Item) (fields : Inside) (progress : ProgressView)
+    → progress_of fields ≡ progress → IsPlaced fields → IsProgress lines before progress → (IsAt before fields → P fields.lines.now) → P lines
+of_fields P lines before fields progress same placed is shown =
+    let own : IsProgress lines before (progress_of fields) = subst (IsProgress lines before) (sym same) is in
+    subst P own.its_lines
+    (shown (record { placed = placed; is = subst (λ (l : List TraceLine). IsProgress l before (progress_of fields)) (sym own.its_lines) own }))
+
+-- and what is as far is its value
+pub own_view : (before : List Item) (fields : Inside) (progress : ProgressView) → progress_of fields ≡ progress → IsAt before fields
+    → IsProgress fields.lines.now before progress
+own_view before fields progress same at = subst (IsProgress fields.lines.now before) same at.is
+
 -- the next line of a caller, looked up by its place
-pub next_found : (lines : List TraceLine) (before : List Item) (progress : Progress) (caller : ℕ) (own : Vec ℕ Global) (count place : ℕ)
-    → IsProgress lines before progress → slice_get progress.places.items caller ≡ Some own → slice_get progress.answered.items caller ≡ Some count
-    → slice_get own.items count ≡ Some place → slice_get lines place ≡ next_line lines before caller
-next_found lines before progress caller own count place is owns counts found =
-    let within : caller < length progress.places.items = slice_get_within progress.places.items caller own owns in
-    let counted : count ≡ length (items_of before caller) = sym (get_or_from_slice_get progress.answered.items caller count 0 counts)
-    ∙ is.answered caller within in
+pub next_found : (before : List Item) (fields : Inside) (caller : ℕ) (own : Vec ℕ Global) (count place : ℕ)
+    → IsAt before fields → slice_get fields.places.items caller ≡ Some own → slice_get fields.answered.items caller ≡ Some count
+    → slice_get own.items count ≡ Some place → slice_get fields.lines.now place ≡ next_line fields.lines.now before caller
+next_found before fields caller own count place at owns counts found =
+    let lines : List TraceLine = fields.lines.now in
+    let within : caller < length fields.answered.items = slice_get_within fields.answered.items caller count counts in
+    let counted : count ≡ length (items_of before caller) = sym (get_or_from_slice_get fields.answered.items caller count 0 counts)
+    ∙ at.is.answered caller within in
     let line : Some (slice_get lines place) ≡ option_map Some (slice_get (lines_of lines caller) count) =
-    ap (option_map (slice_get lines)) (sym found) ∙ own_line lines own.items (lines_of lines caller) count (is.places.stand caller own owns) in
+    ap (option_map (slice_get lines)) (sym found) ∙ own_line lines own.items (lines_of lines caller) count (at.placed.places.stand caller own owns) in
     next_some (slice_get lines place) (slice_get (lines_of lines caller) count) line ∙ ap (slice_get (lines_of lines caller)) counted
 
 -- an element that was looked up
@@ -218,42 +262,24 @@ pub option_copied-slice_get : {X : Type 0} (xs : List X) (place : ℕ) (found : 
 option_copied-slice_get xs place None past = sym (slice_get_past xs place past)
 option_copied-slice_get xs place (Some x) here = ap Some (here.1 x.now) ∙ sym (slice_get-get_or xs place x.now here.0)
 
--- a caller whose places are all used has no line left
-pub next_ended : (lines : List TraceLine) (before : List Item) (progress : Progress) (caller : ℕ) (own : Vec ℕ Global) (count : ℕ)
-    → IsProgress lines before progress → slice_get progress.places.items caller ≡ Some own → slice_get progress.answered.items caller ≡ Some count
-    → slice_get own.items count ≡ None → None ≡ next_line lines before caller
-next_ended lines before progress caller own count is owns counts none =
-    let within : caller < length progress.places.items = slice_get_within progress.places.items caller own owns in
-    let counted : count ≡ length (items_of before caller) = sym (get_or_from_slice_get progress.answered.items caller count 0 counts)
-    ∙ is.answered caller within in
-    let line : None ≡ option_map Some (slice_get (lines_of lines caller) count) =
-    ap (option_map (slice_get lines)) (sym none) ∙ own_line lines own.items (lines_of lines caller) count (is.places.stand caller own owns) in
-    next_none (slice_get (lines_of lines caller) count) line ∙ ap (slice_get (lines_of lines caller)) counted
-
--- who is no caller has none
-pub next_past : (lines : List TraceLine) (before : List Item) (progress : Progress) (caller : ℕ) → IsProgress lines before progress
-    → length progress.places.items ≤ caller → None ≡ next_line lines before caller
-next_past lines before progress caller is past =
-    sym (ap (λ (l : List TraceLine). slice_get l (length (items_of before caller))) (is.places.no_lines caller past))
-
 -- the lines of the first callers are answered
-pub record AreAnswered (progress : Progress) (count : ℕ) : Type 0 where
-  pub each : (caller : ℕ) → caller < count → (own : Vec ℕ Global) → slice_get progress.places.items caller ≡ Some own
-      → vec_len own ≤ get_or progress.answered.items caller 0
+pub record AreAnswered (fields : Inside) (count : ℕ) : Type 0 where
+  pub each : (caller : ℕ) → caller < count → (own : Vec ℕ Global) → slice_get fields.places.items caller ≡ Some own
+      → vec_len own ≤ get_or fields.answered.items caller 0
 
-pub answered_none : (progress : Progress) → AreAnswered progress 0
-answered_none progress = record { each = λ caller below. absurd (omega arith) }
+pub answered_none : (fields : Inside) → AreAnswered fields 0
+answered_none fields = record { each = λ caller below. absurd (omega arith) }
 
-pub answered_more : (progress : Progress) (count : ℕ) (own : Vec ℕ Global) → AreAnswered progress count
-    → slice_get progress.places.items count ≡ Some own → vec_len own ≤ get_or progress.answered.items count 0
-    → AreAnswered progress (count + 1)
-answered_more progress count own answered owns enough = record {
+pub answered_more : (fields : Inside) (count : ℕ) (own : Vec ℕ Global) → AreAnswered fields count
+    → slice_get fields.places.items count ≡ Some own → vec_len own ≤ get_or fields.answered.items count 0
+    → AreAnswered fields (count + 1)
+answered_more fields count own answered owns enough = record {
   each = λ caller below other found. elim (cases_eq caller count) [
     | inl same ↦
         let is : own ≡ other =
-        same_Some own other (sym owns ∙ ap (slice_get progress.places.items) (sym same) ∙ found) in
-        subst (λ (v : Vec ℕ Global). vec_len v ≤ get_or progress.answered.items caller 0) is
-        (subst (λ (k : ℕ). vec_len own ≤ get_or progress.answered.items k 0) (sym same) enough)
+        same_Some own other (sym owns ∙ ap (slice_get fields.places.items) (sym same) ∙ found) in
+        subst (λ (v : Vec ℕ Global). vec_len v ≤ get_or fields.answered.items caller 0) is
+        (subst (λ (k : ℕ). vec_len own ≤ get_or fields.answered.items k 0) (sym same) enough)
     | inr apart ↦ answered.each caller (omega arith) other found
   ];
 }
@@ -266,51 +292,52 @@ own_count lines callers places caller own placed owns =
     ap (λ (l : List (Option TraceLine)). length l) (placed.stand caller own owns) in
     omega (arith, own.ok.0, same, length-map own.items (slice_get lines), length-map (lines_of lines caller) Some)
 
-none_past : (lines : List TraceLine) (before : List Item) (progress : Progress) (caller : ℕ) → IsProgress lines before progress
-    → length progress.places.items ≤ caller → length (items_of before caller) ≡ length (lines_of lines caller)
-none_past lines before progress caller is past =
-    let none : length (lines_of lines caller) ≡ 0 = ap (λ (l : List TraceLine). length l) (is.places.no_lines caller past) in
-    omega (arith, none, is.few caller)
+none_past : (before : List Item) (fields : Inside) (caller : ℕ) → IsAt before fields
+    → length fields.answered.items ≤ caller → length (items_of before caller) ≡ length (lines_of fields.lines.now caller)
+none_past before fields caller at past =
+    let none : length (lines_of fields.lines.now caller) ≡ 0 = ap (λ (l : List TraceLine). length l) (at.is.no_lines caller past) in
+    omega (arith, none, at.is.few caller)
 
-all_answered : (lines : List TraceLine) (before : List Item) (progress : Progress) (caller count : ℕ) → IsProgress lines before progress
-    → AreAnswered progress count → caller < count → length (items_of before caller) ≡ length (lines_of lines caller)
-all_answered lines before progress caller count is answered below = elim (cases_lt caller (length progress.places.items)) [
+all_answered : (before : List Item) (fields : Inside) (caller count : ℕ) → IsAt before fields
+    → AreAnswered fields count → caller < count → length (items_of before caller) ≡ length (lines_of fields.lines.now caller)
+all_answered before fields caller count at answered below = elim (cases_lt caller (length fields.answered.items)) [
   | inl within ↦
-      let found = slice_get_found progress.places.items caller within in
+      let found = slice_get_found fields.places.items caller (omega (arith, within, at.placed.places.all)) in
       omega (
         arith,
-        is.few caller,
-        is.answered caller within,
+        at.is.few caller,
+        at.is.answered caller within,
         answered.each caller below found.0 found.1,
-        own_count lines (length progress.places.items) progress.places.items caller found.0 is.places found.1,
+        own_count fields.lines.now (length fields.answered.items) fields.places.items caller found.0 at.placed.places found.1,
       )
-  | inr past ↦ none_past lines before progress caller is past
+  | inr past ↦ none_past before fields caller at past
 ]
 
 -- past the last caller no lines are left
-pub none_left : (lines : List TraceLine) (before : List Item) (progress : Progress) (count : ℕ) → IsProgress lines before progress
-    → AreAnswered progress count → length progress.places.items ≤ count → HasNoneLeft lines before
-none_left lines before progress count is answered whole = λ caller. elim (cases_lt caller count) [
-  | inl below ↦ all_answered lines before progress caller count is answered below
-  | inr past ↦ none_past lines before progress caller is (omega arith)
+pub none_left : (before : List Item) (fields : Inside) (count : ℕ) → IsAt before fields
+    → AreAnswered fields count → length fields.answered.items ≤ count → HasNoneLeft fields.lines.now before
+none_left before fields count at answered whole = λ caller. elim (cases_lt caller count) [
+  | inl below ↦ all_answered before fields caller count at answered below
+  | inr past ↦ none_past before fields caller at (omega arith)
 ]
 
 -- the first caller whose lines are not all answered
-pub lowest_left : (lines : List TraceLine) (before : List Item) (progress : Progress) (caller : ℕ) (own : Vec ℕ Global)
-    → IsProgress lines before progress → AreAnswered progress caller → slice_get progress.places.items caller ≡ Some own
-    → get_or progress.answered.items caller 0 < vec_len own → IsLowestLeft lines before caller
-lowest_left lines before progress caller own is answered owns fewer = record {
+pub lowest_left : (before : List Item) (fields : Inside) (caller : ℕ) (own : Vec ℕ Global)
+    → IsAt before fields → AreAnswered fields caller → slice_get fields.places.items caller ≡ Some own
+    → get_or fields.answered.items caller 0 < vec_len own → IsLowestLeft fields.lines.now before caller
+lowest_left before fields caller own at answered owns fewer = record {
   left =
-      let within : caller < length progress.places.items = slice_get_within progress.places.items caller own owns in
-      omega (arith, own_count lines (length progress.places.items) progress.places.items caller own is.places owns, is.answered caller within);
-  lowest = λ lower below. all_answered lines before progress lower caller is answered below;
+      let placed : caller < length fields.places.items = slice_get_within fields.places.items caller own owns in
+      let within : caller < length fields.answered.items = omega (arith, placed, at.placed.places.all) in
+      omega (
+        arith,
+        own_count fields.lines.now (length fields.answered.items) fields.places.items caller own at.placed.places owns,
+        at.is.answered caller within,
+        fewer,
+      );
+  lowest = λ lower below. all_answered before fields lower caller at answered below;
 }
 
--- the next line, by lines that are those of the trace
-pub next_of_trace : (lines given : List TraceLine) (before : List Item) (progress : Progress) (caller : ℕ) (line : Option TraceLine)
-    → given ≡ lines → IsProgress lines before progress
-    → ((before : List Item) → IsProgress given before progress → line ≡ next_line given before caller)
-    → line ≡ next_line lines before caller
-next_of_trace lines given before progress caller line same is next =
-    next before (subst (λ (l : List TraceLine). IsProgress l before progress) (sym same) is)
-    ∙ ap (λ (l : List TraceLine). next_line l before caller) same
+-- then a line is left
+pub some_left : (lines : List TraceLine) (before : List Item) (caller : ℕ) → IsLowestLeft lines before caller → HasNoneLeft lines before → ⊥
+some_left lines before caller lowest none = absurd (omega (arith, lowest.left, none caller))

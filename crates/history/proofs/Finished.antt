@@ -13,7 +13,7 @@ use Rattle.trace_reader.specs.declared.trace.Op.{Op}
 use Rattle.trace_reader.specs.declared.trace.Op.TheVariants as ops
 use Rattle.trace_reader.specs.declared.trace.TraceLine.{TraceLine}
 use Rattle.trace_reader.specs.Values.{is_call_op, AreNumbered, AreNamesRight}
-use Rattle.stable_sort.proofs.Sorting.{Rises}
+use Rattle.mm_types.proofs.Sorting.{Rises}
 use Rattle.area_rules.specs.Journals.{calls_by}
 use Rattle.history.specs.declared.items.Content.{Content}
 use Rattle.history.specs.declared.items.Content.TheVariants as contents

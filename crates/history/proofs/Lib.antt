@@ -20,4 +20,5 @@ pub mod Regrouping
 pub mod Placing
 pub mod Advances
 pub mod Told
+pub mod Coming
 pub mod Walking

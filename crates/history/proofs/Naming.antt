@@ -5,7 +5,7 @@ use Rattle.std.proofs.lemmas.List.Elements.{All-cons, All-filter}
 use Rattle.std.proofs.lemmas.Option.{slice_get_within, get_or_from_slice_get}
 use Rattle.mm_types.specs.declared.call.Entry.{Entry}
 use Rattle.mm_types.specs.declared.call.Seen.{Seen}
-use Rattle.stable_sort.proofs.Sorting.{Rises}
+use Rattle.mm_types.proofs.Sorting.{Rises}
 use Rattle.history.specs.declared.items.Item.{Item}
 use Rattle.history.specs.Histories.{items_of, is_call}
 use Rattle.history.specs.Runs.{history_of, own_of, place_key, entry_items, logs_items, ComesAfter}

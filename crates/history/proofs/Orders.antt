@@ -7,7 +7,7 @@ use Rattle.std.proofs.lemmas.List.{take_all, take_more, get_or_append_left, get_
 use Rattle.std.proofs.lemmas.List.Elements.{All-nil, All-cons, All-head, All-tail, All-push, All-weaker}
 use Rattle.std.proofs.lemmas.List.Kept.{AllPairs-cons}
 use Rattle.trace_reader.specs.declared.trace.TraceLine.{TraceLine}
-use Rattle.stable_sort.proofs.Sorting.{Rises, Rises-sort_by, All-sort_by}
+use Rattle.mm_types.proofs.Sorting.{Rises, Rises-sort_by, All-sort_by}
 use Rattle.mm_types.specs.Sorts.{sort_by}
 use Rattle.history.specs.declared.items.Item.{Item}
 use Rattle.history.specs.Histories.{is_call, goes_first, gather}

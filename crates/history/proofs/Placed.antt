@@ -8,7 +8,7 @@ use Rattle.mm_types.specs.declared.call.Seen.{Seen}
 use Rattle.mm_types.specs.declared.call.Seen.TheVariants as reads
 use Rattle.mm_types.specs.declared.config.Config.{Config}
 use Rattle.area_rules.specs.Steps.{step, after}
-use Rattle.stable_sort.proofs.Sorting.{Rises, Rises-sort_by}
+use Rattle.mm_types.proofs.Sorting.{Rises, Rises-sort_by}
 use Rattle.history.specs.declared.items.Content.{Content}
 use Rattle.history.specs.declared.items.Content.TheVariants as contents
 use Rattle.history.specs.declared.items.Item.{Item}

@@ -22,8 +22,8 @@ use Rattle.history.proofs.Lists.{split_at, at_place, get_past}
 use Rattle.history.proofs.Calls.{line_call}
 use Rattle.history.proofs.Numbers.{passed, own_place, names_call}
 use Rattle.history.proofs.CallerOrder.{callers_alike}
-use Rattle.stable_sort.proofs.Sorting.{insert_by, filter-sort_by, All-sort_by, Rises, Rises-sort_by, sort_by-from_filters, sort_by-from_stable, sort_by_alike}
-use Rattle.history.proofs.Serial.{item_of, call_answer, HasLines, pairs_from, items_of_pairs, answers_place, AllAnswer, all_answer, GoesBefore, AreOrdered, none_counted, opening_stands, counts_taken, items_are_history, all_reached}
+use Rattle.mm_types.proofs.Sorting.{insert_by, filter-sort_by, All-sort_by, Rises, Rises-sort_by, sort_by-from_filters, sort_by-from_stable, sort_by_alike}
+use Rattle.history.proofs.Serial.{item_of, call_answer, HasLines, pairs_from, items_of_pairs, answers_place, GoesBefore, AreOrdered, opening_stands, counts_taken, items_are_history, all_reached}
 
 -- an item in its place in a history
 abbrev pub insert_item : Item → List Item → List Item
@@ -580,12 +580,6 @@ pub serial-answered : (config : Config) (lines : List TraceLine)
 serial-answered config lines =
     serial_lines config lines ∙ sym (items_of_pairs config lines (opening config) 0 (history_lines config lines (opening config) [] lines))
     ∙ ap (map (λ (p : TraceLine × Item). p.1)) (sym (serial_pairs config lines))
-
--- each answers the line that it stands with: in turn, and at its place
-pub answered_answer : (config : Config) (lines : List TraceLine) → AskThemselves lines → AllAnswer config lines [] (answered config lines (opening config) 0 [] lines)
-answered_answer config lines all =
-    subst (λ (pairs : List (TraceLine × Item)). AllAnswer config lines [] pairs) (sym (serial_pairs config lines))
-    (all_answer config lines (opening config) 0 [] (history_lines config lines (opening config) [] lines) [] (all_ask config lines all) (has_lines config (opening config) lines) (none_counted lines) (opening_stands config))
 
 pub answered_line : (config : Config) (lines : List TraceLine) (place : ℕ) (pair : TraceLine × Item) → AskThemselves lines
     → slice_get (answered config lines (opening config) 0 [] lines) place ≡ Some pair

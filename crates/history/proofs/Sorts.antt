@@ -1,10 +1,10 @@
 -- For gathered histories: their order is that of a number, and a stable sort by a number keeps the order of what a filter keeps.
-use Rattle.std.proofs.Common.{ℕ, ◌≡◌, ◌+◌, ◌*◌, ◌^◌, ◌<◌, ◌≤◌, ◌∙◌, refl, sym, ap, cond, Bool, true, false, not, ◌&&◌, ◌||◌, nat_eq, nat_lt, nat_le, List, [], ◌∷◌, ◌++◌, filter, All, arith}
+use Rattle.std.proofs.Common.{ℕ, ◌≡◌, ◌+◌, ◌*◌, ◌^◌, ◌<◌, ◌≤◌, ◌∙◌, refl, sym, ap, cond, Bool, true, false, not, ◌&&◌, ◌||◌, nat_eq, nat_lt, nat_le, List, [], ◌∷◌, filter, All, arith}
 use Rattle.std.proofs.lemmas.Bool.{cond_both, cond-true, cond-false}
 use Rattle.std.proofs.lemmas.Bool.Decides.{nat_tests}
-use Rattle.std.proofs.lemmas.List.Elements.{All-head, All-tail, All-filter, filter-append}
+use Rattle.std.proofs.lemmas.List.Elements.{All-head, All-tail, All-filter}
 use Rattle.mm_types.specs.Sorts.{sort_by}
-use Rattle.stable_sort.proofs.Sorting.{insert_by, filter-sort_by, Rises, Rises-sort_by, same_from_filters, All-sort_by}
+use Rattle.mm_types.proofs.Sorting.{insert_by, filter-sort_by, Rises, Rises-sort_by, same_from_filters, All-sort_by}
 use Rattle.history.specs.declared.items.Item.{Item}
 use Rattle.history.specs.Histories.{is_call, items_of, goes_first, gather}
 use Rattle.history.specs.Runs.{place_key}
@@ -74,16 +74,6 @@ filter_sort {X} key p xs =
     (λ x. let q : X → Bool = λ y. nat_eq (key y) (key x) in
     filter_swap q p (sort_by key xs) ∙ ap (filter p) (filter-sort_by key (key x) xs) ∙ filter_swap p q xs
     ∙ sym (filter-sort_by key (key x) (filter p xs)))
-
--- a part that is sorted before the whole makes no difference
-pub sort_part : {X : Type 0} (key : X → ℕ) (xs ys : List X) → sort_by key (xs ++ sort_by key ys) ≡ sort_by key (xs ++ ys)
-sort_part {X} key xs ys =
-    same_from_filters key 0 (sort_by key (xs ++ sort_by key ys)) 0 (sort_by key (xs ++ ys))
-    (Rises-sort_by key (xs ++ sort_by key ys)) (Rises-sort_by key (xs ++ ys))
-    (λ x. let q : X → Bool = λ y. nat_eq (key y) (key x) in
-    filter-sort_by key (key x) (xs ++ sort_by key ys) ∙ filter-append q xs (sort_by key ys)
-    ∙ ap (λ (l : List X). filter q xs ++ l) (filter-sort_by key (key x) ys) ∙ sym (filter-append q xs ys)
-    ∙ sym (filter-sort_by key (key x) (xs ++ ys)))
 
 -- a list that rises is sorted
 pub sorted_rises : {X : Type 0} (key : X → ℕ) (low : ℕ) (xs : List X) → Rises key low xs → sort_by key xs ≡ xs

@@ -1,5 +1,5 @@
 -- For `check`: what the walk over a history keeps from item to item, and what it shows of a bad item and of the end.
-use Rattle.std.proofs.Common.{ℕ, ◌≡◌, ◌+◌, ◌-◌, ◌^◌, ◌<◌, ◌≤◌, ◌∙◌, refl, sym, ap, subst, cond, false, List, [], ◌∷◌, ◌++◌, append_assoc, length, get_or, set, take, slice_get, All, Option, Some, None, arith, inl, inr}
+use Rattle.std.proofs.Common.{ℕ, ◌≡◌, ◌+◌, ◌-◌, ◌^◌, ◌<◌, ◌≤◌, ◌∙◌, refl, sym, ap, subst, cond, Bool, false, List, [], ◌∷◌, ◌++◌, append_assoc, length, get_or, set, take, slice_get, All, Option, Some, None, arith, inl, inr}
 use Rattle.std.specs.Prelude.{IfSome, IsSomeAnd}
 use Rattle.std.specs.List.{last_or}
 use Rattle.std.proofs.lemmas.Bool.{cases_eq, cases_Bool, cond-true, cond-false}
@@ -28,7 +28,8 @@ use Rattle.history.specs.declared.items.Content.TheVariants as contents
 use Rattle.history.specs.declared.items.Item.{Item}
 use Rattle.history.specs.Histories.{items_of, lines_of, line_of, journal_of, is_call, read_as, asks_for, op_of, call_of, answer_by, space_by, answer_of, space_after, StandsAmong, CanStand, IsMade, IsLegalHistory}
 use Rattle.history.specs.Checking.{answer_in, answer_to, next_line, expected_of, IsGood, IsRefused}
-use Rattle.history.specs.Walks.{space_after_line, lowest_after, IsProgress, IsNext, IsTold, HasNoneLeft, IsLowestLeft, HasBegun, IsWalked}
+use Rattle.history.specs.Coming.{lowest_after, IsProgress, HasNoneLeft, IsLowestLeft}
+use Rattle.history.specs.Internal.Walks.{space_after_line, IsNext, IsTold, HasBegun, IsWalked}
 use Rattle.history.proofs.Advances.{journal_within, left_within, left_fewer, lines_within, progress_more, progress_within}
 use Rattle.history.proofs.Calls.{list_call, reads_answer, reads_space, IsAnswer, answer_right, is_answer}
 use Rattle.history.proofs.Placed.{journal_append}
@@ -193,18 +194,18 @@ walked_room case place walk walked =
 pub counts_room : (case : Case) (place : ℕ) (walk : Walk) (item : Item) (line : Option TraceLine) → IsWalked case place walk
     → line ≡ next_line case.lines.now (take place case.items.now) item.caller
     → CanStand case.config.now case.start.now case.lines.now (take place case.items.now) item
-    → (item.caller < length walk.progress.answered.items) × (get_or walk.progress.answered.items item.caller 0 < 2 ^ 32)
+    → (item.caller < length walk.progress.answered) × (get_or walk.progress.answered item.caller 0 < 2 ^ 32)
 counts_room case place walk item line walked at stands = of_line line at (asks_line case place item line at stands)
   where
     of_line : (line : Option TraceLine) → line ≡ next_line case.lines.now (take place case.items.now) item.caller
         → IsSomeAnd line (λ line. read_as line.op ≡ op_of item.content)
-        → (item.caller < length walk.progress.answered.items) × (get_or walk.progress.answered.items item.caller 0 < 2 ^ 32)
+        → (item.caller < length walk.progress.answered) × (get_or walk.progress.answered item.caller 0 < 2 ^ 32)
     of_line None at asked = absurd asked
     of_line (Some line) at asked =
         let before : List Item = take place case.items.now in
-        let within : item.caller < length walk.progress.places.items =
+        let within : item.caller < length walk.progress.answered =
         left_within case.lines.now before walk.progress item.caller line walked.progress (sym at) in (
-          omega (arith, within, walked.progress.all),
+          within,
           omega (
             arith,
             walked.progress.answered item.caller within,
@@ -268,11 +269,11 @@ pub walked_more : (case : Case) (place : ℕ) (old new : Walk) (item : Item) (li
     → answer ≡ answer_to old.space.config old.space.space line → answer ≡ answer_in item.content
     → new.space.space ≡ space_after_line old.space.config old.space.space line → new.space.config ≡ old.space.config
     → new.space.space.objects ≤ old.space.space.objects + 1
-    → new.progress.answered.items ≡ set old.progress.answered.items item.caller (get_or old.progress.answered.items item.caller 0 + 1)
-    → new.progress.places ≡ old.progress.places → new.progress.callers ≡ old.progress.callers → new.progress.version ≡ item.version
-    → new.progress.lowest ≡ cond (is_call item.content) 0 item.caller
+    → new.progress.answered ≡ set old.progress.answered item.caller (get_or old.progress.answered item.caller 0 + 1)
+    → new.progress.lines ≡ old.progress.lines → (called : Bool) → called ≡ is_call item.content
+    → new.progress.version ≡ old.progress.version + cond called 1 0 → new.progress.lowest ≡ cond called 0 item.caller
     → IsWalked case (place + 1) new
-walked_more case place old new item line answer walked found at stands made given stepped kept few pushed same threads version lowest =
+walked_more case place old new item line answer walked found at stands made given stepped kept few pushed same called is counts reads =
     let config : Config = case.config.now in
     let start : List Entry = case.start.now in
     let lines : List TraceLine = case.lines.now in
@@ -290,18 +291,19 @@ walked_more case place old new item line answer walked found at stands made give
     let right : IsAnswer config (start ++ journal_of before) item.content =
     right_from_answer config (start ++ journal_of before) item.content
     (sym (answer_here case place old item line walked at stands) ∙ sym made ∙ given) in
-    let counted : item.version ≡ old.progress.version + cond (is_call item.content) 1 0 =
-    (next_from_stands case place old item line walked at stands).next.version in
+    let counted : new.progress.version ≡ old.progress.version + cond (is_call item.content) 1 0 =
+    counts ∙ ap (λ (b : Bool). old.progress.version + cond b 1 0) is in
+    let lowest : new.progress.lowest ≡ cond (is_call item.content) 0 item.caller = reads ∙ ap (λ (b : Bool). cond b 0 item.caller) is in
     let good : IsGood config start lines before item = record {
       stands = stands;
       right = answer_right config (start ++ journal_of before) item.content right;
     } in
     record {
       progress = subst (λ (l : List Item). IsProgress lines l new.progress) (sym more)
-          (progress_more lines before item its.0 old.progress new.progress walked.progress (sym at ∙ its.1) counted pushed same threads version lowest);
+          (progress_more lines before item its.0 old.progress new.progress walked.progress (sym at ∙ its.1) same pushed counted lowest);
       opened = kept ∙ walked.opened;
       space = moved ∙ sym (space_more config start before item right) ∙ ap (λ (l : List Item). after config (start ++ journal_of l)) (sym more);
-      objects = subst (λ (n : ℕ). new.space.space.objects ≤ length config.files + length start + n) (sym (version ∙ counted))
+      objects = subst (λ (n : ℕ). new.space.space.objects ≤ length config.files + length start + n) (sym counted)
           (objects_more config item.content old.space.space new.space.space (length config.files + length start) old.progress.version walked.objects few
           (right_is_answer config (start ++ journal_of before) old.space.space item.content (sym walked.space) right)
           (moved ∙ ap (λ (s : AddressSpace). space_after config s (op_of item.content)) (sym walked.space)));
@@ -316,19 +318,6 @@ walked_more case place old new item line answer walked found at stands made give
         | inr apart ↦ walked.good earlier other (omega arith) there
       ];
     }
-
--- an item that cannot stand
-pub refused_out_of_place : (case : Case) (place : ℕ) (walk : Walk) (item : Item) (bad : BadEntry) → IsWalked case place walk
-    → slice_get case.items.now place ≡ Some item
-    → (CanStand case.config.now case.start.now case.lines.now (take place case.items.now) item → ⊥)
-    → bad.place ≡ place + 1 → bad.expected ≡ answers.Nothing → bad.found ≡ answer_in item.content
-    → IsRefused case.config.now case.start.now case.lines.now case.items.now bad
-refused_out_of_place case place walk item bad walked found never stood is said = record {
-  place = place;
-  counted = stood;
-  before = walked.good;
-  cause = inl (record { item = item; here = found; refused = never; expected = is; found = said });
-}
 
 -- an item that can stand and is not right
 pub refused_wrong : (case : Case) (place : ℕ) (walk : Walk) (item : Item) (line : Option TraceLine) (answer : Answer) (bad : BadEntry)
@@ -432,11 +421,3 @@ begun_more config start count old new d begun within kept stepped few =
           ∙ ap (after config) (sym (take_more start count d within));
       objects = omega (arith, few, begun.objects);
     }
-
-pub begun_all : (config : Config) (start : List Entry) (count : ℕ) (space : PlainView) → BegunSoFar config start count space → length start ≤ count
-    → count ≤ length start → HasBegun config start space
-begun_all config start count space begun all within = record {
-  opened = begun.opened;
-  space = begun.space ∙ ap (after config) (take_all count start all);
-  objects = omega (arith, begun.objects);
-}

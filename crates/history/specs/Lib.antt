@@ -4,4 +4,5 @@ pub mod Labels
 pub mod Threads
 pub mod CallerPlaces
 pub mod Checking
-pub mod Walks
+pub mod Coming
+pub mod Internal

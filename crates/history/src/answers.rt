@@ -1,7 +1,7 @@
 //! What a history that is refused is told: the item that is bad, and what was expected there.
 ghost use Rattle.std.specs.Prelude.{◌≡◌, ◌↔◌, IsTrue, IfOk};
 ghost use Rattle.history.specs.Checking.{answer_in};
-ghost use Rattle.history.specs.Walks.{shown};
+ghost use Rattle.history.specs.Internal.Walks.{shown};
 
 use crate::items::Content;
 use crate::same::{same_call, same_list, same_reply, same_verdict};
@@ -31,21 +31,21 @@ pub struct BadEntry {
 
 /// Why a history was not accepted.
 #[derive(Debug, Drop)]
-pub enum CheckFault {
+pub enum CheckError {
     /// It is not a legal history of the trace.
     Bad(BadEntry),
     /// Out of memory.
     NoMemory,
 }
 
-impl From<NoMemory> for CheckFault {
+impl From<NoMemory> for CheckError {
     ghost use Rattle.std.specs.Prelude.{◌≡◌};
-    ghost use Rattle.history.specs.declared.answers.CheckFault.TheVariants as faults;
+    ghost use Rattle.history.specs.declared.answers.CheckError.TheVariants as faults;
 
     ghost from_gives = { λ _ fault. fault ≡ faults.NoMemory };
 
-    fn from(_error: NoMemory) -> CheckFault {
-        CheckFault::NoMemory
+    fn from(_error: NoMemory) -> CheckError {
+        CheckError::NoMemory
     }
 }
 

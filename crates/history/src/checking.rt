@@ -8,9 +8,9 @@ ghost use Rattle.history.specs.declared.callers.TheConstants.{MOST_THREADS};
 ghost use Rattle.history.specs.declared.items.Item.{Item};
 ghost use Rattle.history.specs.Histories.{CanStand, IsLegalHistory, IsMade, asks_for, call_of, read_of};
 ghost use Rattle.history.specs.Checking.{answer_in, answer_to, next_line, IsRefused};
-ghost use Rattle.history.specs.Walks.{shown, space_after_line, HasBegun, IsWalked, IsToldRightly};
+ghost use Rattle.history.specs.Internal.Walks.{shown, space_after_line, HasBegun, IsWalked, IsToldRightly};
 
-use crate::answers::{Answer, BadEntry, CheckFault, Expected};
+use crate::answers::{Answer, BadEntry, CheckError, Expected};
 use crate::items::{Content, History, Item};
 use crate::progress::Progress;
 use mm_types::{Call, Config, Entry, NoMemory};
@@ -30,19 +30,19 @@ pub(crate) struct Case<'a> {
 /// A walk over a history: how far the callers are and the address space, after some items.
 #[derive(Drop)]
 struct Walk<'a> {
-    progress: Progress,
+    progress: Progress<'a>,
     space: PlainSpace<'a>,
 }
 
 /// Judges a history: `Ok` exactly where it is legal and of the trace, and else the first item that is bad, or its end, where lines are
 /// left. Each call is made once, and each item is compared once. The only other error is out of memory.
-pub fn check(alloc: Global, trace: &Trace, history: &History) -> Result<(), CheckFault>
+pub fn check(alloc: Global, trace: &Trace, history: &History) -> Result<(), CheckError>
     requires valid { IsValidConfig trace.now.config }
     requires few { length trace.now.lines ≤ MOST_LINES }
     requires threads { All (λ line. line.thread < MOST_THREADS) trace.now.lines }
     requires numbered { AreNumbered trace.now.lines }
     ensures legal { OnOk result (IsLegalHistory trace.now.config [] trace.now.lines history.now) }
-    ensures refused { (bad : BadEntry) → result ≡ Err (CheckFault.Bad bad)
+    ensures refused { (bad : BadEntry) → result ≡ Err (CheckError.Bad bad)
         → IsRefused trace.now.config [] trace.now.lines history.now bad }
 {
     check_after(alloc, &trace.config, &[], trace.lines.items(), history)
@@ -55,14 +55,14 @@ pub fn check_after(
     start: &[Entry],
     lines: &[TraceLine],
     history: &History,
-) -> Result<(), CheckFault>
+) -> Result<(), CheckError>
     requires valid { IsValidConfig config.now }
     requires begun { length start.now ≤ 2 ^ 31 }
     requires few { length lines.now ≤ MOST_LINES }
     requires threads { All (λ line. line.thread < MOST_THREADS) lines.now }
     requires numbered { AreNumbered lines.now }
     ensures legal { OnOk result (IsLegalHistory config.now start.now lines.now history.now) }
-    ensures refused { (bad : BadEntry) → result ≡ Err (CheckFault.Bad bad)
+    ensures refused { (bad : BadEntry) → result ≡ Err (CheckError.Bad bad)
         → IsRefused config.now start.now lines.now history.now bad }
 {
     let case = Case {
@@ -95,16 +95,16 @@ impl<'a> Walk<'a> {
     }
 
     /// Judges the next item, which stands at this place.
-    fn judge(&mut self, alloc: Global, case: &Case<'_>, place: usize) -> Result<(), CheckFault>
+    fn judge(&mut self, alloc: Global, case: &Case<'_>, place: usize) -> Result<(), CheckError>
         requires within { place < length case.now.items.now }
         requires walked { IsWalked case.now place self.old }
         ensures ok { OnOk result (IsWalked case.now (place + 1) self.new) }
         ensures refused { IfErr result (IsToldRightly case.now) }
     {
         let item = &case.items[place];
-        let line = self.progress.next_line(case.lines, item.caller as usize);
+        let line = self.progress.next_line(item.caller as usize);
         if !self.can_stand(case, place, item, line) {
-            return Err(CheckFault::Bad(BadEntry {
+            return Err(CheckError::Bad(BadEntry {
                 place: place as u64 + 1,
                 expected: Answer::Nothing,
                 found: Answer::of(alloc, &item.content)?,
@@ -113,13 +113,13 @@ impl<'a> Walk<'a> {
         let expected = run_line(&mut self.space, line);
         let is_answered = expected.is_in(alloc, &self.space, &item.content)?;
         if !is_answered {
-            return Err(CheckFault::Bad(BadEntry {
+            return Err(CheckError::Bad(BadEntry {
                 place: place as u64 + 1,
                 expected: expected.answer(alloc, &self.space)?,
                 found: Answer::of(alloc, &item.content)?,
             }));
         }
-        self.progress.pass(item);
+        self.progress.pass(item.caller, item.is_call());
         Ok(())
     }
 
@@ -132,11 +132,11 @@ impl<'a> Walk<'a> {
     {
         self.progress.can_stand(line, item)
             && is_made(&self.space, &item.content)
-            && self.progress.is_told(case.lines, line)
+            && self.progress.is_told(line)
     }
 
     /// Judges the end of the items.
-    fn end(&mut self, alloc: Global, case: &Case<'_>) -> Result<(), CheckFault>
+    fn end(&mut self, alloc: Global, case: &Case<'_>) -> Result<(), CheckError>
         requires { IsWalked case.now (length case.now.items.now) self.old }
         ensures legal { OnOk result (IsLegalHistory case.now.config.now case.now.start.now case.now.lines.now case.now.items.now) }
         ensures refused { IfErr result (IsToldRightly case.now) }
@@ -144,9 +144,9 @@ impl<'a> Walk<'a> {
         let Some(caller) = self.progress.unfinished() else {
             return Ok(());
         };
-        let line = self.progress.next_line(case.lines, caller);
+        let line = self.progress.next_line(caller);
         let expected = run_line(&mut self.space, line);
-        Err(CheckFault::Bad(BadEntry {
+        Err(CheckError::Bad(BadEntry {
             place: case.items.len() as u64 + 1,
             expected: expected.answer(alloc, &self.space)?,
             found: Answer::Nothing,

@@ -17,7 +17,7 @@ mod same;
 #[cfg(test)]
 mod tests;
 
-pub use answers::{Answer, BadEntry, CheckFault};
+pub use answers::{Answer, BadEntry, CheckError};
 pub use callers::{Callers, MOST_THREADS};
 pub use checking::{check, check_after};
 pub use gathering::gather;
@@ -28,6 +28,7 @@ pub use laws::{
     serial_history_is_legal, sort_by_caller_is_stable,
 };
 pub use places::places_by_caller;
+pub use progress::Progress;
 pub use run_laws::{
     callers_share_the_lines, labels_make_the_serial_history, no_lines_past_the_callers,
     one_operation_more, run_makes_a_legal_history, touches_that_grew_are_made,

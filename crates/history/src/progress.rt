@@ -1,45 +1,62 @@
 //! How far the callers of a trace are in a history.
-ghost use Rattle.std.specs.Prelude.{ℕ, ◌≡◌, ◌≢◌, ◌+◌, ◌<◌, ◌≤◌, ◌-◌, ◌^◌, ◌↔◌, List, [], length, All, IsTrue, IfOk, IfSome, IfNone, Contains, MatchOption, slice_index, slice_set, if◌then◌else◌};
+ghost use Rattle.std.specs.Prelude.{ℕ, ◌≡◌, ◌≢◌, ◌+◌, ◌<◌, ◌≤◌, ◌-◌, ◌^◌, ◌↔◌, List, [], length, All, IsTrue, IfOk, IfSome, IfNone, Contains, MatchBool, MatchOption, slice_index, slice_set, if◌then◌else◌, false};
 ghost use Rattle.trace_reader.specs.declared.limits.TheConstants.{MOST_LINES};
 ghost use Rattle.trace_reader.specs.Values.{AreNumbered};
 ghost use Rattle.history.specs.declared.callers.TheConstants.{MOST_THREADS};
 ghost use Rattle.history.specs.declared.items.Item.{Item};
-ghost use Rattle.history.specs.Histories.{is_call};
-ghost use Rattle.history.specs.Checking.{next_line};
 ghost use Rattle.history.specs.Histories.{StandsAmong};
-ghost use Rattle.history.specs.Walks.{IsProgress, IsNext, IsTold, HasNoneLeft, IsLowestLeft};
+ghost use Rattle.history.specs.Checking.{next_line};
+ghost use Rattle.history.specs.Coming.{IsProgress, IsToCome, NoneIsToCome, HasNoneLeft, IsLowestLeft};
+ghost use Rattle.history.specs.Internal.Walks.{IsNext, IsTold};
 
 use crate::callers::Callers;
 use crate::items::Item;
 use crate::places::places_by_caller;
 use mm_types::NoMemory;
 use std::alloc::Global;
+use std::marker::Model;
 use trace_reader::TraceLine;
 
-/// How far the callers of a trace are after some items of a history.
+/// How far the callers of a trace are after some items of a history. Contracts see the lines of the trace, how many of each caller are
+/// answered, how many of the items are calls, and the lowest caller that may read next.
 #[derive(Drop)]
-pub(crate) struct Progress {
-    pub(crate) callers: Callers,
+pub struct Progress<'a> {
+    lines: &'a [TraceLine],
+    callers: Callers,
     /// The places of the lines of each caller.
-    pub(crate) places: Vec<Vec<u32>>,
+    places: Vec<Vec<u32>>,
     /// How many lines of each caller are answered.
-    pub(crate) answered: Vec<usize>,
+    answered: Vec<usize>,
     /// How many of the items are calls.
-    pub(crate) version: u64,
-    /// The lowest caller that may read next: after a read its caller, and else 0.
-    pub(crate) lowest: u32,
+    version: u64,
+    /// After a read its caller, and else 0: reads of one version come by ascending caller.
+    lowest: u32,
 }
 
-impl Progress {
-    /// Before the first item.
-    pub(crate) fn new(alloc: Global, lines: &[TraceLine]) -> Result<Progress, NoMemory>
+impl<'a> Model for Progress<'a> {
+    ghost use Rattle.history.specs.Coming.{ProgressView};
+
+    ghost Value = { ProgressView };
+
+    ghost use Rattle.history.specs.Internal.Kept.{progress_of, IsPlaced};
+
+    ghost view = { progress_of };
+
+    ghost invariant = { IsPlaced };
+}
+
+impl<'a> Progress<'a> {
+    /// Before the first item. Fails only where memory runs out.
+    pub fn new(alloc: Global, lines: &'a [TraceLine]) -> Result<Progress<'a>, NoMemory>
         requires few { length lines.now ≤ MOST_LINES }
         requires threads { All (λ line. line.thread < MOST_THREADS) lines.now }
+        requires numbered { AreNumbered lines.now }
         ensures { IfOk result (IsProgress lines.now []) }
     {
         let places = places_by_caller(alloc, lines)?;
         let answered = vec![in alloc; 0usize; places.len()]?;
         Ok(Progress {
+            lines,
             callers: Callers::of(lines),
             places,
             answered,
@@ -48,14 +65,31 @@ impl Progress {
         })
     }
 
+    /// The line of a number, with its caller, where it is the next of that caller and the line that it names is answered.
+    pub fn line_to_come(&self, number: u64) -> Option<(TraceLine, u32)>
+        ensures { (lines : List TraceLine) (before : List Item) → IsProgress lines before self.now
+            → MatchOption result (NoneIsToCome lines before number) (λ found. IsToCome lines before number found.0 found.1) }
+    {
+        let line = line_of_number(self.lines, number)?;
+        let caller = self.callers.caller(line.thread);
+        let next = self.next_line(caller as usize)?;
+        if next.number != number {
+            return None;
+        }
+        if !self.is_told(Some(next)) {
+            return None;
+        }
+        Some((next, caller))
+    }
+
     /// The next line of a caller, if it has one left.
-    pub(crate) fn next_line(&self, lines: &[TraceLine], caller: usize) -> Option<TraceLine>
-        ensures { (before : List Item) → IsProgress lines.now before self.now → result ≡ next_line lines.now before caller }
+    pub(crate) fn next_line(&self, caller: usize) -> Option<TraceLine>
+        ensures { (lines : List TraceLine) (before : List Item) → IsProgress lines before self.now → result ≡ next_line lines before caller }
     {
         let own = self.places.get(caller)?;
         let answered = self.answered.get(caller)?;
         let place = own.get(*answered)?;
-        lines.get(*place as usize).copied()
+        self.lines.get(*place as usize).copied()
     }
 
     /// Whether an item can stand next, where this is the next line of its caller.
@@ -64,65 +98,77 @@ impl Progress {
         ensures { IsTrue result ↔ IsNext self.now line item.now }
     {
         let is_call = item.is_call();
-        let version = if is_call {
-            self.version + 1
-        } else {
-            self.version
-        };
-        item.version == version && (is_call || self.lowest <= item.caller) && item.answers(line)
+        item.version == self.version_with(is_call)
+            && self.is_in_order(item.caller, is_call)
+            && item.answers(line)
     }
 
     /// Whether the line that a line names, if it names one, is answered.
-    pub(crate) fn is_told(&self, lines: &[TraceLine], line: Option<TraceLine>) -> bool
-        requires threads { All (λ line. line.thread < MOST_THREADS) lines.now }
-        requires numbered { AreNumbered lines.now }
-        ensures { (before : List Item) → IsProgress lines.now before self.now → IsTrue result ↔ IsTold lines.now before line }
+    pub(crate) fn is_told(&self, line: Option<TraceLine>) -> bool
+        ensures { (lines : List TraceLine) (before : List Item) → IsProgress lines before self.now → IsTrue result ↔ IsTold lines before line }
     {
         let Some(line) = line else {
             return true;
         };
         match line.after {
-            Some(number) => self.is_answered(lines, number),
+            Some(number) => self.is_answered(number),
             None => true,
         }
     }
 
     /// Whether the line of this number is answered, if there is one.
-    fn is_answered(&self, lines: &[TraceLine], number: u64) -> bool
-        requires threads { All (λ line. line.thread < MOST_THREADS) lines.now }
-        requires numbered { AreNumbered lines.now }
-        ensures { (before : List Item) → IsProgress lines.now before self.now
-            → IsTrue result ↔ StandsAmong lines.now before number }
+    fn is_answered(&self, number: u64) -> bool
+        ensures { (lines : List TraceLine) (before : List Item) → IsProgress lines before self.now
+            → IsTrue result ↔ StandsAmong lines before number }
     {
-        let Some(line) = line_of_number(lines, number) else {
+        let Some(line) = line_of_number(self.lines, number) else {
             return true;
         };
         let caller = self.callers.caller(line.thread) as usize;
-        match self.next_line(lines, caller) {
+        match self.next_line(caller) {
             Some(next) => number < next.number,
             None => true,
         }
     }
 
-    /// Counts an item that can stand next.
-    pub(crate) fn pass(&mut self, item: &Item)
-        requires caller { item.now.caller < length self.old.answered.items }
-        requires room { slice_index self.old.answered.items item.now.caller < 2 ^ 32 }
-        ensures answered { self.new.answered.items
-            ≡ slice_set self.old.answered.items item.now.caller (slice_index self.old.answered.items item.now.caller + 1) }
-        ensures places { self.new.places ≡ self.old.places }
-        ensures callers { self.new.callers ≡ self.old.callers }
-        ensures version { self.new.version ≡ item.now.version }
-        ensures lowest { self.new.lowest ≡ (if is_call item.now.content then 0 else item.now.caller) }
+    /// Whether an item of a caller can come next: reads of one version come by ascending caller.
+    pub fn is_in_order(&self, caller: u32, is_call: bool) -> bool
+        ensures { IsTrue result ↔ (is_call ≡ false → self.now.lowest ≤ caller) }
     {
-        self.answered[item.caller as usize] += 1;
-        self.version = item.version;
-        self.lowest = if item.is_call() { 0 } else { item.caller };
+        is_call || self.lowest <= caller
+    }
+
+    /// The version of the next item: a call's counts the call itself.
+    pub fn version_with(&self, is_call: bool) -> u64
+        requires { self.now.version < 2 ^ 64 - 1 }
+        ensures { result ≡ self.now.version + (if is_call then 1 else 0) }
+    {
+        if is_call {
+            self.version + 1
+        } else {
+            self.version
+        }
+    }
+
+    /// Counts an item of a caller, which answers its next line.
+    pub fn pass(&mut self, caller: u32, is_call: bool)
+        requires caller { caller < length self.old.answered }
+        requires room { slice_index self.old.answered caller < 2 ^ 32 }
+        requires version { self.old.version < 2 ^ 64 - 1 }
+        ensures lines { self.new.lines ≡ self.old.lines }
+        ensures answered { self.new.answered ≡ slice_set self.old.answered caller (slice_index self.old.answered caller + 1) }
+        ensures version { self.new.version ≡ self.old.version + (if is_call then 1 else 0) }
+        ensures lowest { self.new.lowest ≡ (if is_call then 0 else caller) }
+    {
+        self.answered[caller as usize] += 1;
+        if is_call {
+            self.version += 1;
+        }
+        self.lowest = if is_call { 0 } else { caller };
     }
 
     /// The lowest caller that has lines left, if one has.
     pub(crate) fn unfinished(&self) -> Option<usize>
-        requires { length self.now.answered.items ≡ length self.now.places.items }
         ensures { (lines : List TraceLine) (before : List Item) → IsProgress lines before self.now
             → MatchOption result (HasNoneLeft lines before) (IsLowestLeft lines before) }
     {
@@ -132,6 +178,17 @@ impl Progress {
             }
         }
         None
+    }
+
+    /// Whether a caller has a line left.
+    pub fn has_line_left(&self) -> bool
+        ensures { (lines : List TraceLine) (before : List Item) → IsProgress lines before self.now
+            → MatchBool result (HasNoneLeft lines before → ⊥) (HasNoneLeft lines before) }
+    {
+        match self.unfinished() {
+            Some(_) => true,
+            None => false,
+        }
     }
 }
 

@@ -2,7 +2,7 @@
 ghost use Rattle.std.specs.Bool.{OnTrue};
 ghost use Rattle.trace_reader.specs.Values.{AreNumbered};
 
-use crate::{Answer, CheckFault, Content, History, Item, MOST_THREADS, check, gather, label};
+use crate::{Answer, CheckError, Content, History, Item, MOST_THREADS, check, gather, label};
 use mm_types::{
     Access, AreaList, Attr, Call, Config, Entry, Files, MAP_ANONYMOUS, MAP_PRIVATE, MmapArgs, Page,
     Prot, Record, Reply, Seen, Span, Verdict,
@@ -288,12 +288,12 @@ fn bad_entry(
     assert!(rt; are_numbered(lines));
     match check(rt.alloc(), &trace, &History::of(items)) {
         Ok(()) => Ok(None),
-        Err(CheckFault::Bad(bad)) => Ok(Some((
+        Err(CheckError::Bad(bad)) => Ok(Some((
             bad.place,
             kind_of(&bad.expected),
             kind_of(&bad.found),
         ))),
-        Err(CheckFault::NoMemory) => Err("no memory".into()),
+        Err(CheckError::NoMemory) => Err("no memory".into()),
     }
 }
 

@@ -2,6 +2,7 @@
 //! histories.
 ghost use Rattle.std.specs.Prelude.{◌≤◌, ◌<◌, length};
 
+use draws::Draws;
 use history::{Content, Item};
 use mm_types::{
     Access, AreaList, Call, Config, Files, MAP_ANONYMOUS, MAP_FIXED, MAP_GROWSDOWN, MAP_PRIVATE,
@@ -22,93 +23,74 @@ const FORK: u64 = 6;
 /// How many areas a space can have.
 const MOST_AREAS: u32 = 4;
 
-/// Numbers that follow from a seed, by a linear congruence.
-#[derive(Drop)]
-pub(crate) struct Draws(pub(crate) u64);
+fn drawn_page(draws: &mut Draws) -> u64
+    ensures { result < 264 }
+{
+    0x100 + draws.below(8)
+}
 
-impl Draws {
-    ghost use Rattle.std.specs.Prelude.{◌≤◌, ◌<◌};
-
-    fn below(&mut self, bound: u64) -> u64
-        requires { 1 ≤ bound }
-        ensures { result < bound }
-    {
-        self.0 = self
-            .0
-            .wrapping_mul(6364136223846793005)
-            .wrapping_add(1442695040888963407);
-        (self.0 >> 33) % bound
+fn drawn_access(draws: &mut Draws) -> Access {
+    if draws.chance() {
+        Access::Read
+    } else {
+        Access::Write
     }
+}
 
-    fn page(&mut self) -> u64
-        ensures { result < 264 }
-    {
-        0x100 + self.below(8)
-    }
+/// A mapping of private memory at an address, which three times of four grows.
+fn drawn_mmap(draws: &mut Draws, addr: u64, len: u64, prot: Prot) -> Call {
+    let more = if draws.below(4) > 0 { MAP_GROWSDOWN } else { 0 };
+    Call::Mmap(MmapArgs {
+        addr,
+        len,
+        prot,
+        flags: MAP_PRIVATE | MAP_ANONYMOUS | MAP_FIXED | more,
+        fd: -1,
+        offset: 0,
+    })
+}
 
-    fn access(&mut self) -> Access {
-        if self.below(2) == 0 {
-            Access::Read
-        } else {
-            Access::Write
-        }
+fn drawn_call(draws: &mut Draws) -> Call {
+    let addr = 4096 * drawn_page(draws);
+    let len = 4096 * (1 + draws.below(2));
+    let prot = Prot {
+        read: true,
+        write: draws.below(4) > 0,
+        exec: false,
+    };
+    match draws.below(6) {
+        0 => Call::Munmap { addr, len },
+        1 => Call::Mprotect { addr, len, prot },
+        _ => drawn_mmap(draws, addr, len, prot),
     }
+}
 
-    /// A mapping of private memory at an address, which three times of four grows.
-    fn mmap(&mut self, addr: u64, len: u64, prot: Prot) -> Call {
-        let more = if self.below(4) > 0 { MAP_GROWSDOWN } else { 0 };
-        Call::Mmap(MmapArgs {
-            addr,
-            len,
-            prot,
-            flags: MAP_PRIVATE | MAP_ANONYMOUS | MAP_FIXED | more,
-            fd: -1,
-            offset: 0,
-        })
+fn drawn_op(draws: &mut Draws) -> Op {
+    match draws.below(8) {
+        0..=2 => Op::Call(drawn_call(draws)),
+        3 => Op::Maps,
+        _ => Op::Fault {
+            page: Page(drawn_page(draws)),
+            access: drawn_access(draws),
+        },
     }
+}
 
-    fn call(&mut self) -> Call {
-        let addr = 4096 * self.page();
-        let len = 4096 * (1 + self.below(2));
-        let prot = Prot {
-            read: true,
-            write: self.below(4) > 0,
-            exec: false,
-        };
-        match self.below(6) {
-            0 => Call::Munmap { addr, len },
-            1 => Call::Mprotect { addr, len, prot },
-            _ => self.mmap(addr, len, prot),
-        }
+/// The thread of the line at a place. Thread 0 has the line that may fork, so threads 0 and 1 are callers 0 and 1; where it does, half of
+/// the lines after it are the child's.
+fn drawn_thread(draws: &mut Draws, place: u64, forks: bool) -> u32 {
+    if place == FORK {
+        return 0;
     }
-
-    fn op(&mut self) -> Op {
-        match self.below(8) {
-            0..=2 => Op::Call(self.call()),
-            3 => Op::Maps,
-            _ => Op::Fault {
-                page: Page(self.page()),
-                access: self.access(),
-            },
-        }
+    if forks && place > FORK && draws.chance() {
+        return CHILD;
     }
-
-    /// The thread of the line at a place. Thread 0 has the line that may fork, so threads 0 and 1 are callers 0 and 1; where it does, half of
-    /// the lines after it are the child's.
-    fn thread(&mut self, place: u64, forks: bool) -> u32 {
-        if place == FORK {
-            return 0;
-        }
-        if forks && place > FORK && self.below(2) == 0 {
-            return CHILD;
-        }
-        self.below(2) as u32
-    }
+    draws.below(2) as u32
 }
 
 /// The number of the last call of another thread of the parent, if the draw names one.
 fn named(draws: &mut Draws, lines: &[TraceLine], thread: u32) -> Option<u64> {
-    if thread == CHILD || draws.below(2) == 0 {
+    if thread == CHILD || draws.chance() {
         return None;
     }
     let mut number = None;
@@ -124,11 +106,11 @@ fn named(draws: &mut Draws, lines: &[TraceLine], thread: u32) -> Option<u64> {
 fn drawn_line(draws: &mut Draws, before: &[TraceLine], place: u64, forks: bool) -> TraceLine
     requires { place < LINES }
 {
-    let thread = draws.thread(place, forks);
+    let thread = drawn_thread(draws, place, forks);
     let op = if forks && place == FORK {
         Op::Fork { child: CHILD }
     } else {
-        draws.op()
+        drawn_op(draws)
     };
     TraceLine {
         number: 2 + place,

@@ -4,10 +4,11 @@ ghost use Rattle.std.specs.Bool.{OnTrue};
 ghost use Rattle.area_rules.specs.Journals.{version_of};
 ghost use Rattle.trace_reader.specs.Values.{AreNumbered};
 
-use crate::drawing::{CHILD, Draws, changed, drawn_trace, reordered};
+use crate::drawing::{CHILD, changed, drawn_trace, reordered};
 use crate::running::{Run, Space, run_lines};
 use crate::slow_judge::{Bad, Told, first_bad};
-use history::{Answer, CheckFault, History, MOST_THREADS, check};
+use draws::Draws;
+use history::{Answer, CheckError, History, MOST_THREADS, check};
 use mm_fork::{check_child, check_parent, child_history, inherit};
 use mm_types::{Entry, NoMemory, Seen};
 use std::alloc::Global;
@@ -45,15 +46,15 @@ fn told_by(answer: &Answer) -> Told {
 }
 
 /// What is told of a history that was judged.
-fn told(judged: Result<(), CheckFault>) -> Result<Option<Bad>, Fail> {
+fn told(judged: Result<(), CheckError>) -> Result<Option<Bad>, Fail> {
     match judged {
         Ok(()) => Ok(None),
-        Err(CheckFault::Bad(bad)) => Ok(Some((
+        Err(CheckError::Bad(bad)) => Ok(Some((
             bad.place,
             told_by(&bad.expected),
             told_by(&bad.found),
         ))),
-        Err(CheckFault::NoMemory) => Err("no memory".into()),
+        Err(CheckError::NoMemory) => Err("no memory".into()),
     }
 }
 
@@ -212,7 +213,7 @@ fn try_space(
 
 #[test]
 fn histories_are_judged_by_the_definition(rt: HostRuntime) -> Result<(), Fail> {
-    let mut draws = Draws(1);
+    let mut draws = Draws::new(1);
     for _ in 0..ROUNDS {
         let trace = drawn_trace(rt.alloc(), &mut draws, false)?;
         let _ = try_space(&rt, &mut draws, &trace, Whose::Alone)?;

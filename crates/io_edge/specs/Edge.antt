@@ -1,7 +1,7 @@
 -- What a clause sees of a source or a sink, and when either may answer an error, by its count of faults before and after the call.
 use Rattle.std.specs.Prelude.{◌≡◌, ℕ, ◌+◌, ◌-◌, ◌^◌, ◌≤◌, min, Bool, true, false, List, Option, IfSome, Result, OnOk, OnErr, IsErrOf}
-use Rattle.io_edge.specs.declared.fault.GiveFault.{GiveFault}
-use Rattle.io_edge.specs.declared.fault.GiveFault.TheVariants.{Failed, NoMemory}
+use Rattle.io_edge.specs.declared.error.GiveError.{GiveError}
+use Rattle.io_edge.specs.declared.error.GiveError.TheVariants.{Failed, NoMemory}
 
 -- what a source tells: the bytes that are left to read, where it tells them, how often it has failed, up to 2^64 - 1, and whether its last
 -- call failed, where it tells that
@@ -28,7 +28,7 @@ pub record HasCause {T E : Type 0} (before now : ℕ) (result : Result T E) : Ty
   pub failed : OnErr result (now ≡ counted before)
 
 -- a sink's count never falls, an `Ok` and a `NoMemory` leave it, and a `Failed` is counted once
-pub record HasGiveCause {T : Type 0} (before now : ℕ) (result : Result T GiveFault) : Type 0 where
+pub record HasGiveCause {T : Type 0} (before now : ℕ) (result : Result T GiveError) : Type 0 where
   pub later : before ≤ now
   pub ok : OnOk result (now ≡ before)
   pub failed : IsErrOf result Failed → now ≡ counted before
@@ -48,7 +48,7 @@ pub record TellsFault {T E : Type 0} (told : Option Bool) (result : Result T E) 
   pub failed : OnErr result (FailedLast told)
 
 -- the same of a sink, where want of memory is no failure
-pub record TellsGiveFault {T : Type 0} (told : Option Bool) (result : Result T GiveFault) : Type 0 where
+pub record TellsGiveFault {T : Type 0} (told : Option Bool) (result : Result T GiveError) : Type 0 where
   pub ok : OnOk result (WentWell told)
   pub failed : IsErrOf result Failed → FailedLast told
   pub no_memory : IsErrOf result NoMemory → WentWell told

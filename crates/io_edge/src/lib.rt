@@ -3,7 +3,7 @@
 //! hold their input, and tests that want a fault at a chosen call.
 #![tactic(auto)]
 
-mod fault;
+mod error;
 mod gate;
 mod laws;
 mod memory;
@@ -14,7 +14,7 @@ mod source;
 mod standard;
 mod sure;
 
-pub use fault::{Failed, GiveFault};
+pub use error::{Failed, GiveError};
 pub use gate::{Gate, PlainGate};
 pub use laws::piece_size;
 pub use memory::{MOST_AT_A_CALL, MemSink, MemSource};

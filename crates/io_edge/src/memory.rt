@@ -5,11 +5,11 @@ ghost use Rattle.std.specs.Io.{ReadsAtMost, WritesAtMost};
 ghost use Rattle.std.specs.Io.KnownBytes.{ReadConsumes, WriteAppends};
 ghost use Rattle.io_edge.specs.Edge.{HasCause, HasGiveCause, TellsFault, TellsGiveFault, counted};
 ghost use Rattle.io_edge.specs.Memory.{Failing, CountsCall};
-ghost use Rattle.io_edge.specs.declared.fault.GiveFault.TheVariants.{Failed as failed};
+ghost use Rattle.io_edge.specs.declared.error.GiveError.TheVariants.{Failed as failed};
 
 use crate::piece::fill_piece;
-use crate::schedule::FaultSchedule;
-use crate::{Failed, GiveFault, Sink, Source};
+use crate::schedule::FailureSchedule;
+use crate::{Failed, GiveError, Sink, Source};
 use std::alloc::Global;
 use std::marker::Model;
 
@@ -23,7 +23,7 @@ pub const MOST_AT_A_CALL: usize = 64;
 pub struct MemSource {
     bytes: Vec<u8>,
     at: usize,
-    schedule: FaultSchedule,
+    schedule: FailureSchedule,
 }
 
 impl Model for MemSource {
@@ -48,7 +48,7 @@ impl MemSource {
         MemSource {
             bytes,
             at: 0,
-            schedule: FaultSchedule::new(fail),
+            schedule: FailureSchedule::new(fail),
         }
     }
 }
@@ -86,7 +86,7 @@ impl Source for MemSource {
 #[derive(Debug, Drop)]
 pub struct MemSink {
     bytes: Vec<u8>,
-    schedule: FaultSchedule,
+    schedule: FailureSchedule,
 }
 
 impl Model for MemSink {
@@ -109,7 +109,7 @@ impl MemSink {
     {
         MemSink {
             bytes: Vec::new(alloc),
-            schedule: FaultSchedule::new(fail),
+            schedule: FailureSchedule::new(fail),
         }
     }
 
@@ -126,7 +126,7 @@ impl Sink for MemSink {
 
     /// Fails at a call in the list. Else takes the piece, or of a longer one its first `MOST_AT_A_CALL` bytes, or
     /// answers that it is out of memory and takes nothing.
-    fn give(&mut self, piece: &[u8]) -> Result<usize, GiveFault>
+    fn give(&mut self, piece: &[u8]) -> Result<usize, GiveError>
         ensures bound { WritesAtMost result piece.now }
         ensures some { IfOk result (λ count. 0 < length piece.now → 0 < count) }
         ensures bytes { WriteAppends (Some self.old.bytes) (Some self.new.bytes) result piece.now }
@@ -139,7 +139,7 @@ impl Sink for MemSink {
         ensures faults { IsErrOf result failed → self.new.faults ≡ counted self.old.faults }
     {
         if self.schedule.is_fault() {
-            return Err(GiveFault::Failed);
+            return Err(GiveError::Failed);
         }
         let count = piece.len().min(MOST_AT_A_CALL);
         self.bytes.extend_from_slice(&piece[..count])?;
@@ -186,7 +186,7 @@ mod tests {
         let mut sink = MemSink::new(rt.alloc(), vec![in rt.alloc(); 1]?);
         assert_eq!(rt; bytes.len(), 150);
         assert_eq!(rt; sink.give(&bytes), Ok(64));
-        assert_eq!(rt; sink.give(&bytes[64..]), Err(GiveFault::Failed));
+        assert_eq!(rt; sink.give(&bytes[64..]), Err(GiveError::Failed));
         assert_eq!(rt; sink.give(&bytes[64..]), Ok(64));
         assert_eq!(rt; sink.give(&bytes[128..]), Ok(22));
         assert_eq!(rt; sink.bytes(), bytes.as_slice());

@@ -4,19 +4,19 @@ ghost use Rattle.io_edge.specs.Edge.{counted};
 
 /// The numbers of the calls that are to fail, the number of the next call, the count of faults, and whether the last call was one.
 #[derive(Debug, Drop)]
-pub(crate) struct FaultSchedule {
+pub(crate) struct FailureSchedule {
     pub(crate) fail: Vec<u64>,
     pub(crate) calls: u64,
     pub(crate) faults: u64,
     pub(crate) just_failed: bool,
 }
 
-impl FaultSchedule {
+impl FailureSchedule {
     /// The schedule before the first call.
-    pub(crate) fn new(fail: Vec<u64>) -> FaultSchedule
+    pub(crate) fn new(fail: Vec<u64>) -> FailureSchedule
         ensures { result ≡ record { fail = fail; calls = 0; faults = 0; just_failed = false } }
     {
-        FaultSchedule {
+        FailureSchedule {
             fail,
             calls: 0,
             faults: 0,

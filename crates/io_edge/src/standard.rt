@@ -6,9 +6,9 @@ ghost use Rattle.std.specs.Io.KnownBytes.{ReadConsumes, WriteAppends};
 ghost use Rattle.std.specs.IoError.{error_kind};
 ghost use Rattle.io_edge.specs.Edge.{HasCause, HasGiveCause, TellsFault, TellsGiveFault, counted};
 ghost use Rattle.io_edge.specs.Standard.{IsNoInterruption};
-ghost use Rattle.io_edge.specs.declared.fault.GiveFault.TheVariants.{Failed as failed};
+ghost use Rattle.io_edge.specs.declared.error.GiveError.TheVariants.{Failed as failed};
 
-use crate::{Failed, GiveFault, Sink, Source};
+use crate::{Failed, GiveError, Sink, Source};
 use std::io::{self, ErrorKind, Read, Write};
 use std::marker::Model;
 
@@ -125,7 +125,7 @@ impl<W: Write + Drop> Sink for StdSink<W> {
 
     /// One write, which is tried again as often as a signal interrupts it. Each other error, and a write of no byte of a
     /// piece that is not empty, is one fault.
-    fn give(&mut self, piece: &[u8]) -> Result<usize, GiveFault>
+    fn give(&mut self, piece: &[u8]) -> Result<usize, GiveError>
         ensures bound { WritesAtMost result piece.now }
         ensures some { IfOk result (λ count. 0 < length piece.now → 0 < count) }
         ensures bytes { WriteAppends (W.contents self.old.end) (W.contents self.new.end) result piece.now }
@@ -146,7 +146,7 @@ impl<W: Write + Drop> Sink for StdSink<W> {
                 self.just_failed = true;
                 self.faults = self.faults.saturating_add(1);
                 self.last_fault = Some(error.kind());
-                Err(GiveFault::Failed)
+                Err(GiveError::Failed)
             }
         }
     }
@@ -218,43 +218,44 @@ mod tests {
         Ok(())
     }
 
-    /// A reader and a writer that a signal interrupts so many times, that then moves so many pieces of one byte, and from then on
-    /// is broken.
+    /// A reader and a writer that a signal interrupts so many times, that then moves at most so many bytes at each of so many calls, and
+    /// from then on fails in its way. It counts its calls.
     #[derive(Drop)]
-    struct Interrupted {
-        times: u32,
+    struct Scripted {
+        interruptions: u32,
         moves: u32,
+        most: usize,
+        end: ErrorKind,
+        calls: u32,
     }
 
-    impl Interrupted {
-        fn next(&mut self) -> io::Result<()> {
-            if self.times > 0 {
-                self.times -= 1;
+    impl Scripted {
+        /// The most bytes that this call may move.
+        fn next(&mut self) -> io::Result<usize> {
+            self.calls = self.calls.saturating_add(1);
+            if self.interruptions > 0 {
+                self.interruptions -= 1;
                 Err(io::Error::from(ErrorKind::Interrupted))
             } else if self.moves > 0 {
                 self.moves -= 1;
-                Ok(())
+                Ok(self.most)
             } else {
-                Err(io::Error::from(ErrorKind::BrokenPipe))
+                Err(io::Error::from(self.end))
             }
         }
     }
 
-    impl Read for Interrupted {
+    impl Read for Scripted {
         fn read(&mut self, into: &mut [u8]) -> io::Result<usize> {
-            self.next()?;
-            let Some(first) = into.first_mut() else {
-                return Ok(0);
-            };
-            *first = b'v';
-            Ok(1)
+            let count = self.next()?.min(into.len());
+            into[..count].fill(b'v');
+            Ok(count)
         }
     }
 
-    impl Write for Interrupted {
+    impl Write for Scripted {
         fn write(&mut self, piece: &[u8]) -> io::Result<usize> {
-            self.next()?;
-            Ok(piece.len().min(1))
+            Ok(self.next()?.min(piece.len()))
         }
 
         fn flush(&mut self) -> io::Result<()> {
@@ -262,25 +263,112 @@ mod tests {
         }
     }
 
+    /// One that is interrupted so many times, then moves one byte, and then is broken.
+    fn interrupted(interruptions: u32) -> Scripted {
+        Scripted {
+            interruptions,
+            moves: 1,
+            most: 1,
+            end: ErrorKind::BrokenPipe,
+            calls: 0,
+        }
+    }
+
+    /// One that would block from its first call on.
+    fn blocked() -> Scripted {
+        Scripted {
+            interruptions: 0,
+            moves: 0,
+            most: 1,
+            end: ErrorKind::WouldBlock,
+            calls: 0,
+        }
+    }
+
+    /// One that moves all that it can at each of its first calls.
+    fn wide() -> Scripted {
+        Scripted {
+            interruptions: 0,
+            moves: 2,
+            most: usize::MAX,
+            end: ErrorKind::BrokenPipe,
+            calls: 0,
+        }
+    }
+
     #[test]
     fn reads_past_interruptions(rt: HostRuntime) -> Result<(), Fail> {
-        let mut source = StdSource::new(Interrupted { times: 3, moves: 1 });
+        let mut source = StdSource::new(interrupted(1_000));
         let mut piece = [0u8; 4];
         assert_eq!(rt; source.take(&mut piece), Ok(1));
         assert_eq!(rt; piece, *b"v\0\0\0");
+        assert_eq!(rt; source.input.calls, 1_001);
+        assert_eq!(rt; source.faults, 0);
         assert!(rt; source.last_fault().is_none());
         assert_eq!(rt; source.take(&mut piece), Err(Failed));
+        assert_eq!(rt; source.input.calls, 1_002);
+        assert_eq!(rt; source.faults, 1);
         assert!(rt; source.last_fault() == Some(ErrorKind::BrokenPipe));
         Ok(())
     }
 
     #[test]
     fn writes_past_interruptions(rt: HostRuntime) -> Result<(), Fail> {
-        let mut sink = StdSink::new(Interrupted { times: 3, moves: 1 });
+        let mut sink = StdSink::new(interrupted(1_000));
         assert_eq!(rt; sink.give(b"maps"), Ok(1));
+        assert_eq!(rt; sink.output.calls, 1_001);
+        assert_eq!(rt; sink.faults, 0);
         assert!(rt; sink.last_fault().is_none());
-        assert_eq!(rt; sink.give(b"aps"), Err(GiveFault::Failed));
+        assert_eq!(rt; sink.give(b"aps"), Err(GiveError::Failed));
+        assert_eq!(rt; sink.output.calls, 1_002);
+        assert_eq!(rt; sink.faults, 1);
         assert!(rt; sink.last_fault() == Some(ErrorKind::BrokenPipe));
+        Ok(())
+    }
+
+    /// Only an interruption is tried again. What would block is a fault at once.
+    #[test]
+    fn fails_where_it_would_block(rt: HostRuntime) -> Result<(), Fail> {
+        let mut source = StdSource::new(blocked());
+        let mut piece = [0u8; 4];
+        assert_eq!(rt; source.take(&mut piece), Err(Failed));
+        assert_eq!(rt; source.input.calls, 1);
+        assert_eq!(rt; source.faults, 1);
+        assert!(rt; source.last_fault() == Some(ErrorKind::WouldBlock));
+        let mut sink = StdSink::new(blocked());
+        assert_eq!(rt; sink.give(b"maps"), Err(GiveError::Failed));
+        assert_eq!(rt; sink.output.calls, 1);
+        assert_eq!(rt; sink.faults, 1);
+        assert!(rt; sink.last_fault() == Some(ErrorKind::WouldBlock));
+        Ok(())
+    }
+
+    /// A piece is asked for, or passed on, in one call, however long it is.
+    #[test]
+    fn moves_a_long_piece_in_one_call(rt: HostRuntime) -> Result<(), Fail> {
+        let mut piece = Vec::new(rt.alloc());
+        piece.resize(65_536, 0u8)?;
+        let mut source = StdSource::new(wide());
+        assert_eq!(rt; source.take(piece.as_mut_slice()), Ok(65_536));
+        assert_eq!(rt; source.input.calls, 1);
+        assert!(rt; piece.iter().all(|byte| *byte == b'v'));
+        let mut sink = StdSink::new(wide());
+        assert_eq!(rt; sink.give(piece.as_slice()), Ok(65_536));
+        assert_eq!(rt; sink.output.calls, 1);
+        Ok(())
+    }
+
+    /// A writer that takes nothing of a piece is broken, and nothing is tried again.
+    #[test]
+    fn fails_where_nothing_is_taken(rt: HostRuntime) -> Result<(), Fail> {
+        let mut sink = StdSink::new(Scripted {
+            most: 0,
+            ..interrupted(0)
+        });
+        assert_eq!(rt; sink.give(b"maps"), Err(GiveError::Failed));
+        assert_eq!(rt; sink.output.calls, 1);
+        assert_eq!(rt; sink.faults, 1);
+        assert!(rt; sink.last_fault() == Some(ErrorKind::WriteZero));
         Ok(())
     }
 }

@@ -3,10 +3,10 @@ ghost use Rattle.std.specs.Prelude.{◌≡◌, ◌<◌, ◌≤◌, ℕ, false, L
 ghost use Rattle.std.specs.Io.{ReadsAtMost, WritesAtMost};
 ghost use Rattle.std.specs.Io.KnownBytes.{ReadConsumes, WriteAppends};
 ghost use Rattle.io_edge.specs.Edge.{HasCause, HasGiveCause, TellsFault, TellsGiveFault};
-ghost use Rattle.io_edge.specs.declared.fault.GiveFault.TheVariants.{NoMemory};
+ghost use Rattle.io_edge.specs.declared.error.GiveError.TheVariants.{NoMemory};
 
 use crate::piece::fill_piece;
-use crate::{Failed, GiveFault, Sink, Source};
+use crate::{Failed, GiveError, Sink, Source};
 use std::alloc::Global;
 use std::marker::Model;
 
@@ -86,7 +86,7 @@ impl Sink for SureSink {
     ghost seen = { λ sink. record { written = Some sink; faults = 0; just_failed = Some false } };
 
     /// Takes the whole piece, or answers that it is out of memory and takes nothing.
-    fn give(&mut self, piece: &[u8]) -> Result<usize, GiveFault>
+    fn give(&mut self, piece: &[u8]) -> Result<usize, GiveError>
         ensures bound { WritesAtMost result piece.now }
         ensures some { IfOk result (λ count. 0 < length piece.now → 0 < count) }
         ensures bytes { WriteAppends (Some self.old) (Some self.new) result piece.now }

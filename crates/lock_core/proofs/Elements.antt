@@ -12,14 +12,6 @@ each_set P (y ∷ ys) zero x d all one (suc k) = all (suc k)
 each_set P (y ∷ ys) (suc i) x d all one zero = all zero
 each_set P (y ∷ ys) (suc i) x d all one (suc k) = each_set P ys i x d (λ j. all (suc j)) one k
 
--- the same, where what is so may depend on the place
-pub each_set_at : {A : Type 0} (P : ℕ → A → Type 0) (xs : List A) (i : ℕ) (x d : A) → ((k : ℕ) → P k (get_or xs k d)) → P i x → (k : ℕ) → P k (get_or (set xs i x) k d)
-each_set_at P [] i x d all one k = all k
-each_set_at P (y ∷ ys) zero x d all one zero = one
-each_set_at P (y ∷ ys) zero x d all one (suc k) = all (suc k)
-each_set_at P (y ∷ ys) (suc i) x d all one zero = all zero
-each_set_at P (y ∷ ys) (suc i) x d all one (suc k) = each_set_at (λ j. P (suc j)) ys i x d (λ j. all (suc j)) one k
-
 -- the same after the new one was added at the end
 pub each_push : {A : Type 0} (P : A → Type 0) (xs : List A) (x d : A) → ((k : ℕ) → P (get_or xs k d)) → P x → (k : ℕ) → P (get_or (xs ++ x ∷ []) k d)
 each_push P [] x d all one zero = one

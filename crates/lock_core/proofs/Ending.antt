@@ -19,7 +19,7 @@ use Rattle.area_rules.specs.Tables.{AddressSpace, Outcome}
 use Rattle.area_rules.specs.Steps.{step, IsReady, after}
 use Rattle.area_rules.specs.Tables.{space_of}
 use Rattle.mm_types.specs.Sorts.{sort_by}
-use Rattle.stable_sort.proofs.Sorting.{insert_by}
+use Rattle.mm_types.proofs.Sorting.{insert_by}
 use Rattle.area_rules.proofs.Journals.{after_ready, after-push, legal-push}
 use Rattle.lock_core.specs.declared.events.LockEvent.TheVariants.{End}
 use Rattle.lock_core.specs.declared.events.StepRefusal.TheVariants.{NotTheList}
@@ -32,7 +32,8 @@ use Rattle.lock_core.specs.Refusals.{first_page, sorted_rows, first_difference, 
 use Rattle.lock_core.specs.Kept.{IsKept}
 use Rattle.lock_core.proofs.Keeping.{end_keeps}
 
-mapped_none : (f : ℕ → ℕ) (o : Option ℕ) → option_map f o ≡ None → o ≡ None
+-- what is mapped to none is none
+pub mapped_none : {B : Type 0} (f : ℕ → B) (o : Option ℕ) → option_map f o ≡ None → o ≡ None
 mapped_none f None none = refl
 mapped_none f (Some x) none = absurd (cc)
 

@@ -22,10 +22,6 @@ use Rattle.lock_core.proofs.Elements.{each_set, none_passes}
 use Rattle.lock_core.proofs.Weighing.{shown-set}
 use Rattle.lock_core.proofs.Holding.{IsFound, holds-none, holds-some, reader_within, holders_change, holders_slot, holders_push, valid_change, valid_slot, valid_sequence, valid_push, starts_more, starts_all, starts_longer, seen_change, seen_push}
 
--- two stages are told apart
-stage_differs : (one other : Stage) (reader : Reader) → reader.stage ≡ one → reader.stage ≡ other → one ≡ other
-stage_differs one other reader a b = sym a ∙ b
-
 -- add
 pub add_keeps : (config : Config) (core : Core) (reader slot : ℕ) → Facts config core
     → (reader_at core.readers reader).stage ≡ Out → slot < length core.slots → Facts config (after_add core reader slot)

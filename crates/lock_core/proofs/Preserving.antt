@@ -3,18 +3,15 @@ use Rattle.std.proofs.Common.{ℕ, ◌≡◌, ◌≢◌, ◌<◌, ◌≤◌, ◌
 use Rattle.std.specs.Option.{is_some}
 use Rattle.std.proofs.lemmas.Bool.{eqb-true, eqb-false, leb-false}
 use Rattle.std.proofs.lemmas.List.{length-set}
-use Rattle.std.proofs.lemmas.List.Sums.{count_by-le-length}
-use Rattle.mm_types.specs.declared.config.Config.{Config}
 use Rattle.area_rules.specs.Steps.{after}
 use Rattle.lock_core.specs.declared.state.LockState.TheInside.{Inside}
 use Rattle.lock_core.specs.declared.stage.Stage.{Stage}
 use Rattle.lock_core.specs.declared.stage.Stage.TheVariants.{Out, Holds, Valid, Gone}
-use Rattle.lock_core.specs.Core.{Core, slot_at, count_at, reader_at, held, holds}
+use Rattle.lock_core.specs.Core.{Core, slot_at, count_at, reader_at, held}
 use Rattle.lock_core.specs.Facts.{Facts}
 use Rattle.lock_core.specs.Events.{after_add, after_look, after_sub, after_begin, after_mark, after_store, after_split, after_join}
 use Rattle.lock_core.specs.Refusals.{is_gone, lacks_reader, lacks_slot}
 use Rattle.lock_core.specs.Kept.{IsKept}
-use Rattle.lock_core.proofs.Holding.{reader_within}
 use Rattle.lock_core.proofs.Keeping.{add_keeps, look_keeps, sub_keeps, begin_keeps, mark_keeps, store_keeps, split_keeps, join_keeps}
 
 -- a state keeps its fields where the five facts hold still, the slots are as many, and the journal is the same
@@ -33,11 +30,6 @@ stage_out Out there nothing = refl
 stage_out (Holds slot found) there nothing = absurd (cc)
 stage_out (Valid slot found row) there nothing = absurd (cc)
 stage_out Gone there nothing = absurd (cc)
-
--- a reader that there is
-pub reader_there : (core : Core) (reader : ℕ) → lacks_reader core reader ≡ false → reader < length core.readers
-reader_there core reader there =
-    reader_within core.readers reader (λ gone. let e = sym there ∙ ap is_gone gone in cc)
 
 nothing_held : (at : Option (ℕ × ℕ)) → is_some at ≡ false → at ≡ None
 nothing_held None none = refl
@@ -90,7 +82,3 @@ pub kept_join : (state : Inside) (first second : ℕ) → IsKept state → is_so
 kept_join state first second kept nothing apart =
     kept_with state (after_join state.protocol first second) kept
     (join_keeps state.config state.protocol first second kept.facts (nothing_held (held (reader_at state.protocol.readers second).stage) nothing) apart) refl refl
-
--- no slot is held by more readers than there are
-pub count_small : (config : Config) (core : Core) (slot : ℕ) → Facts config core → count_at core.counts slot ≤ length core.readers
-count_small config core slot facts = omega (arith, facts.holders.counted slot, count_by-le-length (holds slot) core.readers)

@@ -1,5 +1,5 @@
 -- For `rows_by_weight` and the table of words over this state: what a reader's steps tell it: a row that is right for the list after what it has seen.
-use Rattle.std.proofs.Common.{ℕ, zero, suc, ◌≡◌, ◌≢◌, ◌<◌, ◌≤◌, ◌^◌, ◌∙◌, refl, sym, ap, subst, true, nat_eq, List, [], ◌∷◌, length, get_or, All, Option, Some, inl, inr, arith}
+use Rattle.std.proofs.Common.{ℕ, zero, suc, ◌≡◌, ◌≢◌, ◌<◌, ◌≤◌, ◌^◌, ◌∙◌, refl, sym, ap, subst, true, nat_eq, List, [], ◌∷◌, length, get_or, All, Option, inl, inr, arith}
 use Rattle.std.specs.List.{list_all, Contains}
 use Rattle.std.specs.Option.{IfSome}
 use Rattle.std.proofs.lemmas.Bool.{eqb-true, and_parts}
@@ -13,48 +13,9 @@ use Rattle.mm_types.specs.Records.{IsValid}
 use Rattle.mm_types.proofs.PackedWords.{unpacked-packed, unpacked-detached}
 use Rattle.area_rules.specs.Steps.{after, IsReady}
 use Rattle.area_rules.proofs.Journals.{after_ready}
-use Rattle.lock_core.specs.declared.stage.Stage.TheVariants.{Holds, Valid}
-use Rattle.lock_core.specs.Core.{Core, slot_at, reader_at, held}
 use Rattle.lock_core.specs.Rows.{is_detached, IsRowOf}
-use Rattle.lock_core.specs.Facts.{list_after, StaysValid, Facts}
-use Rattle.lock_core.proofs.Weighing.{no_area, row_is_right}
-use Rattle.lock_core.proofs.Holding.{IsFound}
-
--- a slot that is not marked has a row that is right for the list after the journal
-pub unmarked_right : (config : Config) (core : Core) (slot : ℕ) → Facts config core → (slot_at core.slots slot).lock_seq ≢ core.seq
-    → IsRowOf (list_after config core.journal) (slot_at core.slots slot).row
-unmarked_right config core slot facts apart =
-    row_is_right core.seq core.slots (list_after config core.journal) slot facts.rows.within apart
-
--- what a reader holds is a slot with the lock sequence that its add found
-pub held_found : (config : Config) (core : Core) (reader : ℕ) (at : ℕ × ℕ) → Facts config core → held (reader_at core.readers reader).stage ≡ Some at
-    → (at.0 < length core.slots) × ((slot_at core.slots at.0).lock_seq ≡ at.1)
-held_found config core reader at facts is = subst (λ (o : Option (ℕ × ℕ)). IsFound core.slots o) is (facts.holders.found reader)
-
--- a validated reader's slot has the row that the reader was validated with, and its lock sequence is not the sequence
-pub valid_row : (config : Config) (core : Core) (reader slot found : ℕ) (row : List ℕ) → Facts config core
-    → (reader_at core.readers reader).stage ≡ Valid slot found row
-    → (slot < length core.slots) × ((slot_at core.slots slot).lock_seq ≡ found) × (found ≢ core.seq) × ((slot_at core.slots slot).row ≡ row)
-valid_row config core reader slot found row facts is =
-    let at = held_found config core reader (slot, found) facts (ap held is) in
-    let valid : StaysValid core.seq core.slots (Valid slot found row) = subst (StaysValid core.seq core.slots) is (facts.validation reader) in
-    (at.0, at.1, (λ e. valid.0 (at.1 ∙ e)), valid.1)
-
--- that row is right for the list after the journal
-pub valid_right : (config : Config) (core : Core) (reader slot found : ℕ) (row : List ℕ) → Facts config core
-    → (reader_at core.readers reader).stage ≡ Valid slot found row → IsRowOf (list_after config core.journal) row
-valid_right config core reader slot found row facts is =
-    let there = valid_row config core reader slot found row facts is in
-    subst (λ (r : List ℕ). IsRowOf (list_after config core.journal) r) there.3
-    (unmarked_right config core slot facts (λ e. there.2 (sym there.1 ∙ e)))
-
--- the row that a look validates is right for the list after the journal
-pub look_right : (config : Config) (core : Core) (reader slot found : ℕ) → Facts config core
-    → (reader_at core.readers reader).stage ≡ Holds slot found → found ≢ core.seq
-    → IsRowOf (list_after config core.journal) (slot_at core.slots slot).row
-look_right config core reader slot found facts is apart =
-    let at = held_found config core reader (slot, found) facts (ap held is) in
-    unmarked_right config core slot facts (λ e. apart (sym at.1 ∙ e))
+use Rattle.lock_core.specs.Facts.{list_after}
+use Rattle.lock_core.proofs.Weighing.{no_area}
 
 -- a row of four words that is detached is the row of no area
 detached_is : (row : List ℕ) → length row ≡ 4 → is_detached row ≡ true → row ≡ 0 ∷ 0 ∷ 0 ∷ 0 ∷ []

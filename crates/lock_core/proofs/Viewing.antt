@@ -1,6 +1,5 @@
--- For `Protocol::add`, `Protocol::end`, `Protocol::join` and others: the readers as the struct has them, with the number of entries that each has seen.
+-- For `LockProtocol::add`, `LockProtocol::end`, `LockProtocol::join` and others: the readers as the struct has them, with the number of entries that each has seen.
 use Rattle.std.proofs.Common.{ℕ, zero, suc, ◌≡◌, ◌≤◌, ◌+◌, ◌-◌, ◌∙◌, refl, sym, ap, List, [], ◌∷◌, ◌++◌, length, map, take, replicate, get_or, set, max, nat_lt, arith, inl, inr}
-use Rattle.std.proofs.Math.ListN.{get_or-map}
 use Rattle.std.proofs.lemmas.Bool.{cases_lt, cond-true, cond-false}
 use Rattle.std.proofs.lemmas.Bool.Decides.{nat_tests}
 use Rattle.std.proofs.lemmas.List.{map-set, length-take-le, take-append-le, take_all}
@@ -10,15 +9,11 @@ use Rattle.lock_core.specs.declared.stage.Stage.{Stage}
 use Rattle.lock_core.specs.declared.stage.Stage.TheVariants.{Out, Holds, Gone}
 use Rattle.lock_core.specs.Core.{Core, Reader, slot_at, count_at, reader_at, gone_reader}
 use Rattle.lock_core.specs.Events.{longer, looked, held_slot, after_add, after_look, after_sub, after_join}
-use Rattle.lock_core.specs.Protocols.{reader_of}
+use Rattle.lock_core.specs.Internal.Protocols.{reader_of}
 
 -- the reader of no number, as the struct would have it
 abbrev pub gone_state : ReaderState
 gone_state = record { stage = Gone; seen = 0 }
-
-pub reader_of-at : (journal : List Entry) (readers : List ReaderState) (reader : ℕ)
-    → reader_at (map (reader_of journal) readers) reader ≡ reader_of journal (get_or readers reader gone_state)
-reader_of-at journal readers reader = get_or-map (reader_of journal) readers reader gone_state
 
 -- the longer of two beginnings of a journal
 pub longer-take : (journal : List Entry) (one other : ℕ) → one ≤ length journal → other ≤ length journal

@@ -1,5 +1,5 @@
 -- For the table of words over this state: the words of a state, as they lie in a table: which word is which, and what a change of one is.
-use Rattle.std.proofs.Common.{ℕ, zero, suc, ◌≡◌, ◌<◌, ◌+◌, ◌*◌, ◌-◌, ◌∙◌, refl, ap, List, [], ◌∷◌, ◌++◌, length, get_or, set, arith, length-append}
+use Rattle.std.proofs.Common.{ℕ, zero, suc, ◌≡◌, ◌<◌, ◌+◌, ◌*◌, ◌-◌, ◌∙◌, refl, ap, List, [], ◌∷◌, ◌++◌, length, get_or, set, arith}
 use Rattle.std.proofs.lemmas.List.{get_or_append_left, get_or-append_right}
 use Rattle.lock_core.specs.declared.stage.SlotState.{SlotState}
 use Rattle.lock_core.specs.Core.{slot_at, count_at}
@@ -16,12 +16,6 @@ wide_rest width words lists wide k within = wide (suc k) (omega arith)
 wide_first : (width : ℕ) (words : List ℕ) (lists : List (List ℕ)) → AllWide width (words ∷ lists) → length words ≡ width
 unfolding AllWide
 wide_first width words lists wide = wide 0 (omega arith)
-
--- one list after another is as long as all together
-pub flat-length : (width : ℕ) (lists : List (List ℕ)) → AllWide width lists → length (flat lists) ≡ width * length lists
-flat-length width [] wide = omega arith
-flat-length width (words ∷ lists) wide =
-    omega (arith, length-append words (flat lists), wide_first width words lists wide, flat-length width lists (wide_rest width words lists wide))
 
 -- a word by its list and its place in it
 pub flat-get : (width : ℕ) (lists : List (List ℕ)) → AllWide width lists → (k i : ℕ) → k < length lists → i < width
@@ -83,11 +77,3 @@ lines-set [] counts k slot count same = refl
 lines-set (first ∷ slots) [] k slot count same = absurd (omega arith)
 lines-set (first ∷ slots) (one ∷ counts) zero slot count same = refl
 lines-set (first ∷ slots) (one ∷ counts) (suc k) slot count same = ap (λ (l : List (List ℕ)). line first one ∷ l) (lines-set slots counts k slot count (omega arith))
-
-pub lines-wide : (slots : List SlotState) (counts : List ℕ) → length counts ≡ length slots
-    → ((slot : ℕ) → length (slot_at slots slot).row ≡ 4) → AllWide 5 (lines slots counts)
-unfolding AllWide
-lines-wide slots counts same wide k within =
-    let inside : k < length slots = omega (arith, within, lines-length slots counts same) in
-    ap (λ (l : List ℕ). length l) (lines-get slots counts k same inside)
-    ∙ (let e : suc (length (slot_at slots k).row) ≡ 5 = omega (arith, wide k) in e)

@@ -5,5 +5,5 @@ pub mod Events
 pub mod Refusals
 pub mod Words
 pub mod States
-pub mod Protocols
 pub mod Kept
+pub mod Internal

@@ -1,5 +1,5 @@
 -- A state with its configuration, as contracts see it, and what an event may result in.
-use Rattle.std.specs.Prelude.{ℕ, ◌≡◌, ◌<◌, ◌^◌, ◌⊎◌, Bool, true, false, [], length, replicate, Some, None, Result, MatchResult}
+use Rattle.std.specs.Prelude.{ℕ, ◌≡◌, ◌<◌, ◌%◌, ◌^◌, ◌⊎◌, Bool, true, false, not, nat_eq, [], length, replicate, Some, None, Result, MatchResult}
 use Rattle.mm_types.specs.declared.config.Config.{Config}
 use Rattle.lock_core.specs.declared.events.LockAnswer.{LockAnswer}
 use Rattle.lock_core.specs.declared.events.LockEvent.{LockEvent}
@@ -9,7 +9,7 @@ use Rattle.lock_core.specs.declared.events.StepRefusal.TheVariants.{NoMemory}
 use Rattle.lock_core.specs.declared.stage.Stage.TheVariants.{Out}
 use Rattle.lock_core.specs.Core.{Core, free_slot}
 use Rattle.lock_core.specs.Events.{after_event, answer}
-use Rattle.lock_core.specs.Refusals.{refusal}
+use Rattle.lock_core.specs.Refusals.{lacks_reader, refusal}
 
 -- a state with the configuration of its address space
 pub record Lock : Type 0 where
@@ -37,20 +37,20 @@ NamesField (Field reader field) = field < 4
 NamesField (Store slot field word) = field < 4
 NamesField _ = Unit {0}
 
--- whether an event takes memory, for an entry or for a reader
-abbrev pub takes_memory : LockEvent → Bool
-takes_memory (End caller call) = true
-takes_memory (Split reader) = true
-takes_memory _ = false
+-- whether an event may find no memory: an end where a call is open, and a split of a reader that there is
+abbrev pub may_lack_memory : Core → LockEvent → Bool
+may_lack_memory core (End caller call) = nat_eq (core.seq % 2) 1
+may_lack_memory core (Split reader) = not (lacks_reader core reader)
+may_lack_memory core _ = false
 
 -- the event is not refused, and this is the state after it and what it finds
 abbrev pub IsDone : Lock → LockEvent → Lock → LockAnswer → Type 0
 IsDone lock event new found = (refusal lock.config lock.core event ≡ None) × (new ≡ after_step lock event) × (found ≡ answer lock.core event)
 
--- The event is refused for this reason, and the state is as it was. An event that takes memory may find none.
+-- The event is refused for this reason, and the state is as it was. An event that nothing of the state refuses may find no memory.
 abbrev pub IsRefused : Lock → LockEvent → Lock → StepRefusal → Type 0
 IsRefused lock event new reason = (new ≡ lock)
-    × ((refusal lock.config lock.core event ≡ Some reason) ⊎ ((takes_memory event ≡ true) × (reason ≡ NoMemory)))
+    × ((refusal lock.config lock.core event ≡ Some reason) ⊎ ((may_lack_memory lock.core event ≡ true) × (reason ≡ NoMemory)))
 
 -- the outcome of a change of a state
 abbrev pub IsStep : Lock → LockEvent → Result LockAnswer StepRefusal → Lock → Type 0

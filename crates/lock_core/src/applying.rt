@@ -1,15 +1,18 @@
 //! The events on a state, each with its refusals.
 
-ghost use Rattle.std.specs.Prelude.{◌≡◌, ◌<◌, ◌^◌, length, MatchResult};
+ghost use Rattle.std.specs.Prelude.{◌≡◌, ◌<◌, ◌^◌, All, length, map, option_map, MatchResult};
+ghost use Rattle.mm_types.specs.Packed.{packed};
+ghost use Rattle.mm_types.specs.Records.{IsValid};
 ghost use Rattle.lock_core.specs.declared.events.LockEvent.TheVariants.{Add, Look, Field, Sub, Begin, Mark, Store, End, Split, Join};
-ghost use Rattle.lock_core.specs.declared.events.StepRefusal.TheVariants.{NoMemory};
+ghost use Rattle.lock_core.specs.declared.events.StepRefusal.TheVariants.{NotTheList, NoMemory};
+ghost use Rattle.lock_core.specs.Refusals.{first_difference};
 ghost use Rattle.lock_core.specs.States.{NamesField, IsDone, IsRefused, IsStep, HasRoom};
 
 use crate::events::{LockAnswer, LockEvent, StepRefusal};
 use crate::rows::{first_difference, sorted_rows};
 use crate::state::LockState;
 use area_model::model_step;
-use mm_types::{Call, Entry, NoMemory, Slot};
+use mm_types::{Call, Entry, NoMemory, Record, Slot};
 use std::alloc::Global;
 
 impl From<NoMemory> for StepRefusal {
@@ -36,6 +39,15 @@ pub fn apply(
         Ok(answer) => Ok((state, answer)),
         Err(refusal) => Err((state, refusal)),
     }
+}
+
+/// Why a call does not end with these rows and this list, if it does not.
+fn list_refusal(rows: &[[u64; 4]], areas: &[Record]) -> Option<StepRefusal>
+    requires { All IsValid areas.now }
+    ensures { result ≡ option_map NotTheList (first_difference rows.now (map packed areas.now)) }
+{
+    let place = first_difference(rows, areas)?;
+    Some(StepRefusal::NotTheList(place as u64))
 }
 
 impl LockState {
@@ -185,8 +197,8 @@ impl LockState {
         }
         let stepped = model_step(alloc, &self.config, self.counters, &self.list, &call)?;
         let rows = sorted_rows(alloc, self.protocol.slots())?;
-        if let Some(place) = first_difference(rows.as_slice(), stepped.list.items()) {
-            return Err(StepRefusal::NotTheList(place as u64));
+        if let Some(refusal) = list_refusal(rows.as_slice(), stepped.list.items()) {
+            return Err(refusal);
         }
         let reply = stepped.reply;
         self.protocol.end(Entry {

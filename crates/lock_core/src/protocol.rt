@@ -1,7 +1,7 @@
 ghost use Rattle.std.specs.Prelude.{◌≡◌, ◌≢◌, ◌<◌, ◌≤◌, ◌+◌, ◌-◌, ◌%◌, ◌^◌, Bool, not, nat_eq, nat_lt, nat_le, IfOk, MatchResult, is_some, unwrap_or, length, slice_index, Some, None};
 ghost use Rattle.lock_core.specs.Core.{slot_at, count_at, reader_at, held};
 ghost use Rattle.lock_core.specs.States.{opening_core};
-ghost use Rattle.lock_core.specs.Protocols.{reader_of};
+ghost use Rattle.lock_core.specs.Internal.Protocols.{reader_of};
 ghost use Rattle.lock_core.specs.Refusals.{lacks_reader, lacks_slot, is_holding};
 ghost use Rattle.lock_core.specs.Events.{after_add, after_look, after_sub, after_begin, after_mark, after_store, after_end, after_split, after_join, held_slot, looked};
 
@@ -31,7 +31,7 @@ const GONE: ReaderState = ReaderState {
 
 /// The state without its configuration.
 #[derive(Debug, Drop)]
-pub(crate) struct Protocol {
+pub(crate) struct LockProtocol {
     seq: u64,
     slots: Vec<SlotState>,
     counts: Vec<u64>,
@@ -39,28 +39,28 @@ pub(crate) struct Protocol {
     journal: Vec<Entry>,
 }
 
-impl Model for Protocol {
+impl Model for LockProtocol {
     ghost use Rattle.lock_core.specs.Core.{Core};
 
     ghost Value = { Core };
 
-    ghost use Rattle.lock_core.specs.Protocols.{core_of, AreSeen};
+    ghost use Rattle.lock_core.specs.Internal.Protocols.{core_of, AreSeen};
 
     ghost view = { core_of };
 
     ghost invariant = { AreSeen };
 }
 
-impl Protocol {
+impl LockProtocol {
     /// The state before anything happened.
-    pub(crate) fn new(alloc: Global, readers: u32, slots: u32) -> Result<Protocol, NoMemory>
+    pub(crate) fn new(alloc: Global, readers: u32, slots: u32) -> Result<LockProtocol, NoMemory>
         ensures { IfOk result (λ state. state ≡ opening_core readers slots) }
     {
         let reader = ReaderState {
             stage: Stage::Out,
             seen: 0,
         };
-        Ok(Protocol {
+        Ok(LockProtocol {
             seq: 2,
             slots: vec![in alloc; FREE_SLOT; slots as usize]?,
             counts: vec![in alloc; 0; slots as usize]?,

@@ -4,7 +4,7 @@ ghost use Rattle.lock_core.specs.Core.{slot_at, count_at};
 ghost use Rattle.lock_core.specs.Facts.{Facts};
 ghost use Rattle.lock_core.specs.States.{opening_core};
 
-use crate::protocol::Protocol;
+use crate::protocol::LockProtocol;
 use mm_types::{AreaList, Config, Counters, NoMemory, Slot};
 use std::alloc::Global;
 use std::marker::Model;
@@ -13,7 +13,7 @@ use std::marker::Model;
 #[derive(Debug, Drop)]
 pub struct LockState {
     pub(crate) config: Config,
-    pub(crate) protocol: Protocol,
+    pub(crate) protocol: LockProtocol,
     /// The list after the journal.
     pub(crate) list: AreaList,
     /// How many objects are numbered after it, and the break.
@@ -44,7 +44,7 @@ impl LockState {
         requires readers { readers < 2 ^ 31 }
         ensures { IfOk result (λ state. state ≡ record { config = config; core = opening_core readers slots }) }
     {
-        let protocol = Protocol::new(alloc, readers, slots)?;
+        let protocol = LockProtocol::new(alloc, readers, slots)?;
         let list = AreaList::of(Vec::new(alloc));
         let counters = Counters::opening(&config);
         Ok(LockState {

@@ -6,7 +6,9 @@ ghost use Rattle.lock_core.specs.States.{NamesField, HasRoom};
 use crate::{LockAnswer, LockEvent, LockState, StepRefusal, apply};
 use LockAnswer::{Done, Found, Made, Marked, Version, Word};
 use LockEvent::{Add, Begin, End, Field, Join, Look, Mark, Split, Store, Sub};
-use mm_types::{Call, Config, Files, MAP_ANONYMOUS, MAP_PRIVATE, MmapArgs, Prot, Slot};
+use mm_types::{
+    Call, Config, Files, MAP_ANONYMOUS, MAP_FIXED, MAP_PRIVATE, MmapArgs, NoMemory, Prot, Slot,
+};
 use std::process::Abort;
 use std::test::Fail;
 
@@ -19,6 +21,9 @@ const SECOND: Slot = Slot(1);
 
 /// The number of no slot.
 const NO_SLOT: Slot = Slot(2);
+
+/// How many areas are mapped one after the other, and how many readers are made.
+const MANY: u32 = 130;
 
 /// One page of private anonymous memory, to read and write.
 const PAGE: Call = Call::Mmap(MmapArgs {
@@ -185,6 +190,72 @@ fn ends_that_are_not_the_list(rt: HostRuntime) -> Result<(), Fail> {
         (End(0, NOTHING), Ok(Done), 6, (3, 0)),
     ];
     play(&rt, opening(&rt, 0, 2)?, &lines);
+    Ok(())
+}
+
+/// The lines of a call that maps a page behind the pages of so many calls before it, two pages apart. Its end is refused at this place
+/// while the rows lack the row of the page, and while they show another in its place.
+fn push_mapping(lines: &mut Vec<Line>, place: u32) -> Result<(), NoMemory>
+    requires { place < MANY }
+{
+    let slot = Slot(place);
+    let page = 0x100 + 2 * u64::from(place);
+    let end = End(
+        0,
+        Call::Mmap(MmapArgs {
+            addr: 4096 * page,
+            len: 4096,
+            prot: Prot {
+                read: true,
+                write: true,
+                exec: false,
+            },
+            flags: MAP_PRIVATE | MAP_ANONYMOUS | MAP_FIXED,
+            fd: -1,
+            offset: 0,
+        }),
+    );
+    let differs = Err(StepRefusal::NotTheList(u64::from(place)));
+    let seq = 3 + 2 * u64::from(place);
+    let first = if place == 0 { 0 } else { 3 };
+    lines.push((Begin, Ok(Done), seq, (first, 0)))?;
+    let steps = [
+        (Mark(slot), Ok(Done)),
+        (end, differs),
+        (Store(slot, 0, 0x1_0000 * page + 0x8039), Ok(Done)),
+        (Store(slot, 1, page + 1), Ok(Done)),
+        (end, differs),
+        (Store(slot, 0, 0x1_0000 * page + 0x803b), Ok(Done)),
+    ];
+    for (event, outcome) in steps {
+        lines.push((event, outcome, seq, (3, 0)))?;
+    }
+    lines.push((end, Ok(Done), seq + 1, (3, 0)))?;
+    Ok(())
+}
+
+/// Ends are refused at every place of a list.
+#[test]
+fn ends_that_differ_at_later_places(rt: HostRuntime) -> Result<(), Fail> {
+    let mut lines = Vec::new(rt.alloc());
+    for place in 0..MANY {
+        push_mapping(&mut lines, place)?;
+    }
+    assert!(rt; lines.len() < 2000);
+    play(&rt, opening(&rt, 0, MANY)?, lines.as_slice());
+    Ok(())
+}
+
+/// A reader is made as often as is asked, and the last one holds the slot as the first does.
+#[test]
+fn many_readers_are_made(rt: HostRuntime) -> Result<(), Fail> {
+    let mut lines: Vec<Line> = Vec::new(rt.alloc());
+    for made in 1..=MANY {
+        lines.push((Split(0), Ok(Made(made)), 2, (0, 0)))?;
+    }
+    lines.push((Add(MANY, FIRST), Ok(Found(0)), 2, (0, 1)))?;
+    assert!(rt; lines.len() < 2000);
+    play(&rt, opening(&rt, 1, 1)?, lines.as_slice());
     Ok(())
 }
 

@@ -9,7 +9,7 @@ use Rattle.maple_node.specs.Nodes.{end_of, item_gap}
 use Rattle.maple_gap.specs.declared.window.Side.{Side}
 use Rattle.maple_gap.specs.declared.window.Side.TheVariants.{Low, High}
 use Rattle.maple_gap.specs.declared.window.Window.{Window}
-use Rattle.maple_gap.specs.Searches.{may_have, edge, spot, pick, best}
+use Rattle.maple_gap.specs.Internal.Searches.{may_have, edge, spot, pick, best}
 
 -- one thing or another, where one of them is none
 pub or_none : (o : Option ℕ) → option_or o None ≡ o

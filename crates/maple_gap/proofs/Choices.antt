@@ -13,7 +13,7 @@ use Rattle.maple_gap.specs.declared.window.Side.{Side}
 use Rattle.maple_gap.specs.declared.window.Side.TheVariants.{Low, High}
 use Rattle.maple_gap.specs.declared.window.Window.{Window}
 use Rattle.maple_gap.specs.declared.window.Choice.{Choice}
-use Rattle.maple_gap.specs.Searches.{may_have, pick, chosen, nothing_chosen, chosen_from, IsFar}
+use Rattle.maple_gap.specs.Internal.Searches.{may_have, pick, chosen, nothing_chosen, chosen_from, IsFar}
 use Rattle.maple_gap.proofs.Best.{or_none, or_some, pick_none, pick_assoc, touches}
 use Rattle.maple_gap.proofs.Under.{over, Known}
 

@@ -10,7 +10,7 @@ use Rattle.maple_gap.specs.declared.window.Side.TheVariants.{Low, High}
 use Rattle.maple_gap.specs.declared.window.Window.{Window}
 use Rattle.maple_gap.specs.declared.window.Choice.{Choice}
 use Rattle.maple_gap.specs.declared.branch.Branch.{Branch}
-use Rattle.maple_gap.specs.Searches.{may_have, edge, nothing_chosen, chosen_from, IsUnder, IsBranch, best_under, best_of, spare_from, IsFar, IsSpare}
+use Rattle.maple_gap.specs.Internal.Searches.{may_have, edge, nothing_chosen, chosen_from, IsUnder, IsBranch, best_under, best_of, spare_from, IsFar, IsSpare}
 use Rattle.maple_gap.proofs.Best.{or_none, or_some, pick_none, best-one, spot_some}
 use Rattle.maple_gap.proofs.Under.{found_in, over, found-down, known_under}
 use Rattle.maple_gap.proofs.Choices.{After, IsIn, AreChosen, told, far_after, found_before, chosen_all}

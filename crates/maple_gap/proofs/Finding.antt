@@ -11,7 +11,7 @@ use Rattle.maple_items.specs.declared.place.Place.{Place}
 use Rattle.maple_items.specs.Splices.{upto}
 use Rattle.maple_items.proofs.Lists.{upto-first, upto-later, item_at-first, item_at-later, upto_all, upto_none, upto_first, item_at-left, item_at-right}
 use Rattle.maple_gap.specs.declared.branch.Branch.{Branch}
-use Rattle.maple_gap.specs.Searches.{IsUnder, IsBranch, entries_under}
+use Rattle.maple_gap.specs.Internal.Searches.{IsUnder, IsBranch, entries_under}
 use Rattle.maple_gap.proofs.Rows.{node_under}
 use Rattle.maple_gap.proofs.Under.{spread, spread_items, under-ascends, level_of-append, entries-down}
 

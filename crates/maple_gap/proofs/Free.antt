@@ -1,16 +1,17 @@
 -- For `search`: starts in gaps of entries are starts of free pages.
-use Rattle.std.proofs.Common.{ℕ, ◌≡◌, ◌≢◌, ◌<◌, ◌≤◌, ◌+◌, ◌-◌, Bool, true, false, ◌&&◌, ◌||◌, List, [], ◌∷◌, ◌++◌, Option, Some, None, ◌⊎◌, refl, sym, ap, subst, ◌∙◌, arith, inl, inr}
+use Rattle.std.proofs.Common.{ℕ, ◌≡◌, ◌≢◌, ◌<◌, ◌≤◌, ◌+◌, ◌-◌, Bool, true, false, ◌&&◌, ◌||◌, List, [], ◌∷◌, ◌++◌, map, Option, Some, None, ◌⊎◌, refl, sym, ap, subst, ◌∙◌, arith, inl, inr}
 use Rattle.std.specs.Prelude.{nat_eq, nat_le, if◌then◌else◌}
 use Rattle.std.proofs.lemmas.Bool.{cases_lt, cases_eq, cases_Bool}
 use Rattle.std.proofs.lemmas.Bool.Decides.{nat_tests}
+use Rattle.mm_types.specs.Searches.{is_clear_of}
 use Rattle.maple_node.specs.declared.item.Item.{Item}
 use Rattle.maple_node.specs.Nodes.{end_of, Ascends, item_gap}
 use Rattle.maple_node.specs.Trees.{Pair, pairs_from, ApartFrom}
 use Rattle.maple_gap.specs.declared.window.Side.{Side}
 use Rattle.maple_gap.specs.declared.window.Side.TheVariants.{Low, High}
 use Rattle.maple_gap.specs.declared.window.Window.{Window}
-use Rattle.maple_gap.specs.Gaps.{is_free, fits}
-use Rattle.maple_gap.specs.Searches.{may_have, edge, spot, pick, best, IsAnswer}
+use Rattle.maple_gap.specs.Gaps.{span_of, fits}
+use Rattle.maple_gap.specs.Internal.Searches.{may_have, edge, spot, pick, best, IsAnswer}
 use Rattle.maple_gap.proofs.Best.{room_of, of_room, Placed, spot_from, spot_some, spot_none}
 
 -- so many pages from a start on lie in a gap of entries that begin at a page, and in the window
@@ -127,23 +128,22 @@ or_right : (a b : Bool) → b ≡ true → (a || b) ≡ true
 or_right true b is = refl
 or_right false b is = is
 
-free_cons : (start len s : ℕ) (x : Item) (xs : List Item) → is_free (pairs_from start (x ∷ xs)) len s
-    ≡ ((if nat_eq x.word 0 then true else (nat_le (s + len) start || nat_le x.end s)) && is_free (pairs_from x.end xs) len s)
-unfolding is_free
+free_cons : (start len s : ℕ) (x : Item) (xs : List Item) → is_clear_of (map span_of (pairs_from start (x ∷ xs))) len s
+    ≡ ((if nat_eq x.word 0 then true else (nat_le (s + len) start || nat_le x.end s)) && is_clear_of (map span_of (pairs_from x.end xs)) len s)
 free_cons start len s x xs =
     let pair : Pair = record { lo = start; hi = x.end; slot = x.word - 1 } in
     let rest = pairs_from x.end xs in
-    elim (nat_eq x.word 0) as (λ b. is_free ((if b then [] else (pair ∷ [])) ++ rest) len s
-    ≡ ((if b then true else (nat_le (s + len) start || nat_le x.end s)) && is_free rest len s)) [ true ↦ refl | false ↦ refl ]
+    elim (nat_eq x.word 0) as (λ b. is_clear_of (map span_of ((if b then [] else (pair ∷ [])) ++ rest)) len s
+    ≡ ((if b then true else (nat_le (s + len) start || nat_le x.end s)) && is_clear_of (map span_of rest) len s)) [ true ↦ refl | false ↦ refl ]
 
 record Free (start len s : ℕ) (x : Item) (xs : List Item) : Type 0 where
   pub here : x.word ≢ 0 → (s + len ≤ start) ⊎ (x.end ≤ s)
-  pub rest : is_free (pairs_from x.end xs) len s ≡ true
+  pub rest : is_clear_of (map span_of (pairs_from x.end xs)) len s ≡ true
 
-free_of : (start len s : ℕ) (x : Item) (xs : List Item) → is_free (pairs_from start (x ∷ xs)) len s ≡ true → Free start len s x xs
+free_of : (start len s : ℕ) (x : Item) (xs : List Item) → is_clear_of (map span_of (pairs_from start (x ∷ xs))) len s ≡ true → Free start len s x xs
 free_of start len s x xs is =
     let test = (if nat_eq x.word 0 then true else (nat_le (s + len) start || nat_le x.end s)) in
-    let both = and_both test (is_free (pairs_from x.end xs) len s) (sym (free_cons start len s x xs) ∙ is) in
+    let both = and_both test (is_clear_of (map span_of (pairs_from x.end xs)) len s) (sym (free_cons start len s x xs) ∙ is) in
     record {
       here = λ slot.
           let none : nat_eq x.word 0 ≡ false = grind (arith, nat_tests) in
@@ -156,10 +156,10 @@ free_of start len s x xs is =
       rest = both.1;
     }
 
-of_free : (start len s : ℕ) (x : Item) (xs : List Item) → (x.word ≢ 0 → (s + len ≤ start) ⊎ (x.end ≤ s)) → is_free (pairs_from x.end xs) len s ≡ true
-    → is_free (pairs_from start (x ∷ xs)) len s ≡ true
+of_free : (start len s : ℕ) (x : Item) (xs : List Item) → (x.word ≢ 0 → (s + len ≤ start) ⊎ (x.end ≤ s)) → is_clear_of (map span_of (pairs_from x.end xs)) len s ≡ true
+    → is_clear_of (map span_of (pairs_from start (x ∷ xs))) len s ≡ true
 of_free start len s x xs here rest =
-    let other = is_free (pairs_from x.end xs) len s in
+    let other = is_clear_of (map span_of (pairs_from x.end xs)) len s in
     let test : Bool → Bool = λ b. if b then true else (nat_le (s + len) start || nat_le x.end s) in
     free_cons start len s x xs ∙ ap (λ b. test (nat_eq x.word 0) && b) rest ∙
     elim (cases_eq x.word 0) as (λ _. (test (nat_eq x.word 0) && true) ≡ true) [
@@ -175,8 +175,7 @@ of_free start len s x xs here rest =
     ]
 
 -- pages below all entries are free
-free_below : (start len s : ℕ) (xs : List Item) → Ascends start xs → s + len ≤ start → is_free (pairs_from start xs) len s ≡ true
-unfolding is_free
+free_below : (start len s : ℕ) (xs : List Item) → Ascends start xs → s + len ≤ start → is_clear_of (map span_of (pairs_from start xs)) len s ≡ true
 free_below start len s [] ascends below = refl
 free_below start len s (x ∷ xs) ascends below =
     let past = ascends.0 in
@@ -184,9 +183,9 @@ free_below start len s (x ∷ xs) ascends below =
 
 -- pages in a gap are free
 fits_free : (window : Window) (start : ℕ) (xs : List Item) (s : ℕ) → Ascends start xs → FitsIn window start xs s
-    → is_free (pairs_from start xs) window.len s ≡ true
+    → is_clear_of (map span_of (pairs_from start xs)) window.len s ≡ true
 fits_free window start [] s ascends is = absurd is
-fits_free window start (x ∷ xs) s ascends is = elim is as (λ _. is_free (pairs_from start (x ∷ xs)) window.len s ≡ true) [
+fits_free window start (x ∷ xs) s ascends is = elim is as (λ _. is_clear_of (map span_of (pairs_from start (x ∷ xs))) window.len s ≡ true) [
   | inl here ↦
       of_free start window.len s x xs (λ slot. absurd (slot here.0)) (free_below x.end window.len s xs ascends.1 here.1.within)
   | inr there ↦
@@ -195,7 +194,7 @@ fits_free window start (x ∷ xs) s ascends is = elim is as (λ _. is_free (pair
 
 -- and free pages lie in one gap, since two gaps never follow each other
 free_fits : (window : Window) (before start : ℕ) (xs : List Item) (s : ℕ) → 1 ≤ window.len → Ascends start xs → ApartFrom before xs → start ≤ s
-    → window.lo ≤ s → s + window.len ≤ window.hi → window.hi ≤ end_of start xs → is_free (pairs_from start xs) window.len s ≡ true
+    → window.lo ≤ s → s + window.len ≤ window.hi → window.hi ≤ end_of start xs → is_clear_of (map span_of (pairs_from start xs)) window.len s ≡ true
     → FitsIn window start xs s
 free_fits window before start [] s some ascends apart above low high limit free = absurd (omega arith)
 free_fits window before start (x ∷ xs) s some ascends apart above low high limit free =
@@ -218,7 +217,7 @@ free_fits window before start (x ∷ xs) s some ascends apart above low high lim
           )
     ] where
       whole : (xs : List Item) → Ascends x.end xs → ApartFrom x.word xs → window.hi ≤ end_of x.end xs → x.word ≡ 0 → s < x.end
-          → is_free (pairs_from x.end xs) window.len s ≡ true → s + window.len ≤ x.end
+          → is_clear_of (map span_of (pairs_from x.end xs)) window.len s ≡ true → s + window.len ≤ x.end
       whole [] ascends apart limit gap within free = omega arith
       whole (y ∷ ys) ascends apart limit gap within free =
           let past = ascends.0 in
@@ -228,18 +227,18 @@ free_fits window before start (x ∷ xs) s some ascends apart above low high lim
           ]
 
 -- what fits, as a test
-of_fits : (pairs : List Pair) (len lo hi s : ℕ) → fits pairs len lo hi s ≡ true → (lo ≤ s) × (s + len ≤ hi) × (is_free pairs len s ≡ true)
+of_fits : (pairs : List Pair) (len lo hi s : ℕ) → fits pairs len lo hi s ≡ true → (lo ≤ s) × (s + len ≤ hi) × (is_clear_of (map span_of pairs) len s ≡ true)
 unfolding fits
 of_fits pairs len lo hi s is =
-    let first = and_both (nat_le lo s) (nat_le (s + len) hi && is_free pairs len s) is in
-    let second = and_both (nat_le (s + len) hi) (is_free pairs len s) first.1 in
+    let first = and_both (nat_le lo s) (nat_le (s + len) hi && is_clear_of (map span_of pairs) len s) is in
+    let second = and_both (nat_le (s + len) hi) (is_clear_of (map span_of pairs) len s) first.1 in
     (le_of lo s first.0, le_of (s + len) hi second.0, second.1)
 
-fits_of : (pairs : List Pair) (len lo hi s : ℕ) → lo ≤ s → s + len ≤ hi → is_free pairs len s ≡ true → fits pairs len lo hi s ≡ true
+fits_of : (pairs : List Pair) (len lo hi s : ℕ) → lo ≤ s → s + len ≤ hi → is_clear_of (map span_of pairs) len s ≡ true → fits pairs len lo hi s ≡ true
 unfolding fits
 fits_of pairs len lo hi s low high free =
-    ap (λ b. b && (nat_le (s + len) hi && is_free pairs len s)) (of_le lo s low)
-    ∙ ap (λ b. b && is_free pairs len s) (of_le (s + len) hi high) ∙ free
+    ap (λ b. b && (nat_le (s + len) hi && is_clear_of (map span_of pairs) len s)) (of_le lo s low)
+    ∙ ap (λ b. b && is_clear_of (map span_of pairs) len s) (of_le (s + len) hi high) ∙ free
 
 -- what is sought among entries is sought among free pages
 pub record Same (window : Window) (entries : List Item) : Type 0 where

@@ -51,11 +51,6 @@ slot_told start y slot =
     let told : Option Slot = Some (record { 0 = y.word - 1 }) in
     sym (ap (λ (b : Bool). if b then None else told) (no_gap y.word slot))
 
-gap_told : (word : ℕ) → word ≡ 0 → None ≡ slot_of word
-gap_told word gap =
-    let told : Option Slot = Some (record { 0 = word - 1 }) in
-    sym (ap (λ (b : Bool). if b then None else told) (is_gap word gap))
-
 -- the first pair that ends above a page
 first-later : (page start : ℕ) (y : Item) (ys : List Item) → y.end ≤ page
     → first_from (pairs_from start (y ∷ ys)) page ≡ first_from (pairs_from y.end ys) page

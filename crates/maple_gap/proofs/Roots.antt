@@ -16,7 +16,7 @@ use Rattle.node_slots.specs.declared.seats.NodeWriter.{NodeWriter}
 use Rattle.node_slots.specs.Seats.{sight, row_count}
 use Rattle.node_slots.specs.Built.{words_at, built, built_rows, IsBuilt, IsWriters}
 use Rattle.maple_gap.specs.declared.branch.Branch.{Branch}
-use Rattle.maple_gap.specs.Searches.{IsUnder, IsRootOf}
+use Rattle.maple_gap.specs.Internal.Searches.{IsUnder, IsRootOf}
 use Rattle.maple_gap.proofs.Rows.{node_there, node_under}
 
 -- nodes, under each of which all is so
@@ -176,10 +176,3 @@ whole_root writer tree items row gap leaf is are some here below largest =
           let none = blank_tree (words_at writer) tree.height tree.root.0 blank.height blank.root blank.words in
           absurd (some (ap (λ (xs : List Item). length xs) (are ∙ none)))
     ]
-
--- whether there are items
-pub no_items_in : (count : ℕ) (empty : Bool) → empty ≡ nat_eq count 0 → empty ≡ true → count ≡ 0
-no_items_in count empty is told = let test : nat_eq count 0 ≡ true = sym is ∙ told in grind (arith, nat_tests)
-
-pub some_items : (count : ℕ) (empty : Bool) → empty ≡ nat_eq count 0 → empty ≡ false → count ≡ 0 → ⊥
-some_items count empty is told none = let test : nat_eq count 0 ≡ false = sym is ∙ told in grind (arith, nat_tests)

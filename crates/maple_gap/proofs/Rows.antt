@@ -8,7 +8,7 @@ use Rattle.maple_node.specs.Levels.{is_leaf, at_of, read, IsNode}
 use Rattle.node_slots.specs.declared.seats.NodeWriter.{NodeWriter}
 use Rattle.node_slots.specs.Seats.{desk, row_count}
 use Rattle.node_slots.specs.Built.{words_at}
-use Rattle.maple_gap.specs.Searches.{IsUnder}
+use Rattle.maple_gap.specs.Internal.Searches.{IsUnder}
 
 -- no words list no items
 no_items : (leaf : Bool) → items_of leaf [] ≡ []

@@ -13,7 +13,7 @@ use Rattle.maple_gap.specs.declared.window.Side.{Side}
 use Rattle.maple_gap.specs.declared.window.Window.{Window}
 use Rattle.maple_gap.specs.declared.branch.Branch.{Branch}
 use Rattle.maple_gap.specs.Gaps.{fits}
-use Rattle.maple_gap.specs.Searches.{may_have, best, entries_under, best_under, IsSpare, IsRootOf, IsAnswer}
+use Rattle.maple_gap.specs.Internal.Searches.{may_have, best, entries_under, best_under, IsSpare, IsRootOf, IsAnswer}
 use Rattle.maple_gap.proofs.Under.{spread, found_in, Known, known_under}
 use Rattle.maple_gap.proofs.Free.{answer_of}
 

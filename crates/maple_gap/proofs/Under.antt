@@ -11,7 +11,7 @@ use Rattle.maple_node.proofs.Lists.{end_of-append, Ascends-append, ends_above}
 use Rattle.maple_node.proofs.Levels.{node_past}
 use Rattle.maple_gap.specs.declared.window.Side.{Side}
 use Rattle.maple_gap.specs.declared.window.Window.{Window}
-use Rattle.maple_gap.specs.Searches.{may_have, pick, best, spot, IsUnder}
+use Rattle.maple_gap.specs.Internal.Searches.{may_have, pick, best, spot, IsUnder}
 use Rattle.maple_gap.proofs.Best.{pick_from, pick_both, best-append, best-one, room_of, of_room, Placed, spot_from, spot_some}
 
 -- the entries under joined items, under none, and under a node

@@ -7,7 +7,7 @@ ghost use Rattle.maple_node.specs.Levels.{is_leaf, item_at};
 ghost use Rattle.maple_items.specs.Splices.{upto};
 ghost use Rattle.node_slots.specs.Seats.{Writes, row_count};
 ghost use Rattle.node_slots.specs.Built.{words_at, IsWriters};
-ghost use Rattle.maple_gap.specs.Searches.{may_have, entries_under, best_under, best_of, spare_from, IsBranch, IsSpare, IsFar, IsRootOf};
+ghost use Rattle.maple_gap.specs.Internal.Searches.{may_have, entries_under, best_under, best_of, spare_from, IsBranch, IsSpare, IsFar, IsRootOf};
 
 use crate::window::{Side, Window, choose};
 use maple_items::{Place, gap_in, item_in, lists_nothing};

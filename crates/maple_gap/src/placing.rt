@@ -3,8 +3,9 @@
 ghost use Rattle.std.specs.Prelude.{◌≡◌, ◌≤◌, ◌+◌, ◌*◌, MatchOption};
 ghost use Rattle.node_slots.specs.Seats.{Writes};
 ghost use Rattle.node_slots.specs.Built.{IsWriters, pairs_now};
-ghost use Rattle.maple_gap.specs.Gaps.{fits, IsGreatest, IsLeast, NonePasses};
-ghost use Rattle.maple_gap.specs.Searches.{IsAnswer};
+ghost use Rattle.mm_types.specs.Searches.{IsGreatest, IsLeast, NonePasses};
+ghost use Rattle.maple_gap.specs.Gaps.{fits};
+ghost use Rattle.maple_gap.specs.Internal.Searches.{IsAnswer};
 
 use crate::branch::{descend, root_of};
 use crate::window::{Side, Window};

@@ -2,7 +2,7 @@
 
 ghost use Rattle.std.specs.Prelude.{◌≡◌, if◌then◌else◌};
 ghost use Rattle.maple_node.specs.Nodes.{items_of, item_gap};
-ghost use Rattle.maple_gap.specs.Searches.{may_have, edge, chosen, nothing_chosen, chosen_from};
+ghost use Rattle.maple_gap.specs.Internal.Searches.{may_have, edge, chosen, nothing_chosen, chosen_from};
 
 use maple_items::{Place, listed_at, width_of};
 
@@ -27,7 +27,7 @@ pub(crate) struct Window {
 impl Window {
     /// Whether an item may have room: its largest gap is long enough, and so is its part in the window. An entry that may have
     /// room has it.
-    #[tactic(auto, unfolding(crate::specs::Searches::may_have))]
+    #[tactic(auto, unfolding(crate::specs::Internal::Searches::may_have))]
     pub(crate) fn may_have(self, leaf: bool, place: Place) -> bool
         ensures { result ≡ may_have self leaf place.start place.item }
     {

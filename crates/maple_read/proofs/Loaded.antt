@@ -11,7 +11,7 @@ use Rattle.maple_node.specs.Nodes.{Ascends}
 use Rattle.maple_node.specs.Levels.{at_of, read, item_at, IsTower}
 use Rattle.maple_node.specs.Trees.{tree_of, entries_of, tree_rows, IsFirst, IsLayout}
 use Rattle.maple_node.proofs.Trees.{first-entries, entries-ascend}
-use Rattle.node_slots.specs.declared.view.Shown.{Shown}
+use Rattle.node_slots.specs.declared.view.ShownTree.{ShownTree}
 use Rattle.node_slots.specs.declared.view.NodeView.{NodeView}
 use Rattle.node_slots.specs.Trees.{shown_rows, grace_tree, IsShown}
 use Rattle.node_slots.proofs.Writers.{times_same}
@@ -22,16 +22,16 @@ use Rattle.maple_read.proofs.Pairs.{slot_in, slot_from-entry}
 use Rattle.maple_read.proofs.Reading.{read_at, read-none, read-more, one_shown}
 
 -- the entries of a shown tree
-abbrev pub entries_in : Shown → List Item
+abbrev pub entries_in : ShownTree → List Item
 entries_in shown = entries_of (at_of shown.words) (tree_of (at_of shown.words) shown.root)
 
 -- a row is that of the node that has a page, where some node so many levels above the leaves has it
-abbrev pub IsAt : Shown → ℕ → ℕ → ℕ → Type 0
+abbrev pub IsAt : ShownTree → ℕ → ℕ → ℕ → Type 0
 IsAt shown page up row = let at = at_of shown.words in let tree = tree_of at shown.root in
     Reached at tree.top.end (entries_in shown) (tree_rows at tree) page up row
 
 -- the rows of a tree that is shown are in the rows of the grace protocol
-pub row_has : (shown : Shown) (page up row : ℕ) → IsAt shown page up row → has_row (grace_tree shown) row ≡ true
+pub row_has : (shown : ShownTree) (page up row : ℕ) → IsAt shown page up row → has_row (grace_tree shown) row ≡ true
 unfolding shown_rows
 row_has shown page up row at =
     let rows = tree_rows (at_of shown.words) (tree_of (at_of shown.words) shown.root) in
@@ -40,13 +40,13 @@ row_has shown page up row at =
 
 -- so the row is that of a node
 pub node_at : (view : NodeView) (root : Root) (page up row : ℕ) → HasLoaded view root
-    → ((shown : Shown) → view.snapshot ≡ Some shown → IsAt shown page up row) → HasNode view row
+    → ((shown : ShownTree) → view.snapshot ≡ Some shown → IsAt shown page up row) → HasNode view row
 node_at view root page up row loaded at =
     let here = at loaded.shown loaded.snapshot in
     record { shown = loaded.shown; snapshot = loaded.snapshot; has = row_has loaded.shown page up row here; long = here.long }
 
 -- what is so of tree 0, and of each later tree
-pub record Loaded (shown : Shown) (slots : ℕ) : Type 0 where
+pub record Loaded (shown : ShownTree) (slots : ℕ) : Type 0 where
   pub tall : 1 ≤ shown.root.height
   pub tower : 2 ≤ shown.root.height → let at = at_of shown.words in let tree = tree_of at shown.root in
       IsTower at tree.top.end 0 tree.height (tree.top ∷ [])
@@ -54,7 +54,7 @@ pub record Loaded (shown : Shown) (slots : ℕ) : Type 0 where
   pub ascends : Ascends 0 (entries_in shown)
   pub numbered : All (λ entry. entry.word ≤ slots) (entries_in shown)
 
-first_loaded : (shown : Shown) (slots : ℕ) → IsFirst (at_of shown.words) (shown_rows shown) shown.root → Loaded shown slots
+first_loaded : (shown : ShownTree) (slots : ℕ) → IsFirst (at_of shown.words) (shown_rows shown) shown.root → Loaded shown slots
 first_loaded shown slots first =
     let at = at_of shown.words in
     let none : entries_in shown ≡ [] = first-entries at (shown_rows shown) shown.root first in
@@ -67,7 +67,7 @@ first_loaded shown slots first =
       numbered = subst (λ (xs : List Item). All (λ (entry : Item). entry.word ≤ slots) xs) (sym none) (λ k d low. absurd (omega arith));
     }
 
-later_loaded : (shown : Shown) (slots : ℕ) → IsLayout (at_of shown.words) slots (shown_rows shown) (tree_of (at_of shown.words) shown.root)
+later_loaded : (shown : ShownTree) (slots : ℕ) → IsLayout (at_of shown.words) slots (shown_rows shown) (tree_of (at_of shown.words) shown.root)
     → Loaded shown slots
 later_loaded shown slots layout =
     let at = at_of shown.words in
@@ -80,14 +80,14 @@ later_loaded shown slots layout =
       numbered = layout.numbered;
     }
 
-pub is_loaded : (slots : ℕ) (shown : Shown) → IsShown slots shown → Loaded shown slots
+pub is_loaded : (slots : ℕ) (shown : ShownTree) → IsShown slots shown → Loaded shown slots
 is_loaded slots shown is = elim (cases_lt 0 shown.root.tree) [
   | inl some ↦ later_loaded shown slots (is.tree.later some)
   | inr none ↦ first_loaded shown slots (is.tree.first (omega arith))
 ]
 
 -- the walk begins at the root
-pub begins : (view : NodeView) (root : Root) (page : ℕ) → HasLoaded view root → (shown : Shown) → view.snapshot ≡ Some shown
+pub begins : (view : NodeView) (root : Root) (page : ℕ) → HasLoaded view root → (shown : ShownTree) → view.snapshot ≡ Some shown
     → IsAt shown page (root.height - 1) root.row.0
 begins view root page loaded shown shows =
     let one : loaded.shown ≡ shown = one_shown view loaded.shown shown loaded.snapshot shows in
@@ -96,7 +96,7 @@ begins view root page loaded shown shows =
     let tree = tree_of at loaded.shown.root in
     let here : IsAt loaded.shown page (loaded.shown.root.height - 1) loaded.shown.root.row.0 =
     at_root at tree.top.end tree.height page tree.top is.tall is.tower is.long in
-    subst (λ (s : Shown). IsAt s page (root.height - 1) root.row.0) one
+    subst (λ (s : ShownTree). IsAt s page (root.height - 1) root.row.0) one
     (subst (λ (r : Root). IsAt loaded.shown page (r.height - 1) r.row.0) loaded.root_is here)
 
 -- the value of which something is made
@@ -114,7 +114,7 @@ made-none f None is = refl
 made-none f (Some x) is = absurd (cc)
 
 -- it goes on at the child that has the page
-pub goes_on : (shown : Shown) (page up next row word row' : ℕ) → IsAt shown page up row → next + 1 ≡ up
+pub goes_on : (shown : ShownTree) (page up next row word row' : ℕ) → IsAt shown page up row → next + 1 ≡ up
     → option_map (λ item. item.word) (item_at page (read (at_of shown.words) false row)) ≡ Some word → row' ≡ word → IsAt shown page next row'
 goes_on shown page up next row word row' at level found same =
     let words = at_of shown.words in
@@ -126,16 +126,16 @@ goes_on shown page up next row word row' at level found same =
     subst (λ n. IsAt shown page next n) (child.gives ∙ sym same) down
 
 -- the slot of a tree is the one that the entry's word tells
-pub slot-entry : (view : NodeView) (root : Root) (page : ℕ) → HasLoaded view root → (shown : Shown) → view.snapshot ≡ Some shown
+pub slot-entry : (view : NodeView) (root : Root) (page : ℕ) → HasLoaded view root → (shown : ShownTree) → view.snapshot ≡ Some shown
     → slot_at page shown ≡ option_and_then (λ item. slot_in item.word) (item_at page (entries_in shown))
 slot-entry view root page loaded shown shows =
     let one : loaded.shown ≡ shown = one_shown view loaded.shown shown loaded.snapshot shows in
     let is = is_loaded view.size.slots loaded.shown loaded.layout in
-    subst (λ (s : Shown). slot_at page s ≡ option_and_then (λ (item : Item). slot_in item.word) (item_at page (entries_in s))) one
+    subst (λ (s : ShownTree). slot_at page s ≡ option_and_then (λ (item : Item). slot_in item.word) (item_at page (entries_in s))) one
     (slot_from-entry page 0 (entries_in loaded.shown) is.ascends (omega arith))
 
 -- no pair has the page where no child has it
-pub none_inner : (view : NodeView) (root : Root) (page up next row : ℕ) → HasLoaded view root → (shown : Shown) → view.snapshot ≡ Some shown
+pub none_inner : (view : NodeView) (root : Root) (page up next row : ℕ) → HasLoaded view root → (shown : ShownTree) → view.snapshot ≡ Some shown
     → IsAt shown page up row → next + 1 ≡ up
     → option_map (λ item. item.word) (item_at page (read (at_of shown.words) false row)) ≡ None → slot_at page shown ≡ None
 none_inner view root page up next row loaded shown shows at level found =
@@ -148,7 +148,7 @@ none_inner view root page up next row loaded shown shows at level found =
     slot-entry view root page loaded shown shows ∙ ap (option_and_then (λ (item : Item). slot_in item.word)) past
 
 -- the word of the entry that has the page
-pub entry_word : (shown : Shown) (page up row : ℕ) (word : Option ℕ) → IsAt shown page up row → up ≡ 0
+pub entry_word : (shown : ShownTree) (page up row : ℕ) (word : Option ℕ) → IsAt shown page up row → up ≡ 0
     → option_map (λ item. item.word) (item_at page (read (at_of shown.words) true row)) ≡ word
     → option_map (λ item. item.word) (item_at page (entries_in shown)) ≡ word
 entry_word shown page up row word at level found =
@@ -163,7 +163,7 @@ by_word None = refl
 by_word (Some item) = refl
 
 -- the slot that it tells is that of the tree
-pub slot_told : (view : NodeView) (root : Root) (page up row : ℕ) (word : Option ℕ) → HasLoaded view root → (shown : Shown)
+pub slot_told : (view : NodeView) (root : Root) (page up row : ℕ) (word : Option ℕ) → HasLoaded view root → (shown : ShownTree)
     → view.snapshot ≡ Some shown → IsAt shown page up row → up ≡ 0
     → option_map (λ item. item.word) (item_at page (read (at_of shown.words) true row)) ≡ word
     → slot_at page shown ≡ option_and_then slot_in word
@@ -183,8 +183,8 @@ of_found P page (x ∷ xs) item all is = elim (cases_lt page x.end) as (λ _. P 
 
 -- and the slot is one of the table's
 pub slot_fits : (view : NodeView) (root : Root) (page up row word : ℕ) → HasLoaded view root
-    → ((shown : Shown) → view.snapshot ≡ Some shown → IsAt shown page up row) → up ≡ 0
-    → ((shown : Shown) → view.snapshot ≡ Some shown
+    → ((shown : ShownTree) → view.snapshot ≡ Some shown → IsAt shown page up row) → up ≡ 0
+    → ((shown : ShownTree) → view.snapshot ≡ Some shown
     → option_map (λ item. item.word) (item_at page (read (at_of shown.words) true row)) ≡ Some word)
     → word ≤ view.size.slots
 slot_fits view root page up row word loaded at level found =
@@ -197,8 +197,8 @@ slot_fits view root page up row word loaded at level found =
 
 -- a child's row is one that exists
 pub row_fits : (view : NodeView) (root : Root) (page up next row word : ℕ) → HasLoaded view root
-    → ((shown : Shown) → view.snapshot ≡ Some shown → IsAt shown page up row) → next + 1 ≡ up
-    → ((shown : Shown) → view.snapshot ≡ Some shown
+    → ((shown : ShownTree) → view.snapshot ≡ Some shown → IsAt shown page up row) → next + 1 ≡ up
+    → ((shown : ShownTree) → view.snapshot ≡ Some shown
     → option_map (λ item. item.word) (item_at page (read (at_of shown.words) false row)) ≡ Some word)
     → word < view.size.rows
 row_fits view root page up next row word loaded at level found =
@@ -209,7 +209,7 @@ row_fits view root page up next row word loaded at level found =
 
 -- a walk so far: the row is that of the node that has the page, so many levels down from above the root
 pub record Walks (old now : NodeView) (root : Root) (page depth row : ℕ) : Type 0 where
-  pub at : (shown : Shown) → old.snapshot ≡ Some shown → IsAt shown page (root.height - depth) row
+  pub at : (shown : ShownTree) → old.snapshot ≡ Some shown → IsAt shown page (root.height - depth) row
   pub reads : ℕ
   pub few : reads ≤ 11 * (depth - 1)
   pub view : now ≡ read_at old reads
@@ -226,7 +226,7 @@ walks-node old now root page depth row loaded walks =
 
 -- what was found in a node
 abbrev pub Finds : NodeView → Bool → ℕ → ℕ → Option ℕ → Type 0
-Finds now leaf page row word = (shown : Shown) → now.snapshot ≡ Some shown
+Finds now leaf page row word = (shown : ShownTree) → now.snapshot ≡ Some shown
     → option_map (λ item. item.word) (item_at page (read (at_of shown.words) leaf row)) ≡ word
 
 -- the same, in the snapshot of before
@@ -263,7 +263,7 @@ entry_fits old now root page depth row word loaded walks last finds =
 
 -- how `walk` ends
 pub record Ends (old new : NodeView) (page : ℕ) (answer : Option ℕ) : Type 0 where
-  pub slot : (shown : Shown) → old.snapshot ≡ Some shown → answer ≡ slot_at page shown
+  pub slot : (shown : ShownTree) → old.snapshot ≡ Some shown → answer ≡ slot_at page shown
   pub view : (reads : ℕ) × (reads ≤ 105) × (new ≡ read_at old reads)
 
 -- the tree has at most nine levels

@@ -9,11 +9,6 @@ use Rattle.maple_node.specs.Levels.{item_at}
 use Rattle.maple_read.specs.Walks.{width_of}
 use Rattle.maple_read.proofs.Items.{item_at-first, item_at-later}
 
--- an item has two or three words
-pub width-some : (leaf : Bool) → (2 ≤ width_of leaf) × (width_of leaf ≤ 3)
-width-some true = (omega arith, omega arith)
-width-some false = (omega arith, omega arith)
-
 -- the word of the item that has a page
 abbrev pub word_in : Bool → ℕ → List ℕ → Option ℕ
 word_in leaf page words = option_map (λ (item : Item). item.word) (item_at page (items_of leaf words))

@@ -2,10 +2,9 @@
 use Rattle.std.proofs.Common.{ℕ, ◌≡◌, ◌<◌, ◌≤◌, ◌+◌, ◌*◌, Bool, true, false, length, get_or, drop, Option, Some, None, refl, sym, ap, subst, ◌∙◌, arith, length-drop, drop-drop}
 use Rattle.std.proofs.lemmas.List.{get_or-drop}
 use Rattle.maple_node.specs.Levels.{at_of}
-use Rattle.node_slots.specs.declared.view.Shown.{Shown}
+use Rattle.node_slots.specs.declared.view.ShownTree.{ShownTree}
 use Rattle.node_slots.specs.declared.view.NodeView.{NodeView}
 use Rattle.node_slots.specs.Views.{word_at}
-use Rattle.node_slots.specs.Seats.{ShowsRow}
 use Rattle.maple_read.specs.Walks.{HasNode, width_of}
 use Rattle.maple_read.proofs.Places.{word_in, short, zeroed, found, later}
 
@@ -23,15 +22,6 @@ read-more old now new reads more was is =
     let sum : old.words + reads + more ≡ old.words + (reads + more) = omega arith in
     is ∙ ap (λ (v : NodeView). read_at v more) was ∙ ap (λ n. let v : NodeView = record old { words = n } in v) sum
 
--- the row is still of the snapshot
-pub shows-still : (old now : NodeView) (reads row : ℕ) → HasNode old row → now ≡ read_at old reads → ShowsRow now row
-shows-still old now reads row node is = (node.shown, ap (λ (v : NodeView). v.snapshot) is ∙ node.snapshot, node.has)
-
--- the words of items that were passed
-stride-none : (leaf : Bool) → width_of leaf * 0 ≡ 0
-stride-none true = refl
-stride-none false = refl
-
 stride-more : (leaf : Bool) (reads : ℕ) → width_of leaf * (reads + 1) ≡ width_of leaf * reads + width_of leaf
 stride-more true reads = omega arith
 stride-more false reads = omega arith
@@ -39,44 +29,34 @@ stride-more false reads = omega arith
 -- the places before this one do not have the page
 pub record Passed (old now : NodeView) (leaf : Bool) (page row place : ℕ) : Type 0 where
   pub within : place ≤ 32
-  pub word : (shown : Shown) → old.snapshot ≡ Some shown
+  pub word : (shown : ShownTree) → old.snapshot ≡ Some shown
       → word_in leaf page (at_of shown.words row) ≡ word_in leaf page (drop place (at_of shown.words row))
   pub reads : ℕ
   pub count : width_of leaf * reads ≡ place
   pub view : now ≡ read_at old reads
 
--- the first place
-pub passed-none : (old : NodeView) (leaf : Bool) (page row : ℕ) → Passed old old leaf page row 0
-passed-none old leaf page row = record {
-  within = omega arith;
-  word = λ shown is. refl;
-  reads = 0;
-  count = stride-none leaf;
-  view = read-none old;
-}
-
 -- a snapshot is one tree
-pub one_shown : (old : NodeView) (one other : Shown) → old.snapshot ≡ Some one → old.snapshot ≡ Some other → one ≡ other
+pub one_shown : (old : NodeView) (one other : ShownTree) → old.snapshot ≡ Some one → old.snapshot ≡ Some other → one ≡ other
 one_shown old one other is also = cc
 
 -- the words of a node from a place on, in the reader's snapshot
-node_words : (old : NodeView) (row : ℕ) (shown : Shown) → HasNode old row → old.snapshot ≡ Some shown → length (at_of shown.words row) ≡ 32
+node_words : (old : NodeView) (row : ℕ) (shown : ShownTree) → HasNode old row → old.snapshot ≡ Some shown → length (at_of shown.words row) ≡ 32
 node_words old row shown node is =
-    subst (λ (s : Shown). length (at_of s.words row) ≡ 32) (one_shown old node.shown shown node.snapshot is) node.long
+    subst (λ (s : ShownTree). length (at_of s.words row) ≡ 32) (one_shown old node.shown shown node.snapshot is) node.long
 
 -- a word that was read, in the reader's snapshot
 abbrev pub IsRead : NodeView → ℕ → ℕ → ℕ → Type 0
-IsRead now row place word = (shown : Shown) → now.snapshot ≡ Some shown → word ≡ get_or (at_of shown.words row) place 0
+IsRead now row place word = (shown : ShownTree) → now.snapshot ≡ Some shown → word ≡ get_or (at_of shown.words row) place 0
 
 -- it is the first of what is left from its place on
-first_left : (old now : NodeView) (leaf : Bool) (page row place more there word : ℕ) (shown : Shown) → Passed old now leaf page row place
+first_left : (old now : NodeView) (leaf : Bool) (page row place more there word : ℕ) (shown : ShownTree) → Passed old now leaf page row place
     → IsRead now row there word → there ≡ place + more → old.snapshot ≡ Some shown → get_or (drop place (at_of shown.words row)) more 0 ≡ word
 first_left old now leaf page row place more there word shown passed read same is =
     get_or-drop place (at_of shown.words row) more 0 ∙ ap (λ n. get_or (at_of shown.words row) n 0) (sym same)
     ∙ sym (read shown (ap (λ (v : NodeView). v.snapshot) passed.view ∙ is))
 
 -- the places from this one on have all words of an item
-left : (old : NodeView) (leaf : Bool) (row place : ℕ) (shown : Shown) → HasNode old row → place + width_of leaf ≤ 32 → old.snapshot ≡ Some shown
+left : (old : NodeView) (leaf : Bool) (row place : ℕ) (shown : ShownTree) → HasNode old row → place + width_of leaf ≤ 32 → old.snapshot ≡ Some shown
     → width_of leaf ≤ length (drop place (at_of shown.words row))
 left old leaf row place shown node room is =
     omega (arith, node_words old row shown node is, length-drop place (at_of shown.words row))
@@ -101,7 +81,7 @@ passed-more old now new leaf page row place end next node passed room read some 
 
 -- what `item_word` answers
 pub record Answers (old new : NodeView) (leaf : Bool) (page row : ℕ) (result : Option ℕ) : Type 0 where
-  pub word : (shown : Shown) → old.snapshot ≡ Some shown → word_in leaf page (at_of shown.words row) ≡ result
+  pub word : (shown : ShownTree) → old.snapshot ≡ Some shown → word_in leaf page (at_of shown.words row) ≡ result
   pub view : (reads : ℕ) × (width_of leaf * reads ≤ 32 + width_of leaf) × (new ≡ read_at old reads)
 
 -- none where no place is left

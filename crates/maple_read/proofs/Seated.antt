@@ -3,7 +3,7 @@ use Rattle.std.proofs.Common.{ℕ, ◌≡◌, ◌%◌, List, [], ◌∷◌, ◌+
 use Rattle.std.specs.List.{slice_get}
 use Rattle.maple_node.specs.declared.root.Root.{Root}
 use Rattle.node_slots.specs.declared.view.Size.{Size}
-use Rattle.node_slots.specs.declared.view.Shown.{Shown}
+use Rattle.node_slots.specs.declared.view.ShownTree.{ShownTree}
 use Rattle.node_slots.specs.declared.view.NodeView.{NodeView}
 use Rattle.node_slots.specs.declared.seats.NodeTable.{NodeTable}
 use Rattle.node_slots.specs.declared.seats.NodeSeat.{NodeSeat}
@@ -15,7 +15,7 @@ use Rattle.maple_read.specs.Walks.{HasLoaded}
 use Rattle.maple_read.proofs.Reading.{read_at}
 
 -- a root that was loaded
-pub loaded-now : (old new : NodeView) (root : Root) (shown : Shown) → shown.root ≡ root → IsShown old.size.slots shown
+pub loaded-now : (old new : NodeView) (root : Root) (shown : ShownTree) → shown.root ≡ root → IsShown old.size.slots shown
     → RowsExist old.size.rows shown → new ≡ root_at old shown → HasLoaded new root
 loaded-now old new root shown same layout exist is = record {
   shown = shown;

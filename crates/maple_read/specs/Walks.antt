@@ -4,19 +4,19 @@ use Rattle.maple_node.specs.declared.root.Root.{Root}
 use Rattle.maple_node.specs.Levels.{at_of}
 use Rattle.maple_node.specs.Trees.{pairs_of, tree_of}
 use Rattle.maple_items.specs.Pairs as paired
-use Rattle.node_slots.specs.declared.view.Shown.{Shown}
+use Rattle.node_slots.specs.declared.view.ShownTree.{ShownTree}
 use Rattle.node_slots.specs.declared.view.NodeView.{NodeView}
 use Rattle.grace_core.specs.Core.{has_row}
 use Rattle.node_slots.specs.Trees.{grace_tree, IsShown}
 use Rattle.node_slots.specs.Plays.{RowsExist}
 
 -- the slot that a tree pairs with a page, where one of its pairs has it
-abbrev pub slot_at : ℕ → Shown → Option ℕ
+abbrev pub slot_at : ℕ → ShownTree → Option ℕ
 slot_at page shown = paired.slot_at page (pairs_of (at_of shown.words) (tree_of (at_of shown.words) shown.root))
 
 -- the reader's snapshot is the tree of this root, which meets the layout, and whose rows exist
 pub record HasLoaded (view : NodeView) (root : Root) : Type 0 where
-  pub shown : Shown
+  pub shown : ShownTree
   pub snapshot : view.snapshot ≡ Some shown
   pub root_is : shown.root ≡ root
   pub layout : IsShown view.size.slots shown
@@ -24,7 +24,7 @@ pub record HasLoaded (view : NodeView) (root : Root) : Type 0 where
 
 -- a row of the reader's snapshot has the words of a node
 pub record HasNode (view : NodeView) (row : ℕ) : Type 0 where
-  pub shown : Shown
+  pub shown : ShownTree
   pub snapshot : view.snapshot ≡ Some shown
   pub has : has_row (grace_tree shown) row ≡ true
   pub long : length (at_of shown.words row) ≡ 32

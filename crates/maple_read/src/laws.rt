@@ -2,7 +2,7 @@
 
 ghost use Rattle.std.specs.Prelude.{◌≡◌, ◌+◌, ℕ};
 ghost use Rattle.maple_node.specs.declared.root.Root.{Root as TreeRoot};
-ghost use Rattle.node_slots.specs.declared.view.Shown.{Shown};
+ghost use Rattle.node_slots.specs.declared.view.ShownTree.{ShownTree};
 ghost use Rattle.node_slots.specs.declared.view.NodeView.{NodeView};
 ghost use Rattle.node_slots.specs.Trees.{IsShown};
 ghost use Rattle.node_slots.specs.Plays.{RowsExist};
@@ -11,7 +11,7 @@ ghost use Rattle.maple_read.specs.Walks.{HasLoaded};
 
 /// A reader has loaded a root where `NodeTable::root` answered it.
 pub fn a_root_that_was_loaded()
-    ensures { (view : NodeView) (shown : Shown) → IsShown view.size.slots shown → RowsExist view.size.rows shown
+    ensures { (view : NodeView) (shown : ShownTree) → IsShown view.size.slots shown → RowsExist view.size.rows shown
         → HasLoaded (root_at view shown) shown.root }
 {}
 

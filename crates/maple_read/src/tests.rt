@@ -1,7 +1,7 @@
 //! Walks of tree 0, and of trees that are one leaf.
 ghost use Rattle.std.specs.Prelude.{◌≡◌, ◌<◌, ◌-◌, ◌^◌, IfOk};
 ghost use Rattle.node_slots.specs.Seats.{Writes, desk, IsOf, IsClosed};
-ghost use Rattle.node_slots.specs.Leaves.{IsOneLeaf};
+ghost use Rattle.node_slots.specs.Internal.Leaves.{IsOneLeaf};
 
 use super::walk;
 use maple_node::Layout;

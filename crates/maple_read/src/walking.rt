@@ -1,7 +1,7 @@
 ghost use Rattle.std.specs.Prelude.{◌≡◌, ◌≢◌, ◌≤◌, ◌+◌, ◌*◌, ℕ, List, Some, true, false};
 ghost use Rattle.std.specs.Option.{option_map};
 ghost use Rattle.maple_node.specs.Levels.{at_of, read, item_at};
-ghost use Rattle.node_slots.specs.declared.view.Shown.{Shown};
+ghost use Rattle.node_slots.specs.declared.view.ShownTree.{ShownTree};
 ghost use Rattle.node_slots.specs.Seats.{IsOf, IsOpen, view};
 ghost use Rattle.maple_read.specs.Walks.{HasLoaded, HasNode, slot_at, width_of};
 
@@ -19,7 +19,7 @@ pub fn walk(nodes: &NodeTable, seat: &mut NodeSeat, root: Root, page: Page) -> O
     requires open { IsOpen seat.old }
     requires loaded { HasLoaded (view seat.old) root }
     ensures table { IsOf seat.new nodes.now }
-    ensures slot { (shown : Shown) → (view seat.old).snapshot ≡ Some shown → option_map (λ slot. slot.0) result ≡ slot_at page.0 shown }
+    ensures slot { (shown : ShownTree) → (view seat.old).snapshot ≡ Some shown → option_map (λ slot. slot.0) result ≡ slot_at page.0 shown }
     ensures view { (reads : ℕ) × (reads ≤ 105) × (view seat.new ≡ record (view seat.old) { words = (view seat.old).words + reads }) }
 {
     let mut row = root.row;
@@ -43,7 +43,7 @@ fn item_word(
     requires table { IsOf seat.old nodes.now }
     requires node { HasNode (view seat.old) row.0 }
     ensures table { IsOf seat.new nodes.now }
-    ensures word { (shown : Shown) → (view seat.old).snapshot ≡ Some shown
+    ensures word { (shown : ShownTree) → (view seat.old).snapshot ≡ Some shown
         → option_map (λ item. item.word) (item_at page.0 (read (at_of shown.words) leaf row.0)) ≡ result }
     ensures view { (reads : ℕ) × (width_of leaf * reads ≤ 32 + width_of leaf) × (view seat.new ≡ record (view seat.old) { words = (view seat.old).words + reads }) }
 {

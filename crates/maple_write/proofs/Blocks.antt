@@ -6,7 +6,7 @@ use Rattle.maple_node.specs.Nodes.{items_of, leaf_items, inner_items, end_of, As
 use Rattle.maple_node.specs.Levels.{item_at, times}
 use Rattle.maple_items.specs.Splices.{upto, beyond}
 use Rattle.maple_items.proofs.Lists.{upto-first, upto-later, beyond-first, beyond-later, item_at-first, item_at-later, upto_first, upto-beyond, upto-ascends, stands, item_at-left}
-use Rattle.maple_write.specs.Tables.{rows_in}
+use Rattle.maple_write.specs.Internal.Tables.{rows_in}
 
 -- the first item from a page on, before a page where an item ends
 pub record Next (page hi : ℕ) (items : List Item) (item : Item) : Type 0 where
@@ -126,15 +126,3 @@ length-beyond page (x ∷ xs) =
       | inl above ↦ let e = ap (λ (ys : List Item). length ys) (beyond-first page x xs above) in omega arith
       | inr past ↦ let e = ap (λ (ys : List Item). length ys) (beyond-later page x xs past) in omega arith
     ]
-
--- where a page before the end is in an item, fewer end up to it than all
-pub length-upto_less : (page : ℕ) (items : List Item) (item : Item) → item_at page items ≡ Some item → length (upto page items) < length items
-length-upto_less page [] item found = absurd (cc)
-length-upto_less page (x ∷ xs) item found = elim (cases_lt page x.end) as (λ _. length (upto page (x ∷ xs)) < length (x ∷ xs)) [
-  | inl above ↦
-      let rest = length-upto page xs in
-      let e = ap (λ (ys : List Item). length ys) (upto-later page x xs above) in omega arith
-  | inr past ↦
-      let rest = length-upto_less page xs item (sym (item_at-later page x xs past) ∙ found) in
-      let e = ap (λ (ys : List Item). length ys) (upto-first page x xs past) in omega arith
-]

@@ -1,5 +1,5 @@
 -- For `leave_upper`, `crown` and `replace`: the first items of a store, and the root of the new tree.
-use Rattle.std.proofs.Common.{ℕ, suc, ◌≡◌, ◌≢◌, ◌<◌, ◌≤◌, ◌+◌, ◌-◌, ◌*◌, ◌⊎◌, Bool, true, false, nat_eq, nat_lt, cond, List, [], ◌∷◌, ◌++◌, length, get_or, set, Some, refl, sym, ap, subst, ◌∙◌, arith, inl, inr, length-append}
+use Rattle.std.proofs.Common.{ℕ, suc, ◌≡◌, ◌≢◌, ◌<◌, ◌≤◌, ◌+◌, ◌-◌, ◌*◌, ◌⊎◌, Bool, true, false, nat_eq, nat_lt, cond, List, [], ◌∷◌, ◌++◌, length, set, Some, refl, sym, ap, subst, ◌∙◌, arith, inl, inr, length-append}
 use Rattle.std.proofs.lemmas.Bool.{cases_lt}
 use Rattle.std.proofs.lemmas.Bool.Decides.{nat_tests}
 use Rattle.std.proofs.lemmas.List.{length-set}
@@ -13,8 +13,8 @@ use Rattle.maple_node.proofs.Frames.{times-append}
 use Rattle.maple_items.specs.Splices.{upto, beyond, spliced, piece_of, piece_below, overwrite}
 use Rattle.maple_items.proofs.Lists.{upto-later, upto_all, beyond_none, upto_below, upto-ascends, beyond-ends}
 use Rattle.maple_items.proofs.Entries.{overwrite-ascends}
-use Rattle.maple_write.specs.Tables.{Table, rows_in, gone, Stand}
-use Rattle.maple_write.specs.Stores.{old_level, new_level, new_entries, Partly, IsShaped}
+use Rattle.maple_write.specs.Internal.Tables.{Table, rows_in, gone, Stand}
+use Rattle.maple_write.specs.Internal.Stores.{old_level, new_level, new_entries, Partly, IsShaped}
 use Rattle.maple_write.proofs.Levels.{AreNodes, tower_from, level_of-top}
 use Rattle.maple_write.proofs.Times.{apart, times_same, kept_other, kept-tower, times-lowest}
 use Rattle.maple_write.proofs.Blocks.{times-parts}
@@ -169,12 +169,6 @@ begun table tree start lo hi word item shaped some limit room found begins =
       };
       free = omega arith;
     }
-
--- the only item of a list
-pub only_item : (items : List Item) (d : Item) → length items ≡ 1 → items ≡ get_or items 0 d ∷ []
-only_item [] d one = absurd (omega arith)
-only_item (x ∷ []) d one = refl
-only_item (x ∷ y ∷ ys) d one = absurd (omega arith)
 
 -- the tree under one item
 pub record Crowned (old after : Table) (level : ℕ) (items : List Item) (tree : Tree) : Type 0 where

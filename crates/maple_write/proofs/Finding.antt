@@ -5,7 +5,7 @@ use Rattle.maple_node.specs.Nodes.{end_of, Ascends}
 use Rattle.maple_node.specs.Levels.{is_leaf, at_of, read, item_at, level_of, IsTower, times}
 use Rattle.maple_items.specs.Splices.{upto, beyond}
 use Rattle.maple_items.proofs.Lists.{item_at-first, upto-later}
-use Rattle.maple_write.specs.Tables.{rows_in}
+use Rattle.maple_write.specs.Internal.Tables.{rows_in}
 use Rattle.maple_write.proofs.Levels.{descend, row_there, step_down, level_of-top}
 use Rattle.maple_write.proofs.Times.{times_same}
 use Rattle.maple_write.proofs.Blocks.{next_of}

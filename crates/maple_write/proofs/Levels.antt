@@ -169,21 +169,6 @@ lowest at limit low (suc up) items tower =
       here = subst (λ (n : ℕ). AreNodes at (is_leaf low) limit 0 (level_of at (suc low) up (below at (is_leaf n) items))) e deep.here;
     }
 
-pub with_lowest : (at : ℕ → List ℕ) (limit low up : ℕ) (items : List Item) → Lowest at limit low up items → IsTower at limit low (suc up) items
-unfolding IsTower level_of
-with_lowest at limit low zero items both =
-    let e : low ≡ low + 0 = omega arith in
-    (subst (λ (n : ℕ). AreNodes at (is_leaf n) limit 0 items) e both.here, tt)
-with_lowest at limit low (suc up) items both =
-    let e : suc low + up ≡ low + suc up = omega arith in
-    let tower = both.above in (
-      subst (λ (n : ℕ). AreNodes at (is_leaf n) limit 0 items) e tower.0,
-      with_lowest at limit low up (below at (is_leaf (low + suc up)) items) (record {
-        above = subst (λ (n : ℕ). IsTower at limit (suc low) up (below at (is_leaf n) items)) e tower.1;
-        here = subst (λ (n : ℕ). AreNodes at (is_leaf low) limit 0 (level_of at (suc low) up (below at (is_leaf n) items))) e both.here;
-      }),
-    )
-
 -- the part of a tower from a level up
 tower_up : (at : ℕ → List ℕ) (limit k low level up total : ℕ) (items : List Item) → low + k ≡ level → k + up ≡ total
     → IsTower at limit low total items → IsTower at limit level up items

@@ -8,7 +8,7 @@ use Rattle.maple_node.specs.Levels.{at_of, read, below, IsNode, times, Agree}
 use Rattle.maple_node.proofs.Lists.{end_of-append}
 use Rattle.maple_node.proofs.Places.{items_of_words}
 use Rattle.maple_items.proofs.Lists.{Ascends-left, Ascends-right, IsPlain-left, IsPlain-right}
-use Rattle.maple_write.specs.Tables.{rows_in}
+use Rattle.maple_write.specs.Internal.Tables.{rows_in}
 use Rattle.maple_write.proofs.Levels.{AreNodes}
 use Rattle.maple_write.proofs.Times.{times-rows_in, times_same, apart, kept_other, written_row, below_pushed, pushed}
 
@@ -95,25 +95,6 @@ pub record Packed (rows0 rows : List (List ℕ)) (free0 free : List ℕ) (leaf :
   pub kept : (row : ℕ) → times row free0 ≡ 0 → at_of rows row ≡ at_of rows0 row
   pub taken : (row : ℕ) → times row free0 ≡ times row free + times row (rows_in packed)
   pub room : length free0 ≡ length free + length packed
-
-pub packed_none : (rows : List (List ℕ)) (free : List ℕ) (leaf : Bool) (start : ℕ) (items : List Item) → length items ≤ 3 * most leaf
-    → Packed rows rows free free leaf start start 0 items []
-packed_none rows free leaf start items few = record {
-  within = omega arith;
-  begins = refl;
-  nodes = λ limit full. tt;
-  ends = refl;
-  under = refl;
-  rest = λ more enough. omega arith;
-  count = count_none leaf few;
-  some = λ past. absurd (omega arith);
-  kept = λ row none. refl;
-  taken = λ row. omega arith;
-  room = omega arith;
-} where
-  count_none : (b : Bool) → length items ≤ 3 * most b → (length items - 0) + most b * 0 ≤ 3 * most b
-  count_none true few = omega arith
-  count_none false few = omega arith
 
 count_more : (leaf : Bool) (left count nodes : ℕ) → 1 ≤ left → left + most leaf * nodes ≤ 3 * most leaf → (left ≤ most leaf → count ≡ left)
     → (left ≤ 2 * most leaf → left - count ≤ most leaf) → (left ≤ 3 * most leaf → left - count ≤ 2 * most leaf)
@@ -213,18 +194,6 @@ pub record Done (rows : List (List ℕ)) (leaf : Bool) (items packed : List Item
   pub under : below (at_of rows) leaf packed ≡ items
   pub some : 1 ≤ length packed
   pub few : length packed ≤ 3
-
-few_nodes : (leaf : Bool) (left nodes : ℕ) → left + most leaf * nodes ≤ 3 * most leaf → nodes ≤ 3
-few_nodes true left nodes fits = omega arith
-few_nodes false left nodes fits = omega arith
-
-pub all_packed : (rows0 rows : List (List ℕ)) (free0 free : List ℕ) (leaf : Bool) (start begin place : ℕ) (items packed : List Item)
-    → Packed rows0 rows free0 free leaf start begin place items packed → length items ≤ place → 1 ≤ length items → Done rows leaf items packed
-all_packed rows0 rows free0 free leaf start begin place items packed is done some = record {
-  under = is.under ∙ take_all place items done;
-  some = is.some (omega arith);
-  few = few_nodes leaf (length items - place) (length packed) is.count;
-}
 
 -- a node has at most 16 items, and what `pack` is given fits three
 pub most_16 : (leaf : Bool) → most leaf ≤ 16

@@ -9,8 +9,8 @@ use Rattle.maple_node.proofs.Frames.{level_of-agree}
 use Rattle.maple_items.specs.Splices.{upto, beyond}
 use Rattle.maple_items.proofs.Lists.{upto-first, item_at-first, item_at-later, upto_first, end_upto}
 use Rattle.maple_write.specs.declared.path.Path.{Path}
-use Rattle.maple_write.specs.Tables.{Table, rows_in, gone}
-use Rattle.maple_write.specs.Stores.{old_level, Partly, Begins, IsPath}
+use Rattle.maple_write.specs.Internal.Tables.{Table, rows_in, gone}
+use Rattle.maple_write.specs.Internal.Stores.{old_level, Partly, Begins, IsPath}
 use Rattle.maple_write.proofs.Levels.{tower_from}
 use Rattle.maple_write.proofs.Times.{times-lowest}
 use Rattle.maple_write.proofs.Rising.{framed}

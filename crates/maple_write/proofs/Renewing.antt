@@ -8,8 +8,8 @@ use Rattle.maple_node.proofs.Places.{items_of_words}
 use Rattle.maple_items.specs.declared.place.Place.{Place}
 use Rattle.maple_items.specs.Splices.{upto, beyond, spliced}
 use Rattle.maple_items.proofs.Spliced.{ascends_from}
-use Rattle.maple_write.specs.Tables.{Table, rows_in, gone}
-use Rattle.maple_write.specs.Stores.{old_level, Partly, Cut, IsRenewed}
+use Rattle.maple_write.specs.Internal.Tables.{Table, rows_in, gone}
+use Rattle.maple_write.specs.Internal.Stores.{old_level, Partly, Cut, IsRenewed}
 use Rattle.maple_write.proofs.Levels.{AreNodes}
 use Rattle.maple_write.proofs.Steps.{there_at, item_at-same, cut_of}
 use Rattle.maple_write.proofs.Rising.{Rose, rose}

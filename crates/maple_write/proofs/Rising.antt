@@ -8,8 +8,8 @@ use Rattle.maple_node.proofs.Levels.{nodes-ascend, end_of-below}
 use Rattle.maple_node.proofs.Frames.{times-append, below-agree}
 use Rattle.maple_items.specs.Splices.{upto, beyond, spliced}
 use Rattle.maple_items.proofs.Lists.{AllFrom-append, AllFrom-right, upto-beyond}
-use Rattle.maple_write.specs.Tables.{Table, rows_in, gone}
-use Rattle.maple_write.specs.Stores.{old_level, new_level, new_entries, Partly, Cut}
+use Rattle.maple_write.specs.Internal.Tables.{Table, rows_in, gone}
+use Rattle.maple_write.specs.Internal.Stores.{old_level, new_level, new_entries, Partly, Cut}
 use Rattle.maple_write.proofs.Levels.{AreNodes, nodes-upto}
 use Rattle.maple_write.proofs.Times.{times-rows_in, kept-nodes, Kept, kept-tower, times-lowest}
 use Rattle.maple_write.proofs.Blocks.{inner-plain, times-parts}

@@ -8,7 +8,7 @@ use Rattle.maple_node.specs.Levels.{is_leaf, read, below, level_of, IsTower, row
 use Rattle.maple_node.specs.Trees.{Tree, entries_of, tree_rows, IsLayout}
 use Rattle.maple_node.proofs.Lists.{ends_behind}
 use Rattle.maple_node.proofs.Levels.{nodes-ascend, end_of-below}
-use Rattle.maple_write.specs.Tables.{rows_in}
+use Rattle.maple_write.specs.Internal.Tables.{rows_in}
 use Rattle.maple_write.proofs.Levels.{AreNodes}
 
 -- a node more that has at least as many items as a node has

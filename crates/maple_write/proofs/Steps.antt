@@ -10,8 +10,8 @@ use Rattle.maple_node.proofs.Levels.{nodes-ascend, end_of-below, level-ends}
 use Rattle.maple_node.proofs.Frames.{times-append}
 use Rattle.maple_items.specs.Splices.{upto, beyond}
 use Rattle.maple_items.proofs.Lists.{Ascends-left, Ascends-right, IsPlain-append, IsPlain-upto, IsPlain-beyond, item_at-first, item_at-later, stands, AllFrom-at, beyond-ends}
-use Rattle.maple_write.specs.Tables.{Table, rows_in, gone, Stand}
-use Rattle.maple_write.specs.Stores.{old_level, new_level, Partly, Cut}
+use Rattle.maple_write.specs.Internal.Tables.{Table, rows_in, gone, Stand}
+use Rattle.maple_write.specs.Internal.Stores.{old_level, new_level, Partly, Cut}
 use Rattle.maple_write.proofs.Levels.{AreNodes, upto-below, beyond-below, descend, nodes-upto, row_there, Step, step_down}
 use Rattle.maple_write.proofs.Blocks.{item_edge, items-plain, length-upto, length-beyond}
 

@@ -1,5 +1,5 @@
 -- For `store`, `publish_tree` and what they call: the entries of a store, and the writer's view before and after it.
-use Rattle.std.proofs.Common.{ℕ, zero, suc, ◌≡◌, ◌≢◌, ◌<◌, ◌≤◌, ◌+◌, ◌-◌, ◌^◌, Bool, true, false, nat_eq, nat_lt, cond, ◌&&◌, List, [], ◌∷◌, ◌++◌, length, get_or, set, replicate, All, Some, refl, sym, ap, subst, ◌∙◌, arith, inl, inr, if◌then◌else◌, length-append}
+use Rattle.std.proofs.Common.{ℕ, zero, suc, ◌≡◌, ◌≢◌, ◌<◌, ◌≤◌, ◌+◌, ◌-◌, ◌^◌, Bool, true, false, nat_eq, nat_lt, cond, ◌&&◌, List, [], ◌∷◌, ◌++◌, length, set, replicate, All, Some, refl, sym, ap, subst, ◌∙◌, arith, inl, inr, if◌then◌else◌, length-append}
 use Rattle.std.proofs.lemmas.Bool.{cases_lt}
 use Rattle.std.proofs.lemmas.Bool.Decides.{nat_tests}
 use Rattle.std.proofs.lemmas.List.{length-set, length-map}
@@ -23,12 +23,12 @@ use Rattle.node_slots.specs.Seats.{sight, desk, row_count, free_of, left_of, is_
 use Rattle.node_slots.specs.Built.{words_at, built, built_rows, IsBuilt, IsWriters, pairs_now}
 use Rattle.node_slots.proofs.Listing.{gone_few}
 use Rattle.maple_write.specs.declared.rows.Rooted.{Rooted}
-use Rattle.maple_write.specs.Tables.{Table, table_at, gone, FillsRows}
-use Rattle.maple_write.specs.Stores.{old_level, IsShaped, IsWhole, IsBare, Finds, tree_under, all_gap}
+use Rattle.maple_write.specs.Internal.Tables.{Table, table_at, gone}
+use Rattle.maple_write.specs.Tables.{FillsRows}
+use Rattle.maple_write.specs.Internal.Stores.{old_level, IsShaped, IsWhole, Finds, tree_under, all_gap}
 use Rattle.maple_write.proofs.Levels.{AreNodes, row_there, step_down, level_of-top}
 use Rattle.maple_write.proofs.Times.{whole_list}
 use Rattle.maple_write.proofs.Steps.{counts}
-use Rattle.maple_write.proofs.Packing.{last_end}
 use Rattle.maple_write.proofs.Writers.{rows_counted, kept_counts, is_kept_from}
 use Rattle.maple_write.proofs.Crowns.{full, first_entries}
 use Rattle.maple_write.proofs.Blocks.{length-beyond}
@@ -61,12 +61,6 @@ pub entry_begins : (table : Table) (tree : Tree) (page start : ℕ) → start �
 entry_begins table tree page start begins =
     let e : tree.height - 0 ≡ tree.height = omega arith in
     begins ∙ ap (λ (n : ℕ). end_of 0 (upto page (level_of (at_of table.rows) 0 n (tree.top ∷ [])))) e
-
--- the tower that `find` asks for
-pub tower_down : (table : Table) (tree : Tree) → IsShaped table tree → IsTower (at_of table.rows) tree.top.end 0 (tree.height - 0) (tree.top ∷ [])
-tower_down table tree shaped =
-    let e : tree.height ≡ tree.height - 0 = omega arith in
-    subst (λ (n : ℕ). IsTower (at_of table.rows) tree.top.end 0 n (tree.top ∷ [])) e shaped.tower
 
 -- the root is a node in a row of the table
 root_is : (at : ℕ → List ℕ) (limit height : ℕ) (top : Item) → 1 ≤ height → IsTower at limit 0 height (top ∷ []) → IsNode at (is_leaf (height - 1)) limit 0 top
@@ -115,33 +109,57 @@ pub hi_slot : (page : ℕ) (item : Item) (xs : List Item) → item_at page xs �
 unfolding widened_hi
 hi_slot page item xs found slot = let is : nat_eq item.word 0 ≡ false = grind (arith, nat_tests) in rw (found, is) refl
 
+-- what a store finds: entries in order, with slots below a number, of which no two gaps are neighbours; and a span within them
+pub record Spanned (slots lo hi : ℕ) (xs : List Item) : Type 0 where
+  pub ascends : Ascends 0 xs
+  pub apart : ApartFrom 1 xs
+  pub numbered : All (λ (entry : Item). entry.word ≤ slots) xs
+  pub some : lo < hi
+  pub limit : hi ≤ end_of 0 xs
+
+pub spanned : (table : Table) (slots lo hi : ℕ) (tree : Tree) → IsWhole table slots tree → lo < hi → hi ≤ tree.top.end
+    → Spanned slots lo hi (entries_of (at_of table.rows) tree)
+spanned table slots lo hi tree whole some limit =
+    let all = covers table tree whole.shaped in
+    let ends = all.ends in
+    record { ascends = all.ascends; apart = whole.apart; numbered = whole.numbered; some = some; limit = omega arith }
+
+-- a gap that takes in those beside it has a page, and ends within the tree
+pub gap_within : (table : Table) (slots lo hi low high : ℕ) (tree : Tree) → IsWhole table slots tree → lo < hi → hi ≤ tree.top.end
+    → low ≡ widened_lo lo (entries_of (at_of table.rows) tree) → high ≡ widened_hi hi (entries_of (at_of table.rows) tree)
+    → (low < high) × (high ≤ tree.top.end)
+gap_within table slots lo hi low high tree whole some limit begins ends =
+    let xs = entries_of (at_of table.rows) tree in
+    let found = spanned table slots lo hi tree whole some limit in
+    let is = widened lo hi xs found.ascends found.apart some found.limit in
+    let all = covers table tree whole.shaped in (omega (arith, begins, ends, is.down, is.up), omega (arith, ends, is.limit, all.ends))
+
 -- what a store makes of the entries
 pub record Stored (after : Table) (slots : ℕ) (new : Tree) (pairs : List Pair) : Type 0 where
   pub whole : IsWhole after slots new
   pub pairs_are : pairs_of (at_of after.rows) new ≡ pairs
 
 -- by a slot
-pub slot_stored : (after : Table) (slots lo hi word : ℕ) (new : Tree) (xs : List Item) → Ascends 0 xs → ApartFrom 1 xs
-    → All (λ (entry : Item). entry.word ≤ slots) xs → lo < hi → hi ≤ end_of 0 xs → word ≤ slots → word ≢ 0 → IsShaped after new
-    → entries_of (at_of after.rows) new ≡ overwrite lo hi word xs → Stored after slots new (overwritten lo hi word (pairs_from 0 xs))
-slot_stored after slots lo hi word new xs ascends apart numbered some limit fits slot shaped entries =
+pub slot_stored : (after : Table) (slots lo hi word : ℕ) (new : Tree) (xs : List Item) → Spanned slots lo hi xs → word ≤ slots → word ≢ 0
+    → IsShaped after new → entries_of (at_of after.rows) new ≡ overwrite lo hi word xs
+    → Stored after slots new (overwritten lo hi word (pairs_from 0 xs))
+slot_stored after slots lo hi word new xs found fits slot shaped entries =
     let back = sym entries in
     record {
       whole = record {
         shaped = shaped;
-        apart = subst (λ (ys : List Item). ApartFrom 1 ys) back (stored-apart lo hi word xs ascends apart some limit slot);
-        numbered = subst (λ (ys : List Item). All (λ (entry : Item). entry.word ≤ slots) ys) back (overwrite-words lo hi word slots xs numbered fits);
+        apart = subst (λ (ys : List Item). ApartFrom 1 ys) back (stored-apart lo hi word xs found.ascends found.apart found.some found.limit slot);
+        numbered = subst (λ (ys : List Item). All (λ (entry : Item). entry.word ≤ slots) ys) back (overwrite-words lo hi word slots xs found.numbered fits);
       };
-      pairs_are = ap (pairs_from 0) entries ∙ overwrite-pairs lo hi word xs ascends some limit;
+      pairs_are = ap (pairs_from 0) entries ∙ overwrite-pairs lo hi word xs found.ascends found.some found.limit;
     }
 
 -- by a gap, which takes in those beside it
-pub gap_stored : (after : Table) (slots lo hi low high : ℕ) (new : Tree) (xs : List Item) → Ascends 0 xs → ApartFrom 1 xs
-    → All (λ (entry : Item). entry.word ≤ slots) xs → lo < hi → hi ≤ end_of 0 xs → IsShaped after new
+pub gap_stored : (after : Table) (slots lo hi low high : ℕ) (new : Tree) (xs : List Item) → Spanned slots lo hi xs → IsShaped after new
     → low ≡ widened_lo lo xs → high ≡ widened_hi hi xs
     → entries_of (at_of after.rows) new ≡ overwrite low high 0 xs → Stored after slots new (overwritten lo hi 0 (pairs_from 0 xs))
-gap_stored after slots lo hi low high new xs ascends apart numbered some limit shaped begins ends entries =
-    let is = widened lo hi xs ascends apart some limit in
+gap_stored after slots lo hi low high new xs found shaped begins ends entries =
+    let is = widened lo hi xs found.ascends found.apart found.some found.limit in
     let same : entries_of (at_of after.rows) new ≡ overwrite (widened_lo lo xs) (widened_hi hi xs) 0 xs =
     entries ∙ ap (λ (p : ℕ). overwrite p high 0 xs) begins ∙ ap (λ (p : ℕ). overwrite (widened_lo lo xs) p 0 xs) ends in
     let back = sym same in
@@ -150,7 +168,7 @@ gap_stored after slots lo hi low high new xs ascends apart numbered some limit s
         shaped = shaped;
         apart = subst (λ (ys : List Item). ApartFrom 1 ys) back is.apart;
         numbered = subst (λ (ys : List Item). All (λ (entry : Item). entry.word ≤ slots) ys) back
-            (overwrite-words (widened_lo lo xs) (widened_hi hi xs) 0 slots xs numbered (omega arith));
+            (overwrite-words (widened_lo lo xs) (widened_hi hi xs) 0 slots xs found.numbered (omega arith));
       };
       pairs_are = ap (pairs_from 0) same ∙ is.pairs;
     }
@@ -167,6 +185,11 @@ gap_is limit some = record { ascends = (some, tt); apart = ((λ one zero. absurd
 pub gap_numbered : (limit slots : ℕ) → All (λ (entry : Item). entry.word ≤ slots) (all_gap limit)
 gap_numbered limit slots zero d within = omega arith
 gap_numbered limit slots (suc k) d within = absurd (omega arith)
+
+pub gap_spanned : (limit slots lo hi : ℕ) → lo < hi → hi ≤ limit → Spanned slots lo hi (all_gap limit)
+gap_spanned limit slots lo hi some within =
+    let gap = gap_is limit (omega arith) in
+    record { ascends = gap.ascends; apart = gap.apart; numbered = gap_numbered limit slots; some = some; limit = within }
 
 -- the first leaf of a tree
 pub record Planted (after : Table) (limit : ℕ) (items : List Item) (top : Item) : Type 0 where
@@ -387,19 +410,6 @@ still_built old new tree words size free left is =
           ∙ sym (ap count_of (kept row));
     }
 
--- a root as its row tells it
-pub rooted_is : (at : ℕ → List ℕ) (height root word end gap : ℕ) (leaf : Bool) (items : List Item) → leaf ≡ is_leaf (height - 1) → word ≡ root
-    → items ≡ read at leaf word → end ≡ end_of 0 items → gap ≡ gap_of leaf 0 items
-    → ◌≡◌ {A = Tree} (record { top = record { end = end; word = word; gap = gap }; height = height }) (record { top = top_of at height root; height = height })
-rooted_is at height root word end gap leaf items leaf_is word_is items_are ends gaps =
-    let made : ℕ → ℕ → ℕ → Tree = λ e w g. record { top = record { end = e; word = w; gap = g }; height = height } in
-    let kind = is_leaf (height - 1) in
-    let all : items ≡ read at kind root = items_are ∙ ap (λ b. read at b word) leaf_is ∙ ap (λ (r : ℕ). read at kind r) word_is in
-    let end_is : end ≡ end_of 0 (read at kind root) = ends ∙ ap (end_of 0) all in
-    let gap_is : gap ≡ gap_of kind 0 (read at kind root) = gaps ∙ ap (λ b. gap_of b 0 items) leaf_is ∙ ap (gap_of kind 0) all in
-    ap (λ (e : ℕ). made e word gap) end_is ∙ ap (λ (g : ℕ). made (end_of 0 (read at kind root)) word g) gap_is
-    ∙ ap (λ (w : ℕ). made (end_of 0 (read at kind root)) w (gap_of kind 0 (read at kind root))) word_is
-
 -- the span that a gap takes in where all pages are one gap
 pub gap_lo : (limit lo : ℕ) → lo < limit → 0 ≡ widened_lo lo (all_gap limit)
 gap_lo limit lo less =
@@ -483,20 +493,9 @@ found_whole writer old limit is some = elim is as (λ _. IsWhole (table_at write
   | inr bare ↦ absurd (some bare.none)
 ]
 
-pub found_bare : (writer : NodeWriter) (old : Rooted) (limit : ℕ) → Finds writer old limit → old.top.end ≡ 0 → 0 < limit → IsBare writer old
-found_bare writer old limit is none some = elim is as (λ _. IsBare writer old) [
-  | inl whole ↦ let e = whole.1 in absurd (omega arith)
-  | inr bare ↦ bare
-]
-
 pub first_two : (start lo hi word : ℕ) (item : Item) → length (piece_of start lo (Some item) ++ record { end = hi; word = word; gap = 0 } ∷ []) ≤ 2
 first_two start lo hi word item =
     let entry : Item = record { end = hi; word = word; gap = 0 } in
     let long = length-append (piece_of start lo (Some item)) (entry ∷ []) in
     let one = piece_few start lo item in
     omega arith
-
--- where items end
-pub last_or_none : (items : List Item) → (get_or items (length items - 1) (record { end = 0; word = 0; gap = 0 })).end ≡ end_of 0 items
-last_or_none [] = refl
-last_or_none (x ∷ xs) = last_end 0 (x ∷ xs) (record { end = 0; word = 0; gap = 0 }) (omega arith)

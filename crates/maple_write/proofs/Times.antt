@@ -1,5 +1,5 @@
 -- For `put`, `pack`, `rise` and others: how often a row stands among others, and what stays when other rows are written.
-use Rattle.std.proofs.Common.{ℕ, zero, suc, ◌≡◌, ◌≢◌, ◌<◌, ◌≤◌, ◌+◌, Bool, true, false, nat_eq, List, [], ◌∷◌, ◌++◌, length, set, refl, sym, ap, subst, ◌∙◌, arith}
+use Rattle.std.proofs.Common.{ℕ, zero, suc, ◌≡◌, ◌≢◌, ◌<◌, ◌≤◌, ◌+◌, Bool, true, nat_eq, List, [], ◌∷◌, ◌++◌, length, set, refl, sym, ap, subst, ◌∙◌, arith}
 use Rattle.std.proofs.lemmas.Bool.Decides.{nat_tests}
 use Rattle.std.proofs.lemmas.List.{map-append, get_or-set_other, get_or-set_same}
 use Rattle.std.proofs.lemmas.Grind.{flat_map-append}
@@ -8,7 +8,7 @@ use Rattle.maple_node.specs.Nodes.{items_of, words_of, most, least, end_of, Asce
 use Rattle.maple_node.specs.Levels.{is_leaf, at_of, read, below, IsNode, level_of, IsTower, rows_of, times, Agree}
 use Rattle.maple_node.proofs.Frames.{times-append, times-first, below-agree, rows_of-agree, level_of-agree, tower-agree}
 use Rattle.maple_items.proofs.Lists.{AllFrom-append}
-use Rattle.maple_write.specs.Tables.{rows_in}
+use Rattle.maple_write.specs.Internal.Tables.{rows_in}
 use Rattle.maple_write.proofs.Levels.{AreNodes}
 
 -- how often a row is among those of joined items
@@ -18,9 +18,6 @@ times-rows_in row xs ys = ap (times row) (map-append (λ (item : Item). item.wor
 -- a row that is listed first
 pub times_same : (row : ℕ) (rows : List ℕ) → times row (row ∷ rows) ≡ 1 + times row rows
 times_same row rows = let same : nat_eq row row ≡ true = grind (arith, nat_tests) in rw same refl
-
-pub times_other : (row other : ℕ) (rows : List ℕ) → row ≢ other → times row (other ∷ rows) ≡ times row rows
-times_other row other rows differ = let test : nat_eq other row ≡ false = grind (arith, nat_tests) in rw test (omega arith)
 
 -- a row that is not among others is none of them
 pub apart : (a b : ℕ) (rows : List ℕ) → times a rows ≡ 0 → 1 ≤ times b rows → a ≢ b

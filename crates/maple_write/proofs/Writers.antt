@@ -17,7 +17,8 @@ use Rattle.node_slots.specs.Kept.{times_gone}
 use Rattle.node_slots.specs.Seats.{sight, desk, row_count, free_of, left_of, is_present, is_waiting, is_kept, is_taken}
 use Rattle.node_slots.proofs.Listing.{kept_from}
 use Rattle.node_slots.proofs.Writers.{writer_kept, writer_taken, times_same}
-use Rattle.maple_write.specs.Tables.{table_at, gone, FillsRows}
+use Rattle.maple_write.specs.Internal.Tables.{table_at, gone}
+use Rattle.maple_write.specs.Tables.{FillsRows}
 
 -- a view with other words of rows
 abbrev pub with_words : NodeView → List (List ℕ) → NodeView

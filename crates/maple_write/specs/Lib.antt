@@ -1,3 +1,2 @@
 pub mod Tables
-pub mod Stores
-pub mod Tests
+pub mod Internal

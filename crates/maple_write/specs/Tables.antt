@@ -1,19 +1,7 @@
--- The writer's table as the proofs of a store see it.
-use Rattle.std.specs.Prelude.{ℕ, ◌≡◌, ◌+◌, List, map, length, if◌then◌else◌, nat_lt}
-use Rattle.maple_node.specs.declared.item.Item.{Item}
-use Rattle.maple_node.specs.Levels.{times}
+-- What storing rows of a tree leaves as it was in the writer's table.
+use Rattle.std.specs.Prelude.{ℕ, ◌≡◌, length}
 use Rattle.node_slots.specs.declared.seats.NodeWriter.{NodeWriter}
-use Rattle.node_slots.specs.Seats.{sight, desk, free_of, left_of, is_waiting}
-
--- the words of each row, the rows that are free, and those that were left
-pub record Table : Type 0 where
-  pub rows : List (List ℕ)
-  pub free : List ℕ
-  pub left : List ℕ
-
--- the table of a writer
-abbrev pub table_at : NodeWriter → Table
-table_at writer = record { rows = (desk writer).words; free = free_of writer; left = left_of writer }
+use Rattle.node_slots.specs.Seats.{sight, desk, is_waiting}
 
 -- Rows were taken, filled and left, and nothing was published: all else that the writer knows is as it was, and the same rows
 -- wait.
@@ -21,15 +9,3 @@ pub record FillsRows (old new : NodeWriter) : Type 0 where
   pub seen : sight new ≡ record (sight old) { known = record (sight old).known { desk = record (desk old) { words = (desk new).words } } }
   pub long : length (desk new).words ≡ length (desk old).words
   pub waits : (row : ℕ) → is_waiting new row ≡ is_waiting old row
-
--- the rows of items
-abbrev pub rows_in : List Item → List ℕ
-rows_in items = map (λ item. item.word) items
-
--- how often a row is free or was left
-abbrev pub gone : Table → ℕ → ℕ
-gone table row = times row table.free + times row table.left
-
--- each row of the table stands once: among these rows, or free or left
-pub record Stand (table : Table) (rows : List ℕ) : Type 0 where
-  pub each : (row : ℕ) → times row rows + gone table row ≡ (if nat_lt row (length table.rows) then 1 else 0)

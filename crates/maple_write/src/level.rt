@@ -6,8 +6,9 @@ ghost use Rattle.maple_node.specs.Levels.{is_leaf, read, below, item_at, IsTower
 ghost use Rattle.maple_items.specs.Splices.{upto, beyond};
 ghost use Rattle.node_slots.specs.Seats.{Writes, sight, row_count, free_of, is_waiting};
 ghost use Rattle.node_slots.specs.Built.{words_at};
-ghost use Rattle.maple_write.specs.Tables.{table_at, rows_in, gone, FillsRows};
-ghost use Rattle.maple_write.specs.Stores.{old_level, new_level, new_entries, Partly, Cut, IsRenewed, IsPath};
+ghost use Rattle.maple_write.specs.Internal.Tables.{table_at, rows_in, gone};
+ghost use Rattle.maple_write.specs.Tables.{FillsRows};
+ghost use Rattle.maple_write.specs.Internal.Stores.{old_level, new_level, new_entries, Partly, Cut, IsRenewed, IsPath};
 
 use crate::few::FewItems;
 use crate::path::{Path, find};

@@ -7,8 +7,8 @@ ghost use Rattle.maple_node.specs.Levels.{item_at, IsTower};
 ghost use Rattle.maple_items.specs.Splices.{upto};
 ghost use Rattle.node_slots.specs.Seats.{Writes};
 ghost use Rattle.node_slots.specs.Built.{words_at};
-ghost use Rattle.maple_write.specs.Tables.{table_at};
-ghost use Rattle.maple_write.specs.Stores.{old_level, Begins, IsPath};
+ghost use Rattle.maple_write.specs.Internal.Tables.{table_at};
+ghost use Rattle.maple_write.specs.Internal.Stores.{old_level, Begins, IsPath};
 
 use crate::rows::{Rooted, words};
 use maple_items::{Place, item_in};

@@ -5,7 +5,8 @@ ghost use Rattle.maple_node.specs.Nodes.{words_of, items_of, most, least, end_of
 ghost use Rattle.maple_node.specs.Levels.{read, below, AllFrom, IsNode, times};
 ghost use Rattle.node_slots.specs.Seats.{Writes, desk, row_count, free_of, left_of};
 ghost use Rattle.node_slots.specs.Built.{words_at};
-ghost use Rattle.maple_write.specs.Tables.{rows_in, FillsRows};
+ghost use Rattle.maple_write.specs.Internal.Tables.{rows_in};
+ghost use Rattle.maple_write.specs.Tables.{FillsRows};
 
 use crate::few::FewItems;
 use maple_items::{gap_in, node_words, share};

@@ -8,8 +8,9 @@ ghost use Rattle.maple_items.specs.Pairs.{overwritten};
 ghost use Rattle.node_slots.specs.Views.{publish_at};
 ghost use Rattle.node_slots.specs.Seats.{Writes, sight, desk, row_count, free_of, left_of, is_kept, next_root};
 ghost use Rattle.node_slots.specs.Built.{words_at, built, IsBuilt, IsWriters, pairs_now};
-ghost use Rattle.maple_write.specs.Tables.{table_at, FillsRows};
-ghost use Rattle.maple_write.specs.Stores.{IsShaped, IsWhole, Finds, tree_under, all_gap, IsPath};
+ghost use Rattle.maple_write.specs.Internal.Tables.{table_at};
+ghost use Rattle.maple_write.specs.Tables.{FillsRows};
+ghost use Rattle.maple_write.specs.Internal.Stores.{IsShaped, IsWhole, Finds, tree_under, all_gap, IsPath};
 
 use crate::path::{Path, find, path_to};
 use crate::rows::{Rooted, put, words};

@@ -7,8 +7,9 @@ ghost use Rattle.maple_node.specs.Trees.{entries_of};
 ghost use Rattle.maple_items.specs.Splices.{piece_of, overwrite};
 ghost use Rattle.node_slots.specs.Seats.{Writes, sight, row_count, free_of, is_waiting};
 ghost use Rattle.node_slots.specs.Built.{words_at};
-ghost use Rattle.maple_write.specs.Tables.{table_at, gone, FillsRows, Stand};
-ghost use Rattle.maple_write.specs.Stores.{IsShaped, tree_under, IsPath};
+ghost use Rattle.maple_write.specs.Internal.Tables.{table_at, gone, Stand};
+ghost use Rattle.maple_write.specs.Tables.{FillsRows};
+ghost use Rattle.maple_write.specs.Internal.Stores.{IsShaped, tree_under, IsPath};
 
 use crate::few::FewItems;
 use crate::level::{Stretch, leave_block, rise};

@@ -1,5 +1,5 @@
 -- For `push_line`, `push_list`, `push_range` and what they call: where an append that stops leaves a beginning of its text.
-use Rattle.std.proofs.Common.{◌≡◌, ℕ, ◌-◌, ◌+◌, ◌≤◌, List, [], ◌++◌, length, take, drop, append_assoc, append-nil, take-append-drop, sym, ap, ◌∙◌, refl, arith, length-append}
+use Rattle.std.proofs.Common.{◌≡◌, ℕ, ◌-◌, ◌+◌, ◌≤◌, List, [], ◌++◌, length, take, drop, append_assoc, append-nil, take-append-drop, sym, ap, ◌∙◌, arith, length-append}
 use Rattle.std.proofs.Math.Seq.{take-append_seam, take-append-add}
 use Rattle.std.specs.Prelude.{Result, Ok, Err, OnErr}
 use Rattle.mm_types.specs.declared.memory.NoMemory.{NoMemory}
@@ -16,10 +16,6 @@ front_of_parts old new added rest text adds whole = record {
   count = length added;
   front = adds ∙ ap (λ front. old ++ front) (sym (take-append_seam added rest) ∙ ap (take (length added)) whole);
 }
-
--- nothing was added
-pub front_of_none : (old new text : List ℕ) → new ≡ old → AppendsFront old new text
-front_of_none old new text same = front_of_parts old new [] text text (same ∙ sym (append-nil old)) refl
 
 -- all of it was added
 pub front_of_all : (old new text : List ℕ) → new ≡ old ++ text → AppendsFront old new text

@@ -1,15 +1,9 @@
--- For `span_part` and `place_part`: what `{:02x}` and `{:05x}000` write.
-use Rattle.std.proofs.Common.{◌≡◌, ℕ, zero, suc, ◌^◌, ◌-◌, ◌*◌, ◌/◌, ◌%◌, ◌<◌, ◌≤◌, ◌==◌, true, false, if◌then◌else◌, List, [], ◌∷◌, ◌++◌, length, append-nil, append_assoc, sym, ap, ◌∙◌, refl, arith, codes, length-append, replicate}
-use Rattle.std.proofs.Math.Nat.{sub-zero, pow-suc}
+-- For `span_part` and `place_part`: the address of a page is its number and three zeros.
+use Rattle.std.proofs.Common.{◌≡◌, ℕ, zero, suc, ◌^◌, ◌-◌, ◌*◌, ◌/◌, ◌%◌, ◌<◌, ◌≤◌, ◌==◌, true, false, if◌then◌else◌, List, [], ◌∷◌, ◌++◌, length, append_assoc, sym, ap, ◌∙◌, refl, arith, codes, decimal, length-append, replicate}
+use Rattle.std.proofs.Math.Nat.{pow-suc}
 use Rattle.std.proofs.lemmas.Bool.Decides.{nat_tests}
-use Rattle.std.specs.Fmt.{digits, digits_onto, digit_glyph, format_spec, padded_integral, char_count}
-use Rattle.mm_types.specs.MapsText.{hex, start_text}
-
--- a number in hexadecimal that is filled with zeros up to the width
-pub padded_hex : (width n : ℕ) →
-    padded_integral (format_spec 32 0 4 width (2 ^ 64 - 1)) false [] (digits 16 false n) ≡ hex width n
-unfolding hex padded_integral char_count
-padded_hex width n = simp (append-nil, sub-zero)
+use Rattle.std.specs.Fmt.{digits, digits_onto, digit_glyph}
+use Rattle.mm_types.specs.MapsText.{Backing, hex, start_text, place_text}
 
 -- what is written after the digits stays there
 onto_append : (k n : ℕ) (acc tail : List ℕ)
@@ -58,13 +52,23 @@ start_above page some small = let number = digits 16 false page in
     rw (address_digits page some small) (rw zeros (sym (append_assoc (replicate (5 - length number) 48) number (codes "000"))))
 
 -- where a page begins, in bytes: its number, filled with zeros up to five digits, and three zeros
-start_parts : (page : ℕ) → page < 16 ^ 61 → start_text page ≡ hex 5 page ++ codes "000"
+pub start_parts : (page : ℕ) → page < 16 ^ 61 → start_text page ≡ hex 5 page ++ codes "000"
 unfolding start_text hex digits
 start_parts zero small = refl
 start_parts (suc page) small = start_above (suc page) (omega arith) small
 
--- the same as it is written, before what follows
-pub padded_start : (page : ℕ) (rest : List ℕ) → page < 2 ^ 64
-    → padded_integral (format_spec 32 0 4 5 (2 ^ 64 - 1)) false [] (digits 16 false page) ++ (codes "000" ++ rest) ≡ start_text page ++ rest
-padded_start page rest small = ap (λ text. text ++ (codes "000" ++ rest)) (padded_hex 5 page)
-    ∙ sym (append_assoc (hex 5 page) (codes "000") rest) ∙ ap (λ text. text ++ rest) (sym (start_parts page (omega arith)))
+-- nine texts, one after the other, of which the third is two
+joined : (x p z d e f h : List ℕ) → ((((((((x ++ p) ++ (z ++ x)) ++ d) ++ e) ++ f) ++ x) ++ h) ++ x)
+    ≡ ((x ++ (((((((p ++ z) ++ x) ++ d) ++ e) ++ f) ++ x) ++ h)) ++ x)
+joined x p z d e f h = simp append_assoc
+
+-- the parts of a place, one after the other
+pub place_joined : (offset major minor inode : ℕ) (backing : Backing) → offset < 2 ^ 64 → major ≡ backing.major → minor ≡ backing.minor → inode ≡ backing.inode
+    → ((((((((codes " " ++ hex 5 offset) ++ codes "000 ") ++ hex 2 major) ++ codes ":") ++ hex 2 minor) ++ codes " ") ++ decimal inode) ++ codes " ")
+    ≡ (codes " " ++ place_text offset backing) ++ codes " "
+unfolding place_text
+place_joined offset major minor inode backing small major_is minor_is inode_is =
+    rw (major_is, minor_is, inode_is)
+    (joined (codes " ") (hex 5 offset) (codes "000") (hex 2 backing.major) (codes ":") (hex 2 backing.minor) (decimal backing.inode)
+    ∙ ap (λ start. (codes " " ++ ((((((start ++ codes " ") ++ hex 2 backing.major) ++ codes ":") ++ hex 2 backing.minor) ++ codes " ") ++ decimal backing.inode)) ++ codes " ")
+    (sym (start_parts offset (omega arith))))

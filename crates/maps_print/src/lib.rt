@@ -5,8 +5,10 @@
 mod line;
 mod list;
 mod mapped;
+mod part;
 #[cfg(test)]
 mod tests;
 
 pub use line::{print_line, push_line, push_range};
 pub use list::{print_list, push_list};
+pub use part::push_hex;

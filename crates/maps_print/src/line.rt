@@ -3,19 +3,12 @@ ghost use Rattle.mm_types.specs.MapsText.{letter, perms, span_text, range_text, 
 ghost use Rattle.maps_print.specs.Appends.{AppendsFront};
 
 use crate::mapped::Mapped;
-use arrayvec::ArrayString;
+use crate::part::{Part, add, add_decimal, add_padded};
 use mm_types::{Files, NoMemory, Record};
 use std::alloc::Global;
-use std::fmt::Write;
 
 /// The column at which a name starts, counted from 0, unless what stands before it is as long.
 const NAME_COLUMN: usize = 73;
-
-/// Room for the longest addresses and the longest place that numbers of 64 bits make, of 40 and 60 characters.
-const MOST_CHARACTERS: usize = 64;
-
-/// A part of a line, before it is appended.
-type Part = ArrayString<MOST_CHARACTERS>;
 
 /// Prints the line of one area as proc_pid_maps(5) has it, with the newline that ends it.
 pub fn print_line(alloc: Global, area: &Record, files: &Files) -> Result<Vec<u8>, NoMemory>
@@ -49,7 +42,7 @@ fn push_front(text: &mut Vec<u8>, area: &Record, mapped: &Mapped) -> Result<(), 
 {
     push_range(text, area)?;
     let place = place_part(area.offset, mapped)?;
-    text.extend_from_slice(place.as_str().as_bytes())?;
+    text.extend_from_slice(place.as_slice())?;
     Ok(())
 }
 
@@ -60,7 +53,7 @@ pub fn push_range(text: &mut Vec<u8>, area: &Record) -> Result<(), NoMemory>
     ensures no_memory { OnErr result (AppendsFront text.old.items text.new.items (range_text area.now)) }
 {
     let addresses = span_part(area.span.lo, area.span.hi)?;
-    text.extend_from_slice(addresses.as_str().as_bytes())?;
+    text.extend_from_slice(addresses.as_slice())?;
     text.extend_from_slice(&perms(area))?;
     Ok(())
 }
@@ -68,13 +61,14 @@ pub fn push_range(text: &mut Vec<u8>, area: &Record) -> Result<(), NoMemory>
 /// The addresses of a span, in bytes, and a space. In hexadecimal an address is its page with three zeros after it.
 #[tactic(auto, unfolding(mm_types::specs::MapsText::span_text))]
 fn span_part(lo: u64, hi: u64) -> Result<Part, NoMemory>
-    ensures { IfOk result (λ part. part.bytes ≡ span_text (record { lo = lo; hi = hi }) ++ codes " ") }
+    ensures { IfOk result (λ part. part.items ≡ span_text (record { lo = lo; hi = hi }) ++ codes " ") }
 {
     let mut part = Part::new();
-    match write!(part, "{lo:05x}000-{hi:05x}000 ") {
-        Ok(()) => Ok(part),
-        Err(_) => Err(NoMemory),
-    }
+    add_padded(&mut part, lo, 5)?;
+    add(&mut part, b"000-")?;
+    add_padded(&mut part, hi, 5)?;
+    add(&mut part, b"000 ")?;
+    Ok(part)
 }
 
 /// Four letters: what is allowed, with a dash for what is not, and whether the area is shared.
@@ -102,14 +96,19 @@ fn letter(allowed: bool, access: u8) -> u8
 /// A space, the offset within what is mapped, in bytes, the device and the inode of that, and a space.
 #[tactic(auto, unfolding(mm_types::specs::MapsText::place_text))]
 fn place_part(offset: u64, mapped: &Mapped) -> Result<Part, NoMemory>
-    ensures { IfOk result (λ part. part.bytes ≡ codes " " ++ place_text offset mapped.now ++ codes " ") }
+    ensures { IfOk result (λ part. part.items ≡ codes " " ++ place_text offset mapped.now ++ codes " ") }
 {
-    let (major, minor, inode) = (mapped.major, mapped.minor, mapped.inode);
     let mut part = Part::new();
-    match write!(part, " {offset:05x}000 {major:02x}:{minor:02x} {inode} ") {
-        Ok(()) => Ok(part),
-        Err(_) => Err(NoMemory),
-    }
+    add(&mut part, b" ")?;
+    add_padded(&mut part, offset, 5)?;
+    add(&mut part, b"000 ")?;
+    add_padded(&mut part, u64::from(mapped.major), 2)?;
+    add(&mut part, b":")?;
+    add_padded(&mut part, u64::from(mapped.minor), 2)?;
+    add(&mut part, b" ")?;
+    add_decimal(&mut part, mapped.inode)?;
+    add(&mut part, b" ")?;
+    Ok(part)
 }
 
 /// Appends the name after so many characters of the line, and nothing where there is no name.

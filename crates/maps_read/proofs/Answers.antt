@@ -4,7 +4,7 @@ use Rattle.std.specs.List.{position_or_len}
 use Rattle.std.proofs.lemmas.Bool.{ltb-true}
 use Rattle.std.proofs.lemmas.List.{take_all, length-drop, drop_more}
 use Rattle.std.proofs.lemmas.Option.{slice_get-get_or}
-use Rattle.trace_reader.specs.declared.fault.TraceFault.{TraceFault}
+use Rattle.trace_reader.specs.declared.error.BadLine.{BadLine}
 use Rattle.trace_reader.specs.Lines.{trace_limit}
 use Rattle.trace_reader.specs.RawLines.{RawLine, lines_from, raw_lines}
 use Rattle.trace_reader.proofs.RawPieces.{lines_from-nil}
@@ -13,7 +13,7 @@ use Rattle.maps_read.specs.Maps.{maps_of}
 use Rattle.maps_read.specs.Query.{first_above, answered, query_text, query_answer}
 use Rattle.maps_read.proofs.Bytes.{maps_of-front, maps_within, count_is}
 
-was_read : (address : ℕ) (bytes text : List ℕ) (read : Result (List MapsLine) TraceFault) → answered address bytes read ≡ Ok text
+was_read : (address : ℕ) (bytes text : List ℕ) (read : Result (List MapsLine) BadLine) → answered address bytes read ≡ Ok text
     → (lines : List MapsLine) × (read ≡ Ok lines)
 was_read address bytes text (Ok lines) e = (lines, refl)
 was_read address bytes text (Err first) e = absurd cc
@@ -26,7 +26,7 @@ query_answer-within address bytes text e =
     maps_within bytes read.0 read.1
 
 -- what bytes past the limit do: they are no part of an answer
-answered-same : (address : ℕ) (front bytes : List ℕ) (read : Result (List MapsLine) TraceFault) → ((lines : List MapsLine) → read ≡ Ok lines → front ≡ bytes)
+answered-same : (address : ℕ) (front bytes : List ℕ) (read : Result (List MapsLine) BadLine) → ((lines : List MapsLine) → read ≡ Ok lines → front ≡ bytes)
     → answered address front read ≡ answered address bytes read
 answered-same address front bytes (Ok lines) same = ap (λ (bs : List ℕ). Ok (query_text bs (first_above address lines))) (same lines refl)
 answered-same address front bytes (Err first) same = refl

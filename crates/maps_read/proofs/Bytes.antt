@@ -3,7 +3,7 @@ use Rattle.std.proofs.Common.{◌≡◌, ℕ, suc, ◌+◌, ◌<◌, ◌≤◌, 
 use Rattle.std.specs.List.{slice_split}
 use Rattle.std.proofs.lemmas.List.Splits.{length-slice_split}
 use Rattle.std.proofs.lemmas.List.Sums.{count_by-le-length}
-use Rattle.trace_reader.specs.declared.fault.TraceFault.{TraceFault}
+use Rattle.trace_reader.specs.declared.error.BadLine.{BadLine}
 use Rattle.trace_reader.specs.Lines.{trace_limit}
 use Rattle.trace_reader.specs.RawLines.{RawLine, raw_line, is_newline, lines_of_pieces, lines_from, raw_lines}
 use Rattle.trace_reader.proofs.Beginnings.{IsLimited, lines_leave-front, lines_leave-within}
@@ -16,7 +16,7 @@ use Rattle.maps_read.specs.Maps.{IsMaps, next_line, after_line, maps_of}
 use Rattle.maps_read.proofs.Ordered.{leaves, leaves_apart, no_lines}
 
 -- a maps text's first bad line
-pub maps_of-Err : (bytes : List ℕ) (first : TraceFault) → maps_of bytes ≡ Err first → IsFirstBad bytes first
+pub maps_of-Err : (bytes : List ℕ) (first : BadLine) → maps_of bytes ≡ Err first → IsFirstBad bytes first
 unfolding maps_of
 maps_of-Err bytes first e = lines_leave-Err after_line [] bytes first e
 

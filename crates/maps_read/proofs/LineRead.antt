@@ -1,8 +1,8 @@
 -- For the laws: what it means that a line was read behind others, and that lines were.
 use Rattle.std.proofs.Common.{◌≡◌, ℕ, Bool, true, false, List, [], ◌∷◌, ◌++◌, Option, Some, None, Result, Ok, Err, if◌then◌else◌, refl, ap, subst, ◌∙◌}
-use Rattle.trace_reader.specs.declared.fault.Cause.{Cause}
-use Rattle.trace_reader.specs.declared.fault.Cause.TheVariants.{MapsOrder}
-use Rattle.trace_reader.specs.declared.fault.TraceFault.{TraceFault}
+use Rattle.trace_reader.specs.declared.error.Cause.{Cause}
+use Rattle.trace_reader.specs.declared.error.Cause.TheVariants.{MapsOrder}
+use Rattle.trace_reader.specs.declared.error.BadLine.{BadLine}
 use Rattle.trace_reader.specs.Causes.{◌>>=◌, unless}
 use Rattle.trace_reader.specs.Grammar.{at_line}
 use Rattle.trace_reader.specs.Lines.{trace_limit}
@@ -54,7 +54,7 @@ after_line-Ok before after raw e =
     record { line = read.0; says = line.0; order = line.1; behind = cc }
 
 -- where lines were all read, the first was
-pub at_line-Ok : {S A : Type 0} (number : ℕ) (r : Result S Cause) (rest : S → Result A TraceFault) (x : A) → at_line number r rest ≡ Ok x
+pub at_line-Ok : {S A : Type 0} (number : ℕ) (r : Result S Cause) (rest : S → Result A BadLine) (x : A) → at_line number r rest ≡ Ok x
     → (next : S) × (r ≡ Ok next) × (rest next ≡ Ok x)
 at_line-Ok number (Ok next) rest x e = (next, refl, e)
 at_line-Ok number (Err cause) rest x e = absurd cc

@@ -6,7 +6,7 @@ use Rattle.std.proofs.lemmas.Bool.{not-false}
 use Rattle.std.proofs.lemmas.Bool.Decides.{nat_tests}
 use Rattle.std.proofs.lemmas.List.Sums.{fails_before_first}
 use Rattle.std.proofs.lemmas.Str.{IsCharBoundary-start, IsCharBoundary-after_ascii}
-use Rattle.trace_reader.specs.declared.fault.Cause.{Cause}
+use Rattle.trace_reader.specs.declared.error.Cause.{Cause}
 use Rattle.trace_reader.specs.Numbers.{digits_of, is_lower_digit, lower_hexadecimal_of}
 use Rattle.trace_reader.proofs.Digits.{part_fits}
 use Rattle.trace_reader.proofs.WordParts.{position_or_len-le}

@@ -3,8 +3,8 @@ use Rattle.std.specs.Prelude.{ℕ, zero, suc, Bool, true, false, not, List, [], 
 use Rattle.std.specs.List.{before_first, after_first, position_or_len}
 use Rattle.std.specs.Str.{byte}
 use Rattle.mm_types.specs.declared.area.Prot.{Prot}
-use Rattle.trace_reader.specs.declared.fault.Cause.{Cause}
-use Rattle.trace_reader.specs.declared.fault.Cause.TheVariants as causes
+use Rattle.trace_reader.specs.declared.error.Cause.{Cause}
+use Rattle.trace_reader.specs.declared.error.Cause.TheVariants as causes
 use Rattle.trace_reader.specs.Causes.{◌>>=◌}
 use Rattle.trace_reader.specs.Numbers.{decimal_of, lower_hexadecimal_of}
 use Rattle.maps_read.specs.declared.maps.MapsLine.{MapsLine}

@@ -1,7 +1,7 @@
 -- What the lines of a maps text, and its first bad line, are.
 use Rattle.std.specs.Prelude.{ℕ, ◌≡◌, List, [], Ok}
 use Rattle.std.specs.List.{AllZip}
-use Rattle.trace_reader.specs.declared.fault.TraceFault.{TraceFault}
+use Rattle.trace_reader.specs.declared.error.BadLine.{BadLine}
 use Rattle.trace_reader.specs.Laws.{IsFirstBadBy}
 use Rattle.trace_reader.specs.RawLines.{RawLine}
 use Rattle.maps_read.specs.declared.maps.MapsLine.{MapsLine}
@@ -9,7 +9,7 @@ use Rattle.maps_read.specs.Fields.{line_of}
 use Rattle.maps_read.specs.Maps.{after_line}
 
 -- a line of the bytes that is bad for this cause, after lines that are all good
-abbrev pub IsFirstBad : List ℕ → TraceFault → Type 0
+abbrev pub IsFirstBad : List ℕ → BadLine → Type 0
 IsFirstBad bytes first = IsFirstBadBy after_line [] bytes first
 
 -- the lines are those of these raw lines, one for each, in their order

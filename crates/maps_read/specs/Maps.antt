@@ -1,8 +1,8 @@
 -- Which list of lines a maps text is, or else which line is bad first and for which cause.
 use Rattle.std.specs.Prelude.{ℕ, ◌-◌, ◌^◌, ◌<◌, ◌≤◌, Bool, ◌&&◌, List, [], ◌∷◌, ◌++◌, length, nat_lt, nat_le, slice_get, Option, Some, None, Result, Ok, Err, All, AllPairs, if◌then◌else◌}
-use Rattle.trace_reader.specs.declared.fault.Cause.{Cause}
-use Rattle.trace_reader.specs.declared.fault.Cause.TheVariants.{MapsOrder}
-use Rattle.trace_reader.specs.declared.fault.TraceFault.{TraceFault}
+use Rattle.trace_reader.specs.declared.error.Cause.{Cause}
+use Rattle.trace_reader.specs.declared.error.Cause.TheVariants.{MapsOrder}
+use Rattle.trace_reader.specs.declared.error.BadLine.{BadLine}
 use Rattle.trace_reader.specs.Causes.{◌>>=◌}
 use Rattle.trace_reader.specs.Grammar.{lines_leave}
 use Rattle.trace_reader.specs.Lines.{trace_limit}
@@ -44,5 +44,5 @@ after_line before raw = do
   Ok (before ++ line ∷ [])
 
 -- the lines of a maps text, or its first bad line and the cause
-unfoldable pub maps_of : List ℕ → Result (List MapsLine) TraceFault
+unfoldable pub maps_of : List ℕ → Result (List MapsLine) BadLine
 maps_of bytes = lines_leave after_line [] (raw_lines bytes)

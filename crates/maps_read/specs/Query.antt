@@ -2,7 +2,7 @@
 use Rattle.std.specs.Prelude.{ℕ, ◌-◌, ◌++◌, List, length, take, codes, nat_eq, nat_lt, position, slice_get, Option, Some, None, Result, Ok, Err}
 use Rattle.std.specs.List.{suffix_len}
 use Rattle.std.specs.Str.{byte}
-use Rattle.trace_reader.specs.declared.fault.TraceFault.{TraceFault}
+use Rattle.trace_reader.specs.declared.error.BadLine.{BadLine}
 use Rattle.trace_reader.specs.RawLines.{RawLine, raw_lines}
 use Rattle.maps_read.specs.declared.maps.MapsLine.{MapsLine}
 use Rattle.maps_read.specs.Maps.{maps_of}
@@ -30,10 +30,10 @@ unfoldable pub query_text : List ℕ → Option ℕ → List ℕ
 query_text bytes place = shown_line (raw_line_at bytes place) ++ codes "\n"
 
 -- what is printed for an address and the lines of these bytes
-abbrev pub answered : ℕ → List ℕ → Result (List MapsLine) TraceFault → Result (List ℕ) TraceFault
+abbrev pub answered : ℕ → List ℕ → Result (List MapsLine) BadLine → Result (List ℕ) BadLine
 answered address bytes (Ok lines) = Ok (query_text bytes (first_above address lines))
 answered address bytes (Err first) = Err first
 
 -- what is printed for an address and the maps text that the bytes are, or its first bad line and the cause
-unfoldable pub query_answer : ℕ → List ℕ → Result (List ℕ) TraceFault
+unfoldable pub query_answer : ℕ → List ℕ → Result (List ℕ) BadLine
 query_answer address bytes = answered address bytes (maps_of bytes)

@@ -1,10 +1,10 @@
 -- What is answered to bytes: what its definition gives, unless memory runs out.
 use Rattle.std.specs.Prelude.{◌≡◌, Result, Err}
-use Rattle.trace_reader.specs.declared.fault.ReadError.{ReadError}
-use Rattle.trace_reader.specs.declared.fault.ReadError.TheVariants.{Bad, NoMemory}
-use Rattle.trace_reader.specs.declared.fault.TraceFault.{TraceFault}
+use Rattle.trace_reader.specs.declared.error.ReadError.{ReadError}
+use Rattle.trace_reader.specs.declared.error.ReadError.TheVariants.{Bad, NoMemory}
+use Rattle.trace_reader.specs.declared.error.BadLine.{BadLine}
 
 -- a bad line is that of the definition; out of memory is free
-abbrev pub IsFault : {Y : Type 0} → ReadError → Result Y TraceFault → Type 0
+abbrev pub IsFault : {Y : Type 0} → ReadError → Result Y BadLine → Type 0
 IsFault (Bad first) read = read ≡ Err first
 IsFault NoMemory read = Unit {0}

@@ -3,7 +3,7 @@
 ghost use Rattle.std.specs.Prelude.{◌≡◌, ◌≤◌, ◌+◌, ℕ, List, length, take, Ok, Err};
 ghost use Rattle.trace_reader.specs.Lines.{trace_limit};
 ghost use Rattle.trace_reader.specs.RawLines.{raw_lines};
-ghost use Rattle.trace_reader.specs.declared.fault.TraceFault.{TraceFault};
+ghost use Rattle.trace_reader.specs.declared.error.BadLine.{BadLine};
 ghost use Rattle.maps_read.specs.declared.maps.MapsLine.{MapsLine};
 ghost use Rattle.maps_read.specs.declared.reading.TheConstants.{LINE_LIMIT};
 ghost use Rattle.maps_read.specs.Laws.{AreRead, IsFirstBad};
@@ -12,7 +12,7 @@ ghost use Rattle.maps_read.specs.Query.{query_answer};
 
 /// The line that is named in place of a maps text is the first bad one.
 pub fn first_bad_line()
-    ensures { (bytes : List ℕ) (first : TraceFault) → maps_of bytes ≡ Err first → IsFirstBad bytes first }
+    ensures { (bytes : List ℕ) (first : BadLine) → maps_of bytes ≡ Err first → IsFirstBad bytes first }
 {}
 
 /// A maps text has one line for each line of its bytes, in their order, and they are in order of their addresses.

@@ -2,7 +2,7 @@ use crate::{LINE_LIMIT, answer_of, read_maps};
 use std::alloc::Global;
 use std::process::Abort;
 use std::test::Fail;
-use trace_reader::{Cause, ReadError, TraceFault};
+use trace_reader::{BadLine, Cause, ReadError};
 
 /// Two pages that may be read and written, with a page between them.
 const TWO_PAGES: &str = "\
@@ -61,7 +61,7 @@ fn names(rt: HostRuntime) -> Result<(), Fail> {
 }
 
 /// The first bad line of bytes, if one is bad.
-fn refusal(alloc: Global, bytes: &[u8]) -> Result<Option<TraceFault>, ReadError> {
+fn refusal(alloc: Global, bytes: &[u8]) -> Result<Option<BadLine>, ReadError> {
     match read_maps(alloc, bytes) {
         Ok(_maps) => Ok(None),
         Err(ReadError::Bad(first)) => Ok(Some(first)),
@@ -74,7 +74,7 @@ fn check_second(rt: &(impl Abort + AllocGlobal), bytes: &[u8], cause: Cause) -> 
     let mut text = Vec::from_slice(rt.alloc(), b"10-20 r--p 0 0:0 0\n")?;
     text.extend_from_slice(bytes)?;
     let first = refusal(rt.alloc(), &text)?;
-    assert_eq!(rt; first, Some(TraceFault { line: 2, cause }));
+    assert_eq!(rt; first, Some(BadLine { line: 2, cause }));
     Ok(())
 }
 

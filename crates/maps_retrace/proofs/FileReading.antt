@@ -6,8 +6,8 @@ use Rattle.std.proofs.lemmas.Bool.Decides.{nat_tests}
 use Rattle.mm_types.specs.declared.files.FileRow.{FileRow}
 use Rattle.mm_types.specs.Config.{default_config}
 use Rattle.mm_types.specs.Rows.{first_row}
-use Rattle.trace_reader.specs.declared.fault.Cause.{Cause}
-use Rattle.trace_reader.specs.declared.fault.Cause.TheVariants.{Header, Word, TooLong, NoEnd, Utf8}
+use Rattle.trace_reader.specs.declared.error.Cause.{Cause}
+use Rattle.trace_reader.specs.declared.error.Cause.TheVariants.{Header, Word, TooLong, NoEnd, Utf8}
 use Rattle.trace_reader.specs.Causes.{◌>>=◌, unless}
 use Rattle.trace_reader.specs.Grammar.{fault, nothing, at_line, after_lines, lines_read, config_of, whole, trace_of}
 use Rattle.trace_reader.specs.Lines.{SoFar, trace_limit, with_limit, with_top, with_min, with_heap, has_descriptor, with_file, after_setting, is_comment, begins_with_digit, with_line, with_one, after_words, after_line}

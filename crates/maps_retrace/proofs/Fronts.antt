@@ -1,7 +1,7 @@
 -- For `front_is_enough` and `maps_are_within`: bytes and a front of them.
 use Rattle.std.proofs.Common.{◌≡◌, ◌≤◌, ◌+◌, ℕ, List, length, take, Result, Ok, Err, refl, sym, ap, ◌∙◌, arith}
 use Rattle.std.proofs.lemmas.List.{take_all}
-use Rattle.trace_reader.specs.declared.fault.TraceFault.{TraceFault}
+use Rattle.trace_reader.specs.declared.error.BadLine.{BadLine}
 use Rattle.trace_reader.specs.Lines.{trace_limit}
 use Rattle.maps_read.specs.declared.maps.MapsLine.{MapsLine}
 use Rattle.maps_read.specs.Maps.{maps_of}
@@ -12,7 +12,7 @@ pub retraced-front : (bytes : List ℕ) → retraced_of (take (trace_limit + 1) 
 unfolding retraced_of
 retraced-front bytes = by_lines (maps_of bytes) refl
   where
-    by_lines : (read : Result (List MapsLine) TraceFault) → maps_of bytes ≡ read
+    by_lines : (read : Result (List MapsLine) BadLine) → maps_of bytes ≡ read
         → retrace_read (take (trace_limit + 1) bytes) (maps_of (take (trace_limit + 1) bytes)) ≡ retrace_read bytes (maps_of bytes)
     by_lines (Ok lines) is =
         let within = maps_within bytes lines is in
@@ -23,6 +23,6 @@ pub retraced-within : (bytes text : List ℕ) → retraced_of bytes ≡ Ok text 
 unfolding retraced_of
 retraced-within bytes text e = by_lines (maps_of bytes) refl e
   where
-    by_lines : (read : Result (List MapsLine) TraceFault) → maps_of bytes ≡ read → retrace_read bytes read ≡ Ok text → length bytes ≤ trace_limit
+    by_lines : (read : Result (List MapsLine) BadLine) → maps_of bytes ≡ read → retrace_read bytes read ≡ Ok text → length bytes ≤ trace_limit
     by_lines (Ok lines) is e = maps_within bytes lines is
     by_lines (Err first) is e = absurd (cc e)

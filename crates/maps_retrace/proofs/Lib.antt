@@ -1,3 +1,4 @@
+pub mod Hex
 pub mod PutLast
 pub mod OpenFiles
 pub mod Mapped

@@ -7,7 +7,7 @@ use Rattle.mm_types.specs.declared.files.FileRow.{FileRow}
 use Rattle.mm_types.specs.Config.{default_config}
 use Rattle.area_list.specs.Areas.{page_of, IsSound}
 use Rattle.area_list.proofs.Order.{IsGood, good_from_canonical}
-use Rattle.trace_reader.specs.declared.fault.TraceFault.{TraceFault}
+use Rattle.trace_reader.specs.declared.error.BadLine.{BadLine}
 use Rattle.trace_reader.specs.RawLines.{raw_lines}
 use Rattle.maps_read.specs.declared.maps.MapsLine.{MapsLine}
 use Rattle.maps_read.specs.Maps.{maps_of}
@@ -59,7 +59,7 @@ pub makes : (bytes text : List ℕ) → retraced_of bytes ≡ Ok text → MakesM
 unfolding retraced_of lines_taken
 makes bytes text e = by_lines (maps_of bytes) refl e
   where
-    by_taken : (lines : List MapsLine) → maps_of bytes ≡ Ok lines → (taken : Result Taken TraceFault) → with_lines nothing_taken (raw_lines bytes) lines ≡ taken
+    by_taken : (lines : List MapsLine) → maps_of bytes ≡ Ok lines → (taken : Result Taken BadLine) → with_lines nothing_taken (raw_lines bytes) lines ≡ taken
         → text_taken taken ≡ Ok text → MakesMaps bytes text
     by_taken lines read (Ok taken) is e =
         let are = maps_read_as bytes lines read in
@@ -67,6 +67,6 @@ makes bytes text e = by_lines (maps_of bytes) refl e
         (taken_makes bytes taken (lines_walked nothing_taken taken (raw_lines bytes) [] lines nothing_walked are (raws_single bytes) is) (all_bytes bytes lines are))
     by_taken lines read (Err first) is e = absurd (cc e)
 
-    by_lines : (read : Result (List MapsLine) TraceFault) → maps_of bytes ≡ read → retrace_read bytes read ≡ Ok text → MakesMaps bytes text
+    by_lines : (read : Result (List MapsLine) BadLine) → maps_of bytes ≡ read → retrace_read bytes read ≡ Ok text → MakesMaps bytes text
     by_lines (Ok lines) read e = by_taken lines read (with_lines nothing_taken (raw_lines bytes) lines) refl e
     by_lines (Err first) read e = absurd (cc e)

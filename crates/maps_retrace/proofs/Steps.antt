@@ -4,10 +4,10 @@ use Rattle.std.specs.List.{position_or_len}
 use Rattle.std.proofs.lemmas.Bool.{cond-false}
 use Rattle.std.proofs.lemmas.List.{drop_all}
 use Rattle.mm_types.specs.declared.area.Record.{Record}
-use Rattle.trace_reader.specs.declared.fault.CallError.{CallError}
-use Rattle.trace_reader.specs.declared.fault.CallError.TheVariants as calls
-use Rattle.trace_reader.specs.declared.fault.Cause.{Cause}
-use Rattle.trace_reader.specs.declared.fault.TraceFault.{TraceFault}
+use Rattle.trace_reader.specs.declared.error.CallError.{CallError}
+use Rattle.trace_reader.specs.declared.error.CallError.TheVariants as calls
+use Rattle.trace_reader.specs.declared.error.Cause.{Cause}
+use Rattle.trace_reader.specs.declared.error.BadLine.{BadLine}
 use Rattle.trace_reader.specs.Causes.{◌>>=◌}
 use Rattle.trace_reader.specs.Grammar.{at_line}
 use Rattle.trace_reader.specs.RawLines.{RawLine, lines_from}
@@ -89,7 +89,7 @@ some_left number start [] line lines left is are = absurd (subst (λ (raws : Lis
     (subst (AreReadAs (lines_from number start [])) is are))
 some_left number start (b ∷ bytes) line lines left is are = omega arith
 
-pub take_more : (before after : Taken) (raws more : List RawLine) (raw : RawLine) (line : MapsLine) (left lines : List MapsLine) (all : Result Taken TraceFault)
+pub take_more : (before after : Taken) (raws more : List RawLine) (raw : RawLine) (line : MapsLine) (left lines : List MapsLine) (all : Result Taken BadLine)
     → with_lines before raws left ≡ all → raws ≡ raw ∷ more → left ≡ line ∷ lines → with_line before line raw.text ≡ Ok after
     → with_lines after more lines ≡ all
 take_more before after raws more raw line left lines all so_far first is good =
@@ -107,7 +107,7 @@ take_none : (taken : Taken) (raws : List RawLine) → with_lines taken raws [] �
 take_none taken [] = refl
 take_none taken (raw ∷ raws) = refl
 
-pub all_taken : (taken : Taken) (raws : List RawLine) (lines : List MapsLine) (index : ℕ) (all : Result Taken TraceFault)
+pub all_taken : (taken : Taken) (raws : List RawLine) (lines : List MapsLine) (index : ℕ) (all : Result Taken BadLine)
     → with_lines taken raws (drop index lines) ≡ all → length lines ≤ index → all ≡ Ok taken
 all_taken taken raws lines index all so_far past =
     sym so_far ∙ ap (with_lines taken raws) (drop_all index lines past) ∙ take_none taken raws

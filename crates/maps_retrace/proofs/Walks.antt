@@ -11,7 +11,7 @@ use Rattle.mm_types.specs.declared.files.FileRow.{FileRow}
 use Rattle.mm_types.specs.Config.{default_config}
 use Rattle.mm_types.specs.MapsText.{perms, range_text, backing, front_text, name_text, area_text, list_text}
 use Rattle.area_list.specs.Areas.{IsSound}
-use Rattle.trace_reader.specs.declared.fault.Cause.{Cause}
+use Rattle.trace_reader.specs.declared.error.Cause.{Cause}
 use Rattle.trace_reader.specs.Causes.{◌>>=◌}
 use Rattle.trace_reader.specs.Grammar.{at_line}
 use Rattle.trace_reader.specs.RawLines.{RawLine}

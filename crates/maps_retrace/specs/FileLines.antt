@@ -3,7 +3,7 @@ use Rattle.std.specs.Prelude.{ℕ, ◌+◌, Bool, false, ◌&&◌, List, [], ◌
 use Rattle.std.specs.Ordering.{int_eq}
 use Rattle.mm_types.specs.declared.files.FileRow.{FileRow}
 use Rattle.mm_types.specs.MapsText.{hex}
-use Rattle.trace_reader.specs.declared.fault.TraceFault.{TraceFault}
+use Rattle.trace_reader.specs.declared.error.BadLine.{BadLine}
 use Rattle.trace_reader.specs.declared.trace.Trace.{Trace}
 use Rattle.trace_reader.specs.Grammar.{trace_of}
 use Rattle.maps_read.specs.declared.maps.MapsLine.{MapsLine}
@@ -31,7 +31,7 @@ abbrev pub header : List ℕ
 header = codes "vmatrace 1\n"
 
 -- the files of what was read as a trace
-abbrev pub files_of : Result Trace TraceFault → List FileRow
+abbrev pub files_of : Result Trace BadLine → List FileRow
 files_of (Ok trace) = trace.config.files
 files_of (Err first) = []
 

@@ -1,5 +1,5 @@
 pub mod Mappings
 pub mod FileLines
 pub mod Retracing
-pub mod Taking
 pub mod Laws
+pub mod Internal

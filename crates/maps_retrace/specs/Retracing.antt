@@ -7,9 +7,9 @@ use Rattle.mm_types.specs.declared.files.FileRow.{FileRow}
 use Rattle.mm_types.specs.MapsText.{area_text}
 use Rattle.mm_types.specs.Packed.{is_valid}
 use Rattle.area_list.specs.Areas.{page_of, joins}
-use Rattle.trace_reader.specs.declared.fault.Cause.{Cause}
-use Rattle.trace_reader.specs.declared.fault.Cause.TheVariants.{NotOurs}
-use Rattle.trace_reader.specs.declared.fault.TraceFault.{TraceFault}
+use Rattle.trace_reader.specs.declared.error.Cause.{Cause}
+use Rattle.trace_reader.specs.declared.error.Cause.TheVariants.{NotOurs}
+use Rattle.trace_reader.specs.declared.error.BadLine.{BadLine}
 use Rattle.trace_reader.specs.Causes.{◌>>=◌}
 use Rattle.trace_reader.specs.Grammar.{at_line}
 use Rattle.trace_reader.specs.RawLines.{RawLine, raw_lines}
@@ -101,7 +101,7 @@ with_line taken line text = if nat_eq (length line.name) 0 then with_area taken 
     else (with_file taken line >>= λ found. with_area found.0 (file_at found.0 found.1) (found.1 + 1) line text)
 
 -- with lines, each with its text, or the first that is not ours
-abbrev pub with_lines : Taken → List RawLine → List MapsLine → Result Taken TraceFault
+abbrev pub with_lines : Taken → List RawLine → List MapsLine → Result Taken BadLine
 with_lines taken (raw ∷ raws) (line ∷ lines) = at_line raw.number (with_line taken line raw.text) (λ next. with_lines next raws lines)
 with_lines taken _ _ = Ok taken
 
@@ -110,23 +110,23 @@ unfoldable pub taken_text : Taken → List ℕ
 taken_text taken = header ++ (file_texts FIRST_DESCRIPTOR taken.named ++ flat_map mapping_text taken.areas)
 
 -- the trace of what was taken, where all lines are ours
-abbrev pub text_taken : Result Taken TraceFault → Result (List ℕ) TraceFault
+abbrev pub text_taken : Result Taken BadLine → Result (List ℕ) BadLine
 text_taken (Ok taken) = Ok (taken_text taken)
 text_taken (Err first) = Err first
 
 -- what is taken of the lines of a maps text, which the bytes are
-unfoldable pub lines_taken : List ℕ → List MapsLine → Result Taken TraceFault
+unfoldable pub lines_taken : List ℕ → List MapsLine → Result Taken BadLine
 lines_taken bytes lines = with_lines nothing_taken (raw_lines bytes) lines
 
 -- the trace that makes the maps text of these lines, which the bytes are, or the first line that is not ours
-abbrev pub retrace_of : List ℕ → List MapsLine → Result (List ℕ) TraceFault
+abbrev pub retrace_of : List ℕ → List MapsLine → Result (List ℕ) BadLine
 retrace_of bytes lines = text_taken (lines_taken bytes lines)
 
 -- the same of the lines that were read, if they were
-abbrev pub retrace_read : List ℕ → Result (List MapsLine) TraceFault → Result (List ℕ) TraceFault
+abbrev pub retrace_read : List ℕ → Result (List MapsLine) BadLine → Result (List ℕ) BadLine
 retrace_read bytes (Ok lines) = retrace_of bytes lines
 retrace_read bytes (Err first) = Err first
 
 -- the trace that makes the maps text that the bytes are, or its first bad line and the cause
-unfoldable pub retraced_of : List ℕ → Result (List ℕ) TraceFault
+unfoldable pub retraced_of : List ℕ → Result (List ℕ) BadLine
 retraced_of bytes = retrace_read bytes (maps_of bytes)

@@ -5,7 +5,7 @@ ghost use Rattle.flag_table.specs.Printing.{printed};
 ghost use Rattle.flag_table.specs.Tables.{map_flags};
 ghost use Rattle.trace_text.specs.LineTexts.{bits_of_prot, prot_word};
 ghost use Rattle.maps_retrace.specs.Mappings.{flags_of, backing_text, mapping_text};
-ghost use Rattle.maps_retrace.specs.Taking.{IsPrinted};
+ghost use Rattle.maps_retrace.specs.Internal.Taking.{IsPrinted};
 
 use crate::file_lines::FIRST_DESCRIPTOR;
 use flag_table::{map_table, prot_table};

@@ -4,7 +4,7 @@ ghost use Rattle.std.specs.Prelude.{◌≡◌, IfOk, IfErr, Ok, string_bytes};
 ghost use Rattle.maps_read.specs.Maps.{maps_of};
 ghost use Rattle.maps_read.specs.Reading.{IsFault};
 ghost use Rattle.maps_retrace.specs.Retracing.{lines_taken, taken_text, retraced_of};
-ghost use Rattle.maps_retrace.specs.Taking.{IsTaken, what_taken};
+ghost use Rattle.maps_retrace.specs.Internal.Taking.{IsTaken, what_taken};
 
 use crate::file_lines::{FIRST_DESCRIPTOR, HEADER, push_file_line};
 use crate::mappings::push_mapping;

@@ -4,7 +4,7 @@ ghost use Rattle.std.specs.Prelude.{◌≡◌, ◌≤◌, length};
 ghost use Rattle.trace_reader.specs.Reading.{Gives};
 ghost use Rattle.mm_types.specs.declared.config.TheConstants.{MOST_FILES};
 ghost use Rattle.maps_retrace.specs.Retracing.{nothing_taken, areas_with, with_next_file, with_file, with_line};
-ghost use Rattle.maps_retrace.specs.Taking.{IsTaken, what_taken};
+ghost use Rattle.maps_retrace.specs.Internal.Taking.{IsTaken, what_taken};
 
 use crate::areas::{area_of, is_text_of, may_follow};
 use crate::file_lines::{FIRST_DESCRIPTOR, are_one_file, file_place, files_opened};

@@ -10,20 +10,20 @@ ghost use Rattle.history.specs.Histories.{IsLegalHistory};
 ghost use Rattle.mm_fork.specs.Children.{parent_lines, child_lines};
 
 use crate::lines::{lines_of_child, lines_of_parent};
-use history::{CheckFault, History, check_after};
+use history::{CheckError, History, check_after};
 use mm_types::Entry;
 use std::alloc::Global;
 use trace_reader::Trace;
 
 /// Judges the history of the parent of a trace, as `check` does one of a trace without children: `Ok` exactly where it is legal and of the
 /// lines of threads that are no child's, and else the first item that is bad, or its end. The only other error is out of memory.
-pub fn check_parent(alloc: Global, trace: &Trace, history: &History) -> Result<(), CheckFault>
+pub fn check_parent(alloc: Global, trace: &Trace, history: &History) -> Result<(), CheckError>
     requires valid { IsValidConfig trace.now.config }
     requires few { length trace.now.lines ≤ MOST_LINES }
     requires threads { All (λ line. line.thread < MOST_THREADS) trace.now.lines }
     requires numbered { AreNumbered trace.now.lines }
     ensures legal { OnOk result (IsLegalHistory trace.now.config [] (parent_lines trace.now.lines) history.now) }
-    ensures refused { (bad : BadEntry) → result ≡ Err (CheckFault.Bad bad)
+    ensures refused { (bad : BadEntry) → result ≡ Err (CheckError.Bad bad)
         → IsRefused trace.now.config [] (parent_lines trace.now.lines) history.now bad }
 {
     let lines = lines_of_parent(alloc, trace.lines.items())?;
@@ -38,14 +38,14 @@ pub fn check_child(
     child: u32,
     before: &[Entry],
     history: &History,
-) -> Result<(), CheckFault>
+) -> Result<(), CheckError>
     requires valid { IsValidConfig trace.now.config }
     requires few { length trace.now.lines ≤ MOST_LINES }
     requires threads { All (λ line. line.thread < MOST_THREADS) trace.now.lines }
     requires numbered { AreNumbered trace.now.lines }
     requires begun { length before.now ≤ 2 ^ 31 }
     ensures legal { OnOk result (IsLegalHistory trace.now.config before.now (child_lines trace.now.lines child) history.now) }
-    ensures refused { (bad : BadEntry) → result ≡ Err (CheckFault.Bad bad)
+    ensures refused { (bad : BadEntry) → result ≡ Err (CheckError.Bad bad)
         → IsRefused trace.now.config before.now (child_lines trace.now.lines child) history.now bad }
 {
     let lines = lines_of_child(alloc, trace.lines.items(), child)?;

@@ -3,7 +3,7 @@ ghost use Rattle.std.specs.Bool.{OnTrue};
 ghost use Rattle.trace_reader.specs.Values.{AreNumbered};
 
 use crate::{check_child, check_parent, child_history, inherit};
-use history::{Answer, CheckFault, Content, History, Item, MOST_THREADS};
+use history::{Answer, CheckError, Content, History, Item, MOST_THREADS};
 use mm_types::{
     Access, AreaList, Attr, Call, Config, Entry, Files, MAP_ANONYMOUS, MAP_FIXED, MAP_GROWSDOWN,
     MAP_PRIVATE, MmapArgs, Page, Prot, Record, Reply, Seen, Span, Verdict,
@@ -141,15 +141,15 @@ fn kind_of(answer: &Answer) -> Kind {
 /// The place of a bad entry, with what was expected there and what was found.
 type Bad = (u64, Kind, Kind);
 
-fn told(judged: Result<(), CheckFault>) -> Result<Option<Bad>, Fail> {
+fn told(judged: Result<(), CheckError>) -> Result<Option<Bad>, Fail> {
     match judged {
         Ok(()) => Ok(None),
-        Err(CheckFault::Bad(bad)) => Ok(Some((
+        Err(CheckError::Bad(bad)) => Ok(Some((
             bad.place,
             kind_of(&bad.expected),
             kind_of(&bad.found),
         ))),
-        Err(CheckFault::NoMemory) => Err("no memory".into()),
+        Err(CheckError::NoMemory) => Err("no memory".into()),
     }
 }
 

@@ -12,10 +12,10 @@ use Rattle.split_merge.proofs.Replacing.{news_of-append}
 use Rattle.area_chunks.proofs.Editing.{news_from}
 use Rattle.area_chunks.proofs.Leaving.{there_in}
 use Rattle.vma_lock.specs.Seats.{slots_of}
-use Rattle.area_tree.specs.declared.shown.Shown.{Shown}
+use Rattle.area_tree.specs.declared.shown.ShownArea.{ShownArea}
 use Rattle.area_tree.specs.AreaTrees.{AreaTreeView, shown_of, areas_of, areas_shown}
 use Rattle.mm_state.specs.declared.board.Board.{Board}
-use Rattle.mm_state.specs.Boards.{adds, adds_of, CanChange, IsShown, IsChanging}
+use Rattle.mm_state.specs.Internal.Boards.{adds, adds_of, CanChange, IsShown, IsChanging}
 
 -- the board can be changed on
 pub can_change : (start board : Board) (done : List Change) (tree : ℕ) → CanChange start → IsChanging start board done tree → CanChange board
@@ -82,11 +82,11 @@ pub left_there : (start board : Board) (changes : List Change) (place left : ℕ
 left_there start board changes place left d tree changing plan within next =
     there_in (areas_of start.areas) (without (olds_of (drop left changes)) (areas_of start.areas)) changes place left d changing.ascend plan.members plan.distinct within next refl
 
-shown_contained : (tree : List Shown) (area : Record) → IsShown tree area → Contains (areas_shown tree) area
+shown_contained : (tree : List ShownArea) (area : Record) → IsShown tree area → Contains (areas_shown tree) area
 shown_contained tree area (slot, member) = (
   member.0,
-  omega (arith, member.1, length-map tree (λ (s : Shown). s.area)),
-  get_or-map (λ (s : Shown). s.area) tree member.0 (record { slot = slot; area = area }) area member.1 ∙ ap (λ (s : Shown). s.area) member.2,
+  omega (arith, member.1, length-map tree (λ (s : ShownArea). s.area)),
+  get_or-map (λ (s : ShownArea). s.area) tree member.0 (record { slot = slot; area = area }) area member.1 ∙ ap (λ (s : ShownArea). s.area) member.2,
 )
 
 -- and so is in the tree

@@ -5,7 +5,7 @@ use Rattle.std.specs.List.Sorted.{IsPermutation}
 use Rattle.std.proofs.lemmas.Bool.{cases_eq, cases_lt}
 use Rattle.std.proofs.lemmas.Bool.Decides.{nat_tests}
 use Rattle.std.proofs.lemmas.List.{length-append, get_or-set_same, get_or-set_other}
-use Rattle.std.proofs.lemmas.List.Elements.{All-cons, All-head, All-filter, All-contains, All-map, filter_passes, Contains-append_right, Contains-get_or}
+use Rattle.std.proofs.lemmas.List.Elements.{All-cons, All-head, All-weaker, All-filter, All-contains, All-map, filter_passes, Contains-append_right, Contains-get_or}
 use Rattle.std.proofs.lemmas.List.Sums.{sum_by-append, sum_by_push, sum_by-cons, get_or-le-sum_by}
 use Rattle.std.proofs.lemmas.List.Sorted.{sum_by_pushed, All-permutation, Contains-permutation, IsPermutation-sym, IsPermutation-trans, IsPermutation-to_front, IsPermutation-append_left}
 use Rattle.mm_types.specs.declared.area.Span.{Span}
@@ -18,22 +18,21 @@ use Rattle.split_merge.specs.declared.plan.Change.{Change}
 use Rattle.split_merge.specs.declared.plan.Change.TheVariants.{Detach, Alter, Add}
 use Rattle.split_merge.specs.Plans.{olds_of, news_of, starts_alike, without}
 use Rattle.split_merge.proofs.Counting.{contains_cases}
-use Rattle.area_chunks.specs.BinarySearch.{BeginsAscend}
 use Rattle.area_chunks.proofs.Going.{without_swap}
 use Rattle.area_slots.specs.declared.leaving.Leaving.{Leaving}
 use Rattle.area_slots.specs.Slots.{SlotSet, one_at, times, times_left}
 use Rattle.vma_lock.specs.declared.view.View.{View}
 use Rattle.vma_lock.specs.Seats.{Writes, sight, slots}
-use Rattle.area_tree.specs.declared.shown.Shown.{Shown}
-use Rattle.area_tree.specs.AreaTrees.{AreaTreeView, shown_of, areas_of, areas_shown, times_shown}
+use Rattle.area_tree.specs.declared.shown.ShownArea.{ShownArea}
+use Rattle.area_tree.specs.AreaTrees.{AreaTreeView, shown_of, areas_of, areas_shown, times_shown, AreasRise, IsEndOf, IsRoomFor}
 use Rattle.mm_state.specs.declared.board.Board.{Board}
 use Rattle.mm_state.specs.Shelves.{ShowsIt, Hangs}
 use Rattle.mm_state.specs.States.{MarksChanged, HaveLeft}
-use Rattle.mm_state.specs.Boards.{adds, weigh, IsBeside, after_leaving, Moves, Carries, IsSane, IsShown, IsStill, ChangesAtMost, IsChanging, IsSameTree}
+use Rattle.mm_state.specs.Internal.Boards.{adds, weigh, IsBeside, after_leaving, HasPageOf, Moves, Carries, IsSane, IsShown, IsStill, ChangesAtMost, IsChanging, IsSameTree}
 use Rattle.mm_state.proofs.Rows.{packed_attached, packed_apart, not_packed}
 use Rattle.mm_state.proofs.Hanging.{hangs_permuted, alone, IsAlone, self, left_more, detached, altered, added, free_is_none}
 use Rattle.mm_state.proofs.Writing.{hangs_out}
-use Rattle.mm_state.proofs.InOrder.{weigh_map}
+use Rattle.mm_state.proofs.InOrder.{weigh_map, rise_ascend}
 
 -- the free slots are as they were
 abbrev pub Unused : List SlotState → List SlotState → List ℕ → Type 0
@@ -110,11 +109,15 @@ pub tree_step : (first second third : AreaTreeView) → IsSameTree first second 
 tree_step first second third one two = two
     ∙ ap (λ (t : AreaTreeView). record t { tree = record t.tree { pairs = third.tree.pairs; changed = third.tree.changed }; records = third.records }) one
 
--- an area goes out of the tree with its slot, and the rest stays, beside areas that begin where it begins
-record IsOut (tree after rest : List Shown) (slot : ℕ) (area : Record) : Type 0 where
+-- an area stands on one side of another
+abbrev Beside : Record → Record → Type 0
+Beside area other = (other.span.hi ≤ area.span.lo) ⊎ (area.span.hi ≤ other.span.lo)
+
+-- an area goes out of the tree with its slot, and the rest stays, beside what has a page of it
+record IsOut (tree after rest : List ShownArea) (slot : ℕ) (area : Record) : Type 0 where
   out : IsPermutation (record { slot = slot; area = area } ∷ rest) tree
-  stays : (s : Shown) → Contains rest s → Contains after s
-  came : (s : Shown) → Contains after s → s.area.span.lo ≢ area.span.lo → Contains rest s
+  stays : (s : ShownArea) → Contains rest s → Contains after s
+  came : (s : ShownArea) → Contains after s → Beside area s.area → Contains rest s
 
 false_from_not : (b : Bool) → not b ≡ true → b ≡ false
 false_from_not true is = sym is
@@ -138,7 +141,43 @@ left_then P Q olds areas area step all = subst (All Q) (without_swap (area ∷ [
     kept : List Record
     kept = filter passes (without olds areas)
 
-module _ (tree after rest : List Shown) (slot : ℕ) (area : Record) (is : IsOut tree after rest slot area) where
+-- what holds of all areas holds of those that are left
+all_without : (P : Record → Type 0) (olds areas : List Record) → All P areas → All P (without olds areas)
+all_without P [] areas all = all
+all_without P (old ∷ olds) areas all = all_without P olds (filter (λ area. not (starts_alike area old)) areas) (All-filter (λ area. not (starts_alike area old)) P areas all)
+
+-- the others of areas in order stand beside each
+besides : (limit start : ℕ) (areas : List Record) (area : Record) → AreasRise limit start areas → Contains areas area
+    → All (λ b. b.span.lo ≢ area.span.lo → Beside area b) areas
+besides limit start [] area rises member = absurd (omega (arith, member.1))
+besides limit start (first ∷ areas) area (begins, some, upto, rest) member =
+    by (λ later. besides limit first.span.hi areas area rest later) (contains_cases first areas area member)
+  where
+    above : All (λ b. first.span.hi ≤ b.span.lo) areas
+    above = (rise_ascend limit first.span.hi areas rest).0
+
+    by : (Contains areas area → All (λ b. b.span.lo ≢ area.span.lo → Beside area b) areas) → (first ≡ area) ⊎ Contains areas area
+        → All (λ b. b.span.lo ≢ area.span.lo → Beside area b) (first ∷ areas)
+    by step (inl here) = All-cons (λ b. b.span.lo ≢ area.span.lo → Beside area b) first areas
+        (λ apart. absurd (apart (ap (λ (b : Record). b.span.lo) here)))
+        (All-weaker (λ b. first.span.hi ≤ b.span.lo) (λ b. b.span.lo ≢ area.span.lo → Beside area b)
+        (λ b over apart. inr (omega (arith, over, ap (λ (c : Record). c.span.hi) here))) areas above)
+    by step (inr later) = All-cons (λ b. b.span.lo ≢ area.span.lo → Beside area b) first areas
+        (λ apart. inl (All-contains (λ b. first.span.hi ≤ b.span.lo) areas area above later))
+        (step later)
+
+-- so do those that are left, of which one goes
+left_beside : (P : Record → Type 0) (limit start : ℕ) (olds areas : List Record) (area : Record) → AreasRise limit start areas → Contains (without olds areas) area
+    → All P (without olds areas) → All (λ b. P b × (b.span.lo ≢ area.span.lo → Beside area b)) (without olds areas)
+left_beside P limit start olds areas area rises member all k d within = (
+  all k d within,
+  all_without (λ b. b.span.lo ≢ area.span.lo → Beside area b) olds areas (besides limit start areas area rises there) k d within,
+)
+  where
+    there : Contains areas area
+    there = All-contains (Contains areas) (without olds areas) area (all_without (Contains areas) olds areas (λ j e inside. Contains-get_or areas j e inside)) member
+
+module _ (tree after rest : List ShownArea) (slot : ℕ) (area : Record) (is : IsOut tree after rest slot area) where
   shown_then : (b : Record) → IsShown tree b → b.span.lo ≢ area.span.lo → IsShown after b
   shown_then b (place, member) apart = (
     place,
@@ -148,17 +187,17 @@ module _ (tree after rest : List Shown) (slot : ℕ) (area : Record) (is : IsOut
         (IsPermutation-sym (record { slot = slot; area = area } ∷ rest) tree is.out) member))),
   )
     where
-      by : (◌≡◌ {A = Shown} (record { slot = slot; area = area }) (record { slot = place; area = b })) ⊎ Contains rest (record { slot = place; area = b })
+      by : (◌≡◌ {A = ShownArea} (record { slot = slot; area = area }) (record { slot = place; area = b })) ⊎ Contains rest (record { slot = place; area = b })
           → Contains rest (record { slot = place; area = b })
-      by (inl same) = absurd (apart (sym (ap (λ (s : Shown). s.area.span.lo) same)))
+      by (inl same) = absurd (apart (sym (ap (λ (s : ShownArea). s.area.span.lo) same)))
       by (inr later) = later
 
-  still_then : (old states : List SlotState) (state : SlotState) → times_shown slot rest ≡ 0 → (b : Record) → IsStill old states tree b → b.span.lo ≢ area.span.lo
-      → IsStill old (set states slot state) after b
-  still_then old states state none b still apart place member =
-      let later = is.came (record { slot = place; area = b }) member apart in
-      let some = get_or-le-sum_by (λ (s : Shown). one_at slot s.slot) rest later.0 (record { slot = place; area = b }) later.1 in
-      let there = ap (λ (s : Shown). one_at slot s.slot) later.2 in
+  still_then : (old states : List SlotState) (state : SlotState) → times_shown slot rest ≡ 0 → (b : Record) → IsStill old states tree b × (b.span.lo ≢ area.span.lo → Beside area b)
+      → b.span.lo ≢ area.span.lo → IsStill old (set states slot state) after b
+  still_then old states state none b (still, beside) apart place member =
+      let later = is.came (record { slot = place; area = b }) member (beside apart) in
+      let some = get_or-le-sum_by (λ (s : ShownArea). one_at slot s.slot) rest later.0 (record { slot = place; area = b }) later.1 in
+      let there = ap (λ (s : ShownArea). one_at slot s.slot) later.2 in
       get_or-set_other states slot place state free_slot
       (λ same. absurd (omega (arith, some, there, none, self slot, ap (one_at slot) same)))
       ∙ still place (Contains-permutation (record { slot = slot; area = area } ∷ rest) tree (record { slot = place; area = b }) is.out
@@ -168,7 +207,7 @@ module _ (tree after rest : List Shown) (slot : ℕ) (area : Record) (is : IsOut
   first_there = Contains-permutation (record { slot = slot; area = area } ∷ rest) tree (record { slot = slot; area = area }) is.out (0, omega arith, refl)
 
 -- an area that goes out
-gone_out : (tree after : List Shown) (slot : ℕ) (area : Record) → IsPermutation (record { slot = slot; area = area } ∷ after) tree → IsOut tree after after slot area
+gone_out : (tree after : List ShownArea) (slot : ℕ) (area : Record) → IsPermutation (record { slot = slot; area = area } ∷ after) tree → IsOut tree after after slot area
 gone_out tree after slot area out = record { out = out; stays = λ s member. member; came = λ s member apart. member }
 
 pub detach_step : (start board after : Board) (done : List Change) (tree : ℕ) (area : Record) → IsChanging start board done tree
@@ -180,21 +219,24 @@ detach_step start board after done tree area changing member (slot, changes, out
   hangs = rw changes.written.slots (rw moved (rw set_is (detached (slots board.writer) shown (shown_of after.areas ++ board.moved.items) board.slots seq tree there)));
   count = ap (λ (s : SlotSet). s.count) set_is ∙ changing.count;
   ascend = changing.ascend;
+  rise = changing.rise;
   areas = λ weight. omega (
     arith,
     changing.areas weight,
     sum_by-cons weight area (olds_of done),
-    sum_by_pushed (λ (s : Shown). weight s.area) shown (shown_of after.areas) (shown_of board.areas) out,
-    sum_by-append (λ (s : Shown). weight s.area) (shown_of after.areas) after.moved.items,
-    sum_by-append (λ (s : Shown). weight s.area) (shown_of board.areas) board.moved.items,
+    sum_by_pushed (λ (s : ShownArea). weight s.area) shown (shown_of after.areas) (shown_of board.areas) out,
+    sum_by-append (λ (s : ShownArea). weight s.area) (shown_of after.areas) after.moved.items,
+    sum_by-append (λ (s : ShownArea). weight s.area) (shown_of board.areas) board.moved.items,
     ap (weigh weight) moved,
   );
   there = left_then (IsShown (shown_of board.areas)) (IsShown (shown_of after.areas)) (olds_of done) (areas_of start.areas) area
       (shown_then (shown_of board.areas) (shown_of after.areas) (shown_of after.areas) slot area is) changing.there;
-  still = rw changes.written.slots (left_then (IsStill (slots start.writer) (slots board.writer) (shown_of board.areas))
+  still = rw changes.written.slots (left_then
+      (λ b. IsStill (slots start.writer) (slots board.writer) (shown_of board.areas) b × (b.span.lo ≢ area.span.lo → Beside area b))
       (IsStill (slots start.writer) (set (slots board.writer) slot state) (shown_of after.areas)) (olds_of done) (areas_of start.areas) area
       (still_then (shown_of board.areas) (shown_of after.areas) (shown_of after.areas) slot area is (slots start.writer) (slots board.writer) state alone_there)
-      changing.still);
+      (left_beside (IsStill (slots start.writer) (slots board.writer) (shown_of board.areas)) start.areas.tree.limit 0 (olds_of done) (areas_of start.areas) area
+      changing.rise member changing.still));
   unused = rw changes.written.slots (unused_more (slots start.writer) (slots board.writer) slot state board.slots.free after.slots.free
       (ap (λ (s : SlotSet). times slot s.free) set_is ∙ one.taken.not_free) (λ other. omega (arith, ap (λ (s : SlotSet). times other s.free) set_is)) changing.unused);
   free = omega (arith, changing.free, ap (λ (s : SlotSet). length s.free) set_is, sum_by-cons adds (Detach area) done);
@@ -216,7 +258,7 @@ detach_step start board after done tree area changing member (slot, changes, out
     seq : ℕ
     seq = (sight board.writer).desk.seq
 
-    shown : Shown
+    shown : ShownArea
     shown = record { slot = slot; area = area }
 
     leaving : Leaving
@@ -242,7 +284,7 @@ detach_step start board after done tree area changing member (slot, changes, out
     one = alone (slots board.writer) shown (shown_of after.areas ++ board.moved.items) board.slots there
 
     alone_there : times_shown slot (shown_of after.areas) ≡ 0
-    alone_there = omega (arith, one.no_other, sum_by-append (λ (s : Shown). one_at slot s.slot) (shown_of after.areas) board.moved.items)
+    alone_there = omega (arith, one.no_other, sum_by-append (λ (s : ShownArea). one_at slot s.slot) (shown_of after.areas) board.moved.items)
 
     within : slot < length (slots board.writer)
     within = omega (arith, there.sized, one.taken.below)
@@ -260,24 +302,54 @@ same_span a b test holds is =
     let hi : a.hi ≡ b.hi = grind (arith, nat_tests) in
     ap (λ n. record { lo = n; hi = a.hi }) lo ∙ ap (λ n. record { lo = b.lo; hi = n }) hi
 
--- what another area at the same pages makes of the tree
-altered_out : (tree after rest : List Shown) (slot : ℕ) (area changed : Record) → IsPermutation (record { slot = slot; area = area } ∷ rest) tree
-    → IsPermutation (record { slot = slot; area = changed } ∷ rest) after → area.span ≡ changed.span → IsOut tree after rest slot area
-altered_out tree after rest slot area changed out in_place pages = record {
+-- areas with the same pages have one in common, and so have an area and what it shrinks or grows to
+pub same_meets : (area changed : Record) → changed.span.lo < changed.span.hi → area.span ≡ changed.span → HasPageOf area changed
+same_meets area changed some same = (
+  omega (arith, some, ap (λ (p : Span). p.lo) same, ap (λ (p : Span). p.hi) same),
+  omega (arith, some, ap (λ (p : Span). p.lo) same, ap (λ (p : Span). p.hi) same),
+)
+
+pub end_meets : (area changed : Record) → IsEndOf changed.span area.span → HasPageOf area changed
+end_meets area changed (some, inl (begins, less)) = (omega (arith, some, begins), omega (arith, some, less))
+end_meets area changed (some, inr (more, ends)) = (omega (arith, some, more), omega (arith, some, ends))
+
+pub room_meets : (area changed : Record) (limit : ℕ) (areas : List Record) → IsRoomFor limit areas area.span changed.span → area.span.lo < area.span.hi
+    → HasPageOf area changed
+room_meets area changed limit areas room some = (omega (arith, some, room.over), omega (arith, some, room.under))
+
+-- an area of areas in order has a page
+pub old_pages : (limit start : ℕ) (areas : List Record) (area : Record) → AreasRise limit start areas → Contains areas area → area.span.lo < area.span.hi
+old_pages limit start [] area rises member = absurd (omega (arith, member.1))
+old_pages limit start (first ∷ areas) area (begins, some, upto, rest) member = elim (contains_cases first areas area member) [
+  | inl here ↦ subst (λ (b : Record). b.span.lo < b.span.hi) here some
+  | inr later ↦ old_pages limit first.span.hi areas area rest later
+]
+
+-- what another area with a page of the one before makes of the tree
+altered_out : (tree after rest : List ShownArea) (slot : ℕ) (area changed : Record) → IsPermutation (record { slot = slot; area = area } ∷ rest) tree
+    → IsPermutation (record { slot = slot; area = changed } ∷ rest) after → HasPageOf area changed → IsOut tree after rest slot area
+altered_out tree after rest slot area changed out in_place meets = record {
   out = out;
   stays = λ s member. Contains-permutation (now ∷ rest) after s in_place (Contains-append_right (now ∷ []) rest s member);
-  came = λ s member apart. by s apart (contains_cases now rest s (Contains-permutation after (now ∷ rest) s (IsPermutation-sym (now ∷ rest) after in_place) member));
+  came = λ s member beside. by s beside (contains_cases now rest s (Contains-permutation after (now ∷ rest) s (IsPermutation-sym (now ∷ rest) after in_place) member));
 }
   where
-    now : Shown
+    now : ShownArea
     now = record { slot = slot; area = changed }
 
-    by : (s : Shown) → s.area.span.lo ≢ area.span.lo → (now ≡ s) ⊎ Contains rest s → Contains rest s
-    by s apart (inl same) = absurd (apart (sym (ap (λ (t : Shown). t.area.span.lo) same) ∙ sym (ap (λ (p : Span). p.lo) pages)))
-    by s apart (inr later) = later
+    lo : (s : ShownArea) → now ≡ s → changed.span.lo ≡ s.area.span.lo
+    lo s same = ap (λ (t : ShownArea). t.area.span.lo) same
+
+    hi : (s : ShownArea) → now ≡ s → changed.span.hi ≡ s.area.span.hi
+    hi s same = ap (λ (t : ShownArea). t.area.span.hi) same
+
+    by : (s : ShownArea) → Beside area s.area → (now ≡ s) ⊎ Contains rest s → Contains rest s
+    by s (inl under) (inl same) = absurd (omega (arith, under, hi s same, meets.0))
+    by s (inr over) (inl same) = absurd (omega (arith, over, lo s same, meets.1))
+    by s beside (inr later) = later
 
 -- a list with another element at its end
-at_end : (rest after moved : List Shown) (now : Shown) → IsPermutation rest after → IsPermutation (now ∷ (rest ++ moved)) (after ++ (moved ++ now ∷ []))
+at_end : (rest after moved : List ShownArea) (now : ShownArea) → IsPermutation rest after → IsPermutation (now ∷ (rest ++ moved)) (after ++ (moved ++ now ∷ []))
 at_end rest after moved now out =
     IsPermutation-trans (now ∷ (rest ++ moved)) (rest ++ (moved ++ now ∷ [])) (after ++ (moved ++ now ∷ []))
     (subst (IsPermutation (now ∷ (rest ++ moved))) (append_assoc rest moved (now ∷ []))
@@ -285,7 +357,7 @@ at_end rest after moved now out =
     (IsPermutation-append_left (moved ++ now ∷ []) rest after out)
 
 -- what a slot of the tree that shows another area makes of the areas
-record IsMoved (board after : Board) (rest : List Shown) (slot : ℕ) (area changed : Record) : Type 0 where
+record IsMoved (board after : Board) (rest : List ShownArea) (slot : ℕ) (area changed : Record) : Type 0 where
   is : IsOut (shown_of board.areas) (shown_of after.areas) rest slot area
   all : IsPermutation (record { slot = slot; area = changed } ∷ (rest ++ board.moved.items)) (shown_of after.areas ++ after.moved.items)
   few : length after.moved.items ≤ length board.moved.items + 1
@@ -293,14 +365,14 @@ record IsMoved (board after : Board) (rest : List Shown) (slot : ℕ) (area chan
 is_moved : (board after : Board) (slot : ℕ) (area changed : Record) → (moves : Moves board after slot area changed) → IsMoved board after moves.rest slot area changed
 is_moved board after slot area changed moves = by moves.after
   where
-    now : Shown
+    now : ShownArea
     now = record { slot = slot; area = changed }
 
-    by : (IsPermutation (now ∷ moves.rest) (shown_of after.areas) × (after.moved.items ≡ board.moved.items) × (area.span ≡ changed.span))
+    by : (IsPermutation (now ∷ moves.rest) (shown_of after.areas) × (after.moved.items ≡ board.moved.items) × HasPageOf area changed)
         ⊎ (IsPermutation moves.rest (shown_of after.areas) × (after.moved.items ≡ board.moved.items ++ now ∷ [])) → IsMoved board after moves.rest slot area changed
-    by (inl (in_place, moved, pages)) = record {
-      is = altered_out (shown_of board.areas) (shown_of after.areas) moves.rest slot area changed moves.before in_place pages;
-      all = subst (λ (list : List Shown). IsPermutation (now ∷ (moves.rest ++ board.moved.items)) (shown_of after.areas ++ list)) (sym moved)
+    by (inl (in_place, moved, meets)) = record {
+      is = altered_out (shown_of board.areas) (shown_of after.areas) moves.rest slot area changed moves.before in_place meets;
+      all = subst (λ (list : List ShownArea). IsPermutation (now ∷ (moves.rest ++ board.moved.items)) (shown_of after.areas ++ list)) (sym moved)
           (IsPermutation-append_left board.moved.items (now ∷ moves.rest) (shown_of after.areas) in_place);
       few = omega (arith, ap length moved);
     }
@@ -310,7 +382,7 @@ is_moved board after slot area changed moves = by moves.after
         stays = λ s member. Contains-permutation moves.rest (shown_of after.areas) s out member;
         came = λ s member apart. Contains-permutation (shown_of after.areas) moves.rest s (IsPermutation-sym moves.rest (shown_of after.areas) out) member;
       };
-      all = subst (λ (list : List Shown). IsPermutation (now ∷ (moves.rest ++ board.moved.items)) (shown_of after.areas ++ list)) (sym moved)
+      all = subst (λ (list : List ShownArea). IsPermutation (now ∷ (moves.rest ++ board.moved.items)) (shown_of after.areas ++ list)) (sym moved)
           (at_end moves.rest (shown_of after.areas) board.moved.items now out);
       few = omega (arith, ap length moved, length-append board.moved.items (now ∷ []));
     }
@@ -327,22 +399,25 @@ alter_step start board after done tree area changed changing member sane (slot, 
       (altered (slots board.writer) shown (rest ++ board.moved.items) board.slots seq changed there)));
   count = ap (λ (s : SlotSet). s.count) set_is ∙ changing.count;
   ascend = changing.ascend;
+  rise = changing.rise;
   areas = λ weight. omega (
     arith,
     changing.areas weight,
     sum_by-cons weight area (olds_of done),
     sum_by-cons weight changed (news_of done),
-    sum_by_pushed (λ (s : Shown). weight s.area) shown rest (shown_of board.areas) moves.before,
-    sum_by_pushed (λ (s : Shown). weight s.area) now (rest ++ board.moved.items) (shown_of after.areas ++ after.moved.items) m.all,
-    sum_by-append (λ (s : Shown). weight s.area) rest board.moved.items,
-    sum_by-append (λ (s : Shown). weight s.area) (shown_of board.areas) board.moved.items,
+    sum_by_pushed (λ (s : ShownArea). weight s.area) shown rest (shown_of board.areas) moves.before,
+    sum_by_pushed (λ (s : ShownArea). weight s.area) now (rest ++ board.moved.items) (shown_of after.areas ++ after.moved.items) m.all,
+    sum_by-append (λ (s : ShownArea). weight s.area) rest board.moved.items,
+    sum_by-append (λ (s : ShownArea). weight s.area) (shown_of board.areas) board.moved.items,
   );
   there = left_then (IsShown (shown_of board.areas)) (IsShown (shown_of after.areas)) (olds_of done) (areas_of start.areas) area
       (shown_then (shown_of board.areas) (shown_of after.areas) rest slot area m.is) changing.there;
-  still = rw changes.written.slots (left_then (IsStill (slots start.writer) (slots board.writer) (shown_of board.areas))
+  still = rw changes.written.slots (left_then
+      (λ b. IsStill (slots start.writer) (slots board.writer) (shown_of board.areas) b × (b.span.lo ≢ area.span.lo → Beside area b))
       (IsStill (slots start.writer) (set (slots board.writer) slot state) (shown_of after.areas)) (olds_of done) (areas_of start.areas) area
       (still_then (shown_of board.areas) (shown_of after.areas) rest slot area m.is (slots start.writer) (slots board.writer) state alone_there)
-      changing.still);
+      (left_beside (IsStill (slots start.writer) (slots board.writer) (shown_of board.areas)) start.areas.tree.limit 0 (olds_of done) (areas_of start.areas) area
+      changing.rise member changing.still));
   unused = rw changes.written.slots (unused_more (slots start.writer) (slots board.writer) slot state board.slots.free after.slots.free
       (ap (λ (s : SlotSet). times slot s.free) set_is ∙ one.taken.not_free) (λ other. omega (arith, ap (λ (s : SlotSet). times other s.free) set_is)) changing.unused);
   free = omega (arith, changing.free, ap (λ (s : SlotSet). length s.free) set_is, sum_by-cons adds (Alter area changed) done);
@@ -362,13 +437,13 @@ alter_step start board after done tree area changed changing member sane (slot, 
     seq : ℕ
     seq = (sight board.writer).desk.seq
 
-    rest : List Shown
+    rest : List ShownArea
     rest = moves.rest
 
-    shown : Shown
+    shown : ShownArea
     shown = record { slot = slot; area = area }
 
-    now : Shown
+    now : ShownArea
     now = record { slot = slot; area = changed }
 
     state : SlotState
@@ -387,7 +462,7 @@ alter_step start board after done tree area changed changing member sane (slot, 
     one = alone (slots board.writer) shown (rest ++ board.moved.items) board.slots there
 
     alone_there : times_shown slot rest ≡ 0
-    alone_there = omega (arith, one.no_other, sum_by-append (λ (s : Shown). one_at slot s.slot) rest board.moved.items)
+    alone_there = omega (arith, one.no_other, sum_by-append (λ (s : ShownArea). one_at slot s.slot) rest board.moved.items)
 
     within : slot < length (slots board.writer)
     within = omega (arith, there.sized, one.taken.below)
@@ -400,10 +475,10 @@ alter_step start board after done tree area changed changing member sane (slot, 
         slot (first_there (shown_of board.areas) (shown_of after.areas) rest slot area m.is)
 
 -- a free slot shows no area of the tree
-not_shown : (slot : ℕ) (tree : List Shown) (area : Record) → times_shown slot tree ≡ 0 → (place : ℕ) → Contains tree (record { slot = place; area = area }) → place ≢ slot
+not_shown : (slot : ℕ) (tree : List ShownArea) (area : Record) → times_shown slot tree ≡ 0 → (place : ℕ) → Contains tree (record { slot = place; area = area }) → place ≢ slot
 not_shown slot tree area none place member same =
-    let some = get_or-le-sum_by (λ (s : Shown). one_at slot s.slot) tree member.0 (record { slot = place; area = area }) member.1 in
-    omega (arith, some, ap (λ (s : Shown). one_at slot s.slot) member.2, none, self slot, ap (one_at slot) same)
+    let some = get_or-le-sum_by (λ (s : ShownArea). one_at slot s.slot) tree member.0 (record { slot = place; area = area }) member.1 in
+    omega (arith, some, ap (λ (s : ShownArea). one_at slot s.slot) member.2, none, self slot, ap (one_at slot) same)
 
 pub add_step : (start board after : Board) (done : List Change) (tree : ℕ) (area : Record) → IsChanging start board done tree
     → Carries board after (Add area) tree → IsChanging start after (Add area ∷ done) tree
@@ -416,11 +491,12 @@ add_step start board after done tree area changing (slot, changes, tree_is, move
       (added (slots board.writer) (shown_of board.areas ++ board.moved.items) board.slots after.slots slot seq area changing.hangs set_is));
   count = sym (ap (λ (s : SlotSet). s.count) set_is) ∙ changing.count;
   ascend = changing.ascend;
+  rise = changing.rise;
   areas = λ weight. omega (
     arith,
     changing.areas weight,
     sum_by-cons weight area (news_of done),
-    sum_by_pushed (λ (s : Shown). weight s.area) now (shown_of board.areas ++ board.moved.items) (shown_of after.areas ++ after.moved.items) all,
+    sum_by_pushed (λ (s : ShownArea). weight s.area) now (shown_of board.areas ++ board.moved.items) (shown_of after.areas ++ after.moved.items) all,
   );
   there = subst (λ (t : AreaTreeView). All (IsShown (shown_of t)) (without (olds_of done) (areas_of start.areas))) (sym tree_is) changing.there;
   still = rw changes.written.slots (subst (λ (t : AreaTreeView). All (IsStill (slots start.writer) (set (slots board.writer) slot state) (shown_of t))
@@ -447,7 +523,7 @@ add_step start board after done tree area changing (slot, changes, tree_is, move
     seq : ℕ
     seq = (sight board.writer).desk.seq
 
-    now : Shown
+    now : ShownArea
     now = record { slot = slot; area = area }
 
     state : SlotState
@@ -462,7 +538,7 @@ add_step start board after done tree area changing (slot, changes, tree_is, move
     free = free_is_none (slots board.writer) (shown_of board.areas ++ board.moved.items) board.slots after.slots slot changing.hangs set_is
 
     none : times_shown slot (shown_of board.areas) ≡ 0
-    none = omega (arith, free.1, sum_by-append (λ (s : Shown). one_at slot s.slot) (shown_of board.areas) board.moved.items)
+    none = omega (arith, free.1, sum_by-append (λ (s : ShownArea). one_at slot s.slot) (shown_of board.areas) board.moved.items)
 
     within : slot < length (slots board.writer)
     within = omega (arith, changing.hangs.sized, free.0)
@@ -498,22 +574,23 @@ change_step start board after done tree (Alter area changed) changing members sa
 change_step start board after done tree (Add area) changing members sane carried = add_step start board after done tree area changing carried
 
 -- what a tree shows is shown
-pub all_shown : (tree : List Shown) → All (IsShown tree) (areas_shown tree)
-all_shown tree = All-map (IsShown tree) (λ (s : Shown). s.area) tree (λ k d within. ((get_or tree k d).slot, Contains-get_or tree k d within))
+pub all_shown : (tree : List ShownArea) → All (IsShown tree) (areas_shown tree)
+all_shown tree = All-map (IsShown tree) (λ (s : ShownArea). s.area) tree (λ k d within. ((get_or tree k d).slot, Contains-get_or tree k d within))
 
 -- nothing was carried out
 pub none_changed : (board : Board) (tree : ℕ) → Writes board.writer board.table → Hangs (slots board.writer) (shown_of board.areas ++ board.moved.items) board.slots
-    → board.moved.items ≡ [] → All (λ leaving. leaving.tree ≤ tree) board.slots.left → BeginsAscend (areas_of board.areas) → IsChanging board board [] tree
-none_changed board tree mine hangs empty leaving ascend = record {
+    → board.moved.items ≡ [] → All (λ leaving. leaving.tree ≤ tree) board.slots.left → AreasRise board.areas.tree.limit 0 (areas_of board.areas) → IsChanging board board [] tree
+none_changed board tree mine hangs empty leaving rises = record {
   table = refl;
   mine = mine;
   beside = record { config = refl; seen = refl; turn = refl; seq = refl };
   hangs = hangs;
   count = refl;
-  ascend = ascend;
+  ascend = (rise_ascend board.areas.tree.limit 0 (areas_of board.areas) rises).1;
+  rise = rises;
   areas = λ weight. omega (
     arith,
-    sum_by-append (λ (s : Shown). weight s.area) (shown_of board.areas) board.moved.items,
+    sum_by-append (λ (s : ShownArea). weight s.area) (shown_of board.areas) board.moved.items,
     ap (weigh weight) empty,
     weigh_map weight (shown_of board.areas),
   );

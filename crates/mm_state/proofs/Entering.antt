@@ -24,7 +24,7 @@ use Rattle.sys_calls.proofs.Keeping.{opened_space}
 use Rattle.vma_lock.specs.Seats.{config_of, journal}
 use Rattle.area_tree.specs.AreaTrees.{areas_of, AreasRise}
 use Rattle.mm_state.specs.declared.board.Board.{Board}
-use Rattle.mm_state.specs.Boards.{IsEntered, IsPackable}
+use Rattle.mm_state.specs.Internal.Boards.{IsEntered, IsPackable}
 use Rattle.mm_state.proofs.Sane.{packable, sane}
 
 -- a canonical list is in order

@@ -18,38 +18,38 @@ use Rattle.split_merge.proofs.Counting.{contains_filter}
 use Rattle.area_slots.specs.declared.leaving.Leaving.{Leaving}
 use Rattle.area_slots.specs.Slots.{SlotSet, IsTaken, one_at, times, times_left, left_by, gone_by, gone_after, slots_of}
 use Rattle.area_slots.proofs.Counting.{times-slots_of}
-use Rattle.area_tree.specs.declared.shown.Shown.{Shown}
+use Rattle.area_tree.specs.declared.shown.ShownArea.{ShownArea}
 use Rattle.area_tree.specs.AreaTrees.{areas_shown, times_shown}
 use Rattle.mm_state.specs.Shelves.{ShowsIt, Hangs}
-use Rattle.mm_state.specs.Boards.{IsFreed, after_leaving}
+use Rattle.mm_state.specs.Internal.Boards.{IsFreed, after_leaving}
 use Rattle.mm_state.proofs.Rows.{packed_attached}
 
 -- the weight of an area
 weigh : (List ℕ → ℕ) → Record → ℕ
 weigh weight area = weight (packed area)
 
-pub hangs_permuted : (states : List SlotState) (shown others : List Shown) (slots : SlotSet) → IsPermutation shown others → Hangs states shown slots → Hangs states others slots
+pub hangs_permuted : (states : List SlotState) (shown others : List ShownArea) (slots : SlotSet) → IsPermutation shown others → Hangs states shown slots → Hangs states others slots
 hangs_permuted states shown others slots moved hangs = record {
   sized = hangs.sized;
   counted = omega (arith, length_permutation shown others moved, hangs.counted);
-  once = λ slot. rw (sum_by-IsPermutation (λ (s : Shown). one_at slot s.slot) shown others moved) (hangs.once slot);
+  once = λ slot. rw (sum_by-IsPermutation (λ (s : ShownArea). one_at slot s.slot) shown others moved) (hangs.once slot);
   rows = All-permutation (ShowsIt states) shown others moved hangs.rows;
-  others = λ slot none. hangs.others slot (sym (sum_by-IsPermutation (λ (s : Shown). one_at slot s.slot) shown others moved) ∙ none);
+  others = λ slot none. hangs.others slot (sym (sum_by-IsPermutation (λ (s : ShownArea). one_at slot s.slot) shown others moved) ∙ none);
   exactly = λ weight. hangs.exactly weight ∙ sym (sum_by-IsPermutation (λ (area : Record). weight (packed area)) (areas_shown shown) (areas_shown others)
-      (IsPermutation-map (λ (s : Shown). s.area) shown others moved));
+      (IsPermutation-map (λ (s : ShownArea). s.area) shown others moved));
 }
 
 -- a slot that shows an area is neither free nor left, and shows no other
-pub record IsAlone (shown : Shown) (rest : List Shown) (slots : SlotSet) : Type 0 where
+pub record IsAlone (shown : ShownArea) (rest : List ShownArea) (slots : SlotSet) : Type 0 where
   pub taken : IsTaken slots shown.slot
   pub no_other : times_shown shown.slot rest ≡ 0
 
 pub self : (slot : ℕ) → one_at slot slot ≡ 1
 self slot = grind (arith, nat_tests)
 
-pub alone : (states : List SlotState) (shown : Shown) (rest : List Shown) (slots : SlotSet) → Hangs states (shown ∷ rest) slots → IsAlone shown rest slots
+pub alone : (states : List SlotState) (shown : ShownArea) (rest : List ShownArea) (slots : SlotSet) → Hangs states (shown ∷ rest) slots → IsAlone shown rest slots
 alone states shown rest slots hangs =
-    let sum = sum_by-cons (λ (s : Shown). one_at shown.slot s.slot) shown rest in
+    let sum = sum_by-cons (λ (s : ShownArea). one_at shown.slot s.slot) shown rest in
     let one = self shown.slot in
     let once = hangs.once shown.slot in
     by (cases_lt shown.slot slots.count) sum one once
@@ -66,12 +66,12 @@ alone states shown rest slots hangs =
         absurd (omega arith)
 
 -- the slot of an area of the tree is taken
-pub taken_in : (states : List SlotState) (tree moved : List Shown) (slots : SlotSet) (shown : Shown) → Hangs states (tree ++ moved) slots → Contains tree shown
+pub taken_in : (states : List SlotState) (tree moved : List ShownArea) (slots : SlotSet) (shown : ShownArea) → Hangs states (tree ++ moved) slots → Contains tree shown
     → IsTaken slots shown.slot
 taken_in states tree moved slots shown hangs member =
-    let some = get_or-le-sum_by (λ (s : Shown). one_at shown.slot s.slot) tree member.0 shown member.1 in
-    let one = ap (λ (s : Shown). one_at shown.slot s.slot) member.2 ∙ self shown.slot in
-    let both = sum_by-append (λ (s : Shown). one_at shown.slot s.slot) tree moved in
+    let some = get_or-le-sum_by (λ (s : ShownArea). one_at shown.slot s.slot) tree member.0 shown member.1 in
+    let one = ap (λ (s : ShownArea). one_at shown.slot s.slot) member.2 ∙ self shown.slot in
+    let both = sum_by-append (λ (s : ShownArea). one_at shown.slot s.slot) tree moved in
     by (cases_lt shown.slot slots.count) (omega (arith, some, one, both)) (hangs.once shown.slot)
   where
     by : ((shown.slot < slots.count) ⊎ (slots.count ≤ shown.slot)) → 1 ≤ times_shown shown.slot (tree ++ moved)
@@ -85,14 +85,14 @@ taken_in states tree moved slots shown hangs member =
         absurd (omega arith)
 
 -- the rows of other slots are as they were
-rows_beside : (states : List SlotState) (slot : ℕ) (state : SlotState) (rest : List Shown) → times_shown slot rest ≡ 0
+rows_beside : (states : List SlotState) (slot : ℕ) (state : SlotState) (rest : List ShownArea) → times_shown slot rest ≡ 0
     → All (ShowsIt states) rest → All (ShowsIt (set states slot state)) rest
 rows_beside states slot state rest none rows k d within =
     ap (λ (s : SlotState). s.row) (get_or-set_other states slot (get_or rest k d).slot state free_slot (apart)) ∙ rows k d within
   where
     apart : (get_or rest k d).slot ≢ slot
     apart same =
-        let some = get_or-le-sum_by (λ (s : Shown). one_at slot s.slot) rest k d within in
+        let some = get_or-le-sum_by (λ (s : ShownArea). one_at slot s.slot) rest k d within in
         let one : one_at slot (get_or rest k d).slot ≡ 1 = rw same (self slot) in
         omega (arith, some, one, none)
 
@@ -101,14 +101,14 @@ other_detached : (states : List SlotState) (slot other : ℕ) (state : SlotState
 other_detached states slot other state apart is = ap (λ (s : SlotState). is_detached s.row) (get_or-set_other states slot other state free_slot (λ same. apart (sym same))) ∙ is
 
 -- what stands at a slot that shows an area weighs as the area does
-weighs_as : (weight : List ℕ → ℕ) (states : List SlotState) (shown : Shown) → ShowsIt states shown
+weighs_as : (weight : List ℕ → ℕ) (states : List SlotState) (shown : ShownArea) → ShowsIt states shown
     → attached_weight weight (slot_at states shown.slot) ≡ weight (packed shown.area)
 weighs_as weight states shown is = ap (λ row. if is_detached row then 0 else weight row) is ∙ cond-false (is_detached (packed shown.area)) 0 (weight (packed shown.area)) (packed_attached shown.area)
 
 packed_weighs : (weight : List ℕ → ℕ) (seq : ℕ) (area : Record) → attached_weight weight (record { lock_seq = seq; row = packed area }) ≡ weight (packed area)
 packed_weighs weight seq area = cond-false (is_detached (packed area)) 0 (weight (packed area)) (packed_attached area)
 
-areas-cons : (weight : List ℕ → ℕ) (shown : Shown) (rest : List Shown)
+areas-cons : (weight : List ℕ → ℕ) (shown : ShownArea) (rest : List ShownArea)
     → sum_by (λ area. weight (packed area)) (areas_shown (shown ∷ rest)) ≡ weight (packed shown.area) + sum_by (λ area. weight (packed area)) (areas_shown rest)
 areas-cons weight shown rest = sum_by-cons (λ (area : Record). weight (packed area)) shown.area (areas_shown rest)
 
@@ -123,7 +123,7 @@ left_more slots slot tree =
     (IsPermutation-middle (gone_by tree slots.left) leaving (gone_after tree slots.left)))
 
 -- the area of a slot leaves with it
-pub detached : (states : List SlotState) (shown : Shown) (rest : List Shown) (slots : SlotSet) (seq tree : ℕ) → Hangs states (shown ∷ rest) slots
+pub detached : (states : List SlotState) (shown : ShownArea) (rest : List ShownArea) (slots : SlotSet) (seq tree : ℕ) → Hangs states (shown ∷ rest) slots
     → Hangs (set states shown.slot (record { lock_seq = seq; row = detached_row })) rest (after_leaving slots shown.slot tree)
 detached states shown rest slots seq tree hangs = record {
   sized = length-set states shown.slot changed ∙ hangs.sized;
@@ -131,7 +131,7 @@ detached states shown rest slots seq tree hangs = record {
   once = λ slot. omega (
     arith,
     sum_by_pushed (λ (l : Leaving). one_at slot l.slot) leaving slots.left after.left more,
-    sum_by-cons (λ (s : Shown). one_at slot s.slot) shown rest,
+    sum_by-cons (λ (s : ShownArea). one_at slot s.slot) shown rest,
     hangs.once slot,
   );
   rows = rows_beside states shown.slot changed rest (alone states shown rest slots hangs).no_other (All-tail (ShowsIt states) shown rest hangs.rows);
@@ -165,18 +165,18 @@ detached states shown rest slots seq tree hangs = record {
         (ap (λ (s : SlotState). is_detached s.row) (get_or-set_same states shown.slot changed free_slot within))
     by slot none (inr apart) =
         let no : ◌≡◌ {A = ℕ} (one_at slot shown.slot) 0 = grind (arith, nat_tests) in
-        other_detached states shown.slot slot changed apart (hangs.others slot (omega (arith, sum_by-cons (λ (s : Shown). one_at slot s.slot) shown rest, no, none)))
+        other_detached states shown.slot slot changed apart (hangs.others slot (omega (arith, sum_by-cons (λ (s : ShownArea). one_at slot s.slot) shown rest, no, none)))
 
 -- a slot shows another area
-pub altered : (states : List SlotState) (shown : Shown) (rest : List Shown) (slots : SlotSet) (seq : ℕ) (area : Record) → Hangs states (shown ∷ rest) slots
+pub altered : (states : List SlotState) (shown : ShownArea) (rest : List ShownArea) (slots : SlotSet) (seq : ℕ) (area : Record) → Hangs states (shown ∷ rest) slots
     → Hangs (set states shown.slot (record { lock_seq = seq; row = packed area })) (record { slot = shown.slot; area = area } ∷ rest) slots
 altered states shown rest slots seq area hangs = record {
   sized = length-set states shown.slot changed ∙ hangs.sized;
   counted = hangs.counted;
   once = λ slot. omega (
     arith,
-    sum_by-cons (λ (s : Shown). one_at slot s.slot) shown rest,
-    sum_by-cons (λ (s : Shown). one_at slot s.slot) now rest,
+    sum_by-cons (λ (s : ShownArea). one_at slot s.slot) shown rest,
+    sum_by-cons (λ (s : ShownArea). one_at slot s.slot) now rest,
     hangs.once slot,
   );
   rows = All-cons (ShowsIt (set states shown.slot changed)) now rest (ap (λ (s : SlotState). s.row) (get_or-set_same states shown.slot changed free_slot within))
@@ -196,7 +196,7 @@ altered states shown rest slots seq area hangs = record {
     changed : SlotState
     changed = record { lock_seq = seq; row = packed area }
 
-    now : Shown
+    now : ShownArea
     now = record { slot = shown.slot; area = area }
 
     within : shown.slot < length states
@@ -205,16 +205,16 @@ altered states shown rest slots seq area hangs = record {
     by : (slot : ℕ) → times_shown slot (now ∷ rest) ≡ 0 → ((shown.slot ≡ slot) ⊎ (shown.slot ≢ slot)) → is_detached (slot_at (set states shown.slot changed) slot).row ≡ true
     by slot none (inl same) =
         let one : one_at slot shown.slot ≡ 1 = rw same (self slot) in
-        absurd (omega (arith, sum_by-cons (λ (s : Shown). one_at slot s.slot) now rest, one, none))
+        absurd (omega (arith, sum_by-cons (λ (s : ShownArea). one_at slot s.slot) now rest, one, none))
     by slot none (inr apart) = other_detached states shown.slot slot changed apart (hangs.others slot (omega (
       arith,
-      sum_by-cons (λ (s : Shown). one_at slot s.slot) shown rest,
-      sum_by-cons (λ (s : Shown). one_at slot s.slot) now rest,
+      sum_by-cons (λ (s : ShownArea). one_at slot s.slot) shown rest,
+      sum_by-cons (λ (s : ShownArea). one_at slot s.slot) now rest,
       none,
     )))
 
 -- a free slot shows nothing
-pub free_is_none : (states : List SlotState) (shown : List Shown) (slots after : SlotSet) (slot : ℕ) → Hangs states shown slots
+pub free_is_none : (states : List SlotState) (shown : List ShownArea) (slots after : SlotSet) (slot : ℕ) → Hangs states shown slots
     → slots ≡ record after { free = after.free ++ slot ∷ [] } → (slot < slots.count) × (times_shown slot shown ≡ 0)
 free_is_none states shown slots after slot hangs is =
     let sum = ap (λ (s : SlotSet). times slot s.free) is ∙ sum_by_push (one_at slot) after.free slot in
@@ -233,7 +233,7 @@ free_is_none states shown slots after slot hangs is =
         absurd (omega arith)
 
 -- a free slot shows an area
-pub added : (states : List SlotState) (shown : List Shown) (slots after : SlotSet) (slot seq : ℕ) (area : Record) → Hangs states shown slots
+pub added : (states : List SlotState) (shown : List ShownArea) (slots after : SlotSet) (slot seq : ℕ) (area : Record) → Hangs states shown slots
     → slots ≡ record after { free = after.free ++ slot ∷ [] }
     → Hangs (set states slot (record { lock_seq = seq; row = packed area })) (record { slot = slot; area = area } ∷ shown) after
 added states shown slots after slot seq area hangs is = record {
@@ -248,7 +248,7 @@ added states shown slots after slot seq area hangs is = record {
   );
   once = λ other. omega (
     arith,
-    sum_by-cons (λ (s : Shown). one_at other s.slot) now shown,
+    sum_by-cons (λ (s : ShownArea). one_at other s.slot) now shown,
     subst (λ (s : SlotSet). times_shown other shown + times other s.free + times_left other s.left ≡ (if nat_lt other s.count then 1 else 0)) is (hangs.once other),
     sum_by_push (one_at other) after.free slot,
   );
@@ -268,7 +268,7 @@ added states shown slots after slot seq area hangs is = record {
     changed : SlotState
     changed = record { lock_seq = seq; row = packed area }
 
-    now : Shown
+    now : ShownArea
     now = record { slot = slot; area = area }
 
     none : (slot < slots.count) × (times_shown slot shown ≡ 0)
@@ -280,10 +280,10 @@ added states shown slots after slot seq area hangs is = record {
     by : (other : ℕ) → times_shown other (now ∷ shown) ≡ 0 → ((slot ≡ other) ⊎ (slot ≢ other)) → is_detached (slot_at (set states slot changed) other).row ≡ true
     by other never (inl same) =
         let one : one_at other slot ≡ 1 = rw same (self other) in
-        absurd (omega (arith, sum_by-cons (λ (s : Shown). one_at other s.slot) now shown, one, never))
+        absurd (omega (arith, sum_by-cons (λ (s : ShownArea). one_at other s.slot) now shown, one, never))
     by other never (inr apart) = other_detached states slot other changed apart (hangs.others other (omega (
       arith,
-      sum_by-cons (λ (s : Shown). one_at other s.slot) now shown,
+      sum_by-cons (λ (s : ShownArea). one_at other s.slot) now shown,
       never,
     )))
 
@@ -328,7 +328,7 @@ freed_freed first second third settled between later one two upto too = record {
   waits = λ leaving member above. two.waits leaving (one.waits leaving member (omega (arith, upto, above))) (omega (arith, too, above));
 }
 
-pub hangs_freed : (states : List SlotState) (shown : List Shown) (settled : ℕ) (slots after : SlotSet) → IsFreed settled slots after → Hangs states shown slots
+pub hangs_freed : (states : List SlotState) (shown : List ShownArea) (settled : ℕ) (slots after : SlotSet) → IsFreed settled slots after → Hangs states shown slots
     → Hangs states shown after
 hangs_freed states shown settled slots after freed hangs = record {
   sized = hangs.sized ∙ sym freed.count;
@@ -341,7 +341,7 @@ hangs_freed states shown settled slots after freed hangs = record {
 }
 
 -- no slot shows two areas
-pub at_most_once : (states : List SlotState) (shown : List Shown) (slots : SlotSet) (slot : ℕ) → Hangs states shown slots → times_shown slot shown ≤ 1
+pub at_most_once : (states : List SlotState) (shown : List ShownArea) (slots : SlotSet) (slot : ℕ) → Hangs states shown slots → times_shown slot shown ≤ 1
 at_most_once states shown slots slot hangs = by (cases_lt slot slots.count) (hangs.once slot)
   where
     by : ((slot < slots.count) ⊎ (slots.count ≤ slot)) → times_shown slot shown + times slot slots.free + times_left slot slots.left ≡ (if nat_lt slot slots.count then 1 else 0)
@@ -349,7 +349,7 @@ at_most_once states shown slots slot hangs = by (cases_lt slot slots.count) (han
     by place is = grind (arith, nat_tests)
 
 -- no number past the slots shows an area
-pub none_above : (states : List SlotState) (shown : List Shown) (slots : SlotSet) (slot : ℕ) → Hangs states shown slots → slots.count ≤ slot → times_shown slot shown ≡ 0
+pub none_above : (states : List SlotState) (shown : List ShownArea) (slots : SlotSet) (slot : ℕ) → Hangs states shown slots → slots.count ≤ slot → times_shown slot shown ≡ 0
 none_above states shown slots slot hangs above = by above (hangs.once slot)
   where
     by : slots.count ≤ slot → times_shown slot shown + times slot slots.free + times_left slot slots.left ≡ (if nat_lt slot slots.count then 1 else 0)

@@ -9,14 +9,14 @@ use Rattle.mm_types.specs.declared.area.Prot.{Prot}
 use Rattle.mm_types.specs.declared.area.Attr.{Attr}
 use Rattle.mm_types.specs.declared.area.Record.{Record}
 use Rattle.area_list.specs.Areas.{has_page}
-use Rattle.area_chunks.specs.BinarySearch.{BeginsAscend}
-use Rattle.area_tree.specs.declared.shown.Shown.{Shown}
+use Rattle.area_chunks.specs.Internal.BinarySearch.{BeginsAscend}
+use Rattle.area_tree.specs.declared.shown.ShownArea.{ShownArea}
 use Rattle.area_tree.specs.AreaTrees.{areas_shown, times_shown, AreasRise}
-use Rattle.mm_state.specs.Boards.{at_page, weigh, IsWithin, CanHold}
+use Rattle.mm_state.specs.Internal.Boards.{at_page, weigh, IsWithin, CanHold}
 
-pub weigh_map : (weight : Record → ℕ) (shown : List Shown) → sum_by weight (areas_shown shown) ≡ weigh weight shown
+pub weigh_map : (weight : Record → ℕ) (shown : List ShownArea) → sum_by weight (areas_shown shown) ≡ weigh weight shown
 weigh_map weight [] = refl
-weigh_map weight (s ∷ shown) = omega (arith, sum_by-cons weight s.area (areas_shown shown), sum_by-cons (λ (t : Shown). weight t.area) s shown, weigh_map weight shown)
+weigh_map weight (s ∷ shown) = omega (arith, sum_by-cons weight s.area (areas_shown shown), sum_by-cons (λ (t : ShownArea). weight t.area) s shown, weigh_map weight shown)
 
 pub ones : {A : Type 0} (xs : List A) → sum_by (λ x. 1) xs ≡ length xs
 ones [] = refl
@@ -189,14 +189,14 @@ is_within limit area none = by (cases_lt area.span.lo area.span.hi) (cases_lt li
         let one : outside limit area ≡ 1 = grind (arith, nat_tests) in absurd (omega (arith, one, none))
 
 -- a tree can hold what weighs as areas in order do, at slots that show one area each
-pub can_hold : (most limit : ℕ) (areas : List Record) (shown : List Shown) → AreasRise limit 0 areas → length areas ≤ most
+pub can_hold : (most limit : ℕ) (areas : List Record) (shown : List ShownArea) → AreasRise limit 0 areas → length areas ≤ most
     → ((weight : Record → ℕ) → weigh weight shown ≡ sum_by weight areas) → ((slot : ℕ) → times_shown slot shown ≤ 1)
     → All (λ s. s.slot < 2 * most + 2) shown → CanHold most limit shown
 can_hold most limit areas shown rise few same once slots = record {
   few = omega (arith, same (λ a. 1), ones areas, ones shown, few);
   within = λ k d within. is_within limit (get_or shown k d).area (omega (
     arith,
-    get_or-le-sum_by (λ (s : Shown). outside limit s.area) shown k d within,
+    get_or-le-sum_by (λ (s : ShownArea). outside limit s.area) shown k d within,
     same (outside limit),
     none_outside limit 0 areas rise,
   ));

@@ -17,7 +17,7 @@ use Rattle.sys_calls.proofs.Keeping.{made_space}
 use Rattle.vma_lock.specs.Seats.{config_of, sight, slots}
 use Rattle.area_tree.specs.AreaTrees.{areas_of}
 use Rattle.mm_state.specs.declared.state.MmState.TheInside.{Inside}
-use Rattle.mm_state.specs.Boards.{IsAtRest, ChangesAtMost, IsEntered, IsCarriedOut}
+use Rattle.mm_state.specs.Internal.Boards.{IsAtRest, ChangesAtMost, IsEntered, IsCarriedOut}
 use Rattle.mm_state.specs.Kept.{IsState}
 use Rattle.mm_state.specs.States.{KeepsSlots, ChangesOne}
 use Rattle.mm_state.proofs.Entering.{space_after, entered}

@@ -16,11 +16,11 @@ use Rattle.split_merge.specs.declared.plan.Change.TheVariants.{Detach, Alter, Ad
 use Rattle.split_merge.specs.Plans.{news_of, applied, IsPlanOf}
 use Rattle.split_merge.proofs.Counting.{length-applied}
 use Rattle.vma_lock.specs.Seats.{slots}
-use Rattle.area_tree.specs.declared.shown.Shown.{Shown}
+use Rattle.area_tree.specs.declared.shown.ShownArea.{ShownArea}
 use Rattle.area_tree.specs.AreaTrees.{AreaTreeView, shown_of, areas_of, AreasRise}
 use Rattle.mm_state.specs.declared.board.Board.{Board}
 use Rattle.mm_state.specs.Shelves.{Hangs}
-use Rattle.mm_state.specs.Boards.{adds, adds_of, CanFree, IsFreed, IsAtRest, IsReadied, IsChanging, CanHold, weigh}
+use Rattle.mm_state.specs.Internal.Boards.{adds, adds_of, CanFree, IsFreed, IsAtRest, IsReadied, IsChanging, CanHold, weigh}
 use Rattle.mm_state.proofs.InOrder.{weigh_map, same_order, can_hold}
 use Rattle.mm_state.proofs.Weights.{applied_weighs}
 use Rattle.mm_state.proofs.Hanging.{hangs_freed, none_above, at_most_once, self}
@@ -33,7 +33,7 @@ pub record IsPrepared (old board : Board) : Type 0 where
 
 pub prepared : (old board : Board) (changes : List Change) → IsAtRest old → IsReadied old board changes → IsPrepared old board
 prepared old board changes rest ready = record {
-  hangs = subst (λ (list : List Shown). Hangs (slots old.writer) list board.slots) (sym list)
+  hangs = subst (λ (list : List ShownArea). Hangs (slots old.writer) list board.slots) (sym list)
       (hangs_freed (slots old.writer) (shown_of old.areas) board.areas.tree.settled old.slots board.slots ready.slots rest.hangs);
   moved = moved;
   leaving = ready.slots.leaving (board.areas.tree.number + 1) (All-weaker (λ leaving. leaving.tree ≤ old.areas.tree.number) (λ leaving. leaving.tree ≤ board.areas.tree.number + 1)
@@ -44,7 +44,7 @@ prepared old board changes rest ready = record {
     moved = ap (λ m. m.items) ready.moved ∙ rest.tree.moved
 
     list : shown_of board.areas ++ board.moved.items ≡ shown_of old.areas
-    list = ap (λ (l : List Shown). shown_of board.areas ++ l) moved ∙ append-nil (shown_of board.areas) ∙ ap shown_of ready.areas
+    list = ap (λ (l : List ShownArea). shown_of board.areas ++ l) moved ∙ append-nil (shown_of board.areas) ∙ ap shown_of ready.areas
 
 -- the changes add no more areas than they bring
 adds_few : (changes : List Change) → adds_of changes ≤ length (news_of changes)
@@ -54,7 +54,7 @@ adds_few (Alter old new ∷ changes) = omega (arith, sum_by-cons adds (Alter old
 adds_few (Add new ∷ changes) = omega (arith, sum_by-cons adds (Add new) changes, adds_few changes)
 
 -- slots that show areas are slots of the table
-slots_below : (states : List SlotState) (shown : List Shown) (set : SlotSet) → Hangs states shown set → All (λ s. s.slot < set.count) shown
+slots_below : (states : List SlotState) (shown : List ShownArea) (set : SlotSet) → Hangs states shown set → All (λ s. s.slot < set.count) shown
 slots_below states shown set hangs k d within = by (cases_lt (get_or shown k d).slot set.count)
   where
     by : (((get_or shown k d).slot < set.count) ⊎ (set.count ≤ (get_or shown k d).slot)) → (get_or shown k d).slot < set.count
@@ -62,7 +62,7 @@ slots_below states shown set hangs k d within = by (cases_lt (get_or shown k d).
     by (inr above) = absurd (omega (
       arith,
       none_above states shown set (get_or shown k d).slot hangs above,
-      get_or-le-sum_by (λ (s : Shown). one_at (get_or shown k d).slot s.slot) shown k d within,
+      get_or-le-sum_by (λ (s : ShownArea). one_at (get_or shown k d).slot s.slot) shown k d within,
       self (get_or shown k d).slot,
     ))
 
@@ -76,7 +76,7 @@ module _ (start board : Board) (changes : List Change) (tree : ℕ) (changing : 
       → board.slots.count ≡ 2 * most + 2 → CanHold most limit (shown_of board.areas ++ board.moved.items)
   can_store most limit rise few count = can_hold most limit (applied changes (areas_of start.areas)) (shown_of board.areas ++ board.moved.items) rise few all_weigh
       (λ slot. at_most_once (slots board.writer) (shown_of board.areas ++ board.moved.items) board.slots slot changing.hangs)
-      (All-weaker (λ (s : Shown). s.slot < board.slots.count) (λ (s : Shown). s.slot < 2 * most + 2) (λ s below. omega (arith, below, count))
+      (All-weaker (λ (s : ShownArea). s.slot < board.slots.count) (λ (s : ShownArea). s.slot < 2 * most + 2) (λ s below. omega (arith, below, count))
       (shown_of board.areas ++ board.moved.items) (slots_below (slots board.writer) (shown_of board.areas ++ board.moved.items) board.slots changing.hangs))
 
   -- the rows are those of the areas after the plan
@@ -91,7 +91,7 @@ module _ (start board : Board) (changes : List Change) (tree : ℕ) (changing : 
       (λ weight. omega (
         arith,
         weigh_map weight (shown_of after),
-        sum_by-IsPermutation (λ (s : Shown). weight s.area) (shown_of board.areas ++ board.moved.items) (shown_of after) moved,
+        sum_by-IsPermutation (λ (s : ShownArea). weight s.area) (shown_of board.areas ++ board.moved.items) (shown_of after) moved,
         all_weigh weight,
       ))
 
@@ -110,7 +110,7 @@ slots_suffice board changes rest few few_after = record {
     rest.records,
     few,
     few_after,
-    length-map (shown_of board.areas) (λ (s : Shown). s.area),
+    length-map (shown_of board.areas) (λ (s : ShownArea). s.area),
     adds_few changes,
     news_few changes (areas_of board.areas),
   );

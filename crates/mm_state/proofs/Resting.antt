@@ -14,7 +14,7 @@ use Rattle.area_tree.specs.AreaTrees.{shown_of, areas_of}
 use Rattle.mm_state.specs.declared.board.Board.{Board}
 use Rattle.mm_state.specs.Shelves.{Hangs}
 use Rattle.mm_state.specs.States.{MarksChanged, KeepsSlots, KeepsLeft, HaveLeft}
-use Rattle.mm_state.specs.Boards.{IsAtRest, ChangesAtMost, IsEntered, IsCarriedOut}
+use Rattle.mm_state.specs.Internal.Boards.{IsAtRest, ChangesAtMost, IsEntered, IsCarriedOut}
 
 -- what a writer knows of its table and its journal is what it knew
 pub record IsLike (old new : View) : Type 0 where

@@ -4,7 +4,7 @@ use Rattle.std.proofs.lemmas.Bool.{ne_eqb}
 use Rattle.std.proofs.lemmas.Option.{same_Some}
 use Rattle.mm_types.specs.declared.area.Record.{Record}
 use Rattle.mm_types.specs.Packed.{packed, unpacked, attr_bits}
-use Rattle.mm_state.specs.Boards.{IsPackable}
+use Rattle.mm_state.specs.Internal.Boards.{IsPackable}
 use Rattle.mm_types.proofs.PackedWords.{unpacked-packed}
 use Rattle.lock_core.specs.Rows.{is_detached}
 

@@ -9,7 +9,7 @@ use Rattle.span_tree.proofs.Scanning.{out_or_open}
 use Rattle.area_slots.specs.declared.leaving.Leaving.{Leaving}
 use Rattle.area_slots.specs.Slots.{SlotSet, left_by, gone_by, gone_after, slots_of}
 use Rattle.area_tree.specs.AreaTrees.{AreaTreeView}
-use Rattle.mm_state.specs.Boards.{CanFree, IsScanned}
+use Rattle.mm_state.specs.Internal.Boards.{CanFree, IsScanned}
 
 -- a scan is one of scans
 pub scanned : (old new : AreaTreeView) (scans : ℕ)

@@ -15,16 +15,16 @@ use Rattle.lock_core.specs.Core.{slot_at}
 use Rattle.split_merge.specs.declared.plan.Change.{Change}
 use Rattle.split_merge.specs.Plans.{olds_of, news_of, starts_alike, without, with_all, applied, IsPlanOf, IsReal}
 use Rattle.split_merge.proofs.Counting.{contains_cases}
-use Rattle.area_chunks.specs.BinarySearch.{begins_below, BeginsAscend}
+use Rattle.area_chunks.specs.Internal.BinarySearch.{begins_below, BeginsAscend}
 use Rattle.area_chunks.proofs.Going.{insert_is, contains_without}
 use Rattle.area_slots.specs.Slots.{SlotSet, one_at}
 use Rattle.vma_lock.specs.Seats.{slots}
-use Rattle.area_tree.specs.declared.shown.Shown.{Shown}
+use Rattle.area_tree.specs.declared.shown.ShownArea.{ShownArea}
 use Rattle.area_tree.specs.AreaTrees.{shown_of, areas_of, areas_shown, times_shown}
 use Rattle.mm_state.specs.declared.board.Board.{Board}
 use Rattle.mm_state.specs.Shelves.{ShowsIt, Hangs}
 use Rattle.mm_state.specs.States.{KeepsSlots}
-use Rattle.mm_state.specs.Boards.{IsPackable, IsShown, IsStill, IsChanging}
+use Rattle.mm_state.specs.Internal.Boards.{IsPackable, IsShown, IsStill, IsChanging}
 use Rattle.mm_state.proofs.Rows.{packed_same, not_packed}
 
 -- in a list that ascends by a number, an element is told by its number
@@ -83,7 +83,7 @@ untouched changes areas area ascend plan real member after = by (in_with_all (ne
         (apart (All-contains (λ new. Contains (olds_of changes) new → ⊥) (news_of changes) area real came)))
 
 -- a slot that shows some area shows one
-shows_some : (slot : ℕ) (shown : List Shown) → 0 < times_shown slot shown → (area : Record) × Contains shown (record { slot = slot; area = area })
+shows_some : (slot : ℕ) (shown : List ShownArea) → 0 < times_shown slot shown → (area : Record) × Contains shown (record { slot = slot; area = area })
 shows_some slot [] some = absurd (omega (arith, some))
 shows_some slot (s ∷ shown) some = by (cases_eq s.slot slot) (shows_some slot shown)
   where
@@ -92,11 +92,11 @@ shows_some slot (s ∷ shown) some = by (cases_eq s.slot slot) (shows_some slot 
     by (inl same) rest = (s.area, (0, omega arith, ap (λ n. record { slot = n; area = s.area }) same))
     by (inr apart) rest =
         let no : one_at slot s.slot ≡ 0 = grind (arith, nat_tests) in
-        let later = rest (omega (arith, some, sum_by-cons (λ (t : Shown). one_at slot t.slot) s shown, no)) in
+        let later = rest (omega (arith, some, sum_by-cons (λ (t : ShownArea). one_at slot t.slot) s shown, no)) in
         (later.0, Contains-append_right (s ∷ []) shown (record { slot = slot; area = later.0 }) later.1)
 
 -- a slot whose row is that of an area shows the area
-shows_it : (states : List SlotState) (shown : List Shown) (set : SlotSet) (slot : ℕ) (area : Record) → Hangs states shown set → All IsPackable (areas_shown shown)
+shows_it : (states : List SlotState) (shown : List ShownArea) (set : SlotSet) (slot : ℕ) (area : Record) → Hangs states shown set → All IsPackable (areas_shown shown)
     → IsPackable area → (slot_at states slot).row ≡ packed area → Contains shown (record { slot = slot; area = area })
 shows_it states shown set slot area hangs packable fits is = by (cases_lt 0 (times_shown slot shown))
   where
@@ -106,8 +106,8 @@ shows_it states shown set slot area hangs packable fits is = by (cases_lt 0 (tim
         let (other, member) = shows_some slot shown some in
         let among : Contains (areas_shown shown) other = (
           member.0,
-          omega (arith, member.1, length-map shown (λ (s : Shown). s.area)),
-          get_or-map (λ (s : Shown). s.area) shown member.0 (record { slot = slot; area = other }) other member.1 ∙ ap (λ (s : Shown). s.area) member.2,
+          omega (arith, member.1, length-map shown (λ (s : ShownArea). s.area)),
+          get_or-map (λ (s : ShownArea). s.area) shown member.0 (record { slot = slot; area = other }) other member.1 ∙ ap (λ (s : ShownArea). s.area) member.2,
         ) in
         let same = packed_same other area (All-contains IsPackable (areas_shown shown) other packable among) fits
         (sym (All-contains (ShowsIt states) shown (record { slot = slot; area = other }) hangs.rows member) ∙ is) in
@@ -119,9 +119,9 @@ module _ (start board : Board) (changes : List Change) (tree : ℕ) (set : SlotS
   ascend_shown : AllPairs (λ a b. a.area.span.lo < b.area.span.lo) (shown_of start.areas)
   ascend_shown i j d before within = omega (
     arith,
-    changing.ascend i j d.area before (omega (arith, within, length-map (shown_of start.areas) (λ (s : Shown). s.area))),
-    ap (λ (a : Record). a.span.lo) (get_or-map (λ (s : Shown). s.area) (shown_of start.areas) i d d.area (omega (arith, before, within))),
-    ap (λ (a : Record). a.span.lo) (get_or-map (λ (s : Shown). s.area) (shown_of start.areas) j d d.area within),
+    changing.ascend i j d.area before (omega (arith, within, length-map (shown_of start.areas) (λ (s : ShownArea). s.area))),
+    ap (λ (a : Record). a.span.lo) (get_or-map (λ (s : ShownArea). s.area) (shown_of start.areas) i d d.area (omega (arith, before, within))),
+    ap (λ (a : Record). a.span.lo) (get_or-map (λ (s : ShownArea). s.area) (shown_of start.areas) j d d.area within),
   )
 
   -- the slot of an area that no change takes away is as it was
@@ -136,8 +136,8 @@ module _ (start board : Board) (changes : List Change) (tree : ℕ) (set : SlotS
       let fits = All-contains IsPackable (areas_of start.areas) area packable member in
       let there = shows_it (slots start.writer) (shown_of start.areas) set place area hangs packable fits (ap (λ (s : SlotState). s.row) (sym still) ∙ row) in
       let was = shows_it (slots start.writer) (shown_of start.areas) set slot area hangs packable fits is in
-      let same = once (λ (s : Shown). s.area.span.lo) (shown_of start.areas) ascend_shown (record { slot = place; area = area }) (record { slot = slot; area = area }) there was refl in
-      subst (λ n. slot_at (slots board.writer) n ≡ slot_at (slots start.writer) n) (ap (λ (s : Shown). s.slot) same) still
+      let same = once (λ (s : ShownArea). s.area.span.lo) (shown_of start.areas) ascend_shown (record { slot = place; area = area }) (record { slot = slot; area = area }) there was refl in
+      subst (λ n. slot_at (slots board.writer) n ≡ slot_at (slots start.writer) n) (ap (λ (s : ShownArea). s.slot) same) still
 
   -- an area of the list before and after the plan keeps its slot
   pub stays : IsPlanOf (areas_of start.areas) changes → IsReal changes

@@ -8,9 +8,9 @@ use Rattle.lock_core.specs.Core.{slot_at, free_slot}
 use Rattle.vma_lock.specs.declared.view.View.{View}
 use Rattle.vma_lock.specs.Views.{write_at}
 use Rattle.area_slots.specs.Slots.{SlotSet}
-use Rattle.area_tree.specs.declared.shown.Shown.{Shown}
+use Rattle.area_tree.specs.declared.shown.ShownArea.{ShownArea}
 use Rattle.mm_state.specs.Shelves.{Hangs}
-use Rattle.mm_state.specs.Boards.{IsWritten}
+use Rattle.mm_state.specs.Internal.Boards.{IsWritten}
 use Rattle.mm_state.proofs.Hanging.{hangs_permuted}
 
 set_again : (states : List SlotState) (slot : ℕ) (a b : SlotState) → set (set states slot a) slot b ≡ set states slot b
@@ -37,7 +37,7 @@ written old marked new slot row within mark is = record {
     first = record { lock_seq = old.desk.seq; row = (slot_at old.desk.slots slot).row }
 
 -- an area of the tree stands before the rest
-pub hangs_out : (states : List SlotState) (tree rest moved : List Shown) (slots : SlotSet) (shown : Shown) → Hangs states (tree ++ moved) slots
+pub hangs_out : (states : List SlotState) (tree rest moved : List ShownArea) (slots : SlotSet) (shown : ShownArea) → Hangs states (tree ++ moved) slots
     → IsPermutation (shown ∷ rest) tree → Hangs states (shown ∷ (rest ++ moved)) slots
 hangs_out states tree rest moved slots shown hangs out = hangs_permuted states (tree ++ moved) (shown ∷ (rest ++ moved)) slots
     (IsPermutation-sym (shown ∷ (rest ++ moved)) (tree ++ moved) (IsPermutation-append_left moved (shown ∷ rest) tree out)) hangs

@@ -8,7 +8,7 @@ use Rattle.area_rules.specs.Steps.{after, IsLegalJournal}
 use Rattle.split_merge.specs.Plans.{IsKept, IsFresh}
 use Rattle.vma_lock.specs.Seats.{config_of, table_of, sight, journal, slots}
 use Rattle.mm_state.specs.declared.state.MmState.TheInside.{Inside}
-use Rattle.mm_state.specs.Boards.{IsAtRest}
+use Rattle.mm_state.specs.Internal.Boards.{IsAtRest}
 use Rattle.area_tree.specs.AreaTrees.{areas_of}
 use Rattle.mm_state.specs.States.{StateView}
 

@@ -1,4 +1,4 @@
 pub mod States
 pub mod Shelves
-pub mod Boards
 pub mod Kept
+pub mod Internal

@@ -11,7 +11,7 @@ use Rattle.lock_core.specs.Rows.{is_detached}
 use Rattle.area_slots.specs.declared.leaving.Leaving.{Leaving}
 use Rattle.maple_node.specs.Trees.{Pair}
 use Rattle.atomic_table.specs.Seated.{TableId}
-use Rattle.area_tree.specs.AreaTrees.{span_of}
+use Rattle.maple_gap.specs.Gaps.{span_of}
 
 -- The state behind the mmap lock as contracts see it: its table and configuration, the sequence, whose turn the writer has, the
 -- slots as they are, those that left and with which tree, the journal, and for how many entries it has room; the table of the nodes

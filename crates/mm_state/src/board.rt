@@ -12,12 +12,12 @@ ghost use Rattle.split_merge.specs.declared.plan.Change.TheVariants.{Detach, Alt
 ghost use Rattle.vma_lock.specs.Seats.{config_of, slots_of, IsOf, Writes, view, seen, stage, HasTurn, sight, journal, slots, IsOpen, MayEnter};
 ghost use Rattle.vma_lock.specs.Views.{opened_view, look_at};
 ghost use Rattle.area_tree.specs.AreaTrees.{areas_of};
-ghost use Rattle.mm_state.specs.Boards.{IsWritten, CanChange, Carries, IsSane, IsChanging, IsAtRest, IsReadied, IsEntered, IsCarriedOut, adds, adds_of, CanFree};
+ghost use Rattle.mm_state.specs.Internal.Boards.{IsWritten, CanChange, Carries, IsSane, IsChanging, IsAtRest, IsReadied, IsEntered, IsCarriedOut, adds, adds_of, CanFree};
 ghost use Rattle.span_tree.specs.SpanTrees.{IsFreshWriter};
 
-use crate::spans::{count_adds, store_moved, wait_for_slots};
+use crate::spans::{count_adds, has_room, is_end, store_moved, wait_for_slots};
 use area_slots::AreaSlots;
-use area_tree::{AreaTree, Shown};
+use area_tree::{AreaTree, ShownArea};
 use mm_types::{Config, Entry, NoMemory, Record, Slot, pack, slots_for};
 use node_slots::NodeWriter;
 use span_tree::OpenCall;
@@ -38,7 +38,7 @@ pub(crate) struct Board {
     pub(crate) areas: AreaTree,
     pub(crate) slots: AreaSlots,
     /// The areas that the open call brings at other pages than their slots showed before, until the tree has them.
-    pub(crate) moved: Vec<Shown>,
+    pub(crate) moved: Vec<ShownArea>,
 }
 
 /// The writer's seat in an open call.
@@ -277,15 +277,24 @@ impl Board {
         requires room { vec_len self.old.moved < vec_capacity self.old.moved }
         ensures { (tree : ℕ) → Carries self.old self.new (Alter old.now new.now) tree }
     {
+        self.areas.facts();
         let slot = self.areas.slot_of(old);
         let row = pack(new);
         write_slot(rt, &self.table, &mut self.writer, slot, row);
-        let shown = Shown {
+        let shown = ShownArea {
             slot: slot.0,
             area: *new,
         };
         if old.span == new.span {
             self.areas.update(shown);
+            return;
+        }
+        if is_end(new.span, old.span) {
+            self.areas.shrink(old, shown);
+            return;
+        }
+        if has_room(&self.areas, old.span, new.span) {
+            self.areas.grow(old, shown);
             return;
         }
         self.areas.remove(old);
@@ -305,7 +314,7 @@ impl Board {
         };
         let row = pack(new);
         write_slot(rt, &self.table, &mut self.writer, slot, row);
-        self.moved.push_reserved(Shown {
+        self.moved.push_reserved(ShownArea {
             slot: slot.0,
             area: *new,
         });

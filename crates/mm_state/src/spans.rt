@@ -1,12 +1,13 @@
 //! Slots that are free again, and areas that moved, as a call needs them.
-ghost use Rattle.std.specs.Prelude.{◌≡◌, ◌≤◌, ◌+◌, ◌++◌, [], true, false, length, vec_capacity, IsPermutation};
+ghost use Rattle.std.specs.Prelude.{◌≡◌, ◌≤◌, ◌<◌, ◌+◌, ◌++◌, [], true, false, length, vec_capacity, IsPermutation};
 ghost use Rattle.node_slots.specs.Seats.{HasOpen};
 ghost use Rattle.area_slots.specs.Slots.{slots_of, gone_by, gone_after};
-ghost use Rattle.area_tree.specs.AreaTrees.{shown_of};
-ghost use Rattle.mm_state.specs.Boards.{adds_of, CanFree, IsFreed, IsScanned, CanStore, IsSameTree};
+ghost use Rattle.area_tree.specs.AreaTrees.{shown_of, areas_of, IsEndOf, IsRoomFor};
+ghost use Rattle.mm_state.specs.Internal.Boards.{adds_of, CanFree, IsFreed, IsScanned, CanStore, IsSameTree};
 
 use area_slots::AreaSlots;
-use area_tree::{AreaTree, Shown};
+use area_tree::{AreaTree, ShownArea};
+use mm_types::Span;
 use split_merge::Change;
 use std::sync::Wait;
 use std::thread;
@@ -76,7 +77,7 @@ pub(crate) fn wait_for_slots<R: Wait>(
 }
 
 /// The tree gets what moved.
-pub(crate) fn store_moved(areas: &mut AreaTree, moved: &mut Vec<Shown>)
+pub(crate) fn store_moved(areas: &mut AreaTree, moved: &mut Vec<ShownArea>)
     requires { CanStore areas.old moved.old.items }
     ensures shown { IsPermutation (shown_of areas.old ++ moved.old.items) (shown_of areas.new) }
     ensures none { moved.new.items ≡ [] }
@@ -86,4 +87,26 @@ pub(crate) fn store_moved(areas: &mut AreaTree, moved: &mut Vec<Shown>)
     while let Some(shown) = moved.pop() {
         areas.insert(shown);
     }
+}
+
+/// Whether a span is a part of another that has one of its ends.
+pub(crate) fn is_end(part: Span, whole: Span) -> bool
+    requires { part.lo < part.hi }
+    ensures { result ≡ true → IsEndOf part whole }
+{
+    if part.lo == whole.lo {
+        part.hi < whole.hi
+    } else {
+        whole.lo < part.lo && part.hi == whole.hi
+    }
+}
+
+/// Whether a span has the pages of another, and those that it adds are free.
+pub(crate) fn has_room(areas: &AreaTree, old: Span, new: Span) -> bool
+    ensures { result ≡ true → IsRoomFor areas.now.tree.limit (areas_of areas.now) old new }
+{
+    new.lo <= old.lo
+        && old.hi <= new.hi
+        && (new.lo == old.lo || areas.has_free(new.lo, old.lo))
+        && (old.hi == new.hi || areas.has_free(old.hi, new.hi))
 }

@@ -170,12 +170,6 @@ pub unpacked-detached : unpacked (0 ∷ 0 ∷ 0 ∷ 0 ∷ []) ≡ None
 unfolding unpacked is_attached
 unpacked-detached = refl
 
--- valid areas are told apart by their words
-pub packed_injective : (area other : Record) → IsValid area → IsValid other → area.object < 2 ^ 32 → other.object < 2 ^ 32
-    → packed area ≡ packed other → area ≡ other
-packed_injective area other valid valid' object object' same =
-    let one = unpacked-packed area valid object in let two = unpacked-packed other valid' object' in cc
-
 -- an area has four words
 pub length-packed : (area : Record) → length (packed area) ≡ 4
 unfolding packed

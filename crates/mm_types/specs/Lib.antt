@@ -6,3 +6,4 @@ pub mod Sorts
 pub mod Flags
 pub mod MapsText
 pub mod Ticks
+pub mod Searches

@@ -50,13 +50,6 @@ pub fill_same : (view : NodeView) (row : ℕ) → fill_at view row (row_at view.
 unfolding with_words
 fill_same view row = ap (with_words view) (set-get_or view.known.desk.words row [])
 
--- a word stored that stands there
-pub store_same : (view : NodeView) (row place : ℕ) → store_at view row place (get_or (row_at view.known.desk.words row) place 0) ≡ view
-unfolding with_words
-store_same view row place =
-    ap (λ (l : List ℕ). with_words view (set view.known.desk.words row l)) (set-get_or (row_at view.known.desk.words row) place 0)
-    ∙ ap (with_words view) (set-get_or view.known.desk.words row [])
-
 -- a word stored into a row that was filled
 pub store_filled : (view : NodeView) (row place word : ℕ) (words : List ℕ) → row < length view.known.desk.words
     → store_at (fill_at view row words) row place word ≡ fill_at view row (set words place word)

@@ -1,10 +1,10 @@
 -- For `NodeTable::scan`: once it finds every reader closed, no row waits.
-use Rattle.std.proofs.Common.{ℕ, ◌≡◌, ◌<◌, ◌≤◌, ◌+◌, ◌%◌, ◌∙◌, nat_eq, List, [], ◌∷◌, length, map, get_or, cond, sym, ap, subst, arith, inl, inr}
+use Rattle.std.proofs.Common.{ℕ, ◌≡◌, ◌<◌, ◌≤◌, ◌+◌, ◌%◌, ◌∙◌, nat_eq, List, [], ◌∷◌, length, map, cond, sym, ap, subst, arith, inl, inr}
 use Rattle.std.proofs.lemmas.Bool.{cond-true, both_ways, cases_lt, eq-eqb}
 use Rattle.std.proofs.lemmas.Bool.Decides.{eqb_tells}
 use Rattle.std.proofs.lemmas.List.{length-set, get_or-set_same, get_or-set_other, get_or-map, get_or_past}
 use Rattle.grace_core.specs.declared.clearing.Clearing.{Clearing}
-use Rattle.grace_core.specs.Core.{clearing_at, no_clearing, Exists}
+use Rattle.grace_core.specs.Core.{clearing_at, no_clearing}
 use Rattle.grace_core.specs.Steps.{least, looked}
 use Rattle.grace_core.proofs.Clearings.{least_greatest}
 use Rattle.node_slots.specs.declared.view.NodeView.{NodeView}

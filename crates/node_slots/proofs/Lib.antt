@@ -7,7 +7,6 @@ pub mod Counting
 pub mod Starting
 pub mod Storing
 pub mod Filling
-pub mod Leasts
 pub mod Listing
 pub mod Gone
 pub mod Writers

@@ -8,7 +8,7 @@ use Rattle.maple_node.specs.Levels.{at_of}
 use Rattle.maple_node.specs.Trees.{tree_of}
 use Rattle.maple_node.proofs.Trees.{root-once}
 use Rattle.node_slots.specs.declared.view.Size.{Size}
-use Rattle.node_slots.specs.declared.view.Shown.{Shown}
+use Rattle.node_slots.specs.declared.view.ShownTree.{ShownTree}
 use Rattle.node_slots.specs.declared.view.NodeView.{NodeView}
 use Rattle.node_slots.specs.declared.seats.NodeTable.{NodeTable}
 use Rattle.node_slots.specs.declared.seats.NodeSeat.{NodeSeat}
@@ -16,12 +16,12 @@ use Rattle.node_slots.specs.declared.seats.NodeWriter.{NodeWriter}
 use Rattle.node_slots.specs.Trees.{shown_rows, grace_tree, IsShown}
 use Rattle.node_slots.specs.Views.{reader_view, word_at}
 use Rattle.node_slots.specs.Seats.{IsOf, Writes, view}
-use Rattle.node_slots.specs.Leaves.{has_shown, IsInside, IsBeside, AreBeside}
+use Rattle.node_slots.specs.Internal.Leaves.{has_shown, IsInside, IsBeside, AreBeside}
 use Rattle.node_slots.proofs.Counting.{times_first, one_if}
 use Rattle.node_slots.proofs.Writers.{times_same}
 
 -- the root of a tree is one of its rows
-pub root_there : (slots : ℕ) (shown : Shown) → IsShown slots shown → has_row (grace_tree shown) shown.root.row.0 ≡ true
+pub root_there : (slots : ℕ) (shown : ShownTree) → IsShown slots shown → has_row (grace_tree shown) shown.root.row.0 ≡ true
 root_there slots shown is =
     let rows = shown_rows shown in
     lt-ltb 0 (times shown.root.row.0 rows) (elim (cases_lt 0 shown.root.tree) [
@@ -36,8 +36,8 @@ root_there slots shown is =
     ])
 
 -- a row of a snapshot, and the snapshot
-pub shown_row : (snapshot : Option Shown) (row : ℕ) → has_shown snapshot row ≡ true
-    → (shown : Shown) × (snapshot ≡ Some shown) × (has_row (grace_tree shown) row ≡ true)
+pub shown_row : (snapshot : Option ShownTree) (row : ℕ) → has_shown snapshot row ≡ true
+    → (shown : ShownTree) × (snapshot ≡ Some shown) × (has_row (grace_tree shown) row ≡ true)
 shown_row (Some shown) row has = (shown, refl, has)
 shown_row None row has = absurd (cc)
 

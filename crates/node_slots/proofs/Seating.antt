@@ -11,7 +11,7 @@ use Rattle.maple_node.specs.Roots.{FitsRoot}
 use Rattle.node_slots.specs.declared.view.Size.{Size}
 use Rattle.node_slots.specs.Trees.{shown_rows}
 use Rattle.atomic_table.specs.Table.{Me}
-use Rattle.node_slots.specs.declared.view.Shown.{Shown}
+use Rattle.node_slots.specs.declared.view.ShownTree.{ShownTree}
 use Rattle.node_slots.specs.declared.view.NodeView.{NodeView}
 use Rattle.node_slots.specs.Views.{root_at, store_at, named_tree, publish_at, scan_at}
 use Rattle.node_slots.specs.Plays.{RowsExist}
@@ -26,7 +26,7 @@ read_any (x ∷ xs) (suc i) d e within = read_any xs i d e (omega arith)
 -- a reader's seat after it took another view of the same reader, whose snapshot it had
 pub reader_kept : (reader walks words more : ℕ) (me new : Me (Unit {0}) NodeView) (view : NodeView) → ReaderKept reader walks words me → more ≡ words
     → new ≡ (view, me.1) → view.kind ≡ me.0.kind → view.reader ≡ me.0.reader → view.size ≡ me.0.size → view.walks ≡ me.0.walks
-    → ((shown : Shown) → view.snapshot ≡ Some shown → me.0.snapshot ≡ Some shown)
+    → ((shown : ShownTree) → view.snapshot ≡ Some shown → me.0.snapshot ≡ Some shown)
     → ReaderKept reader walks more new
 reader_kept reader walks words more me new view kept same is kind number sized count snapshots =
     subst (ReaderKept reader walks more) (sym is) (record {
@@ -39,7 +39,7 @@ reader_kept reader walks words more me new view kept same is kind number sized c
     })
 
 -- a reader's seat after it loaded a root
-pub root_kept : (reader walks count words more : ℕ) (me new : Me (Unit {0}) NodeView) (shown : Shown) → ReaderKept reader walks words me
+pub root_kept : (reader walks count words more : ℕ) (me new : Me (Unit {0}) NodeView) (shown : ShownTree) → ReaderKept reader walks words me
     → more ≡ words
     → new ≡ (root_at me.0 shown, me.1) → RowsExist me.0.size.rows shown → count ≡ min (walks + 1) (2 ^ 64 - 1)
     → ReaderKept reader count more new

@@ -14,7 +14,7 @@ use Rattle.maple_node.specs.Trees.{IsFirst}
 use Rattle.maple_node.proofs.Trees.{first-rows}
 use Rattle.atomic_table.specs.Table.{Me, opening}
 use Rattle.node_slots.specs.declared.view.Size.{Size}
-use Rattle.node_slots.specs.declared.view.SeatKind.TheVariants.{Reads}
+use Rattle.node_slots.specs.declared.view.NodeSeatKind.TheVariants.{Reads}
 use Rattle.node_slots.specs.declared.view.NodeView.{NodeView}
 use Rattle.node_slots.specs.declared.left.Left.{Left}
 use Rattle.node_slots.specs.Trees.{shown_rows, grace_tree, IsShown, first_root, empty_row, first_tree}

@@ -12,7 +12,7 @@ use Rattle.maple_node.specs.declared.root.Root.{Root}
 use Rattle.maple_node.specs.Roots.{packed_root, unpacked_root, FitsRoot}
 use Rattle.atomic_table.specs.Table.{State, Me, step, stepped, Allows, keeps}
 use Rattle.node_slots.specs.declared.view.Size.{Size}
-use Rattle.node_slots.specs.declared.view.SeatKind.TheVariants.{Writes}
+use Rattle.node_slots.specs.declared.view.NodeSeatKind.TheVariants.{Writes}
 use Rattle.node_slots.specs.declared.view.Known.{Known}
 use Rattle.node_slots.specs.declared.view.NodeView.{NodeView}
 use Rattle.node_slots.specs.Trees.{shown_rows, grace_tree, IsShown}

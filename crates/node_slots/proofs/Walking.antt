@@ -10,8 +10,8 @@ use Rattle.grace_core.specs.Steps.{turned}
 use Rattle.grace_core.proofs.Moves.{loads}
 use Rattle.atomic_table.specs.Table.{State, Me, step, stepped, Allows, keeps}
 use Rattle.node_slots.specs.declared.view.Size.{Size}
-use Rattle.node_slots.specs.declared.view.SeatKind.TheVariants.{Reads}
-use Rattle.node_slots.specs.declared.view.Shown.{Shown}
+use Rattle.node_slots.specs.declared.view.NodeSeatKind.TheVariants.{Reads}
+use Rattle.node_slots.specs.declared.view.ShownTree.{ShownTree}
 use Rattle.node_slots.specs.declared.view.Known.{Known}
 use Rattle.node_slots.specs.declared.view.NodeView.{NodeView}
 use Rattle.node_slots.specs.Trees.{grace_tree, IsShown}
@@ -49,7 +49,7 @@ turns : (size : Size) (state : State (Unit {0}) NodeView) (known : Known) (shows
     (me : Me (Unit {0}) NodeView) (new : NodeView)
     → get_elem? state.views seat ≡ some me.0 → me.0.kind ≡ Reads
     → new.kind ≡ me.0.kind → new.reader ≡ me.0.reader → new.size ≡ me.0.size → new.pin ≡ turned me.0.pin
-    → ((shown : Shown) → new.snapshot ≡ Some shown → (me.0.snapshot ≡ Some shown) × (me.0.pin % 2 ≡ 0))
+    → ((shown : ShownTree) → new.snapshot ≡ Some shown → (me.0.snapshot ≡ Some shown) × (me.0.pin % 2 ≡ 0))
     → Shows size (stepped state (pin_place me.0.reader) ((get_or state.words (pin_place me.0.reader) 0 + 1) % 2 ^ 64) seat me.1 new keeps)
 turns size state known shows seat me new found reads kind reader sized pin empty =
     let at = seat_found size state known shows seat me.0 found in
@@ -105,7 +105,7 @@ root_allows size slots seat me reads odd state shows homes found fits =
     let stands = shows.shows.stands in
     let at = seat_found size state known shows.shows seat me.0 found in
     let reader = at.fits.reader reads in
-    let shown : Shown = record { root = known.root; words = known.desk.tree.words } in
+    let shown : ShownTree = record { root = known.root; words = known.desk.tree.words } in
     let new : NodeView = root_at me.0 shown in
     let same : known.desk.tree ≡ grace_tree shown = stands.tree in
     let kept : Keeps known.desk me.0.reader me.0.pin (grace_tree shown) =
@@ -119,7 +119,7 @@ root_allows size slots seat me reads odd state shows homes found fits =
             size_is = reader.size_is;
             made = reader.made;
             pin = reader.pin;
-            keeps = λ other is. subst (λ (s : Shown). Keeps known.desk me.0.reader me.0.pin (grace_tree s)) (let e : shown ≡ other = cc in e) kept;
+            keeps = λ other is. subst (λ (s : ShownTree). Keeps known.desk me.0.reader me.0.pin (grace_tree s)) (let e : shown ≡ other = cc in e) kept;
           })) refl refl,
       (
         shown,

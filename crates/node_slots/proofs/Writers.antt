@@ -6,7 +6,7 @@ use Rattle.maple_node.specs.Levels as levels
 use Rattle.maple_node.specs.Levels.{at_of}
 use Rattle.maple_node.specs.Trees.{tree_of, IsLayout}
 use Rattle.maple_node.proofs.Trees.{root-once}
-use Rattle.node_slots.specs.declared.view.Shown.{Shown}
+use Rattle.node_slots.specs.declared.view.ShownTree.{ShownTree}
 use Rattle.node_slots.specs.declared.seats.NodeWriter.{NodeWriter}
 use Rattle.node_slots.specs.Trees.{shown_rows}
 use Rattle.node_slots.specs.Plays.{RowsExist}
@@ -38,7 +38,7 @@ writer_taken writer row is =
     (subst (λ s. row < s.rows) writer.desk.kept.size_is parts.0, parts.1, parts.2)
 
 -- no row that is free or left is a new one
-pub new_not_gone : (writer : NodeWriter) (shown : Shown) → ReachesNewRows writer shown → (row : ℕ)
+pub new_not_gone : (writer : NodeWriter) (shown : ShownTree) → ReachesNewRows writer shown → (row : ℕ)
     → 1 ≤ times_gone writer.free.items writer.left.items row → times row (shown_rows shown) ≡ 0
 new_not_gone writer shown reaches row some = elim (cases_Bool (is_kept writer row)) [
   | inl kept ↦ absurd (let parts = writer_kept writer row kept in omega (arith, some, parts.1))
@@ -46,7 +46,7 @@ new_not_gone writer shown reaches row some = elim (cases_Bool (is_kept writer ro
 ]
 
 -- and each other is
-pub new_all : (writer : NodeWriter) (shown : Shown) → ReachesNewRows writer shown → (row : ℕ) → row < writer.desk.table.size.rows
+pub new_all : (writer : NodeWriter) (shown : ShownTree) → ReachesNewRows writer shown → (row : ℕ) → row < writer.desk.table.size.rows
     → times_gone writer.free.items writer.left.items row ≡ 0 → 1 ≤ times row (shown_rows shown)
 new_all writer shown reaches row within none =
     let kept : is_kept writer row ≡ true =
@@ -55,14 +55,14 @@ new_all writer shown reaches row within none =
     omega (arith, reaches row, cond-true {A = ℕ} (is_kept writer row) 1 0 kept)
 
 -- a row that is reached exists
-new_within : (writer : NodeWriter) (shown : Shown) → ReachesNewRows writer shown → (row : ℕ) → 1 ≤ times row (shown_rows shown)
+new_within : (writer : NodeWriter) (shown : ShownTree) → ReachesNewRows writer shown → (row : ℕ) → 1 ≤ times row (shown_rows shown)
     → row < writer.desk.table.size.rows
 new_within writer shown reaches row some = elim (cases_Bool (is_kept writer row)) [
   | inl kept ↦ (writer_kept writer row kept).0
   | inr out ↦ absurd (omega (arith, some, reaches row, cond-false {A = ℕ} (is_kept writer row) 1 0 out))
 ]
 
-pub new_exist : (writer : NodeWriter) (shown : Shown) → ReachesNewRows writer shown → RowsExist (sight writer).size.rows shown
+pub new_exist : (writer : NodeWriter) (shown : ShownTree) → ReachesNewRows writer shown → RowsExist (sight writer).size.rows shown
 new_exist writer shown reaches row here =
     subst (λ s. row < s.rows) (sym writer.desk.kept.size_is) (new_within writer shown reaches row (ltb-true 0 (times row (shown_rows shown)) here))
 
@@ -72,7 +72,7 @@ times_same row [] = refl
 times_same row (other ∷ rows) = ap (λ n. cond (nat_eq other row) 1 0 + n) (times_same row rows) ∙ sym (times_first row other rows)
 
 -- the root of a tree is a row that exists
-pub root_within : (writer : NodeWriter) (shown : Shown) (slots : ℕ) → ReachesNewRows writer shown
+pub root_within : (writer : NodeWriter) (shown : ShownTree) (slots : ℕ) → ReachesNewRows writer shown
     → IsLayout (at_of shown.words) slots (shown_rows shown) (tree_of (at_of shown.words) shown.root) → shown.root.row.0 < 2 ^ 20
 root_within writer shown slots reaches layout =
     let once = (root-once (at_of shown.words) slots (shown_rows shown) (tree_of (at_of shown.words) shown.root) layout).1 in

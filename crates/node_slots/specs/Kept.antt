@@ -8,8 +8,8 @@ use Rattle.maple_node.specs.declared.root.Root.{Root}
 use Rattle.maple_node.specs.Roots.{FitsRoot}
 use Rattle.atomic_table.specs.Table.{Me}
 use Rattle.node_slots.specs.declared.view.Size.{Size}
-use Rattle.node_slots.specs.declared.view.SeatKind.TheVariants.{Reads, Writes}
-use Rattle.node_slots.specs.declared.view.Shown.{Shown}
+use Rattle.node_slots.specs.declared.view.NodeSeatKind.TheVariants.{Reads, Writes}
+use Rattle.node_slots.specs.declared.view.ShownTree.{ShownTree}
 use Rattle.node_slots.specs.declared.view.NodeView.{NodeView}
 use Rattle.node_slots.specs.declared.left.Left.{Left}
 use Rattle.node_slots.specs.Places.{word_count}
@@ -36,7 +36,7 @@ pub record ReaderKept (reader walks words : ℕ) (me : Me (Unit {0}) NodeView) :
   pub reader_is : me.0.reader ≡ reader
   pub within : (reader + 2) * 8 ≤ words
   pub walks_are : walks ≡ min me.0.walks (2 ^ 64 - 1)
-  pub exist : (shown : Shown) → me.0.snapshot ≡ Some shown → RowsExist me.0.size.rows shown
+  pub exist : (shown : ShownTree) → me.0.snapshot ≡ Some shown → RowsExist me.0.size.rows shown
 
 -- what the writer's seat knows beside its view
 pub record WriterKept (size : Size) (root : Root) (words : List (List ℕ)) (clearings : List Clearing) (me : Me (Unit {0}) NodeView) : Type 0 where

@@ -7,4 +7,4 @@ pub mod Opening
 pub mod Kept
 pub mod Seats
 pub mod Built
-pub mod Leaves
+pub mod Internal

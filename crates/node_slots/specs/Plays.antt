@@ -4,7 +4,7 @@ use Rattle.grace_core.specs.Core.{has_row, row_at}
 use Rattle.maple_node.specs.declared.root.Root.{Root}
 use Rattle.maple_node.specs.Roots.{packed_root, unpacked_root, FitsRoot}
 use Rattle.atomic_table.specs.Table.{Me, Step}
-use Rattle.node_slots.specs.declared.view.Shown.{Shown}
+use Rattle.node_slots.specs.declared.view.ShownTree.{ShownTree}
 use Rattle.node_slots.specs.declared.view.NodeView.{NodeView}
 use Rattle.node_slots.specs.Trees.{grace_tree, IsShown}
 use Rattle.node_slots.specs.Places.{pin_place, word_place}
@@ -15,7 +15,7 @@ abbrev pub Told : Type 1
 Told = Step (Unit {0}) → Me (Unit {0}) NodeView → ℕ → Me (Unit {0}) NodeView → Type 0
 
 -- the rows of a tree exist, in a table of so many rows
-abbrev pub RowsExist : ℕ → Shown → Type 0
+abbrev pub RowsExist : ℕ → ShownTree → Type 0
 RowsExist rows shown = (row : ℕ) → has_row (grace_tree shown) row ≡ true → row < rows
 
 -- open
@@ -24,13 +24,13 @@ opened step me found new = new ≡ (open_at me.0, me.1)
 
 -- root: the present tree, which the word found names, meets the layout, and its rows exist
 abbrev pub loaded : Told
-loaded step me found new = (shown : Shown) × (shown.root ≡ unpacked_root found) × IsShown me.0.size.slots shown
+loaded step me found new = (shown : ShownTree) × (shown.root ≡ unpacked_root found) × IsShown me.0.size.slots shown
     × RowsExist me.0.size.rows shown × (new ≡ (root_at me.0 shown, me.1))
 
 -- word: of a row of the snapshot the word that it had when the tree was published
 abbrev pub word_read : Told
 word_read step me found new = (new ≡ (word_at me.0, me.1))
-    × ((shown : Shown) (row place : ℕ) → me.0.snapshot ≡ Some shown → has_row (grace_tree shown) row ≡ true → place < 32
+    × ((shown : ShownTree) (row place : ℕ) → me.0.snapshot ≡ Some shown → has_row (grace_tree shown) row ≡ true → place < 32
     → step.word ≡ word_place me.0.size.readers row place → found ≡ slice_index (row_at shown.words row) place)
 
 -- close

@@ -5,8 +5,8 @@ use Rattle.grace_core.specs.Facts.{Board, Keeps}
 use Rattle.maple_node.specs.Roots.{unpacked_root}
 use Rattle.atomic_table.specs.Table.{State}
 use Rattle.node_slots.specs.declared.view.Size.{Size}
-use Rattle.node_slots.specs.declared.view.SeatKind.TheVariants.{Reads, Writes}
-use Rattle.node_slots.specs.declared.view.Shown.{Shown}
+use Rattle.node_slots.specs.declared.view.NodeSeatKind.TheVariants.{Reads, Writes}
+use Rattle.node_slots.specs.declared.view.ShownTree.{ShownTree}
 use Rattle.node_slots.specs.declared.view.Known.{Known}
 use Rattle.node_slots.specs.declared.view.NodeView.{NodeView}
 use Rattle.node_slots.specs.Trees.{grace_tree, IsShown}
@@ -18,7 +18,7 @@ pub record FitsReader (size : Size) (words : List ℕ) (known : Known) (view : N
   pub size_is : view.size ≡ size
   pub made : view.reader < known.made
   pub pin : slice_index words (pin_place view.reader) ≡ view.pin
-  pub keeps : (shown : Shown) → view.snapshot ≡ Some shown → Keeps known.desk view.reader view.pin (grace_tree shown)
+  pub keeps : (shown : ShownTree) → view.snapshot ≡ Some shown → Keeps known.desk view.reader view.pin (grace_tree shown)
 
 -- The writer is the first seat, and knows the table.
 pub record FitsWriter (size : Size) (known : Known) (seat : ℕ) (view : NodeView) : Type 0 where

@@ -6,11 +6,11 @@ use Rattle.grace_core.specs.Core.{times, has_row}
 use Rattle.maple_node.specs.declared.root.Root.{Root}
 use Rattle.atomic_table.specs.Seated.{TableId}
 use Rattle.node_slots.specs.declared.view.Size.{Size}
-use Rattle.node_slots.specs.declared.view.Shown.{Shown}
+use Rattle.node_slots.specs.declared.view.ShownTree.{ShownTree}
 use Rattle.node_slots.specs.declared.view.NodeView.{NodeView}
 use Rattle.node_slots.specs.declared.seats.NodeTable.{NodeTable}
 use Rattle.node_slots.specs.declared.seats.NodeSeat.{NodeSeat}
-use Rattle.node_slots.specs.declared.seats.WriterSeat.{WriterSeat}
+use Rattle.node_slots.specs.declared.seats.NodeWriterSeat.{NodeWriterSeat}
 use Rattle.node_slots.specs.declared.seats.NodeWriter.{NodeWriter}
 use Rattle.node_slots.specs.Trees.{grace_tree, shown_rows}
 use Rattle.node_slots.specs.Views.{named_tree}
@@ -30,7 +30,7 @@ pub record IsOf (seat : NodeSeat) (table : NodeTable) : Type 0 where
   pub size_is : seat.seat.me.0.size ≡ size_of table
 
 -- the writer's seat is of this table
-pub record SitsAt (seat : WriterSeat) (table : NodeTable) : Type 0 where
+pub record SitsAt (seat : NodeWriterSeat) (table : NodeTable) : Type 0 where
   pub same : seat.seat.table_id ≡ table_of table
   pub size_is : seat.table.size ≡ size_of table
 
@@ -52,10 +52,10 @@ IsClosed seat = (view seat).pin % 2 ≡ 0
 
 -- a row is of a reader's snapshot
 abbrev pub ShowsRow : NodeView → ℕ → Type 0
-ShowsRow view row = (shown : Shown) × (view.snapshot ≡ Some shown) × (has_row (grace_tree shown) row ≡ true)
+ShowsRow view row = (shown : ShownTree) × (view.snapshot ≡ Some shown) × (has_row (grace_tree shown) row ≡ true)
 
 -- what the writer's seat knows
-abbrev pub seat_sight : WriterSeat → NodeView
+abbrev pub seat_sight : NodeWriterSeat → NodeView
 seat_sight seat = seat.seat.me.0
 
 -- what the writer knows
@@ -114,9 +114,9 @@ count_of is = if is then 1 else 0
 abbrev pub next_root : NodeWriter → ℕ → ℕ → Root
 next_root writer row height = record { tree = (desk writer).tree.number + 1; height = height; row = record { 0 = row } }
 
-abbrev pub next_shown : NodeWriter → ℕ → ℕ → Shown
+abbrev pub next_shown : NodeWriter → ℕ → ℕ → ShownTree
 next_shown writer row height = named_tree (sight writer).known (next_root writer row height)
 
 -- The new rows are exactly those that a tree reaches: each row that is neither free nor left is reached once, and no other is.
-abbrev pub ReachesNewRows : NodeWriter → Shown → Type 0
+abbrev pub ReachesNewRows : NodeWriter → ShownTree → Type 0
 ReachesNewRows writer shown = (row : ℕ) → times row (shown_rows shown) ≡ count_of (is_kept writer row)

@@ -4,18 +4,18 @@ use Rattle.grace_core.specs.Core as grace
 use Rattle.maple_node.specs.declared.root.Root.{Root}
 use Rattle.maple_node.specs.Levels.{at_of}
 use Rattle.maple_node.specs.Trees.{tree_of, tree_rows, IsTree}
-use Rattle.node_slots.specs.declared.view.Shown.{Shown}
+use Rattle.node_slots.specs.declared.view.ShownTree.{ShownTree}
 
 -- the rows of a tree: those that are reached from its root, the root first
-unfoldable pub shown_rows : Shown → List ℕ
+unfoldable pub shown_rows : ShownTree → List ℕ
 shown_rows shown = tree_rows (at_of shown.words) (tree_of (at_of shown.words) shown.root)
 
 -- the tree as the grace protocol has it
-abbrev pub grace_tree : Shown → grace.Tree
+abbrev pub grace_tree : ShownTree → grace.Tree
 grace_tree shown = record { number = shown.root.tree; rows = shown_rows shown; words = shown.words }
 
 -- a tree that readers can load
-pub record IsShown (slots : ℕ) (shown : Shown) : Type 0 where
+pub record IsShown (slots : ℕ) (shown : ShownTree) : Type 0 where
   -- it meets the layout of nodes, and pairs only slots below this number
   pub tree : IsTree (at_of shown.words) slots (shown_rows shown) shown.root
   -- it has at most nine levels
@@ -30,5 +30,5 @@ abbrev pub empty_row : List ℕ
 empty_row = replicate 32 0
 
 -- tree 0, in a table of so many rows, none of which was filled
-abbrev pub first_tree : ℕ → Shown
+abbrev pub first_tree : ℕ → ShownTree
 first_tree rows = record { root = first_root; words = replicate rows empty_row }

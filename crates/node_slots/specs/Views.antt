@@ -4,8 +4,8 @@ use Rattle.grace_core.specs.Core as grace
 use Rattle.grace_core.specs.Steps.{turned, filled, published, scanned, new_clearing}
 use Rattle.maple_node.specs.declared.root.Root.{Root}
 use Rattle.node_slots.specs.declared.view.Size.{Size}
-use Rattle.node_slots.specs.declared.view.SeatKind.TheVariants.{Reads, Writes, Spent}
-use Rattle.node_slots.specs.declared.view.Shown.{Shown}
+use Rattle.node_slots.specs.declared.view.NodeSeatKind.TheVariants.{Reads, Writes, Spent}
+use Rattle.node_slots.specs.declared.view.ShownTree.{ShownTree}
 use Rattle.node_slots.specs.declared.view.Known.{Known}
 use Rattle.node_slots.specs.declared.view.NodeView.{NodeView}
 use Rattle.node_slots.specs.Trees.{shown_rows, grace_tree, first_root, empty_row, first_tree}
@@ -87,7 +87,7 @@ abbrev pub open_at : NodeView → NodeView
 open_at view = record view { pin = turned view.pin }
 
 -- root: this tree is the snapshot
-abbrev pub root_at : NodeView → Shown → NodeView
+abbrev pub root_at : NodeView → ShownTree → NodeView
 root_at view shown = record view { snapshot = Some shown; last = Some shown; walks = view.walks + 1 }
 
 -- a word of a row was read
@@ -113,7 +113,7 @@ fill_at view row words = record view {
 }
 
 -- the tree that a root names among the words that the writer knows
-abbrev pub named_tree : Known → Root → Shown
+abbrev pub named_tree : Known → Root → ShownTree
 named_tree known root = record { root = root; words = known.desk.words }
 
 -- publish: the tree of this root is present

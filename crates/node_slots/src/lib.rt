@@ -15,9 +15,9 @@ mod view;
 mod writing;
 
 pub use left::Left;
-pub use seats::{NodeSeat, NodeTable, NodeWriter, WriterSeat};
+pub use seats::{NodeSeat, NodeTable, NodeWriter, NodeWriterSeat};
 pub use tree::Tree;
-pub use view::{Known, NodeView, SeatKind, SeenDesk, SeenTree, Shown, Size};
+pub use view::{Known, NodeSeatKind, NodeView, SeenDesk, SeenTree, ShownTree, Size};
 
 #[cfg(test)]
 mod tests;

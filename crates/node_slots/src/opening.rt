@@ -13,7 +13,7 @@ ghost use Rattle.node_slots.specs.Opening.{IsFreeFrom};
 ghost use Rattle.node_slots.specs.Seats.{size_of, IsOf, Writes, view, sight, free_of, left_of};
 
 use crate::rule::NewReader;
-use crate::seats::{Hint, NodeSeat, NodeTable, NodeWriter, WriterSeat};
+use crate::seats::{Hint, NodeSeat, NodeTable, NodeWriter, NodeWriterSeat};
 use crate::view::Size;
 use atomic_table::Table;
 use grace_core::Clearing;
@@ -125,7 +125,7 @@ fn open(alloc: Global, size: Size) -> Result<(NodeTable, NodeWriter), NoMemory>
 }
 
 /// A table with no reader, and the seat of its writer.
-fn open_seat(alloc: Global, size: Size) -> Result<(NodeTable, WriterSeat), NoMemory>
+fn open_seat(alloc: Global, size: Size) -> Result<(NodeTable, NodeWriterSeat), NoMemory>
     requires { IsSize size }
     ensures table { IfOk result (λ made. size_of made.0 ≡ size) }
     ensures seat { IfOk result (λ made. (made.1.seat.table_id ≡ (arc_value made.0.table).shared.table_id) × (made.1.table.size ≡ size)
@@ -139,7 +139,7 @@ fn open_seat(alloc: Global, size: Size) -> Result<(NodeTable, WriterSeat), NoMem
         table: Arc::new(alloc, table)?,
         size,
     };
-    let seat = WriterSeat {
+    let seat = NodeWriterSeat {
         seat,
         table: NodeTable {
             table: Arc::try_clone(&table.table)?,

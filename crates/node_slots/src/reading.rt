@@ -1,6 +1,6 @@
 ghost use Rattle.std.specs.Prelude.{◌≡◌, ◌<◌, ◌-◌, ◌^◌, min, slice_index, Some};
 ghost use Rattle.grace_core.specs.Core.{row_at};
-ghost use Rattle.node_slots.specs.declared.view.Shown.{Shown};
+ghost use Rattle.node_slots.specs.declared.view.ShownTree.{ShownTree};
 ghost use Rattle.node_slots.specs.Trees.{IsShown};
 ghost use Rattle.node_slots.specs.Plays.{RowsExist};
 ghost use Rattle.node_slots.specs.Views.{open_at, root_at, word_at, close_at, joined_at};
@@ -41,7 +41,7 @@ impl NodeTable {
         requires table { IsOf seat.old self.now }
         requires open { IsOpen seat.old }
         ensures table { IsOf seat.new self.now }
-        ensures shown { (shown : Shown) × (shown.root ≡ result) × IsShown (view seat.old).size.slots shown
+        ensures shown { (shown : ShownTree) × (shown.root ≡ result) × IsShown (view seat.old).size.slots shown
             × RowsExist (view seat.old).size.rows shown × (view seat.new ≡ root_at (view seat.old) shown) }
     {
         let found = self.table.shared.load::<Loaded>(&mut seat.seat, 0);
@@ -55,7 +55,7 @@ impl NodeTable {
         requires shown { ShowsRow (view seat.old) row.0 }
         requires place { place < 32 }
         ensures table { IsOf seat.new self.now }
-        ensures word { (shown : Shown) → (view seat.old).snapshot ≡ Some shown → result ≡ slice_index (row_at shown.words row.0) place }
+        ensures word { (shown : ShownTree) → (view seat.old).snapshot ≡ Some shown → result ≡ slice_index (row_at shown.words row.0) place }
         ensures view { view seat.new ≡ word_at (view seat.old) }
     {
         let place = (self.size.readers as usize + 1) * 8 + row.0 as usize * 32 + place as usize;

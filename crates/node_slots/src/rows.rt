@@ -12,7 +12,7 @@ ghost use Rattle.node_slots.specs.Seats.{size_of, Writes, sight, desk, row_count
 use crate::left::Left;
 use crate::seats::{NodeTable, NodeWriter};
 use crate::twins::{note_spot, note_twin};
-use crate::writing::least;
+use grace_core::least;
 use maple_node::Root;
 use mm_types::{NoMemory, Row, Steps};
 use std::sync::Arc;

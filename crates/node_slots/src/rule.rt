@@ -6,9 +6,9 @@ use crate::view::{NodeView, Size};
 use atomic_table::{Join, Play, Split, TableRule};
 
 /// The rule of the table.
-pub(crate) struct Protocol;
+pub(crate) struct GraceRule;
 
-impl TableRule<(), NodeView, Size> for Protocol {
+impl TableRule<(), NodeView, Size> for GraceRule {
     ghost holds = { Shows };
 
     ghost first = { λ size. opened_view size 0 };

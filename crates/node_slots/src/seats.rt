@@ -4,7 +4,7 @@ ghost use Rattle.std.specs.VecDeque.{deque_capacity};
 ghost use Rattle.node_slots.specs.Kept.{IsSized, ReaderKept, WriterKept, RowsKept};
 
 use crate::left::Left;
-use crate::rule::Protocol;
+use crate::rule::GraceRule;
 use crate::view::{NodeView, Size};
 use atomic_table::{Seat, Table};
 use grace_core::Clearing;
@@ -17,7 +17,7 @@ use std::sync::Arc;
 /// A handle of a table: a root word, a pin for each reader, and rows of 32 words.
 #[derive(Drop)]
 pub struct NodeTable {
-    pub(crate) table: Arc<Table<(), NodeView, Size, Protocol, Global>, Global>,
+    pub(crate) table: Arc<Table<(), NodeView, Size, GraceRule, Global>, Global>,
     pub(crate) size: Size,
     pub ghost sized: { IsSized size (arc_value table).shared.key (arc_value table).shared.table_id.words },
 }
@@ -34,7 +34,7 @@ pub struct NodeSeat {
 
 /// The writer's seat, with what it knows of the table.
 #[derive(Drop)]
-pub struct WriterSeat {
+pub struct NodeWriterSeat {
     pub(crate) seat: Seat<(), NodeView>,
     pub(crate) table: NodeTable,
     /// The root of the present tree.
@@ -60,7 +60,7 @@ pub(crate) struct Hint {
 /// The one writer of a table. It knows which rows are free, which were left, and which are of the present tree.
 #[derive(Drop)]
 pub struct NodeWriter {
-    pub(crate) desk: WriterSeat,
+    pub(crate) desk: NodeWriterSeat,
     pub(crate) free: VecDeque<Row>,
     /// The rows that were left and are not free again, in the order of the trees that leave them out.
     pub(crate) left: VecDeque<Left>,

@@ -15,7 +15,7 @@ pub struct Size {
 }
 
 /// What a seat is for.
-pub enum SeatKind {
+pub enum NodeSeatKind {
     /// It reads trees.
     Reads,
     /// It publishes trees.
@@ -25,7 +25,7 @@ pub enum SeatKind {
 }
 
 /// A tree as its publish showed it: its root, and the words that all rows had then.
-pub struct Shown {
+pub struct ShownTree {
     pub root: Root,
     pub words: LinkedList<LinkedList<u64>>,
 }
@@ -82,14 +82,14 @@ pub struct Known {
 /// What a seat knows. No value of it is made: it stands in contracts alone.
 pub struct NodeView {
     pub size: Size,
-    pub kind: SeatKind,
+    pub kind: NodeSeatKind,
     /// Which reader it is.
     pub reader: u32,
     pub pin: u64,
     /// The tree whose root it loaded last since it opened.
-    pub snapshot: Option<Shown>,
+    pub snapshot: Option<ShownTree>,
     /// The tree whose root it loaded last, also after it closed.
-    pub last: Option<Shown>,
+    pub last: Option<ShownTree>,
     /// How many roots it loaded.
     pub walks: u64,
     /// How many words of rows it loaded.

@@ -1,7 +1,5 @@
-ghost use Rattle.std.specs.Prelude.{◌≡◌, ◌<◌, true, ℕ, List, ◌∷◌, length};
-ghost use Rattle.grace_core.specs.declared.clearing.Clearing.{Clearing as Found};
+ghost use Rattle.std.specs.Prelude.{◌≡◌, ◌<◌, true, ℕ, List, length};
 ghost use Rattle.grace_core.specs.Core.{is_free};
-ghost use Rattle.grace_core.specs.Steps.{looked, least};
 ghost use Rattle.maple_node.specs.Roots.{FitsRoot};
 ghost use Rattle.node_slots.specs.Trees.{IsShown};
 ghost use Rattle.node_slots.specs.Plays.{RowsExist};
@@ -9,14 +7,13 @@ ghost use Rattle.node_slots.specs.Views.{store_at, fill_at, named_tree, publish_
 ghost use Rattle.node_slots.specs.Seats.{SitsAt, seat_sight};
 
 use crate::rule::{Published, Scanned, Stored};
-use crate::seats::{NodeTable, WriterSeat};
-use grace_core::Clearing;
+use crate::seats::{NodeTable, NodeWriterSeat};
 use maple_node::{Root, pack_root};
 use mm_types::Row;
 
 impl NodeTable {
     /// Stores a word of a free row, where the table does not have it there already.
-    fn store_word(&self, seat: &mut WriterSeat, row: Row, place: usize, word: u64)
+    fn store_word(&self, seat: &mut NodeWriterSeat, row: Row, place: usize, word: u64)
         requires table { SitsAt seat.old self.now }
         requires row { row.0 < seat.old.table.size.rows }
         requires place { place < 32 }
@@ -35,7 +32,7 @@ impl NodeTable {
     }
 
     /// Stores the words of a free row.
-    pub(crate) fn fill_row(&self, seat: &mut WriterSeat, row: Row, words: &[u64; 32])
+    pub(crate) fn fill_row(&self, seat: &mut NodeWriterSeat, row: Row, words: &[u64; 32])
         requires table { SitsAt seat.old self.now }
         requires row { row.0 < seat.old.table.size.rows }
         requires free { is_free (seat_sight seat.old).known.desk row.0 ≡ true }
@@ -49,7 +46,7 @@ impl NodeTable {
     }
 
     /// Stores a root word: its tree is the present one.
-    pub(crate) fn publish_root(&self, seat: &mut WriterSeat, root: Root)
+    pub(crate) fn publish_root(&self, seat: &mut NodeWriterSeat, root: Root)
         requires table { SitsAt seat.old self.now }
         requires fits { FitsRoot root }
         requires later { (seat_sight seat.old).known.desk.tree.number < root.tree }
@@ -67,7 +64,7 @@ impl NodeTable {
     }
 
     /// Loads a reader's pin, and answers it.
-    fn scan_pin(&self, seat: &mut WriterSeat, reader: u32) -> u64
+    fn scan_pin(&self, seat: &mut NodeWriterSeat, reader: u32) -> u64
         requires table { SitsAt seat.old self.now }
         requires reader { reader < self.now.size.readers }
         ensures table { SitsAt seat.new self.now }
@@ -77,12 +74,12 @@ impl NodeTable {
         let place = (reader as usize + 1) * 8;
         let found = self.table.shared.load::<Scanned>(&mut seat.seat, place);
         let clearing = seat.clearings[reader as usize];
-        seat.clearings[reader as usize] = looked(seat.root.tree, found, clearing);
+        seat.clearings[reader as usize] = clearing.looked(seat.root.tree, found);
         found
     }
 
     /// Loads every pin once.
-    pub(crate) fn scan_pins(&self, seat: &mut WriterSeat)
+    pub(crate) fn scan_pins(&self, seat: &mut NodeWriterSeat)
         requires { SitsAt seat.old self.now }
         ensures table { SitsAt seat.new self.now }
         ensures view { (pins : List ℕ) × (length pins ≡ self.now.size.readers) × (seat_sight seat.new ≡ scan_from 0 pins (seat_sight seat.old)) }
@@ -91,46 +88,5 @@ impl NodeTable {
         for reader in 0..self.size.readers {
             self.scan_pin(seat, reader);
         }
-    }
-}
-
-/// What the scans of a reader found, with one at the tree of this number that found this pin.
-fn looked(number: u64, found: u64, clearing: Clearing) -> Clearing
-    ensures { result ≡ looked number found clearing }
-{
-    let cleared = if found % 2 == 0 {
-        number
-    } else if found == clearing.pin {
-        clearing.cleared
-    } else {
-        clearing.tree
-    };
-    Clearing {
-        cleared,
-        pin: found,
-        tree: number,
-        joined: clearing.joined,
-    }
-}
-
-/// The greatest tree, up to this one, up to which every reader is cleared.
-pub(crate) fn least(number: u64, clearings: &[Clearing]) -> u64
-    ensures { result ≡ least number clearings.now }
-{
-    let mut passed = number;
-    for clearing in clearings {
-        passed = least_with(passed, *clearing);
-    }
-    passed
-}
-
-/// The same with one reader more.
-fn least_with(passed: u64, clearing: Clearing) -> u64
-    ensures { (others : List Found) → least passed (clearing ∷ others) ≡ least result others }
-{
-    if clearing.joined {
-        passed
-    } else {
-        passed.min(clearing.cleared)
     }
 }

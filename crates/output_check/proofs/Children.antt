@@ -9,9 +9,9 @@ use Rattle.mm_types.specs.declared.area.Access.{Access}
 use Rattle.mm_types.specs.declared.call.Call.{Call}
 use Rattle.mm_types.specs.declared.config.TheConstants.{PAGE_SIZE}
 use Rattle.mm_types.specs.declared.files.FileRow.{FileRow}
-use Rattle.trace_reader.specs.declared.fault.Cause.{Cause}
-use Rattle.trace_reader.specs.declared.fault.Cause.TheVariants.{Header, Word, Number, Arity, Thread, Child}
-use Rattle.trace_reader.specs.declared.fault.TraceFault.{TraceFault}
+use Rattle.trace_reader.specs.declared.error.Cause.{Cause}
+use Rattle.trace_reader.specs.declared.error.Cause.TheVariants.{Header, Word, Number, Arity, Thread, Child}
+use Rattle.trace_reader.specs.declared.error.BadLine.{BadLine}
 use Rattle.trace_reader.specs.declared.trace.Op.{Op}
 use Rattle.trace_reader.specs.declared.trace.Op.TheVariants as ops
 use Rattle.trace_reader.specs.declared.trace.Trace.{Trace}
@@ -32,7 +32,7 @@ use Rattle.trace_reader.specs.Words.{words_of, text_after_words}
 use Rattle.trace_reader.proofs.RawLaws.{raw_lines-AreLinesOf}
 use Rattle.trace_reader.proofs.RawPieces.{lines_from-nil}
 use Rattle.output_check.specs.Input.{plain_line, plain_trace_of}
-use Rattle.output_check.specs.Forks.{are_fork_words, is_fork_text, is_fork, first_fork, without_forks}
+use Rattle.output_check.specs.Internal.Forks.{are_fork_words, is_fork_text, is_fork, first_fork, without_forks}
 
 -- ---- the operations
 
@@ -282,7 +282,7 @@ first_bad-from step number start [] before follow = tt
 first_bad-from {S} step number start (line ∷ lines) before follow =
     by_line (λ next. first_bad-from step (number + 1) _ lines next follow.2) (step before line)
   where
-    lower : (r : Result S TraceFault) → IfErr r (λ first. number + 1 ≤ first.line) → IfErr r (λ first. number ≤ first.line)
+    lower : (r : Result S BadLine) → IfErr r (λ first. number + 1 ≤ first.line) → IfErr r (λ first. number ≤ first.line)
     lower (Ok s) is = tt
     lower (Err first) is = omega (arith, is)
 
@@ -292,12 +292,12 @@ first_bad-from {S} step number start (line ∷ lines) before follow =
     by_line more (Err cause) = omega (arith, follow.0)
 
 -- a bad line decides where none forks above it
-bad_first : {A : Type 0} (fork : Option ℕ) (first : TraceFault) → IfSome fork (λ n. first.line ≤ n) → without_forks {A = A} fork (Err first) ≡ Err first
+bad_first : {A : Type 0} (fork : Option ℕ) (first : BadLine) → IfSome fork (λ n. first.line ≤ n) → without_forks {A = A} fork (Err first) ≡ Err first
 bad_first None first is = refl
 bad_first (Some n) first is = rw (le-ltb n first.line is) refl
 
 -- and a fork where no line is bad above it
-fork_first : {A : Type 0} (number : ℕ) (read : Result A TraceFault) → IfErr read (λ first. number < first.line)
+fork_first : {A : Type 0} (number : ℕ) (read : Result A BadLine) → IfErr read (λ first. number < first.line)
     → without_forks (Some number) read ≡ Err (fault number Child)
 fork_first number (Ok s) is = refl
 fork_first number (Err first) is = rw (lt-ltb number first.line is) refl
@@ -316,7 +316,7 @@ plain_lines number start (line ∷ lines) s follow none =
     past None is = tt
     past (Some n) is = omega (arith, is, follow.0)
 
-    behind : (r : Result SoFar TraceFault) → IfErr r (λ first. number + 1 ≤ first.line) → IfErr r (λ first. line.number < first.line)
+    behind : (r : Result SoFar BadLine) → IfErr r (λ first. number + 1 ≤ first.line) → IfErr r (λ first. line.number < first.line)
     behind (Ok next) is = tt
     behind (Err first) is = omega (arith, is, follow.0)
 
@@ -336,7 +336,7 @@ plain_lines number start (line ∷ lines) s follow none =
         let count : length next.children ≡ 0 = omega (arith, adds, no_child) in
         rw (eq-eqb (length next.children) 0 count) (more next (nil_from_length next.children count))
 
-whole_without : (fork : Option ℕ) (r : Result SoFar TraceFault) → whole (without_forks fork r) ≡ without_forks fork (whole r)
+whole_without : (fork : Option ℕ) (r : Result SoFar BadLine) → whole (without_forks fork r) ≡ without_forks fork (whole r)
 whole_without None r = refl
 whole_without (Some number) (Ok s) = refl
 whole_without (Some number) (Err first) = by_test (nat_lt number first.line)
@@ -386,7 +386,7 @@ plain_is bytes = by_test (nat_eq (length bytes) 0) refl
     by_test false some = ap whole (plain_lines 1 0 (raw_lines bytes) nothing (raw_lines-AreLinesOf bytes).follow refl)
         ∙ whole_without fork (lines_leave after_line nothing (raw_lines bytes))
 
-good_without : (fork : Option ℕ) (r : Result Trace TraceFault) (trace : Trace) → without_forks fork r ≡ Ok trace → r ≡ Ok trace
+good_without : (fork : Option ℕ) (r : Result Trace BadLine) (trace : Trace) → without_forks fork r ≡ Ok trace → r ≡ Ok trace
 good_without None r trace is = is
 good_without (Some number) (Ok s) trace is = absurd cc
 good_without (Some number) (Err first) trace is = absurd (by_test (nat_lt number first.line) is)

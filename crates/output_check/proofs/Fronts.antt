@@ -4,8 +4,8 @@ use Rattle.std.specs.Prelude.{count_by}
 use Rattle.std.proofs.lemmas.Bool.{cases_lt, le-leb, lt-leb, lt-ltb}
 use Rattle.std.proofs.lemmas.Bool.Decides.{nat_tests}
 use Rattle.std.proofs.lemmas.List.{length-take, length-drop, take-take, take_all}
-use Rattle.trace_reader.specs.declared.fault.Cause.TheVariants.{Header, TooLong, NoEnd}
-use Rattle.trace_reader.specs.declared.fault.TraceFault.{TraceFault}
+use Rattle.trace_reader.specs.declared.error.Cause.TheVariants.{Header, TooLong, NoEnd}
+use Rattle.trace_reader.specs.declared.error.BadLine.{BadLine}
 use Rattle.trace_reader.specs.declared.trace.Trace.{Trace}
 use Rattle.trace_reader.specs.Grammar.{fault, nothing, lines_leave, whole}
 use Rattle.trace_reader.specs.Lines.{SoFar, trace_limit}
@@ -23,7 +23,7 @@ plain_front bytes =
     let front = take (trace_limit + 1) bytes in
     let none : nat_eq (length front) 0 ≡ nat_eq (length bytes) 0 = grind (arith, nat_tests, length-take (trace_limit + 1) bytes) in
     ap (λ (b : Bool). if b then Err (fault 1 Header) else whole (lines_leave plain_line nothing (raw_lines front))) none
-    ∙ ap (λ (read : Result SoFar TraceFault). if nat_eq (length bytes) 0 then Err (fault 1 Header) else whole read)
+    ∙ ap (λ (read : Result SoFar BadLine). if nat_eq (length bytes) 0 then Err (fault 1 Header) else whole read)
     (lines_leave-front trace_limit plain_line plain_line-limited nothing bytes)
 
 -- so do more bytes
@@ -32,10 +32,10 @@ plain_beginning count bytes enough =
     sym (plain_front (take count bytes)) ∙ ap plain_trace_of (take-take (trace_limit + 1) count bytes enough) ∙ plain_front bytes
 
 -- a trace that is bad decides, whatever follows
-bad_decides : (read other : Result Trace TraceFault) (f g : Trace → Result CheckInput TraceFault) → read ≡ other
+bad_decides : (read other : Result Trace BadLine) (f g : Trace → Result CheckInput BadLine) → read ≡ other
     → ((trace : Trace) → read ≡ Ok trace → f trace ≡ g trace) → after_trace read f ≡ after_trace other g
-bad_decides (Ok trace) other f g same next = next trace refl ∙ ap (λ (r : Result Trace TraceFault). after_trace r g) same
-bad_decides (Err first) other f g same next = ap (λ (r : Result Trace TraceFault). after_trace r g) same
+bad_decides (Ok trace) other f g same next = next trace refl ∙ ap (λ (r : Result Trace BadLine). after_trace r g) same
+bad_decides (Err first) other f g same next = ap (λ (r : Result Trace BadLine). after_trace r g) same
 
 -- the line that holds a byte of a front
 line_at-front : (offset count : ℕ) (bytes : List ℕ) → offset ≤ count → line_at offset (take count bytes) ≡ line_at offset bytes

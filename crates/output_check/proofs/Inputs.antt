@@ -2,9 +2,9 @@
 use Rattle.std.proofs.Common.{◌≡◌, ℕ, ◌+◌, ◌≤◌, true, nat_eq, nat_lt, if◌then◌else◌, List, length, take, drop, Option, Some, None, Result, Ok, Err, refl, ap, subst, arith}
 use Rattle.std.proofs.lemmas.Bool.{cond_both, eqb-true, ltb-false}
 use Rattle.std.proofs.lemmas.List.{length-drop, length-take}
-use Rattle.trace_reader.specs.declared.fault.Cause.{Cause}
-use Rattle.trace_reader.specs.declared.fault.Cause.TheVariants.{Header, TooLong, NoEnd, Child}
-use Rattle.trace_reader.specs.declared.fault.TraceFault.{TraceFault}
+use Rattle.trace_reader.specs.declared.error.Cause.{Cause}
+use Rattle.trace_reader.specs.declared.error.Cause.TheVariants.{Header, TooLong, NoEnd, Child}
+use Rattle.trace_reader.specs.declared.error.BadLine.{BadLine}
 use Rattle.trace_reader.specs.declared.limits.TheConstants.{LINE_LIMIT}
 use Rattle.trace_reader.specs.declared.trace.Trace.{Trace}
 use Rattle.trace_reader.specs.Causes.{◌>>=◌}
@@ -28,7 +28,7 @@ plain_line-limited before line past =
     else after_words before line.number text (words_of text)) >>= λ next. if nat_eq (length next.children) 0 then Ok next else Err Child)
     (text_within-past LINE_LIMIT trace_limit line past)
 
-whole_read : (r : Result SoFar TraceFault) (trace : Trace) → whole r ≡ Ok trace → (read : SoFar) × (r ≡ Ok read)
+whole_read : (r : Result SoFar BadLine) (trace : Trace) → whole r ≡ Ok trace → (read : SoFar) × (r ≡ Ok read)
 whole_read (Ok read) trace is = (read, refl)
 whole_read (Err first) trace is = absurd cc
 
@@ -41,7 +41,7 @@ plain_within bytes trace = cond_both (nat_eq (length bytes) 0) (Err (fault 1 Hea
     (λ _ is. let read = whole_read (lines_leave plain_line nothing (raw_lines bytes)) trace is in
     lines_leave-within trace_limit plain_line plain_line-limited nothing read.0 bytes read.1)
 
-good_trace : (read : Result Trace TraceFault) (rest : Trace → Result CheckInput TraceFault) (input : CheckInput) → after_trace read rest ≡ Ok input
+good_trace : (read : Result Trace BadLine) (rest : Trace → Result CheckInput BadLine) (input : CheckInput) → after_trace read rest ≡ Ok input
     → (trace : Trace) × (read ≡ Ok trace) × (rest trace ≡ Ok input)
 good_trace (Ok trace) rest input is = (trace, refl, is)
 good_trace (Err first) rest input is = absurd cc

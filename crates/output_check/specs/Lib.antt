@@ -1,4 +1,4 @@
 pub mod Checked
-pub mod Forks
 pub mod Input
 pub mod Reading
+pub mod Internal

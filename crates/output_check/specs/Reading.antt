@@ -1,13 +1,13 @@
 -- What is read of the bytes of a check: what the definition gives, unless memory runs out.
 use Rattle.std.specs.Prelude.{◌≡◌, Result, Ok, Err}
-use Rattle.trace_reader.specs.declared.fault.ReadError.{ReadError}
-use Rattle.trace_reader.specs.declared.fault.ReadError.TheVariants.{Bad, NoMemory}
-use Rattle.trace_reader.specs.declared.fault.TraceFault.{TraceFault}
+use Rattle.trace_reader.specs.declared.error.ReadError.{ReadError}
+use Rattle.trace_reader.specs.declared.error.ReadError.TheVariants.{Bad, NoMemory}
+use Rattle.trace_reader.specs.declared.error.BadLine.{BadLine}
 use Rattle.output_check.specs.declared.input.Input.{Input}
 use Rattle.output_check.specs.Input.{CheckInput}
 
 -- a bad line is that of the definition; out of memory is free
-abbrev pub IsFault : {Y : Type 0} → ReadError → Result Y TraceFault → Type 0
+abbrev pub IsFault : {Y : Type 0} → ReadError → Result Y BadLine → Type 0
 IsFault (Bad first) read = read ≡ Err first
 IsFault NoMemory read = Unit {0}
 
@@ -16,6 +16,6 @@ abbrev pub input_view : Input → CheckInput
 input_view input = record { trace = input.trace; given = input.given.now }
 
 -- what was read is what the definition gives
-abbrev pub GivesInput : Result Input ReadError → Result CheckInput TraceFault → Type 0
+abbrev pub GivesInput : Result Input ReadError → Result CheckInput BadLine → Type 0
 GivesInput (Ok input) read = read ≡ Ok (input_view input)
 GivesInput (Err error) read = IsFault error read

@@ -3,7 +3,7 @@ ghost use Rattle.std.specs.Prelude.{◌≡◌, IfOk, map, true, false};
 ghost use Rattle.trace_reader.specs.Lines.{begins_with_digit};
 ghost use Rattle.trace_reader.specs.RawLines.{raw_lines};
 ghost use Rattle.trace_reader.specs.Reading.{line_view};
-ghost use Rattle.output_check.specs.Forks.{first_fork, is_fork, are_fork_words};
+ghost use Rattle.output_check.specs.Internal.Forks.{first_fork, is_fork, are_fork_words};
 
 use std::alloc::Global;
 use trace_reader::{CallError, RawLine, first_line, text_of, words_of};
@@ -26,7 +26,7 @@ pub(crate) fn first_fork(alloc: Global, bytes: &[u8]) -> Result<Option<u64>, Cal
 }
 
 /// Whether a line below the header forks, as its words say.
-#[tactic(auto, unfolding(crate::specs::Forks::is_fork))]
+#[tactic(auto, unfolding(crate::specs::Internal::Forks::is_fork))]
 fn is_fork(alloc: Global, line: &RawLine) -> Result<bool, CallError>
     ensures { IfOk result (λ forks. forks ≡ is_fork (line_view line.now)) }
 {
@@ -40,7 +40,7 @@ fn is_fork(alloc: Global, line: &RawLine) -> Result<bool, CallError>
 }
 
 /// Whether the first word begins with a digit, and the second is `fork`.
-#[tactic(auto, unfolding(crate::specs::Forks::are_fork_words, trace_reader::specs::Lines::begins_with_digit))]
+#[tactic(auto, unfolding(crate::specs::Internal::Forks::are_fork_words, trace_reader::specs::Lines::begins_with_digit))]
 fn are_fork_words(words: &[&str]) -> bool
     ensures { result ≡ are_fork_words (map (λ word. word.now) words.now) }
 {

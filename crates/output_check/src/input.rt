@@ -2,15 +2,15 @@
 ghost use Rattle.std.specs.Prelude.{◌≡◌, ◌+◌, ◌≤◌, true, length, IfSome, Result};
 ghost use Rattle.trace_reader.specs.Grammar.{fault};
 ghost use Rattle.trace_reader.specs.Reading.{GivesTrace};
-ghost use Rattle.trace_reader.specs.declared.fault.TraceFault.{TraceFault};
+ghost use Rattle.trace_reader.specs.declared.error.BadLine.{BadLine};
 ghost use Rattle.trace_reader.specs.declared.trace.Trace.{Trace};
-ghost use Rattle.output_check.specs.Forks.{without_forks};
+ghost use Rattle.output_check.specs.Internal.Forks.{without_forks};
 ghost use Rattle.output_check.specs.Input.{input_of, line_at, mark_from, plain_trace_of};
 ghost use Rattle.output_check.specs.Reading.{GivesInput};
 
 use crate::forks::first_fork;
 use std::alloc::Global;
-use trace_reader::{Cause, ReadError, Trace, TraceFault, read};
+use trace_reader::{BadLine, Cause, ReadError, Trace, read};
 
 /// The line behind a trace, with its newline.
 const MARK: &[u8] = b"==\n";
@@ -65,7 +65,7 @@ fn bad_at(bytes: &[u8], offset: usize, cause: Cause) -> ReadError
         .iter()
         .filter(|byte| **byte == b'\n')
         .count();
-    ReadError::Bad(TraceFault {
+    ReadError::Bad(BadLine {
         line: above as u64 + 1,
         cause,
     })
@@ -83,7 +83,7 @@ fn read_plain(alloc: Global, bytes: &[u8]) -> Result<Trace, ReadError>
 
 /// What was read, where the first line that forks has this number: it is the first bad line unless one comes before it.
 fn without_forks(read: Result<Trace, ReadError>, fork: Option<u64>) -> Result<Trace, ReadError>
-    ensures { (all : Result Trace TraceFault) → GivesTrace read all → GivesTrace result (without_forks fork all) }
+    ensures { (all : Result Trace BadLine) → GivesTrace read all → GivesTrace result (without_forks fork all) }
 {
     let Some(line) = fork else {
         return read;
@@ -91,7 +91,7 @@ fn without_forks(read: Result<Trace, ReadError>, fork: Option<u64>) -> Result<Tr
     match read {
         Err(ReadError::Bad(first)) if first.line <= line => Err(ReadError::Bad(first)),
         Err(ReadError::NoMemory) => Err(ReadError::NoMemory),
-        _ => Err(ReadError::Bad(TraceFault {
+        _ => Err(ReadError::Bad(BadLine {
             line,
             cause: Cause::Child,
         })),

@@ -1,7 +1,7 @@
 //! Inputs of a check, right ones and wrong ones.
 use crate::checked;
 use std::test::Fail;
-use trace_reader::{Cause, ReadError, TraceFault};
+use trace_reader::{BadLine, Cause, ReadError};
 
 /// Whether this is answered to the bytes.
 fn says(rt: &impl AllocGlobal, bytes: &[u8], wanted: &[u8]) -> bool {
@@ -14,7 +14,7 @@ fn says(rt: &impl AllocGlobal, bytes: &[u8], wanted: &[u8]) -> bool {
 /// Whether this line of the bytes is bad for this cause.
 fn is_bad(rt: &impl AllocGlobal, bytes: &[u8], line: u64, cause: Cause) -> bool {
     match checked(rt.alloc(), bytes) {
-        Err(ReadError::Bad(first)) => first == TraceFault { line, cause },
+        Err(ReadError::Bad(first)) => first == BadLine { line, cause },
         _ => false,
     }
 }

@@ -16,7 +16,7 @@ use Rattle.history.specs.declared.items.Content.{Content}
 use Rattle.history.specs.declared.items.Item.{Item}
 use Rattle.history.specs.Histories.{caller_of, items_of, line_of, journal_of, is_call, read_as, op_of, AsksItself, call_of, answer_by, answer_of, StandsAmong}
 use Rattle.history.specs.Checking.{next_line, IsGood}
-use Rattle.history.specs.Walks.{lowest_after}
+use Rattle.history.specs.Coming.{lowest_after}
 use Rattle.history.proofs.Calls.{call_asked, line_call, asked_reads, reads_answer, IsAnswer, answer_made, answer_right, is_answer}
 use Rattle.history.proofs.Numbers.{one_line, own_place}
 use Rattle.history.proofs.Serial.{right_is_answer}

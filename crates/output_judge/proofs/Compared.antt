@@ -8,8 +8,8 @@ use Rattle.mm_types.specs.declared.files.FileRow.{FileRow}
 use Rattle.mm_types.specs.MapsText.{area_text, list_text}
 use Rattle.output_judge.specs.declared.given.Given.{Given}
 use Rattle.output_judge.specs.TextLines.{text_lines}
-use Rattle.output_judge.specs.Printed.{IsLine}
-use Rattle.output_judge.specs.Judging.{HasRead, Differs}
+use Rattle.output_judge.specs.Internal.Printed.{IsLine}
+use Rattle.output_judge.specs.Internal.Judging.{HasRead, Differs}
 use Rattle.output_judge.proofs.TextLines.{whole_none, whole_more, count_more, agree_front, agree_behind, first_agrees}
 
 -- before the first line

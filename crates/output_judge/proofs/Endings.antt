@@ -6,13 +6,12 @@ use Rattle.mm_types.specs.declared.config.Config.{Config}
 use Rattle.trace_reader.specs.declared.trace.TraceLine.{TraceLine}
 use Rattle.area_rules.specs.Steps.{after}
 use Rattle.history.specs.declared.items.Item.{Item}
-use Rattle.output_judge.specs.declared.progress.Progress.{Progress}
 use Rattle.history.specs.Histories.{items_of, lines_of, journal_of}
 use Rattle.history.specs.Checking.{next_line}
+use Rattle.history.specs.Coming.{ProgressView, IsProgress}
 use Rattle.history.proofs.Advances.{items_more, left_within}
 use Rattle.output_text.specs.Output.{maps_text}
 use Rattle.output_judge.specs.Judgements.{AnswerAll, IsEnding}
-use Rattle.output_judge.specs.Judging.{IsReached}
 
 -- where a line is left
 pub left_ending : (config : Config) (lines : List TraceLine) (items : List Item) → (AnswerAll lines items → ⊥) → IsEnding config lines items []
@@ -38,18 +37,18 @@ below lines items (suc count) = elim (cases_eq (length (items_of items count)) (
 ]
 
 -- who is no caller has no line, and answers none
-none_past : (lines : List TraceLine) (items : List Item) (progress : Progress) (caller : ℕ) → IsReached lines items progress
-    → length progress.places.items ≤ caller → length (items_of items caller) ≡ length (lines_of lines caller)
+none_past : (lines : List TraceLine) (items : List Item) (progress : ProgressView) (caller : ℕ) → IsProgress lines items progress
+    → length progress.answered ≤ caller → length (items_of items caller) ≡ length (lines_of lines caller)
 none_past lines items progress caller is past =
-    let none : length (lines_of lines caller) ≡ 0 = ap (λ (l : List TraceLine). length l) (is.places.no_lines caller past) in
+    let none : length (lines_of lines caller) ≡ 0 = ap (λ (l : List TraceLine). length l) (is.no_lines caller past) in
     omega (arith, none, is.few caller)
 
 -- with the next item of a caller, too
-more_past : (lines : List TraceLine) (items : List Item) (item : Item) (line : TraceLine) (progress : Progress) (caller : ℕ)
-    → IsReached lines items progress → next_line lines items item.caller ≡ Some line → length progress.places.items ≤ caller
+more_past : (lines : List TraceLine) (items : List Item) (item : Item) (line : TraceLine) (progress : ProgressView) (caller : ℕ)
+    → IsProgress lines items progress → next_line lines items item.caller ≡ Some line → length progress.answered ≤ caller
     → length (items_of (items ++ item ∷ []) caller) ≡ length (lines_of lines caller)
 more_past lines items item line progress caller is next past =
-    let within : item.caller < length progress.places.items = left_within lines items _ item.caller line is next in
+    let within : item.caller < length progress.answered = left_within lines items _ item.caller line is next in
     let none : ◌≡◌ {A = ℕ} (cond (nat_eq item.caller caller) 1 0) 0 =
     cond-false (nat_eq item.caller caller) 1 0 (ne_eqb item.caller caller (λ same. absurd (omega (arith, within, past, same)))) in
     let more = items_more items item caller in
@@ -57,12 +56,12 @@ more_past lines items item line progress caller is next past =
     omega (arith, more, none, old)
 
 -- the ending of the items with the next item
-pub some_ending : (config : Config) (lines : List TraceLine) (items : List Item) (item : Item) (line : TraceLine) (progress : Progress)
-    → IsReached lines items progress → next_line lines items item.caller ≡ Some line
+pub some_ending : (config : Config) (lines : List TraceLine) (items : List Item) (item : Item) (line : TraceLine) (progress : ProgressView)
+    → IsProgress lines items progress → next_line lines items item.caller ≡ Some line
     → (ending : List ℕ) × IsEnding config lines (items ++ item ∷ []) ending
 some_ending config lines items item line progress is next =
     let many : List Item = items ++ item ∷ [] in
-    let count : ℕ = length progress.places.items in
+    let count : ℕ = length progress.answered in
     elim (below lines many count) [
       | inl all ↦ (
         maps_text config.files (after config (journal_of many)).areas,

@@ -13,7 +13,7 @@ use Rattle.trace_reader.specs.declared.trace.TraceLine.{TraceLine}
 use Rattle.history.specs.declared.items.Content.{Content}
 use Rattle.history.specs.declared.items.Content.TheVariants as contents
 use Rattle.output_text.specs.Output.{errno_name, served_text, reply_text, verdict_text, maps_text, content_text, start_text, forked_text, result_text}
-use Rattle.output_judge.specs.Printed.{IsPlain, IsLine, first_text, more_text}
+use Rattle.output_judge.specs.Internal.Printed.{IsPlain, IsLine, first_text, more_text}
 use Rattle.output_judge.proofs.Plain.{both, written, line_of, digits_plain, range_plain}
 
 served_plain : (area : Record) (index : ℕ) → IsPlain (served_text area index)

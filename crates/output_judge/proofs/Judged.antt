@@ -10,14 +10,14 @@ use Rattle.trace_reader.specs.declared.trace.TraceLine.{TraceLine}
 use Rattle.trace_reader.specs.Values.{AreNumbered, child_of}
 use Rattle.area_rules.specs.Steps.{after}
 use Rattle.history.specs.declared.items.Item.{Item}
-use Rattle.output_judge.specs.declared.progress.Progress.{Progress}
 use Rattle.history.specs.Histories.{journal_of}
 use Rattle.history.specs.Checking.{IsGood, AreGood}
+use Rattle.history.specs.Coming.{ProgressView, IsProgress}
 use Rattle.output_text.specs.Output.{start_text, result_text, item_text, told_by, maps_text, listed_text, output_text}
 use Rattle.output_judge.specs.declared.given.Given.{Given}
 use Rattle.output_judge.specs.TextLines.{text_lines}
 use Rattle.output_judge.specs.Judgements.{AnswerAll, IsEnding, items_text, IsRightText, Fits, IsLegalText, IsFirstBad}
-use Rattle.output_judge.specs.Judging.{IsReached, Begins, HasRead, Differs}
+use Rattle.output_judge.specs.Internal.Judging.{Begins, HasRead, Differs}
 use Rattle.output_judge.proofs.TextLines.{joined, agree_fewer, start_agrees}
 use Rattle.output_judge.proofs.ItemLines.{start_plain}
 use Rattle.output_judge.proofs.Compared.{read_agrees, read_behind, differs_behind}
@@ -251,8 +251,8 @@ good_push config lines items item good last = λ place other below found.
     first_found (x ∷ xs) ys (suc place) within = first_found xs ys place (omega arith)
 
 -- where the text differs from that of the next item, it does so at the first bad line
-pub bad_item : (trace : Trace) (text : List ℕ) (items : List Item) (given : Given) (progress : Progress) (line : TraceLine) (item : Item) (bad : ℕ)
-    → Stood trace text items given → IsReached trace.lines items progress → (AnswerAll trace.lines items → ⊥) → (given.rest.now ≡ [] → ⊥)
+pub bad_item : (trace : Trace) (text : List ℕ) (items : List Item) (given : Given) (progress : ProgressView) (line : TraceLine) (item : Item) (bad : ℕ)
+    → Stood trace text items given → IsProgress trace.lines items progress → (AnswerAll trace.lines items → ⊥) → (given.rest.now ≡ [] → ⊥)
     → AreNumbered trace.lines → IsItemOf trace.config trace.lines items line item → Tells trace.lines items given.rest.now line
     → Differs text (items_text trace items ++ item_text trace.config.files line item) bad → IsFirstBad trace text bad
 bad_item trace text items given progress line item bad stood going left some numbered is tells differs =

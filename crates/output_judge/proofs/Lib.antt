@@ -6,7 +6,6 @@ pub mod ItemTexts
 pub mod Answered
 pub mod Endings
 pub mod Judged
-pub mod Coming
 pub mod Walked
 pub mod ReadNumbers
 pub mod SpaceSteps

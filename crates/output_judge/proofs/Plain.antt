@@ -5,7 +5,7 @@ use Rattle.std.specs.Fmt.{digits, digits_onto, digit_glyph}
 use Rattle.std.proofs.lemmas.Bool.{cases_Bool}
 use Rattle.std.proofs.lemmas.Bool.Decides.{nat_tests}
 use Rattle.trace_reader.specs.RawLines.{is_newline}
-use Rattle.output_judge.specs.Printed.{has_none, IsPlain, IsLine}
+use Rattle.output_judge.specs.Internal.Printed.{has_none, IsPlain, IsLine}
 use Rattle.output_judge.proofs.TextLines.{plain_parts}
 use Rattle.mm_types.specs.declared.area.Record.{Record}
 use Rattle.mm_types.specs.declared.area.Span.{Span}

@@ -21,8 +21,8 @@ use Rattle.output_judge.specs.declared.judging.Walk.{Walk}
 use Rattle.output_judge.specs.declared.stop.Stop.{Stop}
 use Rattle.output_judge.specs.declared.stop.Stop.TheVariants as stops
 use Rattle.output_judge.specs.Judgements.{items_text, IsFirstBad, IsLegalText}
-use Rattle.output_judge.specs.Judging.{IsLeft, IsEnded, NoneComes, TheOneComes, HasRead, Differs, IsBadAt, IsWalked, IsToldRightly}
-use Rattle.output_judge.specs.Printed.{shown, IsLine, first_text, more_text}
+use Rattle.output_judge.specs.Internal.Judging.{IsLeft, IsEnded, NoneComes, TheOneComes, HasRead, Differs, IsBadAt, IsWalked, IsToldRightly}
+use Rattle.output_judge.specs.Internal.Printed.{shown, IsLine, first_text, more_text}
 use Rattle.output_judge.proofs.Answered.{same_line}
 use Rattle.output_judge.proofs.Plain.{area_line}
 use Rattle.output_judge.proofs.Compared.{areas_more, differs_more, differs_areas}

@@ -1,5 +1,5 @@
 -- For `Walk::line_to_come`: what the number that a text tells says of the item that comes.
-use Rattle.std.proofs.Common.{ℕ, ◌≡◌, ◌^◌, ◌<◌, ◌∙◌, sym, subst, List, length, All, Option, Some, None}
+use Rattle.std.proofs.Common.{ℕ, ◌≡◌, ◌^◌, ◌<◌, ◌∙◌, sym, List, length, All, Option, Some, None}
 use Rattle.std.specs.Prelude.{MatchOption}
 use Rattle.std.proofs.lemmas.List.Elements.{All-weaker}
 use Rattle.trace_reader.specs.declared.trace.Trace.{Trace}
@@ -9,10 +9,10 @@ use Rattle.history.specs.declared.callers.TheConstants.{MOST_THREADS}
 use Rattle.history.specs.declared.items.Item.{Item}
 use Rattle.history.specs.Histories.{items_of}
 use Rattle.history.specs.Checking.{next_line}
+use Rattle.history.specs.Coming.{ProgressView, IsProgress, IsToCome, NoneIsToCome}
 use Rattle.history.proofs.Lists.{at_place}
 use Rattle.history.proofs.Numbers.{own_place}
-use Rattle.output_judge.specs.declared.progress.Progress.{Progress}
-use Rattle.output_judge.specs.Judging.{IsReached, IsToCome, NoneIsToCome, Begins, NoneComes, TheOneComes}
+use Rattle.output_judge.specs.Internal.Judging.{Begins, NoneComes, TheOneComes}
 
 -- the threads of a trace are below the most
 pub few_threads : (trace : Trace) → IsTraceValue trace → All (λ line. line.thread < MOST_THREADS) trace.lines
@@ -39,15 +39,3 @@ come_from lines before rest number (Some found) comes tells = record {
   told = comes.told;
   tells = λ other teller begins. tells other teller begins ∙ sym comes.numbered;
 }
-
--- the same of lines that are those of the trace
-pub come_of : (lines given : List TraceLine) → given ≡ lines → (before : List Item) (rest : List ℕ) (number : ℕ) (progress : Progress)
-    (found : Option (TraceLine × ℕ)) → IsReached lines before progress
-    → ((items : List Item) → IsReached given items progress
-    → MatchOption found (NoneIsToCome given items number) (λ found. IsToCome given items number found.0 found.1))
-    → ((other : TraceLine) (teller : ℕ) → Begins lines before rest other teller → other.number ≡ number)
-    → MatchOption found (NoneComes lines before rest) (λ found. TheOneComes lines before rest found.0 found.1)
-come_of lines given same before rest number progress found reached comes tells =
-    come_from lines before rest number found
-    (subst (λ (l : List TraceLine). MatchOption found (NoneIsToCome l before number) (λ found. IsToCome l before number found.0 found.1)) same
-    (comes before (subst (λ (l : List TraceLine). IsReached l before progress) (sym same) reached))) tells

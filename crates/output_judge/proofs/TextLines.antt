@@ -5,7 +5,7 @@ use Rattle.std.proofs.Math.Seq.{take-append-add, drop-append_seam, take-append-l
 use Rattle.std.proofs.lemmas.Bool.{cases_Bool}
 use Rattle.trace_reader.specs.RawLines.{is_newline}
 use Rattle.output_judge.specs.TextLines.{onto_first, text_lines}
-use Rattle.output_judge.specs.Printed.{has_none, IsLine}
+use Rattle.output_judge.specs.Internal.Printed.{has_none, IsLine}
 
 -- the first of bytes without a newline is none, and the others have none
 pub plain_parts : (first rest : Bool) → (not first && rest) ≡ true → (first ≡ false) × (rest ≡ true)

@@ -9,6 +9,7 @@ use Rattle.area_rules.specs.Tables.{AddressSpace}
 use Rattle.area_rules.specs.Steps.{after, opening}
 use Rattle.area_rules.proofs.Journals.{after-nil}
 use Rattle.history.specs.declared.items.Item.{Item}
+use Rattle.history.specs.Coming.{IsProgress}
 use Rattle.history.specs.Histories.{items_of, journal_of, is_call, read_as, op_of, answer_of, space_after}
 use Rattle.history.proofs.Advances.{journal_within, left_within, left_fewer, lines_within, progress_more, progress_within}
 use Rattle.history.proofs.Calls.{reads_space, IsAnswer, op_asks}
@@ -21,8 +22,8 @@ use Rattle.output_judge.specs.declared.answers.Answer.{Answer}
 use Rattle.output_judge.specs.declared.answers.Answer.TheVariants as answers
 use Rattle.output_judge.specs.declared.judging.Walk.{Walk}
 use Rattle.output_judge.specs.Judgements.{AnswerAll, items_text}
-use Rattle.output_judge.specs.Judging.{IsReached, TheOneComes, HasRead, IsWalked}
-use Rattle.output_judge.specs.Printed.{shown}
+use Rattle.output_judge.specs.Internal.Judging.{TheOneComes, HasRead, IsWalked}
+use Rattle.output_judge.specs.Internal.Printed.{shown}
 use Rattle.output_judge.proofs.Answered.{IsItemOf, asked, item_answer}
 use Rattle.output_judge.proofs.Judged.{Stood, good_item}
 
@@ -31,7 +32,7 @@ pub stood : (trace : Trace) (text : List ℕ) (walk : Walk) (walked : IsWalked t
 stood trace text walk walked = record { good = walked.good; read = walked.read; forced = walked.forced }
 
 -- before the first item
-pub walked_none : (trace : Trace) (text : List ℕ) (walk : Walk) → IsReached trace.lines [] walk.progress
+pub walked_none : (trace : Trace) (text : List ℕ) (walk : Walk) → IsProgress trace.lines [] walk.progress
     → walk.space ≡ record { config = trace.config; space = opening trace.config } → HasRead text [] walk.given
     → walk.given.line + length walk.given.rest.now < 2 ^ 64 - 1 → IsWalked trace text walk
 unfolding journal_of opening
@@ -62,10 +63,10 @@ walked_room trace text walk walked value =
 -- the caller of a line that comes is counted, and its count has room
 pub counts_room : (trace : Trace) (text : List ℕ) (walk : Walk) (walked : IsWalked trace text walk) → IsTraceValue trace
     → (line : TraceLine) (caller : ℕ) → TheOneComes trace.lines walked.items walk.given.rest.now line caller
-    → (caller < length walk.progress.answered.items) × (get_or walk.progress.answered.items caller 0 < 2 ^ 32)
+    → (caller < length walk.progress.answered) × (get_or walk.progress.answered caller 0 < 2 ^ 32)
 counts_room trace text walk walked value line caller comes =
-    let within : caller < length walk.progress.places.items = left_within trace.lines walked.items _ caller line walked.progress comes.next in (
-      omega (arith, within, walked.progress.all),
+    let within : caller < length walk.progress.answered = left_within trace.lines walked.items _ caller line walked.progress comes.next in (
+      within,
       omega (
         arith,
         walked.progress.answered caller within,
@@ -110,9 +111,8 @@ ran_item trace text walk walked value line caller version areas answer comes ran
 
 -- what changed in a walk behind an item
 pub record Passed (old new : Walk) (line : TraceLine) (caller version : ℕ) (called : Bool) : Type 0 where
-  pub answered : new.progress.answered.items ≡ set old.progress.answered.items caller (get_or old.progress.answered.items caller 0 + 1)
-  pub places : new.progress.places ≡ old.progress.places
-  pub callers : new.progress.callers ≡ old.progress.callers
+  pub answered : new.progress.answered ≡ set old.progress.answered caller (get_or old.progress.answered caller 0 + 1)
+  pub lines : new.progress.lines ≡ old.progress.lines
   pub counted : new.progress.version ≡ version
   pub lowest : new.progress.lowest ≡ cond called 0 caller
   pub space : new.space.space ≡ space_after old.space.config old.space.space line.op
@@ -146,8 +146,8 @@ walked_more trace text old new walked value left some line caller version areas 
     record {
       items = items ++ item ∷ [];
       good = now.good;
-      progress = progress_more trace.lines items item line _ _ walked.progress comes.next ran.counted passed.answered passed.places passed.callers
-          passed.counted passed.lowest;
+      progress = progress_more trace.lines items item line _ _ walked.progress comes.next passed.lines passed.answered
+          (passed.counted ∙ ran.counted) passed.lowest;
       opened = passed.config ∙ walked.opened;
       space = moved ∙ sym (space_more config items item right);
       objects = subst (λ (n : ℕ). new.space.space.objects ≤ length config.files + n) (sym (passed.counted ∙ ran.counted))

@@ -1,4 +1,3 @@
 pub mod TextLines
 pub mod Judgements
-pub mod Printed
-pub mod Judging
+pub mod Internal

@@ -1,7 +1,7 @@
 //! What an address space answers to a line of a trace.
 ghost use Rattle.std.specs.Prelude.{◌≡◌, ◌+◌, ◌-◌, ◌^◌, ◌<◌, ◌≤◌, [], length};
 ghost use Rattle.history.specs.Histories.{answer_of, call_of, is_call, read_of, space_after};
-ghost use Rattle.output_judge.specs.Printed.{shown};
+ghost use Rattle.output_judge.specs.Internal.Printed.{shown};
 
 use mm_types::{Access, Call, Page, Reply, Verdict};
 use sys_calls::PlainSpace;

@@ -6,8 +6,8 @@ ghost use Rattle.mm_types.specs.declared.files.FileRow.{FileRow};
 ghost use Rattle.trace_reader.specs.declared.trace.TraceLine.{TraceLine};
 ghost use Rattle.trace_reader.specs.Values.{child_of};
 ghost use Rattle.output_text.specs.Output.{item_text, maps_text, start_text, result_text};
-ghost use Rattle.output_judge.specs.Printed.{first_text, more_text, shown, IsLine};
-ghost use Rattle.output_judge.specs.Judging.{HasRead, IsBadAt, Shrinks};
+ghost use Rattle.output_judge.specs.Internal.Printed.{first_text, more_text, shown, IsLine};
+ghost use Rattle.output_judge.specs.Internal.Judging.{HasRead, IsBadAt, Shrinks};
 
 use crate::answers::{Answer, area_count};
 use crate::stop::Stop;

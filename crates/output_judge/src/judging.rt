@@ -2,13 +2,13 @@
 ghost use Rattle.std.specs.Prelude.{ℕ, ◌≡◌, ◌<◌, List, IfOk, OnOk, IfErr, MatchOption, length};
 ghost use Rattle.trace_reader.specs.Values.{IsTraceValue};
 ghost use Rattle.output_judge.specs.Judgements.{IsJudged, IsLegalText};
-ghost use Rattle.output_judge.specs.Judging.{IsEnded, IsLeft, IsToldRightly, IsWalked, NoneComes, TheOneComes};
+ghost use Rattle.output_judge.specs.Internal.Judging.{IsEnded, IsLeft, IsToldRightly, IsWalked, NoneComes, TheOneComes};
 
 use crate::answers::run_op;
 use crate::given::Given;
 use crate::judgement::Judgement;
-use crate::progress::Progress;
 use crate::stop::Stop;
+use history::Progress;
 use mm_types::NoMemory;
 use std::alloc::Global;
 use sys_calls::PlainSpace;
@@ -17,7 +17,7 @@ use trace_reader::{Trace, TraceLine};
 /// A walk over a text: how far the callers are and the address space, after the items that were compared.
 #[derive(Drop)]
 struct Walk<'a> {
-    progress: Progress,
+    progress: Progress<'a>,
     space: PlainSpace<'a>,
     given: Given<'a>,
     /// The line that the next one of the text should be.
@@ -110,7 +110,7 @@ impl<'a> Walk<'a> {
             (λ found. TheOneComes trace.now.lines walked.items self.now.given.rest.now found.0 found.1) }
     {
         let number = self.given.number()?;
-        self.progress.line_to_come(trace.lines.items(), number)
+        self.progress.line_to_come(number)
     }
 
     /// Compares the final list, behind which nothing stands, where no line of the trace is left.

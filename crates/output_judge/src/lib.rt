@@ -7,7 +7,6 @@ mod given;
 mod judgement;
 mod judging;
 mod laws;
-mod progress;
 #[cfg(test)]
 mod slow_judge;
 #[cfg(test)]

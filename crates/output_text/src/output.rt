@@ -3,7 +3,7 @@ ghost use Rattle.std.specs.Prelude.{◌≡◌, ◌++◌, OnOk, codes, decimal};
 ghost use Rattle.output_text.specs.Output.{errno_name, reply_text, served_text, verdict_text, start_text};
 
 use itoa::Buffer;
-use maps_print::push_range;
+use maps_print::{push_hex, push_range};
 use mm_types::{Errno, NoMemory, Record, Reply, Verdict};
 use std::io::Write;
 use trace_reader::TraceLine;
@@ -70,7 +70,10 @@ pub fn push_reply(text: &mut Vec<u8>, reply: Reply) -> Result<(), NoMemory>
     ensures { OnOk result (text.new.items ≡ text.old.items ++ reply_text reply) }
 {
     match reply {
-        Reply::Addr(address) => write!(text, "0x{address:x}").map_err(|_| NoMemory),
+        Reply::Addr(address) => {
+            text.extend_from_slice(b"0x")?;
+            push_hex(text, address)
+        }
         Reply::Zero => Ok(text.push(b'0')?),
         Reply::Refused(errno) => {
             text.extend_from_slice(b"-1 ")?;

@@ -7,7 +7,7 @@ use Rattle.std.proofs.lemmas.Grind.{flat_map-append}
 use Rattle.maple_node.specs.Trees.{Pair, pair_of}
 use Rattle.maple_items.specs.Pairs.{lower_part, upper_part, overwritten}
 use Rattle.span_tree.specs.SpanTrees.{SpanView}
-use Rattle.span_tree.specs.Tests.{row_pairs, IsRow}
+use Rattle.span_tree.specs.Internal.Tests.{row_pairs, IsRow}
 
 -- all pairs lie below the page of the next
 one_lower : (count page : ℕ) → 16 + 2 * count + 1 ≤ page → (let pair : Pair = record { lo = 16 + 2 * count; hi = 16 + 2 * count + 1; slot = count } in

@@ -1,4 +1,4 @@
 pub mod SpanTrees
 pub mod Rows
 pub mod Kept
-pub mod Tests
+pub mod Internal

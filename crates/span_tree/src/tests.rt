@@ -42,7 +42,7 @@ impl Model for Bench {
 
     ghost Value = { Tree };
 
-    ghost use Rattle.span_tree.specs.Tests.{IsBench};
+    ghost use Rattle.span_tree.specs.Internal.Tests.{IsBench};
 
     ghost view = { λ bench. bench.tree };
 

@@ -17,7 +17,7 @@ use Rattle.split_merge.specs.declared.plan.Change.{Change}
 use Rattle.split_merge.specs.declared.plan.Change.TheVariants.{Alter}
 use Rattle.split_merge.specs.declared.planner.Run.{Run}
 use Rattle.split_merge.specs.Plans.{olds_of}
-use Rattle.split_merge.specs.Planner.{Event, page_at, same_area, detaching, replacing, closing, taken, left, spare, covered, left_over, settled, unsettled, run_with, planned_with, along, come, come_in, weight}
+use Rattle.split_merge.specs.Internal.Planner.{Event, page_at, same_area, detaching, replacing, closing, taken, left, spare, covered, left_over, settled, unsettled, run_with, planned_with, along, come, come_in, weight}
 use Rattle.split_merge.proofs.Replacing.{olds_of-append}
 use Rattle.split_merge.proofs.Counting.{contains_cases}
 use Rattle.split_merge.proofs.Turning.{Unlike, IsRealChange}

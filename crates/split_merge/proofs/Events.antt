@@ -9,8 +9,8 @@ use Rattle.area_list.proofs.Elements.{Pairs, Each-append, Each-weaker, Each-also
 use Rattle.area_list.proofs.Parts.{Apart}
 use Rattle.area_list.proofs.Order.{Before}
 use Rattle.split_merge.specs.declared.becoming.Becoming.{Becoming}
-use Rattle.split_merge.specs.Becoming.{low_of, high_of, parts_left, AreInOrder}
-use Rattle.split_merge.specs.Planner.{Event, page_at, come, come_in, events_at, events_along}
+use Rattle.split_merge.specs.Internal.Becoming.{low_of, high_of, parts_left, AreInOrder}
+use Rattle.split_merge.specs.Internal.Planner.{Event, page_at, come, come_in, events_at, events_along}
 use Rattle.split_merge.proofs.Lists.{Pairs-images}
 use Rattle.split_merge.proofs.Ascending.{Below, insert_front}
 use Rattle.split_merge.proofs.Walking.{InOrder}

@@ -12,7 +12,7 @@ use Rattle.area_list.proofs.Merging.{joins_true}
 use Rattle.split_merge.specs.declared.plan.Change.{Change}
 use Rattle.split_merge.specs.declared.plan.Change.TheVariants.{Alter}
 use Rattle.split_merge.specs.declared.planner.Run.{Run}
-use Rattle.split_merge.specs.Planner.{Event, same_area, detaching, replacing, closing, taken, left, spare, covered, left_over, settled, unsettled, run_with, planned_with, along}
+use Rattle.split_merge.specs.Internal.Planner.{Event, same_area, detaching, replacing, closing, taken, left, spare, covered, left_over, settled, unsettled, run_with, planned_with, along}
 use Rattle.split_merge.proofs.Joining.{joins-joined_area}
 use Rattle.split_merge.proofs.Turning.{Turns}
 use Rattle.split_merge.proofs.Steps.{same_areas}

@@ -13,8 +13,8 @@ use Rattle.area_list.proofs.Putting.{put_canonical}
 use Rattle.split_merge.specs.declared.plan.Change.{Change}
 use Rattle.split_merge.specs.declared.becoming.Becoming.TheVariants.{Outside}
 use Rattle.split_merge.specs.Plans.{olds_of, Makes, IsLocalToEither, is_near, is_near_either}
-use Rattle.split_merge.specs.Becoming.{BeginsOne}
-use Rattle.split_merge.specs.Planner.{all_planned}
+use Rattle.split_merge.specs.Internal.Becoming.{BeginsOne}
+use Rattle.split_merge.specs.Internal.Planner.{all_planned}
 use Rattle.split_merge.proofs.Lists.{length-filter_wider}
 use Rattle.split_merge.proofs.Walking.{in_order}
 use Rattle.split_merge.proofs.Results.{plan_makes, plan_local_either, fits_in}

@@ -16,7 +16,7 @@ use Rattle.area_list.proofs.Parts.{Apart, part, parts_apart, joins_touching, Eac
 use Rattle.area_list.proofs.Order.{Before}
 use Rattle.split_merge.specs.declared.becoming.Becoming.{Becoming}
 use Rattle.split_merge.specs.declared.becoming.Becoming.TheVariants.{Outside, Changed}
-use Rattle.split_merge.specs.Becoming.{low_of, high_of, parts_left, parts_outside_both, AreInOrder}
+use Rattle.split_merge.specs.Internal.Becoming.{low_of, high_of, parts_left, parts_outside_both, AreInOrder}
 use Rattle.split_merge.proofs.Lists.{filter_nothing}
 use Rattle.split_merge.proofs.Walking.{InOrder, rest_in_order}
 use Rattle.split_merge.proofs.Pieces.{piece_some, piece_none, part_whole}

@@ -13,8 +13,8 @@ use Rattle.split_merge.specs.declared.becoming.Becoming.{Becoming}
 use Rattle.split_merge.specs.declared.planner.Run.{Run}
 use Rattle.split_merge.specs.declared.planner.Planner.{Planner}
 use Rattle.split_merge.specs.Plans.{is_near_either}
-use Rattle.split_merge.specs.Becoming.{low_of, high_of, parts_left, AreInOrder, BeginsOne}
-use Rattle.split_merge.specs.Planner.{Event, page_at, detaching, closing, settled, unsettled, planned_with, left, run_with, along, come, come_in, planned, reached, reached_with, laid, weight, events_at, events_along}
+use Rattle.split_merge.specs.Internal.Becoming.{low_of, high_of, parts_left, AreInOrder, BeginsOne}
+use Rattle.split_merge.specs.Internal.Planner.{Event, page_at, detaching, closing, settled, unsettled, planned_with, left, run_with, along, come, come_in, planned, reached, reached_with, laid, weight, events_at, events_along}
 use Rattle.split_merge.proofs.Lists.{filter_all, Each-filter, length-filter_at_most}
 use Rattle.split_merge.proofs.Ascending.{Pairs-filter}
 use Rattle.split_merge.proofs.Steps.{weight-append}

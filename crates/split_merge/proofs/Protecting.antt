@@ -14,7 +14,7 @@ use Rattle.area_rules.proofs.ProtectLaws.{stop_is, prefix_canonical}
 use Rattle.split_merge.specs.declared.plan.Change.{Change}
 use Rattle.split_merge.specs.declared.becoming.Becoming.TheVariants.{Changed}
 use Rattle.split_merge.specs.Plans.{olds_of, Makes, IsLocal, is_near}
-use Rattle.split_merge.specs.Planner.{all_planned}
+use Rattle.split_merge.specs.Internal.Planner.{all_planned}
 use Rattle.split_merge.proofs.Lists.{length-filter_wider}
 use Rattle.split_merge.proofs.Results.{plan_makes, plan_local}
 use Rattle.split_merge.proofs.Spans.{one_in_order}

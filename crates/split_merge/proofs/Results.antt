@@ -14,8 +14,8 @@ use Rattle.area_list.proofs.Order.{pairs_from_canonical}
 use Rattle.split_merge.specs.declared.becoming.Becoming.{Becoming}
 use Rattle.split_merge.specs.declared.becoming.Becoming.TheVariants.{Outside}
 use Rattle.split_merge.specs.Plans.{olds_of, is_near, Makes, IsLocal, IsLocalToEither}
-use Rattle.split_merge.specs.Becoming.{low_of, high_of, parts_left, AreInOrder}
-use Rattle.split_merge.specs.Planner.{Event, along, come, events_at, events_along, all_planned}
+use Rattle.split_merge.specs.Internal.Becoming.{low_of, high_of, parts_left, AreInOrder}
+use Rattle.split_merge.specs.Internal.Planner.{Event, along, come, events_at, events_along, all_planned}
 use Rattle.split_merge.proofs.Lists.{length-filter_wider}
 use Rattle.split_merge.proofs.Walking.{in_order}
 use Rattle.split_merge.proofs.Ascending.{ascending}

@@ -19,7 +19,7 @@ use Rattle.area_list.proofs.Cutting.{cut_canonical, page_map-cut}
 use Rattle.area_list.proofs.Putting.{put_canonical, page_map-put}
 use Rattle.area_list.proofs.Uniqueness.{canonical_unique}
 use Rattle.split_merge.specs.declared.becoming.Becoming.TheVariants.{Outside}
-use Rattle.split_merge.specs.Becoming.{parts_outside_both, AreInOrder}
+use Rattle.split_merge.specs.Internal.Becoming.{parts_outside_both, AreInOrder}
 use Rattle.split_merge.proofs.Pieces.{piece_some, piece_none}
 use Rattle.split_merge.proofs.Parting.{Unjoined, parts_away}
 use Rattle.split_merge.proofs.Results.{merge_nothing}

@@ -14,7 +14,7 @@ use Rattle.split_merge.specs.declared.plan.Change.TheVariants.{Alter}
 use Rattle.split_merge.specs.declared.planner.Run.{Run}
 use Rattle.split_merge.specs.declared.planner.Planner.{Planner}
 use Rattle.split_merge.specs.Plans.{PlanView}
-use Rattle.split_merge.specs.Planner.{Event, page_at, same_area, detaching, replacing, closing, taken, left, spare, left_over, settled, unsettled, planned_with, along, come, come_in, laid, reached, reached_with, reaching, reaching_with, held, weight, GoesAlong}
+use Rattle.split_merge.specs.Internal.Planner.{Event, page_at, same_area, detaching, replacing, closing, taken, left, spare, left_over, settled, unsettled, planned_with, along, come, come_in, laid, reached, reached_with, reaching, reaching_with, held, weight, GoesAlong}
 
 -- attributes are the same where areas with them would join
 same_attrs : (a b : Attr) → same_attr a b ≡ true → a ≡ b

@@ -9,8 +9,8 @@ use Rattle.split_merge.specs.declared.becoming.Becoming.{Becoming}
 use Rattle.split_merge.specs.declared.planner.Planner.{Planner}
 use Rattle.split_merge.specs.Finding.{first_from}
 use Rattle.split_merge.specs.Plans.{PlanView}
-use Rattle.split_merge.specs.Becoming.{low_of, high_of, parts_left, AreInOrder, BeginsOne}
-use Rattle.split_merge.specs.Planner.{Event, along, come, planned, held, weight, events_at, events_along, all_planned, GoesAlong}
+use Rattle.split_merge.specs.Internal.Becoming.{low_of, high_of, parts_left, AreInOrder, BeginsOne}
+use Rattle.split_merge.specs.Internal.Planner.{Event, along, come, planned, held, weight, events_at, events_along, all_planned, GoesAlong}
 use Rattle.split_merge.proofs.Walking.{ending_above, each_ending_above, InOrder, Spares, IsNext, none_above}
 use Rattle.split_merge.proofs.Lists.{length-filter_at_most}
 use Rattle.split_merge.proofs.Steps.{weight-append, weight-comes}

@@ -4,7 +4,7 @@ ghost use Rattle.std.specs.Option.{option_to_list};
 ghost use Rattle.mm_types.specs.Records.{IsValid};
 ghost use Rattle.area_list.specs.Attributes.{with_attr};
 ghost use Rattle.area_list.specs.Changes.{piece, parts_changed};
-ghost use Rattle.split_merge.specs.Becoming.{parts_outside_both, parts_left, low_of, high_of};
+ghost use Rattle.split_merge.specs.Internal.Becoming.{parts_outside_both, parts_left, low_of, high_of};
 
 use crate::parts::piece;
 use area_list::{AttrChange, with_attr};
@@ -20,7 +20,7 @@ pub(crate) enum Becoming {
 }
 
 /// The parts of an area outside both spans: below the lower, between the two, and above the upper.
-#[tactic(auto, unfolding(crate::specs::Becoming::parts_outside_both))]
+#[tactic(auto, unfolding(crate::specs::Internal::Becoming::parts_outside_both))]
 fn outside(low: Span, high: Span, area: &Record) -> [Option<Record>; 3]
     requires { IsValid area.now }
     ensures { flat_map option_to_list result ≡ parts_outside_both low high area.now }

@@ -2,8 +2,8 @@
 ghost use Rattle.std.specs.Prelude.{◌≡◌, ◌<◌, ◌≤◌, ◌+◌, ◌++◌, [], ◌∷◌, None, Some, length, map};
 ghost use Rattle.std.specs.Option.{option_len};
 ghost use Rattle.mm_types.specs.Records.{IsValid};
-ghost use Rattle.split_merge.specs.Becoming.{parts_left};
-ghost use Rattle.split_merge.specs.Planner.{Event, detaching, replacing, closing, taken, left, spare, covered, left_over, settled, unsettled, planned_with, laid, reached, reaching, planned, held, weight, GoesAlong};
+ghost use Rattle.split_merge.specs.Internal.Becoming.{parts_left};
+ghost use Rattle.split_merge.specs.Internal.Planner.{Event, detaching, replacing, closing, taken, left, spare, covered, left_over, settled, unsettled, planned_with, laid, reached, reaching, planned, held, weight, GoesAlong};
 
 use crate::becoming::Becoming;
 use crate::parts::joined;
@@ -108,8 +108,8 @@ impl Planner {
     ghost use Rattle.std.specs.Prelude.{◌≡◌, ◌≤◌, ◌+◌, ◌++◌, [], ◌∷◌, None, length, map, flat_map};
     ghost use Rattle.std.specs.Option.{option_len, option_to_list};
     ghost use Rattle.mm_types.specs.Records.{IsValid};
-    ghost use Rattle.split_merge.specs.Becoming.{parts_left};
-    ghost use Rattle.split_merge.specs.Planner.{Event, detaching, settled, unsettled, planned_with, laid, reached, reaching, planned, held, weight, GoesAlong};
+    ghost use Rattle.split_merge.specs.Internal.Becoming.{parts_left};
+    ghost use Rattle.split_merge.specs.Internal.Planner.{Event, detaching, settled, unsettled, planned_with, laid, reached, reaching, planned, held, weight, GoesAlong};
 
     /// A planner at the begin of a list, with at most one new area to come.
     pub(crate) fn new(coming: Option<Record>) -> Planner

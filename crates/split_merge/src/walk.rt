@@ -1,8 +1,8 @@
 //! The walk of a plan along the areas of a list.
 ghost use Rattle.std.specs.Prelude.{◌≡◌, ◌≤◌, ◌+◌, ◌*◌, ◌++◌, length};
 ghost use Rattle.area_list.specs.Areas.{IsCanonical};
-ghost use Rattle.split_merge.specs.Becoming.{low_of, high_of, AreInOrder, BeginsOne};
-ghost use Rattle.split_merge.specs.Planner.{all_planned};
+ghost use Rattle.split_merge.specs.Internal.Becoming.{low_of, high_of, AreInOrder, BeginsOne};
+ghost use Rattle.split_merge.specs.Internal.Planner.{all_planned};
 
 use crate::areas::Areas;
 use crate::becoming::Becoming;

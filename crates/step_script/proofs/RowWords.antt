@@ -1,7 +1,7 @@
 -- For `rows_of`: the rows that words are, read one after another.
 use Rattle.std.proofs.Common.{List, ◌++◌, Result, Ok}
 use Rattle.mm_types.specs.declared.slot.Row.{Row}
-use Rattle.trace_reader.specs.declared.fault.Cause.{Cause}
+use Rattle.trace_reader.specs.declared.error.Cause.{Cause}
 use Rattle.trace_reader.specs.Causes.{◌>>=◌}
 
 -- rows that were read, and then those that are still to be read

@@ -1,8 +1,8 @@
 -- For the laws of scripts: their first bad line, and the bytes that settle them.
 use Rattle.std.proofs.Common.{◌≡◌, ◌⊎◌, ℕ, ◌+◌, ◌≤◌, List, length, take, Option, Some, None, Result, Ok, Err, refl, ap, ◌∙◌, inl, inr}
-use Rattle.trace_reader.specs.declared.fault.Cause.{Cause}
-use Rattle.trace_reader.specs.declared.fault.Cause.TheVariants.{TooMany}
-use Rattle.trace_reader.specs.declared.fault.TraceFault.{TraceFault}
+use Rattle.trace_reader.specs.declared.error.Cause.{Cause}
+use Rattle.trace_reader.specs.declared.error.Cause.TheVariants.{TooMany}
+use Rattle.trace_reader.specs.declared.error.BadLine.{BadLine}
 use Rattle.trace_reader.specs.declared.limits.TheConstants.{LINE_LIMIT}
 use Rattle.trace_reader.specs.Causes.{◌>>=◌}
 use Rattle.trace_reader.specs.Lines.{trace_limit}
@@ -19,14 +19,14 @@ use Rattle.step_script.specs.Laws.{IsFirstBad, NamesNoCore}
 use Rattle.step_script.specs.Lines.{after_text, after_line}
 use Rattle.step_script.specs.Output.{output_of, script_output}
 
-by_lines : (bytes : List ℕ) (first : TraceFault) (read : Result (Option Script) TraceFault) → after_lines None (raw_lines bytes) ≡ read
+by_lines : (bytes : List ℕ) (first : BadLine) (read : Result (Option Script) BadLine) → after_lines None (raw_lines bytes) ≡ read
     → whole read ≡ Err first → IsFirstBad bytes first ⊎ NamesNoCore bytes first
 by_lines bytes first (Ok (Some script)) is e = absurd cc
 by_lines bytes first (Ok None) is e = inr (is, cc)
 by_lines bytes first (Err bad) is e = inl (lines_leave-Err after_line None bytes first (is ∙ cc))
 
 -- the fault of a script is that of its first bad line, or there is no core
-pub script_of-Err : (bytes : List ℕ) (first : TraceFault) → script_of bytes ≡ Err first → IsFirstBad bytes first ⊎ NamesNoCore bytes first
+pub script_of-Err : (bytes : List ℕ) (first : BadLine) → script_of bytes ≡ Err first → IsFirstBad bytes first ⊎ NamesNoCore bytes first
 unfolding script_of
 script_of-Err bytes first e = by_lines bytes first (after_lines None (raw_lines bytes)) refl e
 
@@ -40,10 +40,10 @@ after_line-limited before line past =
 -- so one byte more than the limit settles the output
 pub output-front : (bytes : List ℕ) → script_output (take (trace_limit + 1) bytes) ≡ script_output bytes
 unfolding script_output script_of
-output-front bytes = ap (λ (read : Result (Option Script) TraceFault). output_of (whole read))
+output-front bytes = ap (λ (read : Result (Option Script) BadLine). output_of (whole read))
     (lines_leave-front trace_limit after_line after_line-limited None bytes)
 
-was_read : (read : Result (Option Script) TraceFault) (text : List ℕ) → output_of (whole read) ≡ Ok text
+was_read : (read : Result (Option Script) BadLine) (text : List ℕ) → output_of (whole read) ≡ Ok text
     → (script : Option Script) × (read ≡ Ok script)
 was_read (Ok script) text is = (script, refl)
 was_read (Err first) text is = absurd cc

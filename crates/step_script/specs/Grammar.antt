@@ -1,22 +1,22 @@
 -- Which script bytes are, or else which line is bad first and for which cause.
 use Rattle.std.specs.Prelude.{ℕ, List, Option, Some, None, Result, Ok, Err}
-use Rattle.trace_reader.specs.declared.fault.Cause.TheVariants.{Header}
-use Rattle.trace_reader.specs.declared.fault.TraceFault.{TraceFault}
+use Rattle.trace_reader.specs.declared.error.Cause.TheVariants.{Header}
+use Rattle.trace_reader.specs.declared.error.BadLine.{BadLine}
 use Rattle.trace_reader.specs.Grammar.{fault, lines_leave}
 use Rattle.trace_reader.specs.RawLines.{RawLine, raw_lines}
 use Rattle.step_script.specs.declared.script.Script.{Script}
 use Rattle.step_script.specs.Lines.{after_line}
 
 -- what lines leave, or the first of them that is bad
-abbrev pub after_lines : Option Script → List RawLine → Result (Option Script) TraceFault
+abbrev pub after_lines : Option Script → List RawLine → Result (Option Script) BadLine
 after_lines script lines = lines_leave after_line script lines
 
 -- a script that names a core; where no line does, line 1 is bad
-abbrev pub whole : Result (Option Script) TraceFault → Result Script TraceFault
+abbrev pub whole : Result (Option Script) BadLine → Result Script BadLine
 whole (Ok (Some script)) = Ok script
 whole (Ok None) = Err (fault 1 Header)
 whole (Err first) = Err first
 
 -- the script that the bytes are, or the first bad line and its cause
-unfoldable pub script_of : List ℕ → Result Script TraceFault
+unfoldable pub script_of : List ℕ → Result Script BadLine
 script_of bytes = whole (after_lines None (raw_lines bytes))

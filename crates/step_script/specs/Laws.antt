@@ -1,7 +1,7 @@
 -- What a script's first bad line is.
 use Rattle.std.specs.Prelude.{ℕ, ◌≡◌, List, None, Ok}
-use Rattle.trace_reader.specs.declared.fault.Cause.TheVariants.{Header}
-use Rattle.trace_reader.specs.declared.fault.TraceFault.{TraceFault}
+use Rattle.trace_reader.specs.declared.error.Cause.TheVariants.{Header}
+use Rattle.trace_reader.specs.declared.error.BadLine.{BadLine}
 use Rattle.trace_reader.specs.Grammar.{fault}
 use Rattle.trace_reader.specs.Laws.{IsFirstBadBy}
 use Rattle.trace_reader.specs.RawLines.{raw_lines}
@@ -9,9 +9,9 @@ use Rattle.step_script.specs.Grammar.{after_lines}
 use Rattle.step_script.specs.Lines.{after_line}
 
 -- a line of the bytes that is bad for this cause, after lines that are all good
-abbrev pub IsFirstBad : List ℕ → TraceFault → Type 0
+abbrev pub IsFirstBad : List ℕ → BadLine → Type 0
 IsFirstBad bytes first = IsFirstBadBy after_line None bytes first
 
 -- no line is bad, and none names a core: this is told as a fault of line 1
-abbrev pub NamesNoCore : List ℕ → TraceFault → Type 0
+abbrev pub NamesNoCore : List ℕ → BadLine → Type 0
 NamesNoCore bytes first = (after_lines None (raw_lines bytes) ≡ Ok None) × (first ≡ fault 1 Header)

@@ -1,7 +1,7 @@
 -- What one line does to the script so far, or the first test that it fails.
 use Rattle.std.specs.Prelude.{ℕ, Bool, false, ◌&&◌, List, [], ◌∷◌, ◌++◌, codes, bytes_eq, nat_eq, nat_lt, Option, Some, None, Result, Ok, Err, if◌then◌else◌}
-use Rattle.trace_reader.specs.declared.fault.Cause.{Cause}
-use Rattle.trace_reader.specs.declared.fault.Cause.TheVariants.{Header, Word, Arity, TooMany}
+use Rattle.trace_reader.specs.declared.error.Cause.{Cause}
+use Rattle.trace_reader.specs.declared.error.Cause.TheVariants.{Header, Word, Arity, TooMany}
 use Rattle.trace_reader.specs.Causes.{◌>>=◌}
 use Rattle.trace_reader.specs.Lines.{text_of, is_comment}
 use Rattle.trace_reader.specs.RawLines.{RawLine}

@@ -2,8 +2,8 @@
 use Rattle.std.specs.Prelude.{ℕ, List, [], ◌∷◌, codes, bytes_eq, Result, Ok, Err, if◌then◌else◌}
 use Rattle.lock_core.specs.declared.events.LockEvent.{LockEvent}
 use Rattle.lock_core.specs.declared.events.LockEvent.TheVariants.{Add, Look, Field, Sub, Begin, Mark, Store, End}
-use Rattle.trace_reader.specs.declared.fault.Cause.{Cause}
-use Rattle.trace_reader.specs.declared.fault.Cause.TheVariants.{Word, Arity}
+use Rattle.trace_reader.specs.declared.error.Cause.{Cause}
+use Rattle.trace_reader.specs.declared.error.Cause.TheVariants.{Word, Arity}
 use Rattle.trace_reader.specs.Calls.{call_of}
 use Rattle.trace_reader.specs.Causes.{◌>>=◌}
 use Rattle.trace_reader.specs.Fields.{number}

@@ -2,7 +2,7 @@
 
 ghost use Rattle.std.specs.Prelude.{◌≡◌, ◌≤◌, ◌⊎◌, ◌+◌, ℕ, List, length, take, Ok, Err};
 ghost use Rattle.trace_reader.specs.Lines.{trace_limit};
-ghost use Rattle.trace_reader.specs.declared.fault.TraceFault.{TraceFault};
+ghost use Rattle.trace_reader.specs.declared.error.BadLine.{BadLine};
 ghost use Rattle.step_script.specs.Grammar.{script_of};
 ghost use Rattle.step_script.specs.Laws.{IsFirstBad, NamesNoCore};
 ghost use Rattle.step_script.specs.Output.{script_output};
@@ -10,7 +10,7 @@ ghost use Rattle.step_script.specs.declared.script.TheConstants.{MOST_LINES, MOS
 
 /// The line that is named in place of a script is the first bad one, or line 1 where no line is bad and none names a core.
 pub fn first_bad_line()
-    ensures { (bytes : List ℕ) (first : TraceFault) → script_of bytes ≡ Err first
+    ensures { (bytes : List ℕ) (first : BadLine) → script_of bytes ≡ Err first
         → IsFirstBad bytes first ⊎ NamesNoCore bytes first }
 {}
 

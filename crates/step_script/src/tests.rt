@@ -2,7 +2,7 @@ use crate::{MOST_LINES, run_script};
 use std::alloc::Global;
 use std::process::Abort;
 use std::test::Fail;
-use trace_reader::{Cause, ReadError, TraceFault};
+use trace_reader::{BadLine, Cause, ReadError};
 
 /// A page is mapped in a slot that a reader held at first, and read afterwards.
 const PAGE_IS_MAPPED: &str = "vmasteps 1
@@ -49,7 +49,7 @@ fn check(rt: &(impl Abort + AllocGlobal), script: &str, wanted: &str) -> Result<
 }
 
 /// The first bad line of bytes, if one is bad.
-fn refusal(alloc: Global, bytes: &[u8]) -> Result<Option<TraceFault>, ReadError> {
+fn refusal(alloc: Global, bytes: &[u8]) -> Result<Option<BadLine>, ReadError> {
     match run_script(alloc, bytes) {
         Ok(_text) => Ok(None),
         Err(ReadError::Bad(fault)) => Ok(Some(fault)),
@@ -292,7 +292,7 @@ fn the_first_bad_line_is_named(rt: HostRuntime) -> Result<(), Fail> {
         (3, Cause::Number, "vmasteps 1\ngrace 1 1\npublish x 1\n"),
         (3, Cause::Number, "vmasteps 1\ngrace 1 2\npublish 1 1 2\n"),
     ] {
-        let wanted = TraceFault { line, cause };
+        let wanted = BadLine { line, cause };
         let found = refusal(rt.alloc(), script.as_bytes())?;
         assert_eq!(rt; found, Some(wanted), "{script}");
     }
@@ -307,7 +307,7 @@ fn a_script_has_at_most_10_000_lines(rt: HostRuntime) -> Result<(), Fail> {
     }
     assert_eq!(rt; refusal(rt.alloc(), script.as_slice())?, None);
     script.extend_from_slice(b"#\n")?;
-    let wanted = TraceFault {
+    let wanted = BadLine {
         line: MOST_LINES + 1,
         cause: Cause::TooMany,
     };

@@ -22,7 +22,7 @@ use Rattle.area_rules.proofs.Rows.{NoneHolds, rows_false}
 use Rattle.area_rules.proofs.Limits.{limit_between}
 use Rattle.area_rules.proofs.RemapLaws.{IsRemappable, some_range, remappable_from_rows, IsOld, old_area, grown_good, moved_good, moved_fits}
 use Rattle.split_merge.proofs.Refusing.{range_within}
-use Rattle.sys_mremap.specs.Cases.{IsAccepted, IsAdmitted, goes_elsewhere, other_place}
+use Rattle.sys_mremap.specs.Internal.Cases.{IsAccepted, IsAdmitted, goes_elsewhere, other_place}
 
 module _ (config : Config) (areas : List Record) (args : MremapArgs) (area : Record) where
   -- why a range goes elsewhere

@@ -15,7 +15,7 @@ use Rattle.area_rules.specs.Laws.{moved_range}
 use Rattle.split_merge.specs.declared.plan.Change.{Change}
 use Rattle.split_merge.specs.Plans.{PlanView, Makes, IsLocal, IsLocalToEither}
 use Rattle.split_merge.proofs.Refusing.{nothing_made}
-use Rattle.sys_mremap.specs.Cases.{MakesAt, PlansChange}
+use Rattle.sys_mremap.specs.Internal.Cases.{MakesAt, PlansChange}
 use Rattle.sys_mremap.proofs.Nearness.{local_in_first, local_in_second, nothing_local}
 
 -- the pages of the old range past the new length

@@ -24,7 +24,7 @@ use Rattle.split_merge.specs.declared.plan.Change.{Change}
 use Rattle.split_merge.specs.Plans.{PlanView, applied, Makes, IsLocalToEither}
 use Rattle.split_merge.specs.Calls.{IsPrepared, IsPlannedCall}
 use Rattle.split_merge.proofs.Calling.{planned, unchanged}
-use Rattle.sys_mremap.specs.Cases.{IsAccepted}
+use Rattle.sys_mremap.specs.Internal.Cases.{IsAccepted}
 
 module _ (config : Config) (areas : List Record) (args : MremapArgs) where
   -- the call is refused, whatever the counters are

@@ -4,7 +4,7 @@ ghost use Rattle.area_list.specs.Areas.{IsCanonical};
 ghost use Rattle.area_rules.specs.Mremap.{has_room};
 ghost use Rattle.area_rules.specs.Placement.{bounds_of};
 ghost use Rattle.area_rules.specs.Tables.{pages_of};
-ghost use Rattle.sys_mremap.specs.Cases.{goes_elsewhere, other_place};
+ghost use Rattle.sys_mremap.specs.Internal.Cases.{goes_elsewhere, other_place};
 
 use area_list::page_of;
 use area_rules::{MremapArgs, fits, lengthens, may_move, moves_to, pages_of};
@@ -24,7 +24,7 @@ fn has_room<A: Areas>(config: &Config, areas: &A, args: &MremapArgs) -> bool
 }
 
 /// Whether the range goes elsewhere: to a fixed place, or since it grows where it has no room.
-#[tactic(auto, unfolding(crate::specs::Cases::goes_elsewhere))]
+#[tactic(auto, unfolding(crate::specs::Internal::Cases::goes_elsewhere))]
 pub(crate) fn goes_elsewhere<A: Areas>(config: &Config, areas: &A, args: &MremapArgs) -> bool
     requires { IsCanonical (A.bounds areas.now).limit (A.list areas.now) }
     ensures { result ≡ goes_elsewhere config.now (A.list areas.now) args.now }
@@ -33,7 +33,7 @@ pub(crate) fn goes_elsewhere<A: Areas>(config: &Config, areas: &A, args: &Mremap
 }
 
 /// The page that a range goes to: the fixed one, or where the list has a place for it, if it may move.
-#[tactic(auto, unfolding(crate::specs::Cases::other_place, area_rules::specs::Mremap::new_place))]
+#[tactic(auto, unfolding(crate::specs::Internal::Cases::other_place, area_rules::specs::Mremap::new_place))]
 pub(crate) fn other_place<A: Areas>(config: &Config, areas: &A, args: &MremapArgs) -> Option<u64>
     requires bounds { A.bounds areas.now ≡ bounds_of config.now }
     requires some_pages { 1 ≤ pages_of args.now.new_len }

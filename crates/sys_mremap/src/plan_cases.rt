@@ -3,7 +3,7 @@ ghost use Rattle.std.specs.Prelude.{◌≡◌, ◌<◌, ◌≤◌, ◌^◌, true
 ghost use Rattle.area_list.specs.Areas.{page_of};
 ghost use Rattle.area_rules.specs.Mremap.{old_range, lengthens, shrunk_list, lengthened_list, has_room, mremap_change};
 ghost use Rattle.split_merge.specs.Plans.{IsKept, IsFresh};
-ghost use Rattle.sys_mremap.specs.Cases.{IsAdmitted, goes_elsewhere, MakesAt, PlansChange};
+ghost use Rattle.sys_mremap.specs.Internal.Cases.{IsAdmitted, goes_elsewhere, MakesAt, PlansChange};
 
 use crate::destination::{goes_elsewhere, other_place};
 use area_list::page_of;

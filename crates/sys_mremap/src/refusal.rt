@@ -3,7 +3,7 @@ ghost use Rattle.std.specs.Prelude.{◌≡◌, MatchResult};
 ghost use Rattle.area_list.specs.Areas.{IsCanonical};
 ghost use Rattle.area_rules.specs.Mremap.{mremap_rows};
 ghost use Rattle.mm_types.specs.Rows.{first_row};
-ghost use Rattle.sys_mremap.specs.Cases.{IsAccepted};
+ghost use Rattle.sys_mremap.specs.Internal.Cases.{IsAccepted};
 
 use area_list::page_of;
 use area_rules::{MremapArgs, area_refusal, mremap_refusal};

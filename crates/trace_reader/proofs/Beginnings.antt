@@ -5,9 +5,9 @@ use Rattle.std.proofs.lemmas.Bool.{cases_lt, lt-ltb, or_right}
 use Rattle.std.proofs.lemmas.Bool.Decides.{nat_tests}
 use Rattle.std.proofs.lemmas.List.{take_all, take-take, drop-take, length-take, length-drop, get_or-take, length-take-le}
 use Rattle.std.proofs.lemmas.List.Sums.{position_or_len_is, fails_before_first, passes_at_first}
-use Rattle.trace_reader.specs.declared.fault.Cause.{Cause}
-use Rattle.trace_reader.specs.declared.fault.Cause.TheVariants.{Header, TooLong}
-use Rattle.trace_reader.specs.declared.fault.TraceFault.{TraceFault}
+use Rattle.trace_reader.specs.declared.error.Cause.{Cause}
+use Rattle.trace_reader.specs.declared.error.Cause.TheVariants.{Header, TooLong}
+use Rattle.trace_reader.specs.declared.error.BadLine.{BadLine}
 use Rattle.trace_reader.specs.declared.limits.TheConstants.{LINE_LIMIT}
 use Rattle.trace_reader.specs.declared.trace.Trace.{Trace}
 use Rattle.trace_reader.specs.Causes.{◌>>=◌}
@@ -161,11 +161,11 @@ unfolding trace_of
 trace_of-front bytes =
     ap (λ (none : Bool). if none then Err (fault 1 Header) else whole (lines_read (take (trace_limit + 1) bytes)))
     (none_in_front trace_limit bytes)
-    ∙ ap (λ (read : Result SoFar TraceFault). if nat_eq (length bytes) 0 then Err (fault 1 Header) else whole read)
+    ∙ ap (λ (read : Result SoFar BadLine). if nat_eq (length bytes) 0 then Err (fault 1 Header) else whole read)
     (lines_read-front bytes)
 
 -- where lines were all read, each was read, and so the first
-at_line_read : {A S : Type 0} (number : ℕ) (r : Result S Cause) (rest : S → Result A TraceFault) (x : A) → at_line number r rest ≡ Ok x
+at_line_read : {A S : Type 0} (number : ℕ) (r : Result S Cause) (rest : S → Result A BadLine) (x : A) → at_line number r rest ≡ Ok x
     → (next : S) × (rest next ≡ Ok x)
 at_line_read number (Ok next) rest x read = (next, read)
 at_line_read number (Err cause) rest x read = absurd cc
@@ -192,7 +192,7 @@ read_within {S} limit step limited (suc fuel) number start bytes before read few
       | inr none ↦ omega arith
     ]
   where
-    ok_is_no_fault : (read : S) (first : TraceFault) → Ok read ≡ Err first → ⊥
+    ok_is_no_fault : (read : S) (first : BadLine) → Ok read ≡ Err first → ⊥
     ok_is_no_fault read first same = cc
 
 -- the bytes of lines that were all read end within the limit
@@ -201,7 +201,7 @@ pub lines_leave-within : {S : Type 0} (limit : ℕ) (step : S → RawLine → Re
 lines_leave-within limit step limited before read bytes all =
     omega (arith, read_within limit step limited (length bytes) 1 0 bytes before read (omega arith) (omega arith) all)
 
-whole_read : (r : Result SoFar TraceFault) (trace : Trace) → whole r ≡ Ok trace → (read : SoFar) × (r ≡ Ok read)
+whole_read : (r : Result SoFar BadLine) (trace : Trace) → whole r ≡ Ok trace → (read : SoFar) × (r ≡ Ok read)
 whole_read (Ok read) trace is = (read, refl)
 whole_read (Err first) trace is = absurd cc
 

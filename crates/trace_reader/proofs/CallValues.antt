@@ -8,8 +8,8 @@ use Rattle.mm_types.specs.declared.call.Call.TheVariants.{Mmap, Munmap, Mprotect
 use Rattle.mm_types.specs.declared.config.TheConstants.{PAGE_SIZE}
 use Rattle.trace_reader.specs.declared.trace.Op.TheVariants as ops
 use Rattle.flag_table.specs.Tables.{map_flags, mremap_flags}
-use Rattle.trace_reader.specs.declared.fault.Cause.{Cause}
-use Rattle.trace_reader.specs.declared.fault.Cause.TheVariants.{Word, Number}
+use Rattle.trace_reader.specs.declared.error.Cause.{Cause}
+use Rattle.trace_reader.specs.declared.error.Cause.TheVariants.{Word, Number}
 use Rattle.trace_reader.specs.Causes.{◌>>=◌}
 use Rattle.trace_reader.specs.Calls.{mmap, mmap_of, munmap, munmap_of, mprotect, mprotect_of, number_if, mremap, mremap_of, brk_of, mseal, mseal_of, call_named}
 use Rattle.trace_reader.specs.Fields.{number, mapped_descriptor, access, flags, prot}

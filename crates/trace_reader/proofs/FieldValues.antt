@@ -8,11 +8,11 @@ use Rattle.mm_types.specs.Config.{IsBound}
 use Rattle.flag_table.specs.Laws.{IsSound}
 use Rattle.flag_table.specs.Reading.{reading}
 use Rattle.flag_table.specs.Tables.{Table, map_flags, mremap_flags, bits_of}
-use Rattle.flag_table.specs.declared.fault.NameFault.{NameFault}
+use Rattle.flag_table.specs.declared.error.NameError.{NameError}
 use Rattle.flag_table.proofs.Sound.{map_is_sound, mremap_is_sound}
 use Rattle.flag_table.proofs.Texts.{HasRows-reading}
-use Rattle.trace_reader.specs.declared.fault.Cause.{Cause}
-use Rattle.trace_reader.specs.declared.fault.Cause.TheVariants.{Number, Flag}
+use Rattle.trace_reader.specs.declared.error.Cause.{Cause}
+use Rattle.trace_reader.specs.declared.error.Cause.TheVariants.{Number, Flag}
 use Rattle.trace_reader.specs.Causes.{◌>>=◌}
 use Rattle.trace_reader.specs.Fields.{number, number_in, bound, descriptor, mapped_descriptor, or_flag, flags}
 use Rattle.trace_reader.specs.declared.limits.TheConstants.{GREATEST_THREAD}
@@ -111,7 +111,7 @@ flags-value : (table : Table) (word : List ℕ) → IsSound table → bits_of ta
 unfolding flags
 flags-value table word sound small = by_reading (reading table word) refl
   where
-    by_reading : (r : Result ℕ NameFault) → reading table word ≡ r → IfOk (or_flag r) (λ bits. bits < 2 ^ 32)
+    by_reading : (r : Result ℕ NameError) → reading table word ≡ r → IfOk (or_flag r) (λ bits. bits < 2 ^ 32)
     by_reading (Ok bits) e =
         let known : bit_and bits (bits_of table.rows) ≡ bits = HasRows-reading table word bits sound e in
         omega (arith, known, and_le_r bits (bits_of table.rows))

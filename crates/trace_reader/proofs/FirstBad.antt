@@ -2,16 +2,16 @@
 use Rattle.std.proofs.Common.{◌≡◌, ◌⊎◌, ℕ, nat_eq, List, [], ◌∷◌, ◌++◌, length, Result, Ok, Err, inl, inr, refl, ap, ◌∙◌}
 use Rattle.std.proofs.lemmas.Bool.{cond_both, eqb-true}
 use Rattle.std.proofs.lemmas.List.{nil_from_length}
-use Rattle.trace_reader.specs.declared.fault.Cause.{Cause}
-use Rattle.trace_reader.specs.declared.fault.Cause.TheVariants.{Header}
-use Rattle.trace_reader.specs.declared.fault.TraceFault.{TraceFault}
+use Rattle.trace_reader.specs.declared.error.Cause.{Cause}
+use Rattle.trace_reader.specs.declared.error.Cause.TheVariants.{Header}
+use Rattle.trace_reader.specs.declared.error.BadLine.{BadLine}
 use Rattle.trace_reader.specs.Grammar.{fault, nothing, at_line, lines_leave, lines_read, whole, trace_of}
 use Rattle.trace_reader.specs.Laws.{IsFirstBadBy, IsFirstBad}
 use Rattle.trace_reader.specs.Lines.{SoFar, after_line}
 use Rattle.trace_reader.specs.RawLines.{RawLine, raw_lines}
 
 -- `IsFirstBadBy` of lines that follow others
-record IsFirstAmong {S : Type 0} (step : S → RawLine → Result S Cause) (before : S) (lines : List RawLine) (first : TraceFault) : Type 0 where
+record IsFirstAmong {S : Type 0} (step : S → RawLine → Result S Cause) (before : S) (lines : List RawLine) (first : BadLine) : Type 0 where
   above : List RawLine
   line : RawLine
   below : List RawLine
@@ -21,7 +21,7 @@ record IsFirstAmong {S : Type 0} (step : S → RawLine → Result S Cause) (befo
   bad : step read line ≡ Err first.cause
   number : line.number ≡ first.line
 
-first_among : {S : Type 0} (step : S → RawLine → Result S Cause) (before : S) (line : RawLine) (lines : List RawLine) (first : TraceFault) (r : Result S Cause)
+first_among : {S : Type 0} (step : S → RawLine → Result S Cause) (before : S) (line : RawLine) (lines : List RawLine) (first : BadLine) (r : Result S Cause)
     → step before line ≡ r
     → at_line line.number r (λ next. lines_leave step next lines) ≡ Err first
     → ((next : S) → lines_leave step next lines ≡ Err first → IsFirstAmong step next lines first)
@@ -48,11 +48,11 @@ first_among {S} step before line lines first (Err cause) is e later =
       read = before;
       parts = refl;
       good = refl;
-      bad = is ∙ ap (λ (f : TraceFault). Err f.cause) same;
-      number = ap (λ (f : TraceFault). f.line) same;
+      bad = is ∙ ap (λ (f : BadLine). Err f.cause) same;
+      number = ap (λ (f : BadLine). f.line) same;
     }
 
-lines_leave-among : {S : Type 0} (step : S → RawLine → Result S Cause) (before : S) (lines : List RawLine) (first : TraceFault)
+lines_leave-among : {S : Type 0} (step : S → RawLine → Result S Cause) (before : S) (lines : List RawLine) (first : BadLine)
     → lines_leave step before lines ≡ Err first → IsFirstAmong step before lines first
 lines_leave-among step before [] first e = absurd cc
 lines_leave-among step before (line ∷ lines) first e =
@@ -60,7 +60,7 @@ lines_leave-among step before (line ∷ lines) first e =
     (λ next bad. lines_leave-among step next lines first bad)
 
 -- the fault of lines is that of the first bad one
-pub lines_leave-Err : {S : Type 0} (step : S → RawLine → Result S Cause) (start : S) (bytes : List ℕ) (first : TraceFault)
+pub lines_leave-Err : {S : Type 0} (step : S → RawLine → Result S Cause) (start : S) (bytes : List ℕ) (first : BadLine)
     → lines_leave step start (raw_lines bytes) ≡ Err first → IsFirstBadBy step start bytes first
 lines_leave-Err step start bytes first e =
     let h = lines_leave-among step start (raw_lines bytes) first e in
@@ -75,12 +75,12 @@ lines_leave-Err step start bytes first e =
       number = h.number;
     }
 
-whole-Err : (bytes : List ℕ) (r : Result SoFar TraceFault) (first : TraceFault) → lines_read bytes ≡ r
+whole-Err : (bytes : List ℕ) (r : Result SoFar BadLine) (first : BadLine) → lines_read bytes ≡ r
     → whole r ≡ Err first → lines_read bytes ≡ Err first
 whole-Err bytes (Ok s) first is e = absurd cc
 whole-Err bytes (Err other) first is e = is ∙ cc
 
-pub trace_of-Err : (bytes : List ℕ) (first : TraceFault) → trace_of bytes ≡ Err first
+pub trace_of-Err : (bytes : List ℕ) (first : BadLine) → trace_of bytes ≡ Err first
     → ((bytes ≡ []) × (first ≡ fault 1 Header)) ⊎ IsFirstBad bytes first
 unfolding trace_of lines_read
 trace_of-Err bytes first = cond_both (nat_eq (length bytes) 0) (Err (fault 1 Header)) (whole (lines_read bytes))

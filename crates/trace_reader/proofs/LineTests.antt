@@ -2,7 +2,7 @@
 use Rattle.std.proofs.Common.{◌≡◌, ℕ, ◌+◌, ◌<◌, true, false, nat_lt, length, Ok, Err, refl}
 use Rattle.std.specs.Str.{is_utf8}
 use Rattle.std.proofs.lemmas.Bool.{lt-ltb, or_right}
-use Rattle.trace_reader.specs.declared.fault.Cause.TheVariants.{TooLong, Utf8}
+use Rattle.trace_reader.specs.declared.error.Cause.TheVariants.{TooLong, Utf8}
 use Rattle.trace_reader.specs.RawLines.{RawLine, is_longer_than, text_within}
 
 pub text_within-good : (line_limit file_limit : ℕ) (line : RawLine) → is_longer_than line_limit file_limit line ≡ false

@@ -1,9 +1,9 @@
 -- For `read_lines`: the lines of bytes, read one after another.
 use Rattle.std.proofs.Common.{◌≡◌, ℕ, List, [], ◌∷◌, length, Result, Ok, Err, sym, ap, ◌∙◌, arith}
-use Rattle.trace_reader.specs.declared.fault.CallError.{CallError}
-use Rattle.trace_reader.specs.declared.fault.CallError.TheVariants as calls
-use Rattle.trace_reader.specs.declared.fault.Cause.{Cause}
-use Rattle.trace_reader.specs.declared.fault.TraceFault.{TraceFault}
+use Rattle.trace_reader.specs.declared.error.CallError.{CallError}
+use Rattle.trace_reader.specs.declared.error.CallError.TheVariants as calls
+use Rattle.trace_reader.specs.declared.error.Cause.{Cause}
+use Rattle.trace_reader.specs.declared.error.BadLine.{BadLine}
 use Rattle.trace_reader.specs.Grammar.{fault, at_line, lines_leave, after_lines}
 use Rattle.trace_reader.specs.Lines.{SoFar, after_line}
 use Rattle.trace_reader.specs.RawLines.{RawLine, lines_from}
@@ -12,7 +12,7 @@ use Rattle.trace_reader.proofs.RawPieces.{lines_from-nil}
 
 -- the first line is bad, and so are the lines
 pub first_bad : {S : Type 0} (step : S → RawLine → Result S Cause) (before : S) (lines more : List RawLine) (line : RawLine) (cause : Cause)
-    (all : Result S TraceFault) (number : ℕ)
+    (all : Result S BadLine) (number : ℕ)
     → lines_leave step before lines ≡ all → lines ≡ line ∷ more → line.number ≡ number → step before line ≡ Err cause
     → all ≡ Err (fault number cause)
 first_bad {S} step before lines more line cause all number so_far first numbered fails =
@@ -21,7 +21,7 @@ first_bad {S} step before lines more line cause all number so_far first numbered
     ∙ ap (λ (n : ℕ). Err (fault n cause)) numbered
 
 pub first_fails : (before : SoFar) (lines more : List RawLine) (line : RawLine) (error : CallError)
-    (all : Result SoFar TraceFault) (number : ℕ)
+    (all : Result SoFar BadLine) (number : ℕ)
     → after_lines before lines ≡ all → lines ≡ line ∷ more → line.number ≡ number
     → Fails error (after_line before line) → GivesLines (Err (error_at number error)) all
 first_fails before lines more line (calls.Bad cause) all number so_far first numbered fails =
@@ -30,14 +30,14 @@ first_fails before lines more line calls.NoMemory all number so_far first number
 
 -- the first line is good, and what it leaves and the others are what all leave
 pub first_good : {S : Type 0} (step : S → RawLine → Result S Cause) (before after : S) (lines more : List RawLine) (line : RawLine)
-    (all : Result S TraceFault)
+    (all : Result S BadLine)
     → lines_leave step before lines ≡ all → lines ≡ line ∷ more → step before line ≡ Ok after → lines_leave step after more ≡ all
 first_good {S} step before after lines more line all so_far first good =
     sym (ap (λ (r : Result S Cause). at_line line.number r (λ next. lines_leave step next more)) good)
     ∙ sym (ap (lines_leave step before) first) ∙ so_far
 
 -- no lines are left
-pub none_left : {S : Type 0} (step : S → RawLine → Result S Cause) (before : S) (number start : ℕ) (bytes : List ℕ) (all : Result S TraceFault)
+pub none_left : {S : Type 0} (step : S → RawLine → Result S Cause) (before : S) (number start : ℕ) (bytes : List ℕ) (all : Result S BadLine)
     → length bytes ≡ 0 → lines_leave step before (lines_from number start bytes) ≡ all → all ≡ Ok before
 none_left step before number start [] all none so_far = sym so_far ∙ ap (lines_leave step before) (lines_from-nil number start)
 none_left step before number start (b ∷ bytes) all none so_far = absurd (omega arith)

@@ -16,9 +16,9 @@ use Rattle.trace_reader.specs.declared.builder.Version.{Version}
 use Rattle.trace_reader.specs.declared.builder.Version.TheVariants.{Narrow, Wide}
 use Rattle.trace_reader.specs.declared.trace.Op.{Op}
 use Rattle.trace_reader.specs.declared.trace.TraceLine.{TraceLine}
-use Rattle.trace_reader.specs.declared.fault.Cause.{Cause}
-use Rattle.trace_reader.specs.declared.fault.Cause.TheVariants.{Header, TooLong, Word, Arity, Thread, TooMany, FileTwice, Utf8, NoEnd, After, Child}
-use Rattle.trace_reader.specs.declared.fault.TraceFault.{TraceFault}
+use Rattle.trace_reader.specs.declared.error.Cause.{Cause}
+use Rattle.trace_reader.specs.declared.error.Cause.TheVariants.{Header, TooLong, Word, Arity, Thread, TooMany, FileTwice, Utf8, NoEnd, After, Child}
+use Rattle.trace_reader.specs.declared.error.BadLine.{BadLine}
 use Rattle.trace_reader.specs.declared.limits.TheConstants.{LINE_LIMIT}
 use Rattle.trace_reader.specs.declared.trace.Trace.{Trace}
 use Rattle.trace_reader.specs.Causes.{◌>>=◌, unless}
@@ -306,7 +306,7 @@ after_line-good before after line number known numbered small good =
     (subst (λ (r : Result SoFar Cause). IfOk r (IsSoFar (line.number + 1))) good
     (after_line-value before line (subst (λ (n : ℕ). IsSoFar n before) (sym numbered) known) (λ _. omega arith)))
 
-read_fits : (next : ℕ) (Q : SoFar → Type 0) (number : ℕ) (r : Result SoFar Cause) (rest : SoFar → Result SoFar TraceFault)
+read_fits : (next : ℕ) (Q : SoFar → Type 0) (number : ℕ) (r : Result SoFar Cause) (rest : SoFar → Result SoFar BadLine)
     → IfOk r (IsSoFar next) → ((s : SoFar) → IsSoFar next s → IfOk (rest s) Q) → IfOk (at_line number r rest) Q
 read_fits next Q number (Ok s) rest known h = h s known
 read_fits next Q number (Err c) rest known h = tt
@@ -381,7 +381,7 @@ config_of-value next s known =
       distinct = known.distinct;
     }
 
-whole-value : (r : Result SoFar TraceFault) (trace : Trace) → IfOk r IsRead → whole r ≡ Ok trace → IsTraceValue trace
+whole-value : (r : Result SoFar BadLine) (trace : Trace) → IfOk r IsRead → whole r ≡ Ok trace → IsTraceValue trace
 whole-value (Ok s) trace read e =
     let same : trace_so_far s ≡ trace = cc in
     let lines = read.1.lines in

@@ -5,8 +5,8 @@ use Rattle.mm_types.specs.declared.call.Call.TheVariants.{Mmap, Munmap, Mprotect
 use Rattle.mm_types.specs.declared.flags.TheConstants.{MREMAP_FIXED}
 use Rattle.mm_types.specs.Flags.{has_flag}
 use Rattle.flag_table.specs.Tables.{map_flags, mremap_flags}
-use Rattle.trace_reader.specs.declared.fault.Cause.{Cause}
-use Rattle.trace_reader.specs.declared.fault.Cause.TheVariants.{Word, Arity}
+use Rattle.trace_reader.specs.declared.error.Cause.{Cause}
+use Rattle.trace_reader.specs.declared.error.Cause.TheVariants.{Word, Arity}
 use Rattle.trace_reader.specs.declared.calls.TheConstants.{WORDS_WITH_NEW}
 use Rattle.trace_reader.specs.Causes.{◌>>=◌}
 use Rattle.trace_reader.specs.Fields.{number, mapped_descriptor, flags, prot}

@@ -1,7 +1,7 @@
 -- The causes for which a line is bad, and how the first of them is found.
 use Rattle.std.specs.Prelude.{ℕ, List, codes, Option, Some, None, Result, Ok, Err}
-use Rattle.trace_reader.specs.declared.fault.Cause.{Cause}
-use Rattle.trace_reader.specs.declared.fault.Cause.TheVariants.{Header, TooLong, Word, Number, Flag, Arity, Thread, TooMany, FileTwice, Utf8, NoEnd, After, Child, MapsLine, MapsOrder, NotOurs}
+use Rattle.trace_reader.specs.declared.error.Cause.{Cause}
+use Rattle.trace_reader.specs.declared.error.Cause.TheVariants.{Header, TooLong, Word, Number, Flag, Arity, Thread, TooMany, FileTwice, Utf8, NoEnd, After, Child, MapsLine, MapsOrder, NotOurs}
 
 -- the number of a cause; none has the number 12
 abbrev pub cause_number : Cause → ℕ

@@ -10,9 +10,9 @@ use Rattle.mm_types.specs.declared.flags.TheConstants.{PROT_READ, PROT_WRITE, PR
 use Rattle.mm_types.specs.Flags.{has_flag}
 use Rattle.flag_table.specs.Reading.{reading}
 use Rattle.flag_table.specs.Tables.{Table, prot_flags}
-use Rattle.flag_table.specs.declared.fault.NameFault.{NameFault}
-use Rattle.trace_reader.specs.declared.fault.Cause.{Cause}
-use Rattle.trace_reader.specs.declared.fault.Cause.TheVariants.{Word, Number, Flag}
+use Rattle.flag_table.specs.declared.error.NameError.{NameError}
+use Rattle.trace_reader.specs.declared.error.Cause.{Cause}
+use Rattle.trace_reader.specs.declared.error.Cause.TheVariants.{Word, Number, Flag}
 use Rattle.trace_reader.specs.declared.limits.TheConstants.{MAJOR_DIGITS, MINOR_DIGITS}
 use Rattle.trace_reader.specs.Causes.{◌>>=◌}
 use Rattle.trace_reader.specs.Numbers.{digits_of, number_of}
@@ -67,7 +67,7 @@ access word = if bytes_eq word (codes "r") then Ok Read
     else (if bytes_eq word (codes "x") then Ok Exec else Err Word))
 
 -- the bits of a text of flags, where it was one
-abbrev pub or_flag : Result ℕ NameFault → Result ℕ Cause
+abbrev pub or_flag : Result ℕ NameError → Result ℕ Cause
 or_flag (Ok bits) = Ok bits
 or_flag (Err fault) = Err Flag
 

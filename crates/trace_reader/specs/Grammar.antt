@@ -5,15 +5,15 @@ use Rattle.mm_types.specs.declared.config.TheConstants.{ADDRESS_LIMIT, WIDE_LIMI
 use Rattle.mm_types.specs.Config.{default_config}
 use Rattle.trace_reader.specs.declared.builder.Version.{Version}
 use Rattle.trace_reader.specs.declared.builder.Version.TheVariants.{Narrow, Wide}
-use Rattle.trace_reader.specs.declared.fault.Cause.{Cause}
-use Rattle.trace_reader.specs.declared.fault.Cause.TheVariants.{Header}
-use Rattle.trace_reader.specs.declared.fault.TraceFault.{TraceFault}
+use Rattle.trace_reader.specs.declared.error.Cause.{Cause}
+use Rattle.trace_reader.specs.declared.error.Cause.TheVariants.{Header}
+use Rattle.trace_reader.specs.declared.error.BadLine.{BadLine}
 use Rattle.trace_reader.specs.declared.trace.Trace.{Trace}
 use Rattle.trace_reader.specs.RawLines.{RawLine, raw_lines}
 use Rattle.trace_reader.specs.Lines.{SoFar, after_line}
 
 -- the fault of a line, from its number
-abbrev pub fault : ℕ → Cause → TraceFault
+abbrev pub fault : ℕ → Cause → BadLine
 fault line cause = record { line = line; cause = cause }
 
 -- before the first line
@@ -32,21 +32,21 @@ nothing = record {
 }
 
 -- what follows a line that was read, or the number of the bad line and its cause
-abbrev pub at_line : {A B : Type 0} → ℕ → Result A Cause → (A → Result B TraceFault) → Result B TraceFault
+abbrev pub at_line : {A B : Type 0} → ℕ → Result A Cause → (A → Result B BadLine) → Result B BadLine
 at_line number (Ok so_far) rest = rest so_far
 at_line number (Err cause) rest = Err (fault number cause)
 
 -- what lines leave, each by what it does to what was read before it, or the first of them that is bad
-abbrev pub lines_leave : {S : Type 0} → (S → RawLine → Result S Cause) → S → List RawLine → Result S TraceFault
+abbrev pub lines_leave : {S : Type 0} → (S → RawLine → Result S Cause) → S → List RawLine → Result S BadLine
 lines_leave step before [] = Ok before
 lines_leave step before (line ∷ lines) = at_line line.number (step before line) (λ next. lines_leave step next lines)
 
 -- what the lines of a trace leave
-abbrev pub after_lines : SoFar → List RawLine → Result SoFar TraceFault
+abbrev pub after_lines : SoFar → List RawLine → Result SoFar BadLine
 after_lines so_far lines = lines_leave after_line so_far lines
 
 -- what all the lines of bytes leave, or the first that is bad
-unfoldable pub lines_read : List ℕ → Result SoFar TraceFault
+unfoldable pub lines_read : List ℕ → Result SoFar BadLine
 lines_read bytes = after_lines nothing (raw_lines bytes)
 
 -- the address at which user memory ends
@@ -70,10 +70,10 @@ abbrev pub trace_so_far : SoFar → Trace
 trace_so_far so_far = record { config = config_of so_far; lines = so_far.lines }
 
 -- the trace of lines that were all read
-abbrev pub whole : Result SoFar TraceFault → Result Trace TraceFault
+abbrev pub whole : Result SoFar BadLine → Result Trace BadLine
 whole (Ok so_far) = Ok (trace_so_far so_far)
 whole (Err first) = Err first
 
 -- The trace that the bytes are, or the first bad line and its cause. Where there are no bytes, there is no header.
-unfoldable pub trace_of : List ℕ → Result Trace TraceFault
+unfoldable pub trace_of : List ℕ → Result Trace BadLine
 trace_of bytes = if nat_eq (length bytes) 0 then Err (fault 1 Header) else whole (lines_read bytes)

@@ -1,8 +1,8 @@
 -- What the lines of bytes are, and which of them is the first bad one.
 use Rattle.std.specs.Prelude.{ℕ, ◌≡◌, ◌≢◌, ◌+◌, ◌<◌, true, false, List, [], ◌∷◌, ◌++◌, length, flat_map, codes, All, Result, Ok, Err, if◌then◌else◌}
 use Rattle.std.specs.Str.{byte}
-use Rattle.trace_reader.specs.declared.fault.Cause.{Cause}
-use Rattle.trace_reader.specs.declared.fault.TraceFault.{TraceFault}
+use Rattle.trace_reader.specs.declared.error.Cause.{Cause}
+use Rattle.trace_reader.specs.declared.error.BadLine.{BadLine}
 use Rattle.trace_reader.specs.Grammar.{nothing, lines_leave}
 use Rattle.trace_reader.specs.Lines.{after_line}
 use Rattle.trace_reader.specs.RawLines.{RawLine, raw_lines}
@@ -31,7 +31,7 @@ pub record AreLinesOf (bytes : List ℕ) (lines : List RawLine) : Type 0 where
   pub single : All (λ line. All (λ c. c ≢ byte "\n") line.text) lines
 
 -- a line of the bytes that is bad for this cause, after lines that are all good, where each line takes this step
-pub record IsFirstBadBy {S : Type 0} (step : S → RawLine → Result S Cause) (start : S) (bytes : List ℕ) (first : TraceFault) : Type 0 where
+pub record IsFirstBadBy {S : Type 0} (step : S → RawLine → Result S Cause) (start : S) (bytes : List ℕ) (first : BadLine) : Type 0 where
   pub above : List RawLine
   pub line : RawLine
   pub below : List RawLine
@@ -42,5 +42,5 @@ pub record IsFirstBadBy {S : Type 0} (step : S → RawLine → Result S Cause) (
   pub number : line.number ≡ first.line
 
 -- the first bad line of a trace
-abbrev pub IsFirstBad : List ℕ → TraceFault → Type 0
+abbrev pub IsFirstBad : List ℕ → BadLine → Type 0
 IsFirstBad bytes first = IsFirstBadBy after_line nothing bytes first

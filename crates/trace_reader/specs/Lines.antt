@@ -10,8 +10,8 @@ use Rattle.mm_types.specs.Rows.{first_row}
 use Rattle.trace_reader.specs.declared.trace.TraceLine.{TraceLine}
 use Rattle.trace_reader.specs.declared.builder.Version.{Version}
 use Rattle.trace_reader.specs.declared.builder.Version.TheVariants.{Narrow, Wide}
-use Rattle.trace_reader.specs.declared.fault.Cause.{Cause}
-use Rattle.trace_reader.specs.declared.fault.Cause.TheVariants.{Header, Word, TooMany, FileTwice, After, Child}
+use Rattle.trace_reader.specs.declared.error.Cause.{Cause}
+use Rattle.trace_reader.specs.declared.error.Cause.TheVariants.{Header, Word, TooMany, FileTwice, After, Child}
 use Rattle.trace_reader.specs.declared.limits.TheConstants.{LINE_LIMIT, TRACE_LIMIT, MOST_LINES, MOST_MAPS, MOST_NAMED, MOST_FORKS}
 use Rattle.trace_reader.specs.Causes.{◌>>=◌, unless}
 use Rattle.trace_reader.specs.Operations.{line_of}

@@ -3,8 +3,8 @@ use Rattle.std.specs.Prelude.{ℕ, ◌+◌, Bool, true, false, not, ◌||◌, Li
 use Rattle.std.specs.List.{slice_split}
 use Rattle.std.specs.Str.{byte, is_utf8}
 use Rattle.mm_types.specs.Rows.{first_row}
-use Rattle.trace_reader.specs.declared.fault.Cause.{Cause}
-use Rattle.trace_reader.specs.declared.fault.Cause.TheVariants.{TooLong, Utf8, NoEnd}
+use Rattle.trace_reader.specs.declared.error.Cause.{Cause}
+use Rattle.trace_reader.specs.declared.error.Cause.TheVariants.{TooLong, Utf8, NoEnd}
 use Rattle.trace_reader.specs.Causes.{unless}
 
 -- A line: its number, counted from 1, its bytes without the newline, the offset of its first byte, and whether a newline

@@ -1,11 +1,11 @@
 -- What a reader answers: what its definition gives, unless memory runs out.
 use Rattle.std.specs.Prelude.{◌≡◌, ℕ, Result, Ok, Err}
-use Rattle.trace_reader.specs.declared.fault.Cause.{Cause}
-use Rattle.trace_reader.specs.declared.fault.TraceFault.{TraceFault}
-use Rattle.trace_reader.specs.declared.fault.CallError.{CallError}
-use Rattle.trace_reader.specs.declared.fault.CallError.TheVariants as calls
-use Rattle.trace_reader.specs.declared.fault.ReadError.{ReadError}
-use Rattle.trace_reader.specs.declared.fault.ReadError.TheVariants as reads
+use Rattle.trace_reader.specs.declared.error.Cause.{Cause}
+use Rattle.trace_reader.specs.declared.error.BadLine.{BadLine}
+use Rattle.trace_reader.specs.declared.error.CallError.{CallError}
+use Rattle.trace_reader.specs.declared.error.CallError.TheVariants as calls
+use Rattle.trace_reader.specs.declared.error.ReadError.{ReadError}
+use Rattle.trace_reader.specs.declared.error.ReadError.TheVariants as reads
 use Rattle.trace_reader.specs.declared.trace.Trace.{Trace}
 use Rattle.trace_reader.specs.declared.builder.TraceBuilder.{TraceBuilder}
 use Rattle.trace_reader.specs.declared.lines.RawLine as code
@@ -24,7 +24,7 @@ Gives view (Ok x) read = read ≡ Ok (view x)
 Gives view (Err error) read = Fails error read
 
 -- the same of a whole trace
-abbrev pub GivesTrace : Result Trace ReadError → Result Trace TraceFault → Type 0
+abbrev pub GivesTrace : Result Trace ReadError → Result Trace BadLine → Type 0
 GivesTrace (Ok trace) read = read ≡ Ok trace
 GivesTrace (Err (reads.Bad first)) read = read ≡ Err first
 GivesTrace (Err reads.NoMemory) read = Unit {0}
@@ -54,7 +54,7 @@ so_far builder = record {
 }
 
 -- what was answered to lines, of which the first bad one has its number
-abbrev pub GivesLines : Result TraceBuilder ReadError → Result SoFar TraceFault → Type 0
+abbrev pub GivesLines : Result TraceBuilder ReadError → Result SoFar BadLine → Type 0
 GivesLines (Ok builder) read = read ≡ Ok (so_far builder)
 GivesLines (Err (reads.Bad first)) read = read ≡ Err first
 GivesLines (Err reads.NoMemory) read = Unit {0}

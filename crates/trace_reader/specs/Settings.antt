@@ -3,8 +3,8 @@ use Rattle.std.specs.Prelude.{ℕ, List, [], ◌∷◌, codes, bytes_eq, Result,
 use Rattle.std.specs.Str.{byte}
 use Rattle.mm_types.specs.declared.config.TheConstants.{MOST_AREAS}
 use Rattle.mm_types.specs.declared.files.FileRow.{FileRow}
-use Rattle.trace_reader.specs.declared.fault.Cause.{Cause}
-use Rattle.trace_reader.specs.declared.fault.Cause.TheVariants.{Word, Arity}
+use Rattle.trace_reader.specs.declared.error.Cause.{Cause}
+use Rattle.trace_reader.specs.declared.error.Cause.TheVariants.{Word, Arity}
 use Rattle.trace_reader.specs.declared.limits.TheConstants.{MOST_FILE_BYTES}
 use Rattle.trace_reader.specs.Causes.{◌>>=◌}
 use Rattle.trace_reader.specs.Fields.{number, number_in, bound, descriptor, device, mode}

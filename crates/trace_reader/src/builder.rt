@@ -7,7 +7,7 @@ ghost use Rattle.trace_reader.specs.Lines.{version_numbered, version_of, is_comm
 ghost use Rattle.trace_reader.specs.Reading.{Gives, line_view, so_far};
 ghost use Rattle.trace_reader.specs.Values.{AreNumbered, is_call_op, is_maps, child_of};
 
-use crate::fault::{CallError, Cause};
+use crate::error::{CallError, Cause};
 use crate::limits::{MOST_FORKS, MOST_LINES, MOST_MAPS, MOST_NAMED};
 use crate::lines::{RawLine, text_of};
 use crate::operations::line_of;

@@ -4,7 +4,7 @@ ghost use Rattle.std.specs.Prelude.{◌≡◌, map, option_copied};
 ghost use Rattle.trace_reader.specs.Calls.{mmap, mmap_of, munmap, munmap_of, mprotect, mprotect_of, number_if, mremap, mremap_of, brk_of, mseal, mseal_of, call_named, has_its_new, call_of_words, call_of};
 ghost use Rattle.trace_reader.specs.Reading.{Gives};
 
-use crate::fault::{CallError, Cause};
+use crate::error::{CallError, Cause};
 use crate::fields::{flags, mapped_descriptor, number, prot};
 use crate::words::words_of;
 use flag_table::{map_table, mremap_table};

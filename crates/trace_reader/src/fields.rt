@@ -5,10 +5,10 @@ ghost use Rattle.flag_table.specs.Tables.{prot_flags};
 ghost use Rattle.trace_reader.specs.Fields.{number, number_in, bound, descriptor, mapped_descriptor, device_part, device, mode, access, flags, prot_of_bits, prot};
 ghost use Rattle.trace_reader.specs.Reading.{Gives};
 
-use crate::fault::{CallError, Cause};
+use crate::error::{CallError, Cause};
 use crate::limits::{MAJOR_DIGITS, MINOR_DIGITS};
 use crate::numbers::{digits_of, number_of};
-use flag_table::{FlagTable, NameFault, prot_table};
+use flag_table::{FlagTable, NameError, prot_table};
 use mm_types::{
     ADDRESS_LIMIT, Access, PAGE_SIZE, PROT_EXEC, PROT_READ, PROT_WRITE, Prot, has_flag,
 };
@@ -131,7 +131,7 @@ pub(crate) fn flags<const N: usize>(
 {
     match table.read(alloc, word) {
         Ok(bits) => Ok(bits),
-        Err(NameFault::NoMemory) => Err(CallError::NoMemory),
+        Err(NameError::NoMemory) => Err(CallError::NoMemory),
         Err(_) => Err(CallError::Bad(Cause::Flag)),
     }
 }

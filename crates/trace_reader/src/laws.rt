@@ -6,8 +6,8 @@ ghost use Rattle.trace_reader.specs.Laws.{AreLinesOf, IsFirstBad};
 ghost use Rattle.trace_reader.specs.Lines.{trace_limit};
 ghost use Rattle.trace_reader.specs.RawLines.{raw_lines};
 ghost use Rattle.trace_reader.specs.Values.{IsTraceValue};
-ghost use Rattle.trace_reader.specs.declared.fault.Cause.TheVariants.{Header};
-ghost use Rattle.trace_reader.specs.declared.fault.TraceFault.{TraceFault};
+ghost use Rattle.trace_reader.specs.declared.error.Cause.TheVariants.{Header};
+ghost use Rattle.trace_reader.specs.declared.error.BadLine.{BadLine};
 ghost use Rattle.trace_reader.specs.declared.limits.TheConstants.{LINE_LIMIT, TRACE_LIMIT, MOST_LINES, MOST_MAPS, MOST_NAMED, MOST_FORKS, GREATEST_THREAD, MOST_FILE_BYTES, MAJOR_DIGITS, MINOR_DIGITS};
 ghost use Rattle.trace_reader.specs.declared.trace.Trace.{Trace};
 
@@ -15,7 +15,7 @@ ghost use Rattle.trace_reader.specs.declared.trace.Trace.{Trace};
 /// a trace is the first bad one, or line 1 where there are no bytes.
 pub fn first_bad_line()
     ensures lines { (bytes : List ℕ) → AreLinesOf bytes (raw_lines bytes) }
-    ensures first { (bytes : List ℕ) (first : TraceFault) → trace_of bytes ≡ Err first
+    ensures first { (bytes : List ℕ) (first : BadLine) → trace_of bytes ≡ Err first
         → ((bytes ≡ []) × (first ≡ fault 1 Header)) ⊎ IsFirstBad bytes first }
 {}
 

@@ -29,7 +29,7 @@
 
 mod builder;
 mod calls;
-mod fault;
+mod error;
 mod fields;
 mod laws;
 mod limits;
@@ -43,7 +43,7 @@ mod words;
 
 pub use builder::is_comment;
 pub use calls::call_of;
-pub use fault::{CallError, Cause, ReadError, TraceFault};
+pub use error::{BadLine, CallError, Cause, ReadError};
 pub use fields::{number, number_in};
 pub use laws::{first_bad_line, front_is_enough, trace_limits, traces_fit};
 pub use limits::{LINE_LIMIT, MOST_FORKS, MOST_LINES, MOST_MAPS, MOST_NAMED, TRACE_LIMIT};

@@ -5,7 +5,7 @@ ghost use Rattle.trace_reader.specs.Lines.{text_of};
 ghost use Rattle.trace_reader.specs.RawLines.{lines_from, is_longer_than, text_within};
 ghost use Rattle.trace_reader.specs.Reading.{Gives, line_view};
 
-use crate::fault::{CallError, Cause};
+use crate::error::{CallError, Cause};
 use crate::limits::{LINE_LIMIT, TRACE_LIMIT};
 
 /// A line of a file, as it stands in its bytes.

@@ -5,7 +5,7 @@ ghost use Rattle.trace_reader.specs.Operations.{fault, fault_of, maps_of, fork_o
 ghost use Rattle.trace_reader.specs.Reading.{Gives};
 
 use crate::calls::{brk_of, call_named, has_its_new, mseal_of};
-use crate::fault::{CallError, Cause};
+use crate::error::{CallError, Cause};
 use crate::fields::{access, number};
 use crate::numbers::{decimal_of, thread_of};
 use crate::trace::{Op, TraceLine};

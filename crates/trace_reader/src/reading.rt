@@ -3,7 +3,7 @@ ghost use Rattle.trace_reader.specs.Grammar.{fault, trace_of, lines_read};
 ghost use Rattle.trace_reader.specs.Reading.{GivesLines, GivesTrace, error_at};
 
 use crate::builder::TraceBuilder;
-use crate::fault::{CallError, Cause, ReadError, TraceFault};
+use crate::error::{BadLine, CallError, Cause, ReadError};
 use crate::lines::first_line;
 use crate::trace::Trace;
 use std::alloc::Global;
@@ -12,7 +12,7 @@ use std::alloc::Global;
 fn bad(line: u64, cause: Cause) -> ReadError
     ensures { result ≡ ReadError.Bad (fault line cause) }
 {
-    ReadError::Bad(TraceFault { line, cause })
+    ReadError::Bad(BadLine { line, cause })
 }
 
 /// What is wrong with a file whose line of this number is bad for this cause, or was not read for want of memory.

@@ -4,7 +4,7 @@ ghost use Rattle.std.specs.Prelude.{◌≡◌, IfOk, map};
 ghost use Rattle.trace_reader.specs.Settings.{areas_of, limit_of, bound_of, unescaped, file_row, file_of};
 ghost use Rattle.trace_reader.specs.Reading.{Gives};
 
-use crate::fault::{CallError, Cause};
+use crate::error::{CallError, Cause};
 use crate::fields::{bound, descriptor, device, mode, number, number_in};
 use crate::limits::MOST_FILE_BYTES;
 use mm_types::{FileRow, MOST_AREAS, Text};

@@ -8,7 +8,7 @@ use std::alloc::Global;
 use std::test::Fail;
 
 /// The first bad line of bytes, if one is bad.
-fn refusal(alloc: Global, bytes: &[u8]) -> Result<Option<TraceFault>, ReadError> {
+fn refusal(alloc: Global, bytes: &[u8]) -> Result<Option<BadLine>, ReadError> {
     match read(alloc, bytes) {
         Ok(_trace) => Ok(None),
         Err(ReadError::Bad(fault)) => Ok(Some(fault)),
@@ -37,7 +37,7 @@ fn the_header_comes_first(rt: HostRuntime) -> Result<(), Fail> {
         (1, Cause::NoEnd, "vmatrace 1"),
         (2, Cause::Number, "vmatrace 2\nheap 0x800000000000\n"),
     ] {
-        let wanted = TraceFault { line, cause };
+        let wanted = BadLine { line, cause };
         assert_eq!(rt;
             refusal(rt.alloc(), text.as_bytes())?,
             Some(wanted),
@@ -101,7 +101,7 @@ fn the_first_bad_line_is_named(rt: HostRuntime) -> Result<(), Fail> {
         (3, Cause::NoEnd, "0 maps\n0 maps"),
     ] {
         let bytes = with_header(rt.alloc(), text.as_bytes())?;
-        let wanted = TraceFault { line, cause };
+        let wanted = BadLine { line, cause };
         assert_eq!(rt;
             refusal(rt.alloc(), bytes.as_slice())?,
             Some(wanted),
@@ -125,7 +125,7 @@ fn heaps_and_seals_have_their_form(rt: HostRuntime) -> Result<(), Fail> {
         (2, Cause::Number, "0 mseal 4096 4096 PROT_NONE\n"),
     ] {
         let bytes = with_header(rt.alloc(), text.as_bytes())?;
-        let wanted = TraceFault { line, cause };
+        let wanted = BadLine { line, cause };
         assert_eq!(rt;
             refusal(rt.alloc(), bytes.as_slice())?,
             Some(wanted),
@@ -183,7 +183,7 @@ fn only_a_call_above_of_another_thread_is_named(rt: HostRuntime) -> Result<(), F
     ] {
         let mut bytes = with_header(rt.alloc(), lines.as_bytes())?;
         bytes.extend_from_slice(rest.as_bytes())?;
-        let wanted = answer.map(|(line, cause)| TraceFault { line, cause });
+        let wanted = answer.map(|(line, cause)| BadLine { line, cause });
         assert_eq!(rt; refusal(rt.alloc(), bytes.as_slice())?, wanted, "{rest}");
     }
     Ok(())
@@ -207,7 +207,7 @@ fn a_child_is_new(rt: HostRuntime) -> Result<(), Fail> {
         (3, Cause::NoEnd, "0 fork 1\n1 maps"),
     ] {
         let bytes = with_header(rt.alloc(), text.as_bytes())?;
-        let wanted = TraceFault { line, cause };
+        let wanted = BadLine { line, cause };
         assert_eq!(rt;
             refusal(rt.alloc(), bytes.as_slice())?,
             Some(wanted),
@@ -226,14 +226,14 @@ fn long_lines_and_other_bytes_are_bad(rt: HostRuntime) -> Result<(), Fail> {
     assert_eq!(rt; refusal(alloc, bytes.as_slice())?, None);
     bytes.extend_from_slice(long.as_slice())?;
     bytes.push(b'#')?;
-    let wanted = TraceFault {
+    let wanted = BadLine {
         line: 3,
         cause: Cause::TooLong,
     };
     assert_eq!(rt; refusal(alloc, bytes.as_slice())?, Some(wanted));
 
     let bytes = with_header(alloc, b"# \xff\n")?;
-    let wanted = TraceFault {
+    let wanted = BadLine {
         line: 2,
         cause: Cause::Utf8,
     };
@@ -245,7 +245,7 @@ fn long_lines_and_other_bytes_are_bad(rt: HostRuntime) -> Result<(), Fail> {
     }
     assert_eq!(rt; refusal(alloc, bytes.as_slice())?, None);
     bytes.extend_from_slice(b"0 maps\n")?;
-    let wanted = TraceFault {
+    let wanted = BadLine {
         line: 66,
         cause: Cause::TooMany,
     };

@@ -2,6 +2,7 @@
 ghost use Rattle.std.specs.Prelude.{◌≡◌, IfSome, sum};
 ghost use Rattle.mm_space.specs.Names.{IsPassOf, ArePasses};
 
+use draws::Draws;
 use fault_path::{Fast, Pass};
 use mm_space::{Ready, Space, SpaceName};
 use mm_types::{
@@ -231,12 +232,9 @@ fn call_elsewhere<N: SpaceName, R: Wait>(
 /// Makes the faults of a thread, at areas in no order.
 fn fault_all<N: SpaceName>(space: &Space<N>, worker: &mut Worker<N>, plan: &Plan, thread: u64) {
     let first = plan.first_area(thread);
-    let mut number = thread;
+    let mut draws = Draws::new(thread);
     for _ in 0..plan.count {
-        number = number
-            .wrapping_mul(6364136223846793005)
-            .wrapping_add(1442695040888963407);
-        let area = first.saturating_add((number >> 33).checked_rem(plan.areas).unwrap_or(0));
+        let area = first.saturating_add(draws.below(plan.areas.max(1)));
         let page = Page(area.saturating_mul(2).saturating_add(FIRST));
         match space
             .view()

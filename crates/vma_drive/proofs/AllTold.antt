@@ -13,7 +13,7 @@ use Rattle.history.specs.declared.callers.TheConstants.{MOST_THREADS}
 use Rattle.history.proofs.Placing.{caller_at}
 use Rattle.vma_drive.specs.declared.rounds.Telling.{Telling}
 use Rattle.vma_drive.specs.Naming.{HasNumber, NamesAt, names_caller}
-use Rattle.vma_drive.specs.Rounds.{AreTellings}
+use Rattle.vma_drive.specs.Internal.Rounds.{AreTellings}
 use Rattle.vma_drive.proofs.NamedLines.{one_named, names_at, names_its, names_none, counted}
 
 -- the tellings of the first lines
@@ -25,15 +25,6 @@ pub record ToldOf (lines : List TraceLine) (rounds : List ℕ) (tellings : List 
     hearer = caller_of lines names.line.thread;
   }))
   pub told : (caller : ℕ) → count_by (λ (t : Telling). nat_eq t.teller caller) tellings ≡ count_by (names_caller lines caller) (take place lines)
-
-pub told_of_none : (lines : List TraceLine) (rounds : List ℕ) (tellings : List Telling) → length tellings ≡ 0
-    → ToldOf lines rounds tellings 0
-told_of_none lines rounds [] none = record {
-  callers = λ i d within. absurd (omega arith);
-  each = λ at said within. absurd (omega arith);
-  told = λ caller. refl;
-}
-told_of_none lines rounds (t ∷ ts) none = absurd (omega arith)
 
 pub told_of_skip : (lines : List TraceLine) (rounds : List ℕ) (tellings : List Telling) (place : ℕ) (line : TraceLine)
     → ToldOf lines rounds tellings place → slice_get lines place ≡ Some line → line.after ≡ None → ToldOf lines rounds tellings (place + 1)

@@ -16,7 +16,7 @@ use Rattle.fault_path.specs.Passes.{PassView, seen_by, IsLater}
 use Rattle.vma_drive.specs.declared.rounds.Telling.{Telling}
 use Rattle.vma_drive.specs.Hearing.{own_by, AreToldBy, IsLate}
 use Rattle.vma_drive.specs.Naming.{NamesAt}
-use Rattle.vma_drive.specs.Rounds.{AreRounds, AreTellings, IsCut, RanRound, IsMoved}
+use Rattle.vma_drive.specs.Internal.Rounds.{AreRounds, AreTellings, IsCut, RanRound, IsMoved}
 use Rattle.vma_drive.proofs.OwnLines.{OwnAt, own_at, same_length}
 
 get_front : {X : Type 0} (xs ys : List X) (i : ℕ) (x : X) → i < length xs → slice_get (xs ++ ys) i ≡ Some x → slice_get xs i ≡ Some x

@@ -12,7 +12,7 @@ use Rattle.fault_path.specs.Passes.{PassView, caller, seen_by, IsLater}
 use Rattle.mm_space.specs.Names.{SpaceId, IsPassOf, ArePasses}
 use Rattle.mm_space.specs.Spaces.{Tells, Hears}
 use Rattle.vma_drive.specs.Hearing.{own_by}
-use Rattle.vma_drive.specs.Rounds.{IsMoved}
+use Rattle.vma_drive.specs.Internal.Rounds.{IsMoved}
 use Rattle.vma_drive.proofs.Growing.{grew_none, own_within}
 use Rattle.vma_drive.proofs.ToldFirst.{Bit, no_move, move_on}
 

@@ -16,7 +16,7 @@ use Rattle.history.proofs.Lists.{at_place}
 use Rattle.history.proofs.Steps.{ops_more}
 use Rattle.fault_path.specs.Passes.{PassView, IsLater}
 use Rattle.vma_drive.specs.Hearing.{own_by, done_by, Grew, GrewNone, DoesItem, HasRun}
-use Rattle.vma_drive.specs.Rounds.{RanRound}
+use Rattle.vma_drive.specs.Internal.Rounds.{RanRound}
 use Rattle.vma_drive.proofs.Operations.{later_on, no_later}
 use Rattle.vma_drive.proofs.Growing.{grew_on, grew_still}
 

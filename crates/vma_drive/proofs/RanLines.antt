@@ -8,14 +8,9 @@ use Rattle.history.specs.Histories.{read_as, AsksItself, AskThemselves}
 use Rattle.history.specs.Runs.{ops_of, asked}
 use Rattle.history.proofs.Steps.{ops_more}
 use Rattle.fault_path.specs.Passes.{PassView, seen_by, IsFresh, IsLater}
-use Rattle.vma_drive.specs.Hearing.{own_by, done_by, HaveGrown, Grew, GrewNone, DoesItem}
-use Rattle.vma_drive.proofs.Operations.{fresh_own, fresh_grown, later_on, no_later}
+use Rattle.vma_drive.specs.Hearing.{own_by, done_by, Grew, GrewNone, DoesItem}
+use Rattle.vma_drive.proofs.Operations.{fresh_own, later_on, no_later}
 use Rattle.vma_drive.proofs.Growing.{grew_on, grew_still}
-
--- a fresh pass did nothing
-pub fresh_did : (pass : PassView) → IsFresh pass → done_by pass ≡ []
-unfolding ops_of
-fresh_did pass fresh = ap ops_of (fresh_own pass fresh)
 
 -- the first lines were run
 pub record RanTo (old new : PassView) (lines : List TraceLine) (count : ℕ) : Type 0 where
@@ -83,10 +78,6 @@ fresh_grew old new more fresh grew = ap ops_of (grew.own ∙ ap (λ (l : List It
 pub begun_of : (old new : PassView) (lines : List TraceLine) (count : ℕ) → IsFresh old → RanTo old new lines count
     → done_by new ≡ asked (take count lines)
 begun_of old new lines count fresh ran = fresh_grew old new ran.more fresh ran.grew ∙ ran.ops
-
--- and each touch that its caller entered has grown
-pub grown_of : (old new : PassView) (lines : List TraceLine) (count : ℕ) → IsFresh old → RanTo old new lines count → HaveGrown new
-grown_of old new lines count fresh ran = ran.grew.grown (fresh_grown old fresh)
 
 -- the next line asks for itself
 pub asks_shown : (shown lines : List TraceLine) (count : ℕ) (d : TraceLine) → AskThemselves lines → shown ≡ lines → count < length shown

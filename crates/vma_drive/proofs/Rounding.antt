@@ -11,7 +11,7 @@ use Rattle.trace_reader.specs.Values.{AreNumbered, AreNamesRight}
 use Rattle.history.specs.Histories.{caller_of}
 use Rattle.history.proofs.Numbers.{one_place}
 use Rattle.vma_drive.specs.Naming.{HasNumber, NamesAt}
-use Rattle.vma_drive.specs.Rounds.{AreRounds}
+use Rattle.vma_drive.specs.Internal.Rounds.{AreRounds}
 use Rattle.vma_drive.proofs.NamedLines.{named_before, name_stands, names_at}
 use Rattle.vma_drive.proofs.NamesShared.{caller_few}
 

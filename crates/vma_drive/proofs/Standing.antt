@@ -18,7 +18,7 @@ use Rattle.mm_space.specs.Names.{SpaceId, ArePasses}
 use Rattle.vma_drive.specs.declared.rounds.Telling.{Telling}
 use Rattle.vma_drive.specs.Hearing.{own_by, done_by, Grew, HasRun, HaveGrown, AreToldBy}
 use Rattle.vma_drive.specs.Naming.{tells}
-use Rattle.vma_drive.specs.Rounds.{AreRounds, AreTellings, IsCut, RanRound, IsMoved, HasLine, Settled, AtRound, tells_from}
+use Rattle.vma_drive.specs.Internal.Rounds.{AreRounds, AreTellings, IsCut, RanRound, IsMoved, HasLine, Settled, AtRound, tells_from}
 use Rattle.vma_drive.specs.Sharing.{AreShares}
 use Rattle.vma_drive.proofs.Operations.{AreNew, fresh_own, fresh_grown}
 use Rattle.vma_drive.proofs.OwnLines.{OwnAt, own_at, same_length, has_same}

@@ -11,7 +11,7 @@ use Rattle.fault_path.specs.Passes.{PassView, seen_by, IsLater}
 use Rattle.mm_space.specs.Names.{SpaceId, ArePasses}
 use Rattle.vma_drive.specs.declared.rounds.Telling.{Telling}
 use Rattle.vma_drive.specs.Hearing.{own_by, Grew}
-use Rattle.vma_drive.specs.Rounds.{IsMoved, tells_from}
+use Rattle.vma_drive.specs.Internal.Rounds.{IsMoved, tells_from}
 use Rattle.vma_drive.proofs.Operations.{later_on, no_later}
 use Rattle.vma_drive.proofs.Growing.{grew_on, grew_still, longer_seen}
 

@@ -9,7 +9,7 @@ use Rattle.history.specs.CallerPlaces.{ArePlaces, StandAt}
 use Rattle.fault_path.specs.Passes.{PassView, IsLater}
 use Rattle.mm_space.specs.Names.{SpaceId, IsPassOf, ArePasses}
 use Rattle.vma_drive.specs.Hearing.{HasRun}
-use Rattle.vma_drive.specs.Rounds.{RanRound}
+use Rattle.vma_drive.specs.Internal.Rounds.{RanRound}
 
 module _ (name : SpaceId) (lines : List TraceLine) (places : List (Vec ℕ Global)) (rounds owed : List ℕ) (round : ℕ) where
   -- what a worker does with the pass of a caller

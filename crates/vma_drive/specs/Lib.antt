@@ -2,4 +2,4 @@ pub mod Naming
 pub mod Sharing
 pub mod Hearing
 pub mod Alone
-pub mod Rounds
+pub mod Internal

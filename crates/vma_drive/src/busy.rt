@@ -3,7 +3,7 @@ ghost use Rattle.std.specs.Prelude.{ℕ, ◌≡◌, ◌≤◌, ◌<◌, ◌+◌,
 ghost use Rattle.std.specs.declared.alloc.Global.{Global};
 ghost use Rattle.fault_path.specs.Passes.{PassView};
 ghost use Rattle.vma_drive.specs.Hearing.{own_by};
-ghost use Rattle.vma_drive.specs.Rounds.{HasLine};
+ghost use Rattle.vma_drive.specs.Internal.Rounds.{HasLine};
 
 use fault_path::Pass;
 

@@ -8,7 +8,7 @@ ghost use Rattle.fault_path.specs.Passes.{PassView, IsLater, seen_by};
 ghost use Rattle.mm_space.specs.Names.{IsPassOf, ArePasses};
 ghost use Rattle.mm_space.specs.Opening.{AreOpened};
 ghost use Rattle.vma_drive.specs.Hearing.{done_by, own_by, HaveGrown, IsLate, IsUnused, AreToldBy};
-ghost use Rattle.vma_drive.specs.Rounds.{Settled, AtRound};
+ghost use Rattle.vma_drive.specs.Internal.Rounds.{Settled, AtRound};
 ghost use Rattle.vma_drive.specs.Sharing.{AreShares};
 
 use crate::busy::is_whole;

@@ -5,7 +5,7 @@ ghost use Rattle.trace_reader.specs.Values.{AreNumbered, AreNamesRight};
 ghost use Rattle.history.specs.declared.callers.TheConstants.{MOST_THREADS};
 ghost use Rattle.history.specs.Threads.{counts_below};
 ghost use Rattle.vma_drive.specs.Naming.{HasNumber};
-ghost use Rattle.vma_drive.specs.Rounds.{AreRounds, AreTellings};
+ghost use Rattle.vma_drive.specs.Internal.Rounds.{AreRounds, AreTellings};
 
 use crate::naming::place_of;
 use history::{Callers, MOST_THREADS};

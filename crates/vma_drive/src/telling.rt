@@ -4,7 +4,7 @@ ghost use Rattle.fault_path.specs.Passes.{PassView, seen_by};
 ghost use Rattle.mm_space.specs.Names.{ArePasses};
 ghost use Rattle.vma_drive.specs.declared.rounds.Telling.{Telling};
 ghost use Rattle.vma_drive.specs.Hearing.{own_by};
-ghost use Rattle.vma_drive.specs.Rounds.{IsMoved, tells_from};
+ghost use Rattle.vma_drive.specs.Internal.Rounds.{IsMoved, tells_from};
 
 use crate::rounds::Telling;
 use fault_path::Pass;

@@ -7,7 +7,7 @@ ghost use Rattle.history.specs.CallerPlaces.{ArePlaces, StandAt};
 ghost use Rattle.fault_path.specs.Passes.{PassView, IsLater};
 ghost use Rattle.mm_space.specs.Names.{IsPassOf, ArePasses};
 ghost use Rattle.vma_drive.specs.Hearing.{own_by, DoesItem, GrewNone, HasRun};
-ghost use Rattle.vma_drive.specs.Rounds.{RanRound};
+ghost use Rattle.vma_drive.specs.Internal.Rounds.{RanRound};
 
 use crate::busy::threads_for;
 use fault_path::Pass;

@@ -22,7 +22,7 @@ use Rattle.lock_core.specs.Rows.{is_detached, attached_weight, Exactly}
 use Rattle.vma_lock.specs.declared.view.Desk.{Desk}
 use Rattle.vma_lock.specs.declared.view.View.{View}
 use Rattle.vma_lock.specs.Views.{begin_at, mark_at, try_at, write_at, lent_at, opened_view, slot_count}
-use Rattle.vma_lock.specs.Small.{IsSmall, AreFree, ShowsOne, IsMarking}
+use Rattle.vma_lock.specs.Internal.Small.{IsSmall, AreFree, ShowsOne, IsMarking}
 
 -- free slots weigh nothing
 free_weigh : (weight : List ℕ → ℕ) (slots : List SlotState) → ((slot : ℕ) → is_detached (slot_at slots slot).row ≡ true) → sum_by (attached_weight weight) slots ≡ 0
@@ -57,24 +57,6 @@ shows_exactly slots list changed free some_slot (inr one_shown) weight =
 pub still_free : (slots : List SlotState) (changed : SlotState) → AreFree slots → AreFree (set slots 0 changed)
 still_free slots changed free slot apart =
     ap (λ (s : SlotState). is_detached s.row) (get_or-set_other slots 0 slot changed free_slot apart) ∙ free slot apart
-
--- a try that found readers changes nothing but what the writer knows of its tries
-pub trying_more : (old now new : View) (slot found : ℕ) → IsMarking old now → new ≡ try_at now slot found → IsMarking old new
-trying_more old now new slot found trying is = subst (IsMarking old) (sym is) (record {
-  config = trying.config;
-  seen = trying.seen;
-  turn = trying.turn;
-  desk = trying.desk;
-})
-
--- and at last the slot is marked
-pub marking_done : (old now new : View) (slot found other : ℕ) → IsMarking old now → new ≡ mark_at now slot found → IsMarking (mark_at old slot other) new
-marking_done old now new slot found other trying is = subst (IsMarking (mark_at old slot other)) (sym is) (record {
-  config = trying.config;
-  seen = trying.seen;
-  turn = trying.turn;
-  desk = ap (λ (d : Desk). record d { slots = set d.slots slot (record (slot_at d.slots slot) { lock_seq = d.seq }) }) trying.desk;
-})
 
 -- the rows after a whole call on the first slot
 pub enters_exactly : (slots : List SlotState) (list : List Record) (before marked written : Desk) (row : List ℕ) → AreFree slots → 0 < length slots → ShowsOne list row

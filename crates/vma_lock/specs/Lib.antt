@@ -4,4 +4,4 @@ pub mod Rule
 pub mod Plays
 pub mod Kept
 pub mod Seats
-pub mod Small
+pub mod Internal

@@ -7,9 +7,9 @@ use atomic_table::{Join, Play, Split, TableRule};
 use mm_types::{Config, Entry};
 
 /// The rule of the table.
-pub(crate) struct Protocol;
+pub(crate) struct LockRule;
 
-impl TableRule<Entry, View, Config> for Protocol {
+impl TableRule<Entry, View, Config> for LockRule {
     ghost holds = { Shows };
 
     ghost first = { λ config. opened_view config 0 };

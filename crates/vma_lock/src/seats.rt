@@ -2,7 +2,7 @@ ghost use Rattle.std.specs.Arc.{arc_value};
 ghost use Rattle.std.specs.Prelude.{◌≡◌};
 ghost use Rattle.vma_lock.specs.Kept.{IsSized, ReaderKept, ReaderCounts, NoteKept, WriterKept};
 
-use crate::rule::Protocol;
+use crate::rule::LockRule;
 use crate::view::View;
 use atomic_table::{Seat, Table};
 use mm_types::{Config, Entry};
@@ -12,7 +12,7 @@ use std::sync::Arc;
 /// A handle of a table: a sequence word, and a mark word and a row of four words for each slot.
 #[derive(Drop)]
 pub struct VmaTable {
-    pub(crate) table: Arc<Table<Entry, View, Config, Protocol, Global>, Global>,
+    pub(crate) table: Arc<Table<Entry, View, Config, LockRule, Global>, Global>,
     pub ghost sized: { IsSized (arc_value table).shared.key (arc_value table).shared.table_id.words },
 }
 

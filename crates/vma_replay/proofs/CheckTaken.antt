@@ -2,9 +2,9 @@
 use Rattle.std.proofs.Common.{ℕ, ◌≡◌, refl, sym, subst, List, Option, Some, None, Result, Ok, Err, IfSome}
 use Rattle.std.specs.Prelude.{IsOkAnd}
 use Rattle.io_edge.specs.Edge.{SourceView}
-use Rattle.trace_reader.specs.declared.fault.ReadError.{ReadError}
-use Rattle.trace_reader.specs.declared.fault.ReadError.TheVariants as reads
-use Rattle.trace_reader.specs.declared.fault.TraceFault.{TraceFault}
+use Rattle.trace_reader.specs.declared.error.ReadError.{ReadError}
+use Rattle.trace_reader.specs.declared.error.ReadError.TheVariants as reads
+use Rattle.trace_reader.specs.declared.error.BadLine.{BadLine}
 use Rattle.step_script.specs.Reading.{IsFault}
 use Rattle.output_check.specs.Input.{CheckInput, check_limit, input_of}
 use Rattle.output_check.specs.Reading.{IsFault as IsInputFault}
@@ -12,14 +12,14 @@ use Rattle.output_check.specs.Checked.{IsCheckedAs}
 use Rattle.output_check.proofs.Fronts.{input_of-front}
 use Rattle.output_check.proofs.Inputs.{input_within}
 use Rattle.vma_replay.specs.declared.status.Status.{Status}
-use Rattle.vma_replay.specs.Reading.{IsChecking, IsReading, IsTaking, refused_as}
+use Rattle.vma_replay.specs.Internal.Reading.{IsChecking, IsReading, IsTaking, refused_as}
 use Rattle.vma_replay.proofs.Taken.{IsBounded, found_whole, refused_first}
 
 bounded_input : IsBounded input_of check_limit
 bounded_input = record { front = input_of-front; within = input_within }
 
 -- a text that tells what is judged is that of some parts
-judged_parts : (read : Result CheckInput TraceFault) (text : List ℕ) → IsOkAnd read (λ parts. IsCheckedAs parts text)
+judged_parts : (read : Result CheckInput BadLine) (text : List ℕ) → IsOkAnd read (λ parts. IsCheckedAs parts text)
     → (parts : CheckInput) × (read ≡ Ok parts) × IsCheckedAs parts text
 judged_parts (Ok parts) text judged = (parts, refl, judged)
 judged_parts (Err first) text judged = absurd judged
@@ -29,9 +29,9 @@ judged_whole : (left : Option (List ℕ)) (parts : CheckInput) (text : List ℕ)
     → IfSome left (λ input. input_of input ≡ Ok parts) → IfSome left (λ input. IsOkAnd (input_of input) (λ parts. IsCheckedAs parts text))
 judged_whole None parts text judged read = tt
 judged_whole (Some input) parts text judged read =
-    subst (λ (r : Result CheckInput TraceFault). IsOkAnd r (λ parts. IsCheckedAs parts text)) (sym read) judged
+    subst (λ (r : Result CheckInput BadLine). IsOkAnd r (λ parts. IsCheckedAs parts text)) (sym read) judged
 
-input_fault : (error : ReadError) (read : Result CheckInput TraceFault) → IsInputFault error read → IsFault error read
+input_fault : (error : ReadError) (read : Result CheckInput BadLine) → IsInputFault error read → IsFault error read
 input_fault (reads.Bad first) read is = is
 input_fault reads.NoMemory read is = is
 

@@ -29,7 +29,7 @@ use Rattle.mm_fork.proofs.Spaces.{inherited_space}
 use Rattle.mm_fork.proofs.Traces.{child_is_trace, child_is_alone, child_lines_name_none}
 use Rattle.vma_drive.specs.Sharing.{AreOfOneThread, NameNoLine}
 use Rattle.vma_replay.specs.declared.forks.Fork.{Fork}
-use Rattle.vma_replay.specs.Families.{IsOfParent, IsForkOf, AreRunsOfChildren}
+use Rattle.vma_replay.specs.Internal.Families.{IsOfParent, IsForkOf, AreRunsOfChildren}
 use Rattle.vma_replay.specs.Replaying.{IsRunOfChild}
 
 -- what stands in the front of a list stands in the list

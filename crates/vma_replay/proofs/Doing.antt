@@ -6,7 +6,7 @@ use Rattle.io_edge.specs.Edge.{SinkView}
 use Rattle.mm_space.specs.Closing.{ClosedView}
 use Rattle.vma_replay.specs.declared.status.Status.{Status}
 use Rattle.vma_replay.specs.declared.status.Status.TheVariants as statuses
-use Rattle.vma_replay.specs.Giving.{IsCut, IsCutShort, IsDoing, IsDone}
+use Rattle.vma_replay.specs.Internal.Giving.{IsCut, IsCutShort, IsDoing, IsDone}
 
 -- a beginning was given
 front_given : (old new : Option (List ℕ)) (given lost text : List ℕ) → text ≡ given ++ lost → Appends old new given

@@ -1,9 +1,8 @@
 -- Serves `printing.rt` and `family_given`: the texts of a parent and of its children.
-use Rattle.std.proofs.Common.{ℕ, zero, suc, ◌≡◌, ◌+◌, ◌-◌, ◌<◌, ◌≤◌, ◌^◌, ◌∙◌, refl, sym, ap, subst, List, [], ◌∷◌, ◌++◌, append_assoc, append-nil, length, take, drop, slice_get, get_or, nat_lt, false, Some, arith}
+use Rattle.std.proofs.Common.{ℕ, zero, suc, ◌≡◌, ◌+◌, ◌-◌, ◌<◌, ◌≤◌, ◌^◌, ◌∙◌, refl, sym, ap, subst, List, [], ◌∷◌, ◌++◌, append_assoc, length, take, drop, slice_get, get_or, nat_lt, false, Some, arith}
 use Rattle.std.proofs.lemmas.List.{drop_more, length-drop, take_all}
 use Rattle.std.proofs.lemmas.Option.{get_or_from_slice_get, slice_get-get_or, slice_get_read, slice_get_within}
 use Rattle.std.proofs.lemmas.Bool.{lt-ltb}
-use Rattle.std.proofs.Math.ListN.{drop_of_length-le}
 use Rattle.mm_types.specs.declared.call.Entry.{Entry}
 use Rattle.mm_types.specs.declared.area.Record.{Record}
 use Rattle.trace_reader.specs.declared.trace.Trace.{Trace}
@@ -22,8 +21,8 @@ use Rattle.vma_replay.specs.declared.words.Mode.TheVariants as modes
 use Rattle.output_text.specs.Output.{listed_text, output_text, serial_output}
 use Rattle.vma_replay.specs.ChildTexts.{child_line, child_text}
 use Rattle.vma_replay.specs.Forks.{forks_of}
-use Rattle.vma_replay.specs.Families.{AreRunsOfChildren, IsFamily, text_of_child, text_of_children, text_of_family}
-use Rattle.vma_replay.specs.Giving.{BeginsAsSerial, GivesAnOutput}
+use Rattle.vma_replay.specs.Internal.Families.{AreRunsOfChildren, IsFamily, text_of_child, text_of_children, text_of_family}
+use Rattle.vma_replay.specs.Internal.Giving.{BeginsAsSerial, GivesAnOutput}
 use Rattle.vma_replay.specs.Replaying.{AreChildrenGiven, GivesRuns, IsRunOf, IsRunOfChild, history_of_run}
 use Rattle.vma_replay.proofs.ChildSpaces.{inherited_count, run_at, runs_count}
 use Rattle.vma_replay.proofs.RunTexts.{given_for_run, list_of_run, serial_is}
@@ -125,9 +124,6 @@ family_gives mode trace history forks runs value family =
 pub record ToldChildren (trace : Trace) (forks : List Fork) (runs : List ClosedView) (place : ℕ) (text : List ℕ) : Type 0 where
   pub told : text ++ text_of_children trace (drop place forks) (drop place runs) ≡ text_of_children trace forks runs
 
-pub children_none : (trace : Trace) (forks : List Fork) (runs : List ClosedView) → ToldChildren trace forks runs 0 []
-children_none trace forks runs = record { told = refl }
-
 pub children_more : (trace : Trace) (forks : List Fork) (runs : List ClosedView) (place : ℕ) (text : List ℕ) (d : Fork) (run : ClosedView)
     → ToldChildren trace forks runs place text → place < length forks → slice_get runs place ≡ Some run
     → ToldChildren trace forks runs (place + 1) (text ++ text_of_child trace (get_or forks place d) run)
@@ -163,12 +159,6 @@ pub none_missing : (trace : Trace) (parent : List Entry) (forks : List Fork) (ru
 none_missing trace parent forks runs place are within past =
     let inside : place < length runs = omega (arith, runs_count trace parent forks runs are) in
     cc (past, lt-ltb place (length runs) inside)
-
-pub children_all : (trace : Trace) (forks : List Fork) (runs : List ClosedView) (place : ℕ) (text : List ℕ)
-    → ToldChildren trace forks runs place text → length forks ≤ place → text ≡ text_of_children trace forks runs
-children_all trace forks runs place text so_far past =
-    sym (append-nil text) ∙ ap (λ (l : List Fork). text ++ text_of_children trace l (drop place runs)) (sym (drop_of_length-le forks past))
-    ∙ so_far.told
 
 -- ---- the text of a family, by what is printed
 

@@ -4,7 +4,7 @@ use Rattle.std.specs.Prelude.{◌⊎◌, IfSome, IsOkAnd, IsSomeAnd}
 use Rattle.std.specs.Io.KnownBytes.{Keeps}
 use Rattle.io_edge.specs.Edge.{SinkView}
 use Rattle.mm_space.specs.Closing.{ClosedView}
-use Rattle.trace_reader.specs.declared.fault.TraceFault.{TraceFault}
+use Rattle.trace_reader.specs.declared.error.BadLine.{BadLine}
 use Rattle.trace_reader.specs.declared.trace.Trace.{Trace}
 use Rattle.trace_reader.specs.Grammar.{trace_of}
 use Rattle.vma_replay.specs.declared.status.Status.{Status}
@@ -12,14 +12,14 @@ use Rattle.vma_replay.specs.declared.status.Status.TheVariants as statuses
 use Rattle.vma_replay.specs.declared.words.Job.{Job}
 use Rattle.vma_replay.specs.declared.words.Job.TheVariants as jobs
 use Rattle.vma_replay.specs.declared.words.Mode.{Mode}
-use Rattle.vma_replay.specs.Giving.{GivesAnOutput, GivesASummary, IsDone}
+use Rattle.vma_replay.specs.Internal.Giving.{GivesAnOutput, GivesASummary, IsDone}
 use Rattle.vma_replay.specs.Replaying.{GivesBeginning, GivesProperBeginning, GivesRuns, work_of}
 
 -- with these closed runs the mode gives this text for the input
 given_for : (mode : Mode) (input : List ℕ) (trace : Trace) (runs : List ClosedView) (text : List ℕ) → trace_of input ≡ Ok trace
     → GivesRuns mode trace runs text → IsOkAnd (trace_of input) (λ trace. GivesRuns mode trace runs text)
 given_for mode input trace runs text read given =
-    subst (λ (r : Result Trace TraceFault). IsOkAnd r (λ trace. GivesRuns mode trace runs text)) (sym read) given
+    subst (λ (r : Result Trace BadLine). IsOkAnd r (λ trace. GivesRuns mode trace runs text)) (sym read) given
 
 fault_front : (mode : Mode) (left : Option (List ℕ)) (old new : SinkView) (trace : Trace) (runs : List ClosedView)
     → IfSome left (λ input. trace_of input ≡ Ok trace) → IsDone (GivesAnOutput mode trace) old new statuses.WriteFault runs

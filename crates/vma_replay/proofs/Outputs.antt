@@ -11,7 +11,7 @@ use Rattle.trace_reader.specs.Values.{child_of}
 use Rattle.history.specs.declared.items.Content.{Content}
 use Rattle.history.specs.declared.items.Content.TheVariants as contents
 use Rattle.output_text.specs.Output.{forked_text, maps_text, result_text}
-use Rattle.vma_replay.specs.Giving.{IsCut, Prints}
+use Rattle.vma_replay.specs.Internal.Giving.{IsCut, Prints}
 use Rattle.vma_replay.proofs.Pieces.{cut_more, cut_then, prints_then}
 
 -- the line of the count and the lines of the areas

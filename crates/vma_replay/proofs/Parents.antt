@@ -33,7 +33,7 @@ use Rattle.history.proofs.Placed.{journal_append}
 use Rattle.history.proofs.Steps.{entry_item, Stands, entries_stand}
 use Rattle.history.proofs.ThreadCounts.{items_within, threads_of_trace}
 use Rattle.split_merge.proofs.Counting.{contains_later}
-use Rattle.stable_sort.proofs.Sorting.{All-sort_by}
+use Rattle.mm_types.proofs.Sorting.{All-sort_by}
 use Rattle.mm_space.specs.Closing.{ClosedView}
 use Rattle.mm_fork.specs.Children.{is_among, parent_lines, parent_trace}
 use Rattle.mm_fork.proofs.Traces.{parent_is_trace}
@@ -43,7 +43,7 @@ use Rattle.vma_replay.specs.declared.words.Mode.{Mode}
 use Rattle.vma_replay.specs.declared.words.Mode.TheVariants as modes
 use Rattle.output_text.specs.Output.{told_by}
 use Rattle.vma_replay.specs.Forks.{fork_of, forks_from, forks_of}
-use Rattle.vma_replay.specs.Families.{AreLegal, AreRunsOfChildren, IsFamily, IsForkOf, IsOfParent}
+use Rattle.vma_replay.specs.Internal.Families.{AreLegal, AreRunsOfChildren, IsFamily, IsForkOf, IsOfParent}
 use Rattle.vma_replay.specs.Replaying.{IsRunOf, history_of_run}
 use Rattle.vma_replay.proofs.RunTexts.{first_log, legal_of_run, serial_own}
 use Rattle.vma_replay.proofs.Telling.{there, none_at}

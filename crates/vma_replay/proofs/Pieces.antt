@@ -11,7 +11,7 @@ use Rattle.mm_types.specs.MapsText.{area_text, list_text}
 use Rattle.std.specs.Prelude.{IsErrAnd, MatchResult}
 use Rattle.vma_replay.specs.declared.status.Status.{Status}
 use Rattle.vma_replay.specs.declared.status.Status.TheVariants as statuses
-use Rattle.vma_replay.specs.Giving.{Gave, IsWhy, IsCut, IsPrinting, Prints}
+use Rattle.vma_replay.specs.Internal.Giving.{Gave, IsWhy, IsCut, IsPrinting, Prints}
 
 -- nothing was given
 pub gave_none : (old : SinkView) → Gave old old []

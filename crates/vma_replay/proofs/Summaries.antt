@@ -24,7 +24,7 @@ use Rattle.vma_replay.specs.declared.summary.Summary.{Summary}
 use Rattle.vma_replay.specs.declared.words.Mode.TheVariants as modes
 use Rattle.vma_replay.specs.Replaying.{IsRunOf}
 use Rattle.vma_replay.specs.Summaries.{count_of, is_fault, is_refused, is_served, summary_of_trace, summary_text, text_of_summary}
-use Rattle.vma_replay.specs.Tallies.{tally_of}
+use Rattle.vma_replay.specs.Internal.Tallies.{tally_of}
 use Rattle.vma_replay.proofs.RunTexts.{list_of_run, serial_is, serial_own}
 
 -- one element more

@@ -4,9 +4,9 @@ use Rattle.std.proofs.lemmas.Bool.{cases_lt}
 use Rattle.std.proofs.lemmas.List.{take-append-le}
 use Rattle.std.specs.Io.KnownBytes.{Consumes, IsAtEnd}
 use Rattle.io_edge.specs.Edge.{SourceView}
-use Rattle.trace_reader.specs.declared.fault.ReadError.{ReadError}
-use Rattle.trace_reader.specs.declared.fault.ReadError.TheVariants as reads
-use Rattle.trace_reader.specs.declared.fault.TraceFault.{TraceFault}
+use Rattle.trace_reader.specs.declared.error.ReadError.{ReadError}
+use Rattle.trace_reader.specs.declared.error.ReadError.TheVariants as reads
+use Rattle.trace_reader.specs.declared.error.BadLine.{BadLine}
 use Rattle.trace_reader.specs.declared.trace.Trace.{Trace}
 use Rattle.trace_reader.specs.Lines.{trace_limit}
 use Rattle.trace_reader.specs.Reading.{GivesTrace}
@@ -15,7 +15,7 @@ use Rattle.vma_replay.specs.declared.status.Status.{Status}
 use Rattle.vma_replay.specs.declared.words.Conversion.{Conversion}
 use Rattle.vma_replay.specs.declared.words.Conversion.TheVariants as conversions
 use Rattle.vma_replay.specs.Replaying.{Takes, converted, most_converted}
-use Rattle.vma_replay.specs.Reading.{IsReading, IsTaking, refused_as}
+use Rattle.vma_replay.specs.Internal.Reading.{IsReading, IsTaking, refused_as}
 use Rattle.trace_reader.specs.Grammar.{trace_of}
 use Rattle.trace_reader.proofs.Beginnings.{trace_of-front, trace_within}
 use Rattle.step_script.proofs.Scripts.{output-front, output-within}
@@ -42,23 +42,23 @@ taken_settles read limit same (Some input) (Some rest) bytes answer moved end e 
 ]
 
 -- One byte more than the limit settles what bytes are read as, and bytes that are read are within it.
-pub record IsBounded {Y : Type 0} (read : List ℕ → Result Y TraceFault) (limit : ℕ) : Type 0 where
+pub record IsBounded {Y : Type 0} (read : List ℕ → Result Y BadLine) (limit : ℕ) : Type 0 where
   pub front : (bytes : List ℕ) → read (take (limit + 1) bytes) ≡ read bytes
   pub within : (bytes : List ℕ) (found : Y) → read bytes ≡ Ok found → length bytes ≤ limit
 
 -- so what was taken gives the answer of the whole
-settled : {Y : Type 0} (read : List ℕ → Result Y TraceFault) (limit : ℕ) → IsBounded read limit → (old new : Option (List ℕ)) (bytes : List ℕ)
-    (answer : Result Y TraceFault) → Takes limit old new bytes → read bytes ≡ answer → IfSome old (λ input. read input ≡ answer)
+settled : {Y : Type 0} (read : List ℕ → Result Y BadLine) (limit : ℕ) → IsBounded read limit → (old new : Option (List ℕ)) (bytes : List ℕ)
+    (answer : Result Y BadLine) → Takes limit old new bytes → read bytes ≡ answer → IfSome old (λ input. read input ≡ answer)
 settled read limit bounded old new bytes answer taken e = taken_settles read limit bounded.front old new bytes answer taken.moved taken.whole e
 
 -- where what was taken is read, the source gave it whole
-pub found_whole : {Y : Type 0} (read : List ℕ → Result Y TraceFault) (limit : ℕ) → IsBounded read limit → (old new : SourceView) (bytes : List ℕ)
+pub found_whole : {Y : Type 0} (read : List ℕ → Result Y BadLine) (limit : ℕ) → IsBounded read limit → (old new : SourceView) (bytes : List ℕ)
     (found : Y) → IsTaking limit old new (Ok bytes) → read bytes ≡ Ok found → IsReading read limit old new (Ok found)
 found_whole read limit bounded old new bytes found taken is =
     (taken.0, (bytes, taken.1), taken.1.whole (bounded.within bytes found is), settled read limit bounded old.left new.left bytes (Ok found) taken.1 is)
 
 -- where it is not, it has the source's first bad line, or memory ran out
-pub refused_first : {Y : Type 0} (read : List ℕ → Result Y TraceFault) (limit : ℕ) → IsBounded read limit → (old new : SourceView) (bytes : List ℕ)
+pub refused_first : {Y : Type 0} (read : List ℕ → Result Y BadLine) (limit : ℕ) → IsBounded read limit → (old new : SourceView) (bytes : List ℕ)
     (error : ReadError) (status : Status) → IsTaking limit old new (Ok bytes) → IsFault error (read bytes)
     → status ≡ refused_as error → IsReading read limit old new (Err status)
 refused_first {Y} read limit bounded old new bytes error status taken fault is =
@@ -77,7 +77,7 @@ bounded (conversions.Query address) = record { front = query_answer-front addres
 bounded conversions.Retrace = record { front = retraced-front; within = retraced-within }
 
 -- what the reader of traces answers in place of a trace
-trace_fault : (error : ReadError) (read : Result Trace TraceFault) → GivesTrace (Err error) read → IsFault error read
+trace_fault : (error : ReadError) (read : Result Trace BadLine) → GivesTrace (Err error) read → IsFault error read
 trace_fault (reads.Bad first) read is = is
 trace_fault reads.NoMemory read is = is
 

@@ -13,7 +13,7 @@ use Rattle.history.specs.declared.items.Item.{Item}
 use Rattle.trace_reader.specs.declared.trace.TraceLine.{TraceLine}
 use Rattle.history.specs.Histories.{lines_of, items_of, line_of, op_of, read_as}
 use Rattle.output_text.specs.Output.{told_by}
-use Rattle.vma_replay.specs.Families.{AreLegal}
+use Rattle.vma_replay.specs.Internal.Families.{AreLegal}
 use Rattle.history.specs.CallerPlaces.{ArePlaces}
 
 -- the first items were told: for each caller so many were, and what was told of them and what is of the others is what is told of all

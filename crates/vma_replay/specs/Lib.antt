@@ -4,9 +4,5 @@ pub mod Jobs
 pub mod Summaries
 pub mod Forks
 pub mod Replaying
-pub mod Reading
-pub mod Giving
-pub mod Families
-pub mod Tallies
-pub mod CommandLine
 pub mod Retraced
+pub mod Internal

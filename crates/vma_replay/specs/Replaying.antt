@@ -14,8 +14,8 @@ use Rattle.history.specs.Histories.{journal_of, IsLegalHistory}
 use Rattle.history.specs.Runs.{history_of, IsRun}
 use Rattle.history.specs.Labels.{label_of, IsSerialRun}
 use Rattle.mm_fork.specs.Children.{inherited, child_history_of, parent_lines, child_lines, parent_trace, IsChildRun}
-use Rattle.trace_reader.specs.declared.fault.Cause.{Cause}
-use Rattle.trace_reader.specs.declared.fault.TraceFault.{TraceFault}
+use Rattle.trace_reader.specs.declared.error.Cause.{Cause}
+use Rattle.trace_reader.specs.declared.error.BadLine.{BadLine}
 use Rattle.trace_reader.specs.declared.trace.Trace.{Trace}
 use Rattle.trace_reader.specs.Grammar.{trace_of}
 use Rattle.trace_reader.specs.Lines.{trace_limit}
@@ -120,12 +120,12 @@ pub record Work : Type 1 where
   pub mode : Option Mode
   pub reads : Option ℕ
   pub opens : Bool
-  pub fault : List ℕ → Option TraceFault
+  pub fault : List ℕ → Option BadLine
   pub gives : List ℕ → List ClosedView → List ℕ → Type 0
 
 -- The text that an input is turned into, or its first bad line: of a script its output, of a maps text the line that answers a question, or
 -- the trace that makes it.
-abbrev pub converted : Conversion → List ℕ → Result (List ℕ) TraceFault
+abbrev pub converted : Conversion → List ℕ → Result (List ℕ) BadLine
 converted conversions.Steps = script_output
 converted (conversions.Query address) = query_answer address
 converted conversions.Retrace = retraced_of
@@ -202,7 +202,7 @@ GivesProperBeginning work left old new = OfInput work.reads left (λ input. (run
     × (count : ℕ) × (count < length text) × Appends old.written new.written (take count text))
 
 -- the answer to an input that has this bad line, or none, where neither memory nor the outside fails
-abbrev pub status_of : Option TraceFault → Status
+abbrev pub status_of : Option BadLine → Status
 status_of None = statuses.Done
 status_of (Some first) = statuses.Trace first.line first.cause
 

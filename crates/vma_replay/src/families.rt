@@ -3,7 +3,7 @@ ghost use Rattle.std.specs.Prelude.{◌≡◌, ◌<◌, All, IfOk, Ok, Some, is_
 ghost use Rattle.std.specs.List.{list_any};
 ghost use Rattle.mm_fork.specs.Children.{parent_trace, child_trace};
 ghost use Rattle.trace_reader.specs.Values.{IsTraceValue, child_of};
-ghost use Rattle.vma_replay.specs.Families.{AreRunsOfChildren, IsFamily, IsForkOf, IsOfParent};
+ghost use Rattle.vma_replay.specs.Internal.Families.{AreRunsOfChildren, IsFamily, IsForkOf, IsOfParent};
 ghost use Rattle.vma_replay.specs.Replaying.{IsRunOfChild};
 ghost use Rattle.vma_replay.specs.declared.forks.Fork.{Fork};
 

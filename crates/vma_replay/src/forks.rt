@@ -3,7 +3,7 @@ ghost use Rattle.std.specs.Prelude.{◌≡◌, ◌≤◌, ◌<◌, ◌++◌, All
 ghost use Rattle.trace_reader.specs.declared.limits.TheConstants.{MOST_LINES};
 ghost use Rattle.history.specs.declared.callers.TheConstants.{MOST_THREADS};
 ghost use Rattle.history.specs.CallerPlaces.{ArePlaces};
-ghost use Rattle.vma_replay.specs.Families.{AreLegal};
+ghost use Rattle.vma_replay.specs.Internal.Families.{AreLegal};
 ghost use Rattle.vma_replay.specs.Forks.{fork_of, forks_from, forks_of};
 
 use history::{Item, places_by_caller};

@@ -4,7 +4,7 @@ ghost use Rattle.gen_load.specs.Loads.{load_trace};
 ghost use Rattle.lock_core.specs.Facts.{list_after};
 ghost use Rattle.trace_reader.specs.Values.{IsTraceValue};
 ghost use Rattle.vma_replay.specs.declared.words.Mode.TheVariants.{Serial};
-ghost use Rattle.vma_replay.specs.Giving.{GivesASummary, IsDoing, IsDone};
+ghost use Rattle.vma_replay.specs.Internal.Giving.{GivesASummary, IsDoing, IsDone};
 ghost use Rattle.vma_replay.specs.Replaying.{IsRunOf};
 
 use crate::giving::give_all;

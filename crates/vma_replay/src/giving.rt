@@ -2,14 +2,14 @@
 ghost use Rattle.std.specs.Prelude.{◌≡◌, ◌≤◌, ◌<◌, ◌^◌, ◌-◌, [], codes, drop, length, take};
 ghost use Rattle.trace_reader.specs.Values.{IsTraceValue};
 ghost use Rattle.mm_fork.specs.Children.{parent_trace};
-ghost use Rattle.vma_replay.specs.Giving.{GivesAnOutput, GivesThis, IsDoing, IsDone, IsGivingText, IsPrinting};
+ghost use Rattle.vma_replay.specs.Internal.Giving.{GivesAnOutput, GivesThis, IsDoing, IsDone, IsGivingText, IsPrinting};
 
 use crate::families::{closed_family, has_forks, parent_of};
 use crate::printing::give_family;
 use crate::replayed::{Replayed, Runs};
 use crate::status::Status;
 use crate::words::Mode;
-use io_edge::{Gate, GiveFault, Sink};
+use io_edge::{Gate, GiveError, Sink};
 use std::alloc::Global;
 use std::sync::Wait;
 use std::thread::Threads;
@@ -103,8 +103,8 @@ pub(crate) fn give_all<K: Sink>(sink: &mut K, text: &[u8]) -> Result<(), Status>
     while given < text.len() {
         match sink.give(front(&text[given..])) {
             Ok(count) => given += count,
-            Err(GiveFault::Failed) => return Err(Status::WriteFault),
-            Err(GiveFault::NoMemory) => return Err(Status::NoMemory),
+            Err(GiveError::Failed) => return Err(Status::WriteFault),
+            Err(GiveError::NoMemory) => return Err(Status::NoMemory),
         }
     }
     Ok(())

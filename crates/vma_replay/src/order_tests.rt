@@ -4,7 +4,7 @@
 ghost use Rattle.std.specs.Prelude.{◌<◌, ◌≤◌, IfOk, List};
 ghost use Rattle.mm_types.specs.declared.call.Entry.{Entry};
 ghost use Rattle.trace_reader.specs.Values.{IsTraceValue};
-ghost use Rattle.vma_replay.specs.Families.{AreRunsOfChildren};
+ghost use Rattle.vma_replay.specs.Internal.Families.{AreRunsOfChildren};
 ghost use Rattle.vma_replay.specs.Replaying.{IsRunOfChild};
 
 use crate::families::{Family, closed_family, parent_of};
@@ -14,6 +14,7 @@ use crate::reading::read_source;
 use crate::running::closed_run;
 use crate::text_tests::judged;
 use crate::words::Mode;
+use draws::Draws;
 use history::{MOST_THREADS, check};
 use io_edge::{Gate, SureSink, SureSource};
 use mm_fork::{check_child, check_parent, child_history, inherit};
@@ -66,23 +67,6 @@ impl Gate for Yielding {
     fn after<R: Threads + Wait + Sync>(&self, _rt: &R, _line: u64) {}
 }
 
-/// Numbers that follow from a seed, by a linear congruence.
-#[derive(Drop)]
-pub(crate) struct Draw(pub(crate) u64);
-
-impl Draw {
-    pub(crate) fn below(&mut self, bound: u64) -> u64
-        requires { 1 ≤ bound }
-        ensures { result < bound }
-    {
-        self.0 = self
-            .0
-            .wrapping_mul(6364136223846793005)
-            .wrapping_add(1442695040888963407);
-        (self.0 >> 33) % bound
-    }
-}
-
 /// A call of the parent that may be named: its line and its thread.
 #[derive(Clone, Copy, Debug, PartialEq, Eq)]
 struct Told {
@@ -94,7 +78,7 @@ struct Told {
 #[derive(Drop)]
 struct Draft {
     text: String,
-    draw: Draw,
+    draws: Draws,
     /// How many threads the parent has at most, by number from 0.
     threads: u64,
     /// How many children may be forked.
@@ -108,13 +92,13 @@ struct Draft {
 
 impl Draft {
     fn new(alloc: Global, seed: u64) -> Result<Draft, NoMemory> {
-        let mut draw = Draw(seed);
-        let others = (1u64 << (1 + draw.below(6))).saturating_sub(1);
-        let threads = draw.below(others.max(1)).saturating_add(2);
-        let most_children = draw.below(MOST_CHILDREN + 1);
+        let mut draws = Draws::new(seed);
+        let others = (1u64 << (1 + draws.below(6))).saturating_sub(1);
+        let threads = draws.below(others.max(1)).saturating_add(2);
+        let most_children = draws.below(MOST_CHILDREN + 1);
         Ok(Draft {
             text: String::from_str(alloc, "vmatrace 1\nlimit areas 12\nheap 0x200000\n")?,
-            draw,
+            draws,
             threads,
             most_children,
             children: 0,
@@ -125,13 +109,13 @@ impl Draft {
 
     /// Appends the line of this number.
     fn push_line(&mut self, line: u64) -> Result<(), NoMemory> {
-        if self.children > 0 && self.draw.below(3) == 0 {
-            let child = self.draw.below(self.children.max(1));
+        if self.children > 0 && self.draws.below(3) == 0 {
+            let child = self.draws.below(self.children.max(1));
             let thread = self.threads.saturating_add(child);
             let _is_call = self.push_operation(thread)?;
         } else {
-            let thread = self.draw.below(self.threads.max(1));
-            if self.may_fork() && self.draw.below(10) == 0 {
+            let thread = self.draws.below(self.threads.max(1));
+            if self.may_fork() && self.draws.below(10) == 0 {
                 self.push_fork(thread)?;
             } else if self.push_operation(thread)? {
                 self.push_name(thread)?;
@@ -156,14 +140,14 @@ impl Draft {
 
     /// Appends an operation of a thread, over 24 pages, and answers whether it is a call.
     fn push_operation(&mut self, thread: u64) -> Result<bool, NoMemory> {
-        let address = 0x10_0000 + 4096 * self.draw.below(24);
-        let length = 4096 * (1 + self.draw.below(4));
-        let kind = self.draw.below(14);
+        let address = 0x10_0000 + 4096 * self.draws.below(24);
+        let length = 4096 * (1 + self.draws.below(4));
+        let kind = self.draws.below(14);
         if kind < 3 {
             self.stack = address;
         }
         let heap = 0x20_0000 + length;
-        let below = self.stack.saturating_sub(4096 * (1 + self.draw.below(2)));
+        let below = self.stack.saturating_sub(4096 * (1 + self.draws.below(2)));
         let text = &mut self.text;
         let written = match kind {
             0 | 1 | 2 => write!(text, "{thread} mmap 0x{address:x} {length} {GROWS}"),
@@ -190,7 +174,7 @@ impl Draft {
 
     /// Has the line of a thread name a call above it of another thread, now and then.
     fn push_name(&mut self, thread: u64) -> Result<(), NoMemory> {
-        let draw = self.draw.below(64) as usize;
+        let draw = self.draws.below(64) as usize;
         if let Some(call) = self.calls.get(draw)
             && call.thread != thread
         {

@@ -3,7 +3,7 @@ ghost use Rattle.std.specs.Prelude.{None};
 
 use crate::tests::words;
 use crate::{Cause, Status, replay};
-use io_edge::{Failed, GiveFault, PlainGate, Sink, Source, SureSource};
+use io_edge::{Failed, GiveError, PlainGate, Sink, Source, SureSource};
 use std::alloc::Global;
 use std::process::Abort;
 use std::sync::Wait;
@@ -50,7 +50,7 @@ impl ShortSink {
 impl Sink for ShortSink {
     ghost seen = { λ _. record { written = None; faults = 0; just_failed = None } };
 
-    fn give(&mut self, piece: &[u8]) -> Result<usize, GiveFault> {
+    fn give(&mut self, piece: &[u8]) -> Result<usize, GiveError> {
         let count = piece.len().min(self.most.max(1));
         self.pieces.extend_from_slice(&[piece.len()])?;
         self.bytes.extend_from_slice(&piece[..count])?;

@@ -9,8 +9,8 @@ ghost use Rattle.history.specs.CallerPlaces.{ArePlaces};
 ghost use Rattle.mm_fork.specs.Children.{parent_trace};
 ghost use Rattle.output_text.specs.Output.{content_text, item_text, listed_text, maps_text, result_text, told_by};
 ghost use Rattle.vma_replay.specs.ChildTexts.{child_line};
-ghost use Rattle.vma_replay.specs.Families.{AreLegal, AreRunsOfChildren, IsFamily, text_of_child, text_of_children, text_of_family};
-ghost use Rattle.vma_replay.specs.Giving.{IsGivingText, IsPrinting};
+ghost use Rattle.vma_replay.specs.Internal.Families.{AreLegal, AreRunsOfChildren, IsFamily, text_of_child, text_of_children, text_of_family};
+ghost use Rattle.vma_replay.specs.Internal.Giving.{IsGivingText, IsPrinting};
 ghost use Rattle.vma_replay.specs.Replaying.{IsRunOf, IsRunOfChild, history_of_run};
 ghost use Rattle.vma_replay.specs.declared.words.Mode.{Mode};
 

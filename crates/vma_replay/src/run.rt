@@ -1,6 +1,6 @@
 ghost use Rattle.std.specs.Prelude.{◌≡◌, ◌<◌, ◌^◌, ◌+◌, ◌-◌, ◌⊎◌, ◌∷◌, [], ℕ, List, true, false, IfSome, IsSomeAnd, Some};
 ghost use Rattle.std.specs.Io.KnownBytes.{Keeps, IsAtEnd};
-ghost use Rattle.trace_reader.specs.declared.fault.Cause.{Cause};
+ghost use Rattle.trace_reader.specs.declared.error.Cause.{Cause};
 ghost use Rattle.io_edge.specs.Edge.{FailedLast};
 ghost use Rattle.mm_space.specs.Closing.{ClosedView};
 ghost use Rattle.vma_replay.specs.declared.words.Mode.TheVariants.{Serial};
@@ -14,7 +14,7 @@ use crate::giving::{give_run, give_text};
 use crate::reading::{check_source, convert_source, read_source};
 use crate::replayed::Replayed;
 use crate::status::Status;
-use crate::words::{Job, WordsFault, job_of};
+use crate::words::{Job, WordsError, job_of};
 use io_edge::{Gate, Sink, Source};
 use std::alloc::Global;
 use std::sync::Wait;
@@ -106,7 +106,7 @@ pub fn replay<R: Threads + Wait + Sync, S: Source, K: Sink, G: Gate>(
             Err(status) => Replayed::without_runs(alloc, status),
         },
         Ok(Job::Generate { count, seed }) => give_summary(rt, alloc, count, seed, sink),
-        Err(WordsFault::Words) => Replayed::without_runs(alloc, Status::Words),
-        Err(WordsFault::NoMemory) => Replayed::without_runs(alloc, Status::NoMemory),
+        Err(WordsError::Words) => Replayed::without_runs(alloc, Status::Words),
+        Err(WordsError::NoMemory) => Replayed::without_runs(alloc, Status::NoMemory),
     }
 }

@@ -3,7 +3,7 @@ ghost use Rattle.std.specs.Prelude.{◌≡◌, IfOk, count_by, length};
 ghost use Rattle.history.specs.Runs.{content_of};
 ghost use Rattle.area_rules.specs.Tables.{is_refusal};
 ghost use Rattle.vma_replay.specs.Summaries.{is_fault, is_served, text_of_summary};
-ghost use Rattle.vma_replay.specs.Tallies.{tally_of};
+ghost use Rattle.vma_replay.specs.Internal.Tallies.{tally_of};
 
 use mm_space::Closed;
 use mm_types::{Entry, NoMemory, Reply, Seen, Verdict};

@@ -1,9 +1,9 @@
 //! Texts that are made of a maps text: the line for an address, and the trace that makes its areas. The areas are two anonymous pages, with
 //! a page between them, and those that random traces leave. And what is judged of a text that stands behind its trace.
 
-use crate::order_tests::Draw;
 use crate::tests::words;
 use crate::{Cause, Status, replay};
+use draws::Draws;
 use io_edge::{PlainGate, Source, SureSink, SureSource};
 use std::alloc::{AllocError, Global};
 use std::fmt::Write;
@@ -186,18 +186,18 @@ const TRACES: u64 = 2_000;
 const MAPPINGS: u64 = 12;
 
 /// Appends a line that maps one to four of 24 pages, without a file, or as pages of one, which are shared or not.
-fn push_mapping(text: &mut String, draw: &mut Draw) -> Result<(), AllocError> {
-    let address = 0x10_0000 + 4096 * draw.below(24);
-    let length = 4096 * (1 + draw.below(4));
-    let offset = 4096 * draw.below(24);
-    let allowed = match draw.below(4) {
+fn push_mapping(text: &mut String, draws: &mut Draws) -> Result<(), AllocError> {
+    let address = 0x10_0000 + 4096 * draws.below(24);
+    let length = 4096 * (1 + draws.below(4));
+    let offset = 4096 * draws.below(24);
+    let allowed = match draws.below(4) {
         0 => "PROT_NONE",
         1 => "PROT_READ",
         2 => "PROT_READ|PROT_WRITE",
         _ => "PROT_READ|PROT_EXEC",
     };
     write!(text, "0 mmap 0x{address:x} {length} {allowed} ")?;
-    match draw.below(5) {
+    match draws.below(5) {
         0 | 1 => writeln!(text, "MAP_PRIVATE|MAP_ANONYMOUS|MAP_FIXED -1 0"),
         2 => writeln!(text, "MAP_PRIVATE|MAP_FIXED 3 0x{offset:x}"),
         3 => writeln!(text, "MAP_PRIVATE|MAP_FIXED 4 0x{offset:x}"),
@@ -210,9 +210,9 @@ fn mapping_trace(alloc: Global, seed: u64) -> Result<String, Fail> {
     let header =
         "vmatrace 1\nlimit areas 64\nfile 3 rw 40960 08:01 7 /a\nfile 4 rw 40960 08:02 4001 /usr/lib/b c\n";
     let mut text = String::from_str(alloc, header)?;
-    let mut draw = Draw(seed);
+    let mut draws = Draws::new(seed);
     for _ in 0..MAPPINGS {
-        push_mapping(&mut text, &mut draw)?;
+        push_mapping(&mut text, &mut draws)?;
     }
     Ok(text)
 }

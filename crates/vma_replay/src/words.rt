@@ -2,8 +2,8 @@ ghost use Rattle.std.specs.Prelude.{◌≡◌, ◌≤◌, IfErr, IfOk, IfSome, E
 ghost use Rattle.std.specs.List.{list_any};
 ghost use Rattle.clap.specs.Words.{app_of, found_of, matches_of, rows_of, takes};
 ghost use Rattle.vma_replay.specs.Jobs.{alone, generate_job, generate_words, job_of_words, named_job, operation_count, query_words};
-ghost use Rattle.vma_replay.specs.CommandLine.{begins_with_dash, job_of_rows, words_command};
-ghost use Rattle.vma_replay.specs.Tallies.{IsInLimits};
+ghost use Rattle.vma_replay.specs.Internal.CommandLine.{begins_with_dash, job_of_rows, words_command};
+ghost use Rattle.vma_replay.specs.Internal.Tallies.{IsInLimits};
 
 use clap::error::ErrorKind;
 use clap::{Arg, ArgMatches, Command};
@@ -52,7 +52,7 @@ pub enum Job {
 
 /// Why words name no job.
 #[derive(Clone, Copy, Debug, PartialEq, Eq)]
-pub(crate) enum WordsFault {
+pub(crate) enum WordsError {
     /// They are none of the accepted lists.
     Words,
     /// Memory ran out.
@@ -62,18 +62,18 @@ pub(crate) enum WordsFault {
 /// The job that words name: `serial`, `threads`, `steps`, `retrace` and `check`, each alone, `query` with an address, and `generate` with
 /// a count of operations and a seed name one. No word may begin with `-`, so there are no options and no `--`.
 #[tactic(auto, using(crate::proofs::CommandLine::named_by_words, crate::proofs::CommandLine::refused, crate::proofs::CommandLine::dash_refused))]
-pub(crate) fn job_of(alloc: Global, words: &[String]) -> Result<Job, WordsFault>
+pub(crate) fn job_of(alloc: Global, words: &[String]) -> Result<Job, WordsError>
     ensures job { IfOk result (λ job. job_of_words words.now ≡ Some job) }
     ensures limits { IfOk result IsInLimits }
-    ensures words { result ≡ Err WordsFault.Words → job_of_words words.now ≡ None }
+    ensures words { result ≡ Err WordsError.Words → job_of_words words.now ≡ None }
 {
     if has_dash_word(words) {
-        return Err(WordsFault::Words);
+        return Err(WordsError::Words);
     }
     let matches = parse(alloc, words)?;
     match job_of_matches(&matches) {
         Some(job) => Ok(job),
-        None => Err(WordsFault::Words),
+        None => Err(WordsError::Words),
     }
 }
 
@@ -85,22 +85,22 @@ fn has_dash_word(words: &[String]) -> bool
 }
 
 /// What `clap` finds in the words.
-fn parse<'a>(alloc: Global, words: &'a [String]) -> Result<ArgMatches<'a>, WordsFault>
+fn parse<'a>(alloc: Global, words: &'a [String]) -> Result<ArgMatches<'a>, WordsError>
     ensures ok { IfOk result (λ matches. rows_of (found_of matches) ≡ matches_of words_command (map string_bytes words.now)) }
-    ensures err { IfErr result (λ fault. takes words_command (map string_bytes words.now) ≡ true → fault ≡ WordsFault.NoMemory) }
+    ensures err { IfErr result (λ fault. takes words_command (map string_bytes words.now) ≡ true → fault ≡ WordsError.NoMemory) }
 {
     let Ok(command) = command(alloc) else {
-        return Err(WordsFault::NoMemory);
+        return Err(WordsError::NoMemory);
     };
     match command.try_get_matches_from(words) {
         Ok(matches) => Ok(matches),
-        Err(error) if error.kind() == ErrorKind::OutOfMemory => Err(WordsFault::NoMemory),
-        Err(_) => Err(WordsFault::Words),
+        Err(error) if error.kind() == ErrorKind::OutOfMemory => Err(WordsError::NoMemory),
+        Err(_) => Err(WordsError::Words),
     }
 }
 
 /// The job that the values name.
-#[tactic(auto, unfolding(crate::specs::CommandLine::job_of_rows))]
+#[tactic(auto, unfolding(crate::specs::Internal::CommandLine::job_of_rows))]
 fn job_of_matches(matches: &ArgMatches<'_>) -> Option<Job>
     ensures job { result ≡ job_of_rows (rows_of (found_of matches.now)) }
     ensures limits { IfSome result IsInLimits }

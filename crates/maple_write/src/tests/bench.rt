@@ -38,7 +38,7 @@ impl Model for Bench {
 
     ghost Value = { Tree };
 
-    ghost use Rattle.maple_write.specs.Tests.{IsBench};
+    ghost use Rattle.maple_write.specs.Internal.Tests.{IsBench};
 
     ghost view = { λ bench. bench.tree };
 

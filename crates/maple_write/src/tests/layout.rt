@@ -24,7 +24,7 @@ pub(super) struct Listed {
 
 /// Where a node stands in its tree.
 #[derive(Clone, Copy, PartialEq, Eq)]
-enum Place {
+enum Standing {
     Root,
     /// Below the root, on the rightmost path.
     Edge,
@@ -37,16 +37,16 @@ struct Node {
     row: Row,
     height: u32,
     start: u64,
-    place: Place,
+    standing: Standing,
 }
 
 impl Node {
     /// The fewest entries or children that it may have.
     fn least(self) -> usize {
-        match (self.place, self.height) {
-            (Place::Inside, 1) => 6,
-            (Place::Inside, _) => 4,
-            (Place::Root, 2..) => 2,
+        match (self.standing, self.height) {
+            (Standing::Inside, 1) => 6,
+            (Standing::Inside, _) => 4,
+            (Standing::Root, 2..) => 2,
             _ => 1,
         }
     }
@@ -56,16 +56,16 @@ impl Node {
         requires { 1 ≤ self.height }
         ensures { result.height + 1 ≡ self.height }
     {
-        let place = if !is_last || self.place == Place::Inside {
-            Place::Inside
+        let standing = if !is_last || self.standing == Standing::Inside {
+            Standing::Inside
         } else {
-            Place::Edge
+            Standing::Edge
         };
         Node {
             row,
             height: self.height - 1,
             start,
-            place,
+            standing,
         }
     }
 }
@@ -88,7 +88,7 @@ pub(super) fn check_tree<R: Abort>(
         row: tree.root,
         height: tree.height,
         start: 0,
-        place: Place::Root,
+        standing: Standing::Root,
     };
     let mut listed = Listed {
         entries: Vec::new(alloc),

@@ -1,9 +1,9 @@
 //! Stores of drawn spans, which make a tree grow and shrink.
-ghost use Rattle.std.specs.Prelude.{◌<◌, ◌≤◌};
 
 use super::bench::Bench;
 use super::layout::check_tree;
 use super::pages::Pages;
+use draws::Draws;
 use mm_types::{NoMemory, Page, Slot, Span};
 
 /// How many stores are made.
@@ -12,44 +12,27 @@ const STORES: u32 = 3000;
 /// The pages of the tree: enough that areas of a few pages make it 4 levels high.
 const LIMIT: u64 = 1500;
 
-/// Numbers that follow from a seed, by a linear congruence.
-#[derive(Drop)]
-struct Generator(u64);
-
-impl Generator {
-    fn below(&mut self, bound: u64) -> u64
-        requires { 1 ≤ bound }
-        ensures { result < bound }
-    {
-        self.0 = self
-            .0
-            .wrapping_mul(6364136223846793005)
-            .wrapping_add(1442695040888963407);
-        (self.0 >> 33) % bound
+/// The span of a store, which may be empty: of 1,000 stores the first 900 have up to 2 pages, and the others any number.
+fn drawn_span(draws: &mut Draws, number: u32) -> Span {
+    let lo = draws.below(LIMIT);
+    let rest = LIMIT - lo;
+    let most = if number % 1000 < 900 {
+        rest.min(2)
+    } else {
+        rest
+    };
+    Span {
+        lo,
+        hi: lo + draws.below(most + 1),
     }
+}
 
-    /// The span of a store, which may be empty: of 1,000 stores the first 900 have up to 2 pages, and the others any number.
-    fn span(&mut self, number: u32) -> Span {
-        let lo = self.below(LIMIT);
-        let rest = LIMIT - lo;
-        let most = if number % 1000 < 900 {
-            rest.min(2)
-        } else {
-            rest
-        };
-        Span {
-            lo,
-            hi: lo + self.below(most + 1),
-        }
-    }
-
-    /// A slot of its own for each store, or none for one of eight.
-    fn slot(&mut self, number: u32) -> Option<Slot> {
-        if self.below(8) == 0 {
-            None
-        } else {
-            Some(Slot(number))
-        }
+/// A slot of its own for each store, or none for one of eight.
+fn drawn_slot(draws: &mut Draws, number: u32) -> Option<Slot> {
+    if draws.below(8) == 0 {
+        None
+    } else {
+        Some(Slot(number))
     }
 }
 
@@ -63,11 +46,11 @@ fn drawn_stores_keep_the_layout(rt: HostRuntime) -> Result<(), NoMemory> {
     let mut pages = Pages::new(rt.alloc(), LIMIT)?;
     // Tree 0 has no entries, and an empty span would leave it so.
     assert!(rt; bench.store(Span { lo: 0, hi: LIMIT }, None));
-    let mut generator = Generator(1);
+    let mut draws = Draws::new(1);
     let mut met = [false; 6];
     for number in 0..STORES {
-        let span = generator.span(number);
-        let slot = generator.slot(number);
+        let span = drawn_span(&mut draws, number);
+        let slot = drawn_slot(&mut draws, number);
         assert_eq!(rt;
             bench.store(span, slot),
             span.lo < span.hi,

@@ -5,6 +5,7 @@ ghost use Rattle.std.specs.Prelude.{◌≡◌, ◌≤◌, ◌<◌, length, sum};
 use super::playing::{Step, judge, play_all};
 use super::{READ, READ_WRITE, config};
 use crate::Ready;
+use draws::Draws;
 use mm_types::{
     Access, Call, MAP_ANONYMOUS, MAP_FIXED, MAP_GROWSDOWN, MAP_PRIVATE, MmapArgs, NoMemory, Page,
 };
@@ -27,40 +28,33 @@ const FIRST: u64 = 0x20;
 /// Private anonymous memory at a fixed address.
 const FIXED: u32 = MAP_PRIVATE | MAP_ANONYMOUS | MAP_FIXED;
 
-/// Numbers that follow from a seed, by a linear congruence; the pages that are used, and the flags of a mapping.
+/// What makes the operations, by numbers that follow from a seed: how many pages are used, and the flags of a mapping.
 #[derive(Drop)]
 struct Generator {
-    seed: u64,
+    draws: Draws,
     pages: u64,
     flags: u32,
     ghost some: { (1 ≤ pages) × (pages ≤ 32) },
 }
 
 impl Generator {
-    fn below(&mut self, bound: u64) -> u64
-        requires { 1 ≤ bound }
-        ensures { result < bound }
-    {
-        self.seed = self
-            .seed
-            .wrapping_mul(6364136223846793005)
-            .wrapping_add(1442695040888963407);
-        (self.seed >> 33) % bound
-    }
-
     /// One of the pages.
     fn page(&mut self) -> u64
         ensures { result < 64 }
     {
         let pages = self.pages;
-        FIRST + self.below(pages)
+        FIRST + self.draws.below(pages)
     }
 
     fn mmap(&mut self) -> Call {
         Call::Mmap(MmapArgs {
             addr: 4096 * self.page(),
-            len: 4096 * self.below(4),
-            prot: if self.below(2) == 0 { READ } else { READ_WRITE },
+            len: 4096 * self.draws.below(4),
+            prot: if self.draws.chance() {
+                READ
+            } else {
+                READ_WRITE
+            },
             flags: self.flags,
             fd: -1,
             offset: 0,
@@ -75,7 +69,7 @@ impl Generator {
     }
 
     fn step(&mut self) -> Step {
-        match self.below(8) {
+        match self.draws.below(8) {
             0 | 1 => Step::Call(self.mmap()),
             2 => Step::Call(self.munmap()),
             3 => Step::Call(Call::Mprotect {
@@ -95,7 +89,11 @@ fn scripts(alloc: Global, callers: u64, pages: u64, flags: u32) -> Result<Vec<Ve
 {
     let mut scripts = Vec::new(alloc);
     for seed in 0..callers {
-        let mut generator = Generator { seed, pages, flags };
+        let mut generator = Generator {
+            draws: Draws::new(seed),
+            pages,
+            flags,
+        };
         let mut steps = Vec::with_capacity(alloc, OPERATIONS)?;
         for _ in 0..OPERATIONS {
             steps.push(generator.step())?;

@@ -97,7 +97,7 @@ fn compare_space<R: Abort + Wait>(
 
 #[test]
 fn calls_do_as_the_model(rt: HostRuntime) -> Result<(), Fail> {
-    let mut generator = Generator(1);
+    let mut generator = Generator::new(1);
     for _ in 0..30 {
         compare_space(&rt, rt.alloc(), &mut generator)?;
     }

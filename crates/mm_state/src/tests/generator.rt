@@ -1,42 +1,34 @@
 //! Generated calls of every kind on few pages, so that areas split, touch, join, move, grow and are sealed.
 
+use draws::Draws;
 use mm_types::{Access, Call, MmapArgs, Page, Prot};
 
-/// Numbers that follow from a seed, by a linear congruence.
+/// What makes the calls, by numbers that follow from a seed.
 #[derive(Drop)]
-pub(super) struct Generator(pub(super) u64);
+pub(super) struct Generator {
+    draws: Draws,
+}
 
 impl Generator {
-    ghost use Rattle.std.specs.Prelude.{◌≤◌, ◌<◌};
-
-    fn below(&mut self, bound: u64) -> u64
-        requires { 1 ≤ bound }
-        ensures { result < bound }
-    {
-        self.0 = self
-            .0
-            .wrapping_mul(6364136223846793005)
-            .wrapping_add(1442695040888963407);
-        (self.0 >> 33) % bound
-    }
-
-    fn chance(&mut self) -> bool {
-        self.below(2) == 0
+    pub(super) fn new(seed: u64) -> Generator {
+        Generator {
+            draws: Draws::new(seed),
+        }
     }
 
     /// An address on few pages: the heap and most areas begin at the lowest or above.
     fn address(&mut self) -> u64 {
-        4096 * (14 + self.below(28))
+        4096 * (14 + self.draws.below(28))
     }
 
     fn length(&mut self) -> u64 {
-        4096 * self.below(7)
+        4096 * self.draws.below(7)
     }
 
     fn prot(&mut self) -> Prot {
         Prot {
-            read: self.chance(),
-            write: self.chance(),
+            read: self.draws.chance(),
+            write: self.draws.chance(),
             exec: false,
         }
     }
@@ -45,14 +37,18 @@ impl Generator {
         let flags = [
             0x22, 0x21, 0x32, 0x12, 0x1, 0x2, 0x10_0022, 0x31, 0x122, 0x132, 0x121, 0x102,
         ];
-        let place = self.below(12) as usize;
+        let place = self.draws.below(12) as usize;
         Call::Mmap(MmapArgs {
-            addr: if self.chance() { 0 } else { self.address() },
+            addr: if self.draws.chance() {
+                0
+            } else {
+                self.address()
+            },
             len: self.length(),
             prot: self.prot(),
             flags: flags[place],
-            fd: if self.chance() { 3 } else { 4 },
-            offset: 4096 * self.below(3),
+            fd: if self.draws.chance() { 3 } else { 4 },
+            offset: 4096 * self.draws.below(3),
         })
     }
 
@@ -61,7 +57,7 @@ impl Generator {
             old: self.address(),
             old_len: self.length(),
             new_len: self.length(),
-            flags: self.below(4) as u32,
+            flags: self.draws.below(4) as u32,
             new: self.address(),
         }
     }
@@ -69,7 +65,7 @@ impl Generator {
     /// A page, and an access to it.
     pub(super) fn fault(&mut self) -> (Page, Access) {
         let page = Page(self.address() / 4096);
-        let access = match self.below(3) {
+        let access = match self.draws.below(3) {
             0 => Access::Read,
             1 => Access::Write,
             _ => Access::Exec,
@@ -84,7 +80,7 @@ impl Generator {
 
     /// A call: one in 32 seals.
     pub(super) fn call(&mut self) -> Call {
-        match self.below(32) {
+        match self.draws.below(32) {
             0 => Call::Mseal {
                 addr: self.address(),
                 len: self.length(),

@@ -3,7 +3,7 @@ ghost use Rattle.std.specs.Prelude.{◌≡◌, ◌≤◌, []};
 ghost use Rattle.maple_node.specs.Words.{slot_word};
 ghost use Rattle.node_slots.specs.Opening.{IsFreeFrom};
 ghost use Rattle.node_slots.specs.Seats.{Writes, sight, free_of, left_of, row_count};
-ghost use Rattle.node_slots.specs.Leaves.{IsOneLeaf};
+ghost use Rattle.node_slots.specs.Internal.Leaves.{IsOneLeaf};
 
 use crate::{NodeTable, NodeWriter};
 use maple_node::Layout;

@@ -1,6 +1,6 @@
 //! A reader with a handle of its table: what a thread is given.
 ghost use Rattle.node_slots.specs.Seats.{IsOf, IsClosed};
-ghost use Rattle.node_slots.specs.Leaves.{AreBeside, IsInside};
+ghost use Rattle.node_slots.specs.Internal.Leaves.{AreBeside, IsInside};
 
 use crate::{NodeSeat, NodeTable, NodeWriter};
 use maple_node::Root;

@@ -1,6 +1,7 @@
 //! Searches of a tree of spans and slots: free pages, and the areas beside a page.
 ghost use Rattle.std.specs.Prelude.{◌≡◌, ◌≤◌, MatchOption};
-ghost use Rattle.maple_gap.specs.Gaps.{fits, IsGreatest, IsLeast, NonePasses, first_from, last_before, slot_in};
+ghost use Rattle.mm_types.specs.Searches.{IsGreatest, IsLeast, NonePasses};
+ghost use Rattle.maple_gap.specs.Gaps.{fits, first_from, last_before, slot_in};
 
 use super::SpanTree;
 use maple_gap::{before_slot, highest, lowest, next_slot};

@@ -1,7 +1,7 @@
 //! Trees of a few spans, with a reader.
 ghost use Rattle.std.specs.Prelude.{◌≡◌, ◌<◌, ◌≤◌, ◌^◌, ℕ, false, [], ◌∷◌, IfOk, IfSome, slice_get, Some};
 ghost use Rattle.node_slots.specs.Seats.{IsOf, IsClosed};
-ghost use Rattle.span_tree.specs.Tests.{IsStill, few_pairs};
+ghost use Rattle.span_tree.specs.Internal.Tests.{IsStill, few_pairs};
 
 use super::SpanTree;
 use crate::call::OpenCall;

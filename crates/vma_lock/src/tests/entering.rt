@@ -9,7 +9,7 @@ ghost use Rattle.lock_core.specs.Rows.{is_detached};
 ghost use Rattle.vma_lock.specs.Views.{mark_at};
 ghost use Rattle.area_rules.specs.Journals.{calls_by};
 ghost use Rattle.vma_lock.specs.Seats.{slots_of, IsOf, Writes, view, seen, HasTurn, sight, journal, slots, stage, IsHeld, IsOpen, IsClosed};
-ghost use Rattle.vma_lock.specs.Small.{AreFree, ShowsOne, IsMarking};
+ghost use Rattle.vma_lock.specs.Internal.Small.{AreFree, ShowsOne, IsMarking};
 
 use crate::{ReaderSeat, VmaTable, WriterSeat};
 use mm_types::{AreaList, Entry, Record, Slot, pack};

@@ -4,7 +4,7 @@ ghost use Rattle.mm_types.specs.Config.{IsValidConfig};
 ghost use Rattle.lock_core.specs.declared.stage.Stage.TheVariants.{Out};
 ghost use Rattle.vma_lock.specs.Views.{opened_view};
 ghost use Rattle.vma_lock.specs.Seats.{IsOf, Writes, HasTurn, IsHeld, stage, sight};
-ghost use Rattle.vma_lock.specs.Small.{AreBeside};
+ghost use Rattle.vma_lock.specs.Internal.Small.{AreBeside};
 
 use crate::{ReaderSeat, VmaTable, WriterSeat};
 use mm_types::{Config, NoMemory, Slot};
@@ -20,7 +20,7 @@ pub(super) struct Seated {
 
 /// What a validating look shows: how many entries the journal had, and the row of the first slot.
 #[derive(Clone, Copy, Debug, PartialEq, Eq)]
-pub(super) struct Shown {
+pub(super) struct ShownSlot {
     pub(super) version: u64,
     pub(super) row: [u64; 4],
 }
@@ -53,7 +53,7 @@ impl Seated {
     }
 
     /// Looks at the first slot, and answers what the look shows where it validates.
-    pub(super) fn read(&mut self) -> Option<Shown> {
+    pub(super) fn read(&mut self) -> Option<ShownSlot> {
         let found = self.table.add(&mut self.seat, Slot(0));
         let seq = self.table.look(&mut self.seat);
         if found == seq {
@@ -62,7 +62,7 @@ impl Seated {
         }
         let row = self.table.read_row(&mut self.seat);
         self.table.sub(&mut self.seat);
-        Some(Shown {
+        Some(ShownSlot {
             version: seq / 2 - 1,
             row,
         })

@@ -1,7 +1,7 @@
 //! An address space of at most one area, in slot 0 of a table: what would lie under a lock.
 ghost use Rattle.std.specs.Prelude.{◌≡◌};
 ghost use Rattle.vma_lock.specs.Seats.{sight};
-ghost use Rattle.vma_lock.specs.Small.{IsSmall};
+ghost use Rattle.vma_lock.specs.Internal.Small.{IsSmall};
 
 use super::entering::{enter, row_of};
 use crate::{ReaderSeat, VmaTable, WriterSeat};

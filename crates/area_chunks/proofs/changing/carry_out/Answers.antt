@@ -2,8 +2,8 @@
 use Rattle.std.proofs.Common.{length, subst, sym, ap, arith}
 use Rattle.split_merge.specs.Plans.{olds_of}
 use Rattle.split_merge.proofs.Counting.{length-applied}
-use Rattle.area_chunks.specs.BinarySearch.{BeginsRise}
-use Rattle.area_chunks.specs.Chunks.{areas_of}
+use Rattle.area_chunks.specs.Internal.BinarySearch.{BeginsRise}
+use Rattle.area_chunks.specs.Internal.Chunks.{areas_of}
 use Rattle.area_chunks.proofs.Going.{ascend_without}
 use Rattle.area_chunks.proofs.Ranging.{rise_from_ascend}
 use Rattle.area_chunks.proofs.changing.carry_out.Goals as goal

@@ -1,7 +1,7 @@
 -- For `insert_new` of changing.rt: its goals.
 use Rattle.std.proofs.Common.{subst, sym, ◌∙◌}
-use Rattle.area_chunks.specs.BinarySearch.{BeginsRise}
-use Rattle.area_chunks.specs.Chunks.{areas_of}
+use Rattle.area_chunks.specs.Internal.BinarySearch.{BeginsRise}
+use Rattle.area_chunks.specs.Internal.Chunks.{areas_of}
 use Rattle.area_chunks.proofs.Coming.{insert_rises}
 use Rattle.area_chunks.proofs.Going.{insert_is}
 use Rattle.area_chunks.proofs.changing.insert_new.Goals as goal

@@ -1,8 +1,8 @@
 -- For `insert_news` of changing.rt: what its loop keeps.
 use Rattle.std.proofs.Common.{◌≡◌, ◌≤◌, ◌+◌, length, drop, vec_capacity}
 use Rattle.split_merge.specs.Plans.{news_of, with_all}
-use Rattle.area_chunks.specs.BinarySearch.{BeginsRise}
-use Rattle.area_chunks.specs.Chunks.{areas_of}
+use Rattle.area_chunks.specs.Internal.BinarySearch.{BeginsRise}
+use Rattle.area_chunks.specs.Internal.Chunks.{areas_of}
 use Rattle.area_chunks.specs.Stored.{IsSane}
 use Rattle.area_chunks.proofs.changing.insert_news.Given as goal
 

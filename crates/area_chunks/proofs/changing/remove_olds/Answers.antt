@@ -1,8 +1,8 @@
 -- For `remove_olds` of changing.rt: its goals.
 use Rattle.std.proofs.Common.{◌-◌, drop, subst, sym, ◌∙◌, arith}
 use Rattle.split_merge.specs.Plans.{olds_of}
-use Rattle.area_chunks.specs.BinarySearch.{BeginsAscend}
-use Rattle.area_chunks.specs.Chunks.{areas_of}
+use Rattle.area_chunks.specs.Internal.BinarySearch.{BeginsAscend}
+use Rattle.area_chunks.specs.Internal.Chunks.{areas_of}
 use Rattle.area_chunks.proofs.Going.{ascend_without}
 use Rattle.area_chunks.proofs.Leaving.{there_in, gone_in}
 use Rattle.area_chunks.proofs.changing.remove_olds.Goals as goal

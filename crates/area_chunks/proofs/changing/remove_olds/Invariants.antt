@@ -1,7 +1,7 @@
 -- For `remove_olds` of changing.rt: what its loop keeps.
 use Rattle.std.proofs.Common.{◌≡◌, ◌≤◌, length, drop, vec_capacity}
 use Rattle.split_merge.specs.Plans.{olds_of, without}
-use Rattle.area_chunks.specs.Chunks.{areas_of}
+use Rattle.area_chunks.specs.Internal.Chunks.{areas_of}
 use Rattle.area_chunks.specs.Stored.{IsSane}
 use Rattle.area_chunks.proofs.changing.remove_olds.Given as goal
 

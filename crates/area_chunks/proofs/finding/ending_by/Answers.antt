@@ -2,7 +2,7 @@
 use Rattle.std.proofs.Common.{List, nat_le, rules, tests}
 use Rattle.std.proofs.lemmas.List.Sorted.{IsPartitionPoint-from_clause, IsPartitionedBy-leb}
 use Rattle.mm_types.specs.declared.area.Record.{Record}
-use Rattle.area_chunks.specs.Chunks.{high_of}
+use Rattle.area_chunks.specs.Internal.Chunks.{high_of}
 use Rattle.area_chunks.proofs.Among.{highs_ordered}
 use Rattle.area_chunks.proofs.Fronting.{prefix_from_partition}
 use Rattle.area_chunks.proofs.finding.ending_by.Goals as goal

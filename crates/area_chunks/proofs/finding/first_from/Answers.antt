@@ -2,7 +2,7 @@
 use Rattle.std.proofs.Common.{[], sym, ap, ◌∙◌, subst}
 use Rattle.std.proofs.lemmas.List.{get_or_read}
 use Rattle.split_merge.specs.Finding.{first_from}
-use Rattle.area_chunks.specs.Gaps.{IsAscending}
+use Rattle.area_chunks.specs.Internal.Gaps.{IsAscending}
 use Rattle.area_chunks.proofs.Among.{ascending_at, found_from, none_found_from}
 use Rattle.area_chunks.proofs.finding.first_from.Goals as goal
 

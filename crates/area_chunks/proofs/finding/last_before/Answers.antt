@@ -2,7 +2,7 @@
 use Rattle.std.proofs.Common.{◌<◌, ◌-◌, [], length, sym, ap, ◌∙◌, subst, arith}
 use Rattle.std.proofs.lemmas.List.{get_or_read}
 use Rattle.split_merge.specs.Finding.{last_before}
-use Rattle.area_chunks.specs.Gaps.{IsAscending}
+use Rattle.area_chunks.specs.Internal.Gaps.{IsAscending}
 use Rattle.area_chunks.proofs.Among.{ascending_at, found_before, none_found_before}
 use Rattle.area_chunks.proofs.finding.last_before.Goals as goal
 

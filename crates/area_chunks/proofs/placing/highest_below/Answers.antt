@@ -7,8 +7,8 @@ use Rattle.mm_types.specs.declared.area.Record.{Record}
 use Rattle.area_list.proofs.Elements.{Each-weaker}
 use Rattle.area_rules.proofs.Placing.{fits_false}
 use Rattle.area_rules.specs.Placement.{is_free}
-use Rattle.area_chunks.specs.Chunks.{areas_of}
-use Rattle.area_chunks.specs.Gaps.{IsAscending, HasScannedDown}
+use Rattle.area_chunks.specs.Internal.Chunks.{areas_of}
+use Rattle.area_chunks.specs.Internal.Gaps.{IsAscending, HasScannedDown}
 use Rattle.area_chunks.proofs.Among.{ascending_at, begins_after}
 use Rattle.area_chunks.proofs.Rooms.{above_more, answer_below, free_below, room_below, taken_at}
 use Rattle.area_chunks.proofs.Searching.{highest_none}

@@ -2,7 +2,7 @@
 use Rattle.std.proofs.Common.{◌≡◌, ℕ, ◌+◌, ◌<◌, ◌≤◌, false, length, drop}
 use Rattle.std.specs.List.{AllByRecursion as Each}
 use Rattle.area_rules.specs.Placement.{is_free}
-use Rattle.area_chunks.specs.Chunks.{areas_of}
+use Rattle.area_chunks.specs.Internal.Chunks.{areas_of}
 use Rattle.area_chunks.proofs.placing.highest_below.Given as goal
 
 -- no place whose pages end past the end is free, and no area of the chunks that were looked at begins below it

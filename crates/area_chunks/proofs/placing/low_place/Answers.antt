@@ -7,8 +7,8 @@ use Rattle.mm_types.specs.declared.area.Record.{Record}
 use Rattle.area_list.proofs.Elements.{Each-weaker}
 use Rattle.area_rules.proofs.Placing.{fits_false, low_none}
 use Rattle.area_rules.specs.Placement.{is_free}
-use Rattle.area_chunks.specs.Chunks.{areas_of}
-use Rattle.area_chunks.specs.Gaps.{IsAscending, HasScannedUp}
+use Rattle.area_chunks.specs.Internal.Chunks.{areas_of}
+use Rattle.area_chunks.specs.Internal.Gaps.{IsAscending, HasScannedUp}
 use Rattle.area_chunks.proofs.Among.{ascending_at, ends_before}
 use Rattle.area_chunks.proofs.Rooms.{answer_above, below_more, free_above, room_above, taken_at}
 use Rattle.area_chunks.proofs.placing.low_place.Goals as goal

@@ -3,7 +3,7 @@ use Rattle.std.proofs.Common.{◌≡◌, ℕ, ◌-◌, ◌<◌, ◌≤◌, max, 
 use Rattle.std.specs.List.{AllByRecursion as Each}
 use Rattle.area_rules.specs.declared.placement.TheConstants.{FLOOR}
 use Rattle.area_rules.specs.Placement.{is_free}
-use Rattle.area_chunks.specs.Chunks.{areas_of}
+use Rattle.area_chunks.specs.Internal.Chunks.{areas_of}
 use Rattle.area_chunks.proofs.placing.low_place.Given as goal
 
 -- no place from the floor on before the start is free, and no area of the chunks that were looked at ends above it

@@ -3,7 +3,7 @@ use Rattle.std.proofs.Common.{ℕ, ◌≡◌, ◌≤◌, ◌+◌, ◌-◌, List,
 use Rattle.std.proofs.lemmas.List.{take_all}
 use Rattle.mm_types.specs.declared.area.Record.{Record}
 use Rattle.area_list.specs.Areas.{OfFirst}
-use Rattle.area_chunks.specs.Gaps.{HasGapsUpTo}
+use Rattle.area_chunks.specs.Internal.Gaps.{HasGapsUpTo}
 use Rattle.area_chunks.proofs.scanning.widest_gap.Goals as goal
 
 wider : (area : Record) (gap bound : ℕ) (rest : List Record) → gap ≤ bound → OfFirst (λ next. next.span.lo ≤ area.span.hi + gap) rest

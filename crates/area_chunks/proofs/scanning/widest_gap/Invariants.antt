@@ -1,6 +1,6 @@
 -- For `widest_gap`: what its loop keeps.
 use Rattle.std.proofs.Common.{ℕ, ◌≤◌, length}
-use Rattle.area_chunks.specs.Gaps.{HasGapsUpTo}
+use Rattle.area_chunks.specs.Internal.Gaps.{HasGapsUpTo}
 use Rattle.area_chunks.proofs.scanning.widest_gap.Given as goal
 
 -- the gaps of the list are no wider than a bound of those so far, where those of the rest are not

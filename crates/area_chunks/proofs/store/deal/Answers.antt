@@ -4,7 +4,7 @@ use Rattle.std.proofs.lemmas.Bool.Decides.{nat_tests}
 use Rattle.std.proofs.lemmas.List.{append-nil, take-append-drop}
 use Rattle.std.proofs.lemmas.List.Elements.{All-append, All-cons, All-nil}
 use Rattle.mm_types.specs.declared.area.Record.{Record}
-use Rattle.area_chunks.specs.Chunks.{areas_of, IsFilled}
+use Rattle.area_chunks.specs.Internal.Chunks.{areas_of, IsFilled}
 use Rattle.area_chunks.proofs.Parting.{areas_of-append}
 use Rattle.area_chunks.proofs.store.deal.Goals as goal
 

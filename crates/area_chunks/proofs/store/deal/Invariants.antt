@@ -1,6 +1,6 @@
 -- For `deal`: what its loop keeps.
 use Rattle.std.proofs.Common.{◌≡◌, ◌<◌, ◌+◌, ◌*◌, ◌++◌, length, All, vec_len, vec_capacity}
-use Rattle.area_chunks.specs.Chunks.{areas_of, IsFilled}
+use Rattle.area_chunks.specs.Internal.Chunks.{areas_of, IsFilled}
 use Rattle.area_chunks.proofs.store.deal.Given as goal
 
 -- with the rest, the chunks have all areas, and they are half full while there is a rest

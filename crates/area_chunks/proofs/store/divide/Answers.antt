@@ -4,7 +4,7 @@ use Rattle.std.specs.Result.{is_ok}
 use Rattle.std.proofs.lemmas.Bool.{cond-true}
 use Rattle.std.proofs.lemmas.List.{get_or_read, take_rest, take-append-drop}
 use Rattle.mm_types.specs.declared.area.Record.{Record}
-use Rattle.area_chunks.specs.Chunks.{areas_of, IsFilled}
+use Rattle.area_chunks.specs.Internal.Chunks.{areas_of, IsFilled}
 use Rattle.area_chunks.proofs.Filling.{divided_areas, divided_filled, lower_filled, upper_filled}
 use Rattle.area_chunks.proofs.store.divide.Goals as goal
 

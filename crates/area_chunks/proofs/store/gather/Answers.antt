@@ -1,7 +1,7 @@
 -- For `gather` of store.rt: its goals.
 use Rattle.std.proofs.Common.{◌≡◌, ◌++◌, [], length, take, ap, ◌∙◌, sym, arith}
 use Rattle.std.proofs.lemmas.List.{get_or_read}
-use Rattle.area_chunks.specs.Chunks.{areas_of}
+use Rattle.area_chunks.specs.Internal.Chunks.{areas_of}
 use Rattle.area_chunks.proofs.Parting.{areas_more, areas_within}
 use Rattle.area_chunks.proofs.store.gather.Goals as goal
 

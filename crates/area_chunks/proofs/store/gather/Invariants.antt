@@ -1,6 +1,6 @@
 -- For `gather`: the areas of the chunks so far are there.
 use Rattle.std.proofs.Common.{◌≡◌, take, vec_capacity}
-use Rattle.area_chunks.specs.Chunks.{areas_of}
+use Rattle.area_chunks.specs.Internal.Chunks.{areas_of}
 use Rattle.area_chunks.proofs.store.gather.Given as goal
 
 abbrev pub invariant-loop-chunk : goal.invariant-loop-chunk

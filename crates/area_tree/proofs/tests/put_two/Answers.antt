@@ -1,6 +1,6 @@
 -- For `put_two`: each of the areas has pages and a slot that the other has not.
 use Rattle.std.proofs.Common.{[], ◌∷◌}
-use Rattle.area_tree.specs.Tests.{shown_pages}
+use Rattle.area_tree.specs.Internal.Tests.{shown_pages}
 use Rattle.area_tree.proofs.Holding.{first_insert, second_insert, holds_more}
 use Rattle.area_tree.proofs.tests.put_two.Goals as goal
 

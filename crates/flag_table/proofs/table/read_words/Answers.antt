@@ -6,15 +6,15 @@ use Rattle.std.proofs.lemmas.List.{map_push}
 use Rattle.flag_table.specs.Kinds.{table_of}
 use Rattle.flag_table.specs.Tables.{words_of}
 use Rattle.flag_table.specs.Reading.{fault_of, read_words}
-use Rattle.flag_table.specs.declared.fault.NameFault.{NameFault}
-use Rattle.flag_table.specs.declared.fault.NameFault.TheVariants.{Unknown, Twice}
+use Rattle.flag_table.specs.declared.error.NameError.{NameError}
+use Rattle.flag_table.specs.declared.error.NameError.TheVariants.{Unknown, Twice}
 use Rattle.flag_table.proofs.Sound.{table_of-sound}
 use Rattle.flag_table.proofs.Words.{AreRead, AreRead-push, fault_of-Unknown, fault_of-Twice, read_words-bad, read_words-good, Gives-NoMemory}
 use Rattle.flag_table.proofs.table.read_words.Goals as goal
 use Rattle.flag_table.proofs.table.read_words.Goals.{In-Some}
 
 -- the fault of this word, after good ones, is what is read
-bad_word : (c : In-Some) (fault : NameFault)
+bad_word : (c : In-Some) (fault : NameError)
     → fault_of (table_of c.args.kind).rows (map (λ (w : Bor (List ℕ)). w.now) c.loop-word.yielded) c.in-Some.word.now
     ≡ Some fault
     → read_words (table_of c.args.kind).rows (words_of c.args.text.now) ≡ Err fault

@@ -1,6 +1,6 @@
 -- What the loop of `marked` keeps: the rows so far are marked.
 use Rattle.std.proofs.Common.{◌≡◌, length, take}
-use Rattle.grace_core.specs.Trees.{AreMarks}
+use Rattle.grace_core.specs.Internal.Trees.{AreMarks}
 use Rattle.grace_core.proofs.tree.marked.Given as goal
 
 abbrev pub invariant-loop-row : goal.invariant-loop-row

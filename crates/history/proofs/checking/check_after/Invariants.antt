@@ -1,5 +1,5 @@
 -- The proof of `check_after`: what its loop keeps.
-use Rattle.history.specs.Walks.{IsWalked}
+use Rattle.history.specs.Internal.Walks.{IsWalked}
 use Rattle.history.proofs.checking.check_after.Given as goal
 
 abbrev pub invariant-loop-place : goal.invariant-loop-place

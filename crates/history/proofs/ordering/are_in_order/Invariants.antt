@@ -1,6 +1,6 @@
 -- For `are_in_order`: the places so far do not fall, up to the last.
 use Rattle.std.proofs.Common.{◌≤◌, take, All}
-use Rattle.stable_sort.proofs.Sorting.{Rises}
+use Rattle.mm_types.proofs.Sorting.{Rises}
 use Rattle.history.specs.Runs.{place_key}
 use Rattle.history.proofs.ordering.are_in_order.Given as goal
 

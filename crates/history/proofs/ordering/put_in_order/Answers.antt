@@ -2,7 +2,7 @@
 use Rattle.std.proofs.Common.{◌≡◌, rules}
 use Rattle.std.proofs.lemmas.List.Sorted.{answers_always}
 use Rattle.mm_types.specs.Sorts.{sort_by}
-use Rattle.stable_sort.proofs.Sorting.{sort_by-from_stable}
+use Rattle.mm_types.proofs.Sorting.{sort_by-from_stable}
 use Rattle.history.specs.Runs.{place_key}
 use Rattle.history.proofs.Orders.{sort_gathers, sort_in_order}
 use Rattle.history.proofs.ordering.put_in_order.Goals as goal

@@ -4,7 +4,7 @@ use Rattle.std.specs.List.{filter}
 use Rattle.std.proofs.lemmas.Grind.{common_steps}
 use Rattle.std.proofs.lemmas.List.Sorted.{answers_always}
 use Rattle.mm_types.specs.Sorts.{sort_by}
-use Rattle.stable_sort.proofs.Sorting.{sort_by-from_stable}
+use Rattle.mm_types.proofs.Sorting.{sort_by-from_stable}
 use Rattle.lock_core.specs.Rows.{is_detached}
 use Rattle.lock_core.specs.Refusals.{first_page}
 use Rattle.lock_core.proofs.rows.sorted_rows.Goals as goal

@@ -7,7 +7,7 @@ use Rattle.maple_items.specs.Splices.{upto}
 use Rattle.maple_items.proofs.Lists.{upto_below}
 use Rattle.node_slots.specs.Built.{words_at}
 use Rattle.maple_gap.specs.Gaps.{last_before, slot_in}
-use Rattle.maple_gap.specs.Searches.{entries_under}
+use Rattle.maple_gap.specs.Internal.Searches.{entries_under}
 use Rattle.maple_gap.proofs.Under.{under_past}
 use Rattle.maple_gap.proofs.Searching.{entries_of_root}
 use Rattle.maple_gap.proofs.Neighbours.{word_of_found, before_none, before_here, before_first, before_gap, edge_of}

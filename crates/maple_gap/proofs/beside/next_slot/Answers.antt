@@ -3,7 +3,7 @@ use Rattle.std.proofs.Common.{List, sym, ap, ◌∙◌, arith}
 use Rattle.maple_node.specs.Trees.{Pair}
 use Rattle.node_slots.specs.Built.{words_at}
 use Rattle.maple_gap.specs.Gaps.{first_from, slot_in}
-use Rattle.maple_gap.specs.Searches.{entries_under}
+use Rattle.maple_gap.specs.Internal.Searches.{entries_under}
 use Rattle.maple_gap.proofs.Searching.{entries_of_root}
 use Rattle.maple_gap.proofs.Neighbours.{word_of_found, next_none, next_here, next_last, next_gap}
 use Rattle.maple_gap.proofs.beside.next_slot.Goals as goal

@@ -4,7 +4,7 @@ use Rattle.std.specs.Option.{option_or}
 use Rattle.maple_node.specs.Nodes.{items_of}
 use Rattle.maple_node.specs.Levels.{is_leaf}
 use Rattle.node_slots.specs.Built.{words_at}
-use Rattle.maple_gap.specs.Searches.{best_of}
+use Rattle.maple_gap.specs.Internal.Searches.{best_of}
 use Rattle.maple_gap.proofs.Rows.{node_there, node_under}
 use Rattle.maple_gap.proofs.Descents.{seen, begun, went, stuck, ended, if_spare}
 use Rattle.maple_gap.proofs.branch.descend.Goals as goal

@@ -1,7 +1,7 @@
 -- For `search`: what is sought under the root is found, or under the spare branch.
 use Rattle.std.proofs.Common.{None, sym, ap, ◌∙◌}
 use Rattle.node_slots.specs.Built.{words_at}
-use Rattle.maple_gap.specs.Searches.{best_of}
+use Rattle.maple_gap.specs.Internal.Searches.{best_of}
 use Rattle.maple_gap.proofs.Searching.{answered, no_room, found_first, found_none, spare_is}
 use Rattle.maple_gap.proofs.placing.search.Goals as goal
 

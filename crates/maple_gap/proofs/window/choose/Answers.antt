@@ -5,7 +5,7 @@ use Rattle.maple_node.specs.Nodes.{items_of}
 use Rattle.maple_items.specs.Parts.{width_of}
 use Rattle.maple_items.proofs.Parts.{listed_none, listed_past}
 use Rattle.maple_items.proofs.Spliced.{some_words}
-use Rattle.maple_gap.specs.Searches.{may_have, chosen, chosen_from, nothing_chosen}
+use Rattle.maple_gap.specs.Internal.Searches.{may_have, chosen, chosen_from, nothing_chosen}
 use Rattle.maple_gap.proofs.Choices.{chosen_next, chosen_end}
 use Rattle.maple_gap.proofs.window.choose.Goals as goal
 

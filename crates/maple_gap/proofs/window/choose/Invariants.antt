@@ -2,7 +2,7 @@
 use Rattle.std.proofs.Common.{◌≡◌, ◌≤◌, ◌-◌, drop}
 use Rattle.maple_node.specs.Nodes.{items_of}
 use Rattle.maple_items.specs.Parts.{width_of}
-use Rattle.maple_gap.specs.Searches.{nothing_chosen, chosen_from}
+use Rattle.maple_gap.specs.Internal.Searches.{nothing_chosen, chosen_from}
 use Rattle.maple_gap.proofs.window.choose.Given as goal
 
 abbrev pub invariant-loop-place : goal.invariant-loop-place

@@ -1,8 +1,8 @@
 -- For `cut`: the nodes that have the first page and the last one.
 use Rattle.std.proofs.Common.{◌-◌, List, sym, subst, arith}
 use Rattle.maple_node.specs.declared.item.Item.{Item}
-use Rattle.maple_write.specs.Tables.{table_at}
-use Rattle.maple_write.specs.Stores.{Cut}
+use Rattle.maple_write.specs.Internal.Tables.{table_at}
+use Rattle.maple_write.specs.Internal.Stores.{Cut}
 use Rattle.maple_write.proofs.Writers.{rows_counted, few_rows}
 use Rattle.maple_write.proofs.Steps.{upper_of, there_at, cut_of}
 use Rattle.maple_write.proofs.level.cut.Goals as goal

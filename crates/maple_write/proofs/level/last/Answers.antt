@@ -1,7 +1,7 @@
 -- For `last`: the node where the new items begin has their last page too, or another one has it.
 use Rattle.std.proofs.Common.{◌+◌, ◌-◌, arith}
-use Rattle.maple_write.specs.Tables.{table_at}
-use Rattle.maple_write.specs.Stores.{old_level}
+use Rattle.maple_write.specs.Internal.Tables.{table_at}
+use Rattle.maple_write.specs.Internal.Stores.{old_level}
 use Rattle.maple_write.proofs.Steps.{upper_of, item_at-same}
 use Rattle.maple_write.proofs.level.last.Goals as goal
 

@@ -4,17 +4,20 @@ use Rattle.maple_node.specs.declared.item.Item.{Item}
 use Rattle.maple_node.specs.Levels.{times, item_at}
 use Rattle.node_slots.specs.declared.view.NodeView.{NodeView}
 use Rattle.node_slots.specs.Seats.{row_count}
-use Rattle.maple_write.specs.Tables.{table_at, rows_in, gone}
-use Rattle.maple_write.specs.Stores.{old_level}
+use Rattle.maple_write.specs.Internal.Tables.{table_at, rows_in, gone}
+use Rattle.maple_write.specs.Internal.Stores.{old_level}
 use Rattle.maple_write.proofs.Writers.{few_rows, is_kept_from, left_more, free_more}
 use Rattle.maple_write.proofs.Waiting.{leave_waits}
 use Rattle.maple_write.proofs.Blocks.{block_done}
-use Rattle.maple_write.proofs.Finding.{leaves_next}
+use Rattle.maple_write.proofs.Finding.{LeavesNext, leaves_next}
 use Rattle.maple_write.proofs.Crowns.{full}
 use Rattle.maple_write.proofs.level.leave_block.Goals as goal
+use Rattle.maple_write.proofs.level.leave_block.Goals.{After-find-place}
 
-pub overflow_cast-place : goal.overflow_cast-place
-overflow_cast-place c =
+-- the node that has the page was not left before
+next_node : (c : After-find-place) → LeavesNext (old_level (table_at c.args.writer.now) c.args.old.top c.args.old.height c.args.level) c.loop-page.page
+    c.args.hi c.find-place.result.item (gone (table_at c.loop-page.writer)) (row_count c.args.writer.now)
+next_node c =
     let writer = c.args.writer.now in
     let old = c.args.old in
     let level = c.args.level in
@@ -25,61 +28,33 @@ overflow_cast-place c =
     let found : item_at c.loop-page.page items ≡ Some c.find-place.result.item =
     sym (ap (λ (v : NodeView). item_at c.loop-page.page (old_level (record { rows = v.known.desk.words; free = []; left = [] }) old.top old.height level))
     c.loop-page.invariant.view) ∙ c.find-place.ensures.item in
-    let next = leaves_next items c.loop-page.page c.args.lo c.args.hi c.find-place.result.item (gone (table_at writer)) (gone (table_at c.loop-page.writer))
-    (row_count writer) is.ascends test c.requires.edge found c.loop-page.invariant.gone_are c.requires.apart in
-    let few = few_rows writer in
+    leaves_next items c.loop-page.page c.args.lo c.args.hi c.find-place.result.item (gone (table_at writer)) (gone (table_at c.loop-page.writer))
+    (row_count writer) is.ascends test c.requires.edge found c.loop-page.invariant.gone_are c.requires.apart
+
+pub overflow_cast-place : goal.overflow_cast-place
+overflow_cast-place c =
+    let next = next_node (goal.at.overflow_cast-place c).After-find-place in
+    let few = few_rows c.args.writer.now in
     let there = next.there in
     omega arith
 
 pub leave-requires-clause-kept : goal.leave-requires-clause-kept
 leave-requires-clause-kept c =
-    let writer = c.args.writer.now in
-    let old = c.args.old in
-    let level = c.args.level in
-    let items = old_level (table_at writer) old.top old.height level in
-    let test = c.loop-page-test.true in
-    let limit = c.requires.limit in
-    let is = full (table_at writer) old.top old.height level c.requires.tower (omega arith) in
-    let found : item_at c.loop-page.page items ≡ Some c.find-place.result.item =
-    sym (ap (λ (v : NodeView). item_at c.loop-page.page (old_level (record { rows = v.known.desk.words; free = []; left = [] }) old.top old.height level))
-    c.loop-page.invariant.view) ∙ c.find-place.ensures.item in
-    let next = leaves_next items c.loop-page.page c.args.lo c.args.hi c.find-place.result.item (gone (table_at writer)) (gone (table_at c.loop-page.writer))
-    (row_count writer) is.ascends test c.requires.edge found c.loop-page.invariant.gone_are c.requires.apart in
+    let next = next_node (goal.at.leave-requires-clause-kept c).After-find-place in
     let same = ap (λ (v : NodeView). v.size.rows) c.loop-page.invariant.view in
     let there = next.there in
     is_kept_from c.loop-page.writer c.find-place.result.item.word (omega arith) next.none
 
 pub loop-page-smaller : goal.loop-page-smaller
 loop-page-smaller c =
-    let writer = c.args.writer.now in
-    let old = c.args.old in
-    let level = c.args.level in
-    let items = old_level (table_at writer) old.top old.height level in
-    let test = c.loop-page-test.true in
-    let limit = c.requires.limit in
-    let is = full (table_at writer) old.top old.height level c.requires.tower (omega arith) in
-    let found : item_at c.loop-page.page items ≡ Some c.find-place.result.item =
-    sym (ap (λ (v : NodeView). item_at c.loop-page.page (old_level (record { rows = v.known.desk.words; free = []; left = [] }) old.top old.height level))
-    c.loop-page.invariant.view) ∙ c.find-place.ensures.item in
-    let next = leaves_next items c.loop-page.page c.args.lo c.args.hi c.find-place.result.item (gone (table_at writer)) (gone (table_at c.loop-page.writer))
-    (row_count writer) is.ascends test c.requires.edge found c.loop-page.invariant.gone_are c.requires.apart in
+    let next = next_node (goal.at.loop-page-smaller c).After-find-place in
     let above = next.above in
+    let test = c.loop-page-test.true in
     omega arith
 
 pub loop-page-preserved : goal.loop-page-preserved
 loop-page-preserved c =
-    let writer = c.args.writer.now in
-    let old = c.args.old in
-    let level = c.args.level in
-    let items = old_level (table_at writer) old.top old.height level in
-    let test = c.loop-page-test.true in
-    let limit = c.requires.limit in
-    let is = full (table_at writer) old.top old.height level c.requires.tower (omega arith) in
-    let found : item_at c.loop-page.page items ≡ Some c.find-place.result.item =
-    sym (ap (λ (v : NodeView). item_at c.loop-page.page (old_level (record { rows = v.known.desk.words; free = []; left = [] }) old.top old.height level))
-    c.loop-page.invariant.view) ∙ c.find-place.ensures.item in
-    let next = leaves_next items c.loop-page.page c.args.lo c.args.hi c.find-place.result.item (gone (table_at writer)) (gone (table_at c.loop-page.writer))
-    (row_count writer) is.ascends test c.requires.edge found c.loop-page.invariant.gone_are c.requires.apart in
+    let next = next_node (goal.at.loop-page-preserved c).After-find-place in
     let more = free_more c.loop-page.writer c.leave.new.writer c.find-place.result.item.word c.leave.ensures.free in
     let before = c.loop-page.invariant.free in
     record {

@@ -3,8 +3,8 @@ use Rattle.std.proofs.Common.{◌-◌, ◌≡◌, ◌≤◌, ◌+◌, ℕ, lengt
 use Rattle.maple_node.specs.Levels.{times}
 use Rattle.maple_items.specs.Splices.{upto, beyond}
 use Rattle.node_slots.specs.Seats.{Writes, sight, free_of, is_waiting}
-use Rattle.maple_write.specs.Tables.{table_at, rows_in, gone}
-use Rattle.maple_write.specs.Stores.{old_level}
+use Rattle.maple_write.specs.Internal.Tables.{table_at, rows_in, gone}
+use Rattle.maple_write.specs.Internal.Stores.{old_level}
 use Rattle.maple_write.proofs.level.leave_block.Given as goal
 
 abbrev pub invariant-loop-page : goal.invariant-loop-page

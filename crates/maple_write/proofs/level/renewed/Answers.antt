@@ -5,7 +5,7 @@ use Rattle.maple_node.specs.declared.item.Item.{Item}
 use Rattle.maple_node.specs.Nodes.{words_of, items_of, most, least}
 use Rattle.maple_node.specs.Levels.{is_leaf}
 use Rattle.maple_items.specs.Splices.{spliced}
-use Rattle.maple_write.specs.Tables.{table_at}
+use Rattle.maple_write.specs.Internal.Tables.{table_at}
 use Rattle.maple_write.proofs.Writers.{rows_counted}
 use Rattle.maple_write.proofs.Steps.{there_at}
 use Rattle.maple_write.proofs.Renewing.{source_of, renewed_if}

@@ -1,6 +1,6 @@
 -- For `rise`: the node where the new items begin.
 use Rattle.std.proofs.Common.{arith}
-use Rattle.maple_write.specs.Tables.{table_at}
+use Rattle.maple_write.specs.Internal.Tables.{table_at}
 use Rattle.maple_write.proofs.Writers.{rows_counted}
 use Rattle.maple_write.proofs.Steps.{upper_of, there_at}
 use Rattle.maple_write.proofs.level.rise.Goals as goal

@@ -5,13 +5,14 @@ use Rattle.maple_node.specs.Levels.{is_leaf, times}
 use Rattle.maple_items.specs.Splices.{upto, beyond}
 use Rattle.node_slots.specs.declared.view.NodeView.{NodeView}
 use Rattle.node_slots.specs.Built.{words_at}
-use Rattle.maple_write.specs.Tables.{table_at, rows_in}
-use Rattle.maple_write.specs.Stores.{old_level}
+use Rattle.maple_write.specs.Internal.Tables.{table_at, rows_in}
+use Rattle.maple_write.specs.Internal.Stores.{old_level}
 use Rattle.maple_write.proofs.Writers.{fills_none, fills_both, rows_counted}
-use Rattle.maple_write.proofs.Rising.{kept_after, ready}
+use Rattle.maple_write.proofs.Rising.{Rose, kept_after, ready}
 use Rattle.maple_write.proofs.Renewing.{rose_anew}
 use Rattle.maple_write.proofs.Paths.{path_rises}
 use Rattle.maple_write.proofs.level.rise_by_words.Goals as goal
+use Rattle.maple_write.proofs.level.rise_by_words.Goals.{After-pack_words-items}
 
 pub leave_block-requires-clause-tower : goal.leave_block-requires-clause-tower
 leave_block-requires-clause-tower c =
@@ -27,41 +28,28 @@ leave_block-requires-clause-apart c row =
     let bound = ap (λ (n : ℕ). cond {A = ℕ} (nat_lt row n) 1 0) (rows_counted c.args.writer.now) in
     omega arith
 
-pub returns-clause-partly : goal.returns-clause-partly
-returns-clause-partly c =
-    (rose_anew (table_at c.args.writer.now) (table_at c.leave_block.new.writer) (table_at c.pack_words-items.new.writer) c.args.old.top c.args.old.height
+-- what is so of the level that was built
+rebuilt : (c : After-pack_words-items) → Rose (table_at c.args.writer.now) (table_at c.pack_words-items.new.writer) c.args.old.top c.args.old.height
+    c.args.level c.args.lo c.args.new.now.end c.args.new.now.items c.args.left.start c.args.left.item.end c.pack_words-items.result
+rebuilt c =
+    rose_anew (table_at c.args.writer.now) (table_at c.leave_block.new.writer) (table_at c.pack_words-items.new.writer) c.args.old.top c.args.old.height
     c.args.level c.args.lo c.args.new.now.end c.args.new.now.items c.pack_words-items.result c.args.left c.args.words.now c.requires.partly
     c.requires.below c.requires.renewed (ap (λ (v : NodeView). v.known.desk.words) c.leave_block.ensures.view) c.leave_block.ensures.free
     c.leave_block.ensures.gone c.pack_words-items.ensures.nodes c.pack_words-items.ensures.below c.pack_words-items.ensures.one
     c.pack_words-items.ensures.kept c.pack_words-items.ensures.same.long c.pack_words-items.ensures.taken c.pack_words-items.ensures.free
-    c.pack_words-items.ensures.left).partly
+    c.pack_words-items.ensures.left
+
+pub returns-clause-partly : goal.returns-clause-partly
+returns-clause-partly c = (rebuilt (goal.at.returns-clause-partly c).After-pack_words-items).partly
 
 pub returns-clause-begin : goal.returns-clause-begin
-returns-clause-begin c =
-    (rose_anew (table_at c.args.writer.now) (table_at c.leave_block.new.writer) (table_at c.pack_words-items.new.writer) c.args.old.top c.args.old.height
-    c.args.level c.args.lo c.args.new.now.end c.args.new.now.items c.pack_words-items.result c.args.left c.args.words.now c.requires.partly
-    c.requires.below c.requires.renewed (ap (λ (v : NodeView). v.known.desk.words) c.leave_block.ensures.view) c.leave_block.ensures.free
-    c.leave_block.ensures.gone c.pack_words-items.ensures.nodes c.pack_words-items.ensures.below c.pack_words-items.ensures.one
-    c.pack_words-items.ensures.kept c.pack_words-items.ensures.same.long c.pack_words-items.ensures.taken c.pack_words-items.ensures.free
-    c.pack_words-items.ensures.left).starts
+returns-clause-begin c = (rebuilt (goal.at.returns-clause-begin c).After-pack_words-items).starts
 
 pub returns-clause-entries : goal.returns-clause-entries
-returns-clause-entries c =
-    (rose_anew (table_at c.args.writer.now) (table_at c.leave_block.new.writer) (table_at c.pack_words-items.new.writer) c.args.old.top c.args.old.height
-    c.args.level c.args.lo c.args.new.now.end c.args.new.now.items c.pack_words-items.result c.args.left c.args.words.now c.requires.partly
-    c.requires.below c.requires.renewed (ap (λ (v : NodeView). v.known.desk.words) c.leave_block.ensures.view) c.leave_block.ensures.free
-    c.leave_block.ensures.gone c.pack_words-items.ensures.nodes c.pack_words-items.ensures.below c.pack_words-items.ensures.one
-    c.pack_words-items.ensures.kept c.pack_words-items.ensures.same.long c.pack_words-items.ensures.taken c.pack_words-items.ensures.free
-    c.pack_words-items.ensures.left).entries
+returns-clause-entries c = (rebuilt (goal.at.returns-clause-entries c).After-pack_words-items).entries
 
 pub returns-clause-under : goal.returns-clause-under
-returns-clause-under c =
-    (rose_anew (table_at c.args.writer.now) (table_at c.leave_block.new.writer) (table_at c.pack_words-items.new.writer) c.args.old.top c.args.old.height
-    c.args.level c.args.lo c.args.new.now.end c.args.new.now.items c.pack_words-items.result c.args.left c.args.words.now c.requires.partly
-    c.requires.below c.requires.renewed (ap (λ (v : NodeView). v.known.desk.words) c.leave_block.ensures.view) c.leave_block.ensures.free
-    c.leave_block.ensures.gone c.pack_words-items.ensures.nodes c.pack_words-items.ensures.below c.pack_words-items.ensures.one
-    c.pack_words-items.ensures.kept c.pack_words-items.ensures.same.long c.pack_words-items.ensures.taken c.pack_words-items.ensures.free
-    c.pack_words-items.ensures.left).under
+returns-clause-under c = (rebuilt (goal.at.returns-clause-under c).After-pack_words-items).under
 
 pub returns-clause-same : goal.returns-clause-same
 returns-clause-same c =

@@ -4,8 +4,8 @@ use Rattle.maple_node.specs.declared.item.Item.{Item}
 use Rattle.maple_node.specs.Nodes.{least, items_of}
 use Rattle.maple_node.specs.Levels.{is_leaf, read}
 use Rattle.node_slots.specs.Built.{words_at}
-use Rattle.maple_write.specs.Tables.{table_at}
-use Rattle.maple_write.specs.Stores.{Cut}
+use Rattle.maple_write.specs.Internal.Tables.{table_at}
+use Rattle.maple_write.specs.Internal.Stores.{Cut}
 use Rattle.maple_write.proofs.Writers.{rows_counted}
 use Rattle.maple_write.proofs.Steps.{upper_of, there_at, cut_more, cut_enough}
 use Rattle.maple_write.proofs.level.stretched.Goals as goal

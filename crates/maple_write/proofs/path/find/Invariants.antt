@@ -1,7 +1,7 @@
 -- For `find`: the item of the level reached that has the page.
 use Rattle.std.proofs.Common.{◌-◌, ◌≤◌}
 use Rattle.node_slots.specs.Built.{words_at}
-use Rattle.maple_write.specs.Stores.{Begins}
+use Rattle.maple_write.specs.Internal.Stores.{Begins}
 use Rattle.maple_write.proofs.path.find.Given as goal
 
 abbrev pub invariant-loop-begin : goal.invariant-loop-begin

@@ -1,7 +1,7 @@
 -- For `path_to`: the levels down to one are kept.
 use Rattle.std.proofs.Common.{◌≡◌, ◌≤◌}
 use Rattle.node_slots.specs.Built.{words_at}
-use Rattle.maple_write.specs.Stores.{Begins, IsPath}
+use Rattle.maple_write.specs.Internal.Stores.{Begins, IsPath}
 use Rattle.maple_write.proofs.path.path_to.Given as goal
 
 abbrev pub invariant-loop-begin : goal.invariant-loop-begin

@@ -2,8 +2,8 @@
 use Rattle.std.proofs.Common.{◌-◌}
 use Rattle.maple_node.specs.Trees.{entries_of}
 use Rattle.node_slots.specs.Built.{words_at}
-use Rattle.maple_write.specs.Tables.{table_at}
-use Rattle.maple_write.specs.Stores.{tree_under}
+use Rattle.maple_write.specs.Internal.Tables.{table_at}
+use Rattle.maple_write.specs.Internal.Stores.{tree_under}
 use Rattle.maple_write.proofs.Stores.{entry_found, entry_begins, lo_zero, lo_gap, lo_slot}
 use Rattle.maple_write.proofs.storing.gap_begin.Goals as goal
 

@@ -2,8 +2,8 @@
 use Rattle.std.proofs.Common.{arith}
 use Rattle.maple_node.specs.Trees.{entries_of}
 use Rattle.node_slots.specs.Built.{words_at}
-use Rattle.maple_write.specs.Tables.{table_at}
-use Rattle.maple_write.specs.Stores.{tree_under}
+use Rattle.maple_write.specs.Internal.Tables.{table_at}
+use Rattle.maple_write.specs.Internal.Stores.{tree_under}
 use Rattle.maple_write.proofs.Stores.{covers, entry_found, hi_none, hi_gap, hi_slot}
 use Rattle.maple_write.proofs.storing.gap_end.Goals as goal
 

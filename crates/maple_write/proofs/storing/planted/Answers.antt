@@ -4,8 +4,8 @@ use Rattle.maple_node.specs.declared.item.Item.{Item}
 use Rattle.maple_node.specs.Nodes.{Ascends, IsPlain, words_of, end_of}
 use Rattle.maple_items.proofs.Entries.{overwrite-ascends, overwrite-ends, overwrite-plain}
 use Rattle.node_slots.specs.declared.view.NodeView.{NodeView}
-use Rattle.maple_write.specs.Tables.{table_at}
-use Rattle.maple_write.specs.Stores.{all_gap}
+use Rattle.maple_write.specs.Internal.Tables.{table_at}
+use Rattle.maple_write.specs.Internal.Stores.{all_gap}
 use Rattle.maple_write.proofs.Writers.{fills_none, fills_both, left_more, free_more}
 use Rattle.maple_write.proofs.Waiting.{leave_waits}
 use Rattle.maple_write.proofs.Stores.{gap_is, leaf_planted, kept_after_put, kept_zero}

@@ -5,8 +5,8 @@ use Rattle.maple_node.specs.Words.{slot_word}
 use Rattle.maple_items.specs.Pairs.{overwritten}
 use Rattle.node_slots.specs.declared.tree.Tree.{Tree as View}
 use Rattle.node_slots.specs.Built.{words_at}
-use Rattle.maple_write.specs.Tables.{table_at}
-use Rattle.maple_write.specs.Stores.{tree_under}
+use Rattle.maple_write.specs.Internal.Tables.{table_at}
+use Rattle.maple_write.specs.Internal.Stores.{tree_under}
 use Rattle.maple_write.proofs.Writers.{rows_counted, few_rows}
 use Rattle.maple_write.proofs.Stores.{finds, free_few, root_there, built_from}
 use Rattle.maple_write.proofs.storing.store.Goals as goal

@@ -1,6 +1,6 @@
 -- For `crown`: the new root is a node over the tree under the items.
 use Rattle.std.proofs.Common.{◌∙◌, arith}
-use Rattle.maple_write.specs.Tables.{table_at}
+use Rattle.maple_write.specs.Internal.Tables.{table_at}
 use Rattle.maple_write.proofs.Blocks.{inner-plain}
 use Rattle.maple_write.proofs.Crowns.{root_made}
 use Rattle.maple_write.proofs.tree.crown.Goals as goal

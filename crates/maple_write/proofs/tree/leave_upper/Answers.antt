@@ -5,8 +5,8 @@ use Rattle.maple_node.specs.Levels.{at_of, IsTower, times}
 use Rattle.maple_items.specs.Splices.{upto, beyond}
 use Rattle.node_slots.specs.declared.view.NodeView.{NodeView}
 use Rattle.node_slots.specs.Built.{words_at}
-use Rattle.maple_write.specs.Tables.{Table, table_at, rows_in}
-use Rattle.maple_write.specs.Stores.{old_level}
+use Rattle.maple_write.specs.Internal.Tables.{Table, table_at, rows_in}
+use Rattle.maple_write.specs.Internal.Stores.{old_level}
 use Rattle.maple_write.proofs.Crowns.{upper_at, rows_of-top}
 use Rattle.maple_write.proofs.tree.leave_upper.Goals as goal
 

@@ -3,7 +3,7 @@ use Rattle.std.proofs.Common.{◌-◌, ◌≡◌, ◌≤◌, ◌+◌, ℕ, [], �
 use Rattle.maple_node.specs.Levels.{rows_of, times}
 use Rattle.node_slots.specs.Seats.{Writes, sight, free_of, is_waiting}
 use Rattle.node_slots.specs.Built.{words_at}
-use Rattle.maple_write.specs.Tables.{table_at, gone}
+use Rattle.maple_write.specs.Internal.Tables.{table_at, gone}
 use Rattle.maple_write.proofs.tree.leave_upper.Given as goal
 
 abbrev pub invariant-loop-next : goal.invariant-loop-next

@@ -7,13 +7,28 @@ use Rattle.maple_node.specs.Levels.{at_of, is_leaf, below, level_of, IsTower}
 use Rattle.maple_items.specs.Splices.{upto}
 use Rattle.node_slots.specs.declared.view.NodeView.{NodeView}
 use Rattle.node_slots.specs.Built.{words_at}
-use Rattle.maple_write.specs.Tables.{table_at}
-use Rattle.maple_write.specs.Stores.{old_level, new_level, tree_under}
+use Rattle.maple_write.specs.Internal.Tables.{table_at}
+use Rattle.maple_write.specs.Internal.Stores.{old_level, new_level, tree_under}
 use Rattle.maple_write.proofs.Writers.{fills_none, fills_both, rows_counted}
-use Rattle.maple_write.proofs.Crowns.{begins_as, starts_with, two_items, at_top, left_few, crown_ready, stands_then}
+use Rattle.maple_write.proofs.Crowns.{begins_as, starts_with, two_items, at_top, left_few, CrownReady, crown_ready, stands_then}
 use Rattle.maple_write.proofs.Paths.{path_high}
 use Rattle.maple_write.proofs.tree.replace.Goals as goal
-use Rattle.maple_write.proofs.tree.replace.Goals.{then-loop-level-test+else-not-done, else-loop-level-test}
+use Rattle.maple_write.proofs.tree.replace.Goals.{After-leave_upper, then-loop-level-test+else-not-done, else-loop-level-test}
+
+-- the new items of the last level that was built have all pages
+all_pages : (c : After-leave_upper) → CrownReady (table_at c.loop-level.writer) c.args.old.top c.args.old.height c.loop-level.level c.args.lo
+    c.loop-level.new.end c.loop-level.new.items
+all_pages c =
+    let old = c.args.old in
+    let loop = c.loop-level in
+    let is = loop.invariant in
+    let table = table_at loop.writer in
+    let Ends : Type 0 = (end_of 0 (upto c.args.lo (old_level table old.top old.height loop.level)) ≡ 0) × (loop.new.end ≡ old.top.end) in
+    let ends : Ends = elim c.loop-level-test.branch as (λ _. Ends) [
+      | then-loop-level-test+else-not-done w ↦ let whole = is.whole w.if-not-done.false in (whole.1.0, whole.1.1.0)
+      | else-loop-level-test w ↦ at_top table old.top old.height loop.level c.args.lo loop.new.end loop.new.items is.partly w.loop-level-test.false c.requires.shaped.tall
+    ] in
+    crown_ready table old.top old.height loop.level c.args.lo loop.new.end loop.new.items is.partly ends.0 ends.1
 
 pub loop-level-init : goal.loop-level-init
 loop-level-init c =
@@ -71,91 +86,40 @@ leave_upper-requires-clause-apart c row =
 
 pub crown-requires-clause-tower : goal.crown-requires-clause-tower
 crown-requires-clause-tower c =
-    let old = c.args.old in
     let loop = c.loop-level in
-    let is = loop.invariant in
-    let table = table_at loop.writer in
-    let Ends : Type 0 = (end_of 0 (upto c.args.lo (old_level table old.top old.height loop.level)) ≡ 0) × (loop.new.end ≡ old.top.end) in
-    let ends : Ends = elim c.loop-level-test.branch as (λ _. Ends) [
-      | then-loop-level-test+else-not-done w ↦ let whole = is.whole w.if-not-done.false in (whole.1.0, whole.1.1.0)
-      | else-loop-level-test w ↦ at_top table old.top old.height loop.level c.args.lo loop.new.end loop.new.items is.partly w.loop-level-test.false c.requires.shaped.tall
-    ] in
-    let ready = crown_ready table old.top old.height loop.level c.args.lo loop.new.end loop.new.items is.partly ends.0 ends.1 in
+    let ready = all_pages (goal.at.crown-requires-clause-tower c).After-leave_upper in
     subst (λ (v : NodeView). IsTower (at_of v.known.desk.words) (end_of 0 loop.new.items) 0 loop.level loop.new.items) (sym c.leave_upper.ensures.view)
     ready.tower
 
 pub crown-requires-clause-ascends : goal.crown-requires-clause-ascends
 crown-requires-clause-ascends c =
-    let old = c.args.old in
-    let loop = c.loop-level in
-    let is = loop.invariant in
-    let table = table_at loop.writer in
-    let Ends : Type 0 = (end_of 0 (upto c.args.lo (old_level table old.top old.height loop.level)) ≡ 0) × (loop.new.end ≡ old.top.end) in
-    let ends : Ends = elim c.loop-level-test.branch as (λ _. Ends) [
-      | then-loop-level-test+else-not-done w ↦ let whole = is.whole w.if-not-done.false in (whole.1.0, whole.1.1.0)
-      | else-loop-level-test w ↦ at_top table old.top old.height loop.level c.args.lo loop.new.end loop.new.items is.partly w.loop-level-test.false c.requires.shaped.tall
-    ] in
-    let ready = crown_ready table old.top old.height loop.level c.args.lo loop.new.end loop.new.items is.partly ends.0 ends.1 in
-    ready.ascends
+    (all_pages (goal.at.crown-requires-clause-ascends c).After-leave_upper).ascends
 
 pub crown-requires-clause-wide : goal.crown-requires-clause-wide
 crown-requires-clause-wide c one high =
-    let old = c.args.old in
     let loop = c.loop-level in
-    let is = loop.invariant in
-    let table = table_at loop.writer in
-    let Ends : Type 0 = (end_of 0 (upto c.args.lo (old_level table old.top old.height loop.level)) ≡ 0) × (loop.new.end ≡ old.top.end) in
-    let ends : Ends = elim c.loop-level-test.branch as (λ _. Ends) [
-      | then-loop-level-test+else-not-done w ↦ let whole = is.whole w.if-not-done.false in (whole.1.0, whole.1.1.0)
-      | else-loop-level-test w ↦ at_top table old.top old.height loop.level c.args.lo loop.new.end loop.new.items is.partly w.loop-level-test.false c.requires.shaped.tall
-    ] in
-    let ready = crown_ready table old.top old.height loop.level c.args.lo loop.new.end loop.new.items is.partly ends.0 ends.1 in
+    let ready = all_pages (goal.at.crown-requires-clause-wide c).After-leave_upper in
     subst (λ (v : NodeView). 2 ≤ length (below (at_of v.known.desk.words) false loop.new.items)) (sym c.leave_upper.ensures.view)
-    (subst (λ (xs : List Item). 2 ≤ length (below (words_at loop.writer) false xs)) ready.alone (is.under high))
+    (subst (λ (xs : List Item). 2 ≤ length (below (words_at loop.writer) false xs)) ready.alone (loop.invariant.under high))
 
 pub crown-requires-clause-stand : goal.crown-requires-clause-stand
 crown-requires-clause-stand c =
     let old = c.args.old in
     let loop = c.loop-level in
-    let is = loop.invariant in
-    let table = table_at loop.writer in
-    let Ends : Type 0 = (end_of 0 (upto c.args.lo (old_level table old.top old.height loop.level)) ≡ 0) × (loop.new.end ≡ old.top.end) in
-    let ends : Ends = elim c.loop-level-test.branch as (λ _. Ends) [
-      | then-loop-level-test+else-not-done w ↦ let whole = is.whole w.if-not-done.false in (whole.1.0, whole.1.1.0)
-      | else-loop-level-test w ↦ at_top table old.top old.height loop.level c.args.lo loop.new.end loop.new.items is.partly w.loop-level-test.false c.requires.shaped.tall
-    ] in
-    let ready = crown_ready table old.top old.height loop.level c.args.lo loop.new.end loop.new.items is.partly ends.0 ends.1 in
-    stands_then table (table_at c.leave_upper.new.writer) old.top old.height loop.level c.args.lo loop.new.end loop.new.items is.partly ready.alone
-    (ap (λ (v : NodeView). v.known.desk.words) c.leave_upper.ensures.view) c.leave_upper.ensures.gone
+    let ready = all_pages (goal.at.crown-requires-clause-stand c).After-leave_upper in
+    stands_then (table_at loop.writer) (table_at c.leave_upper.new.writer) old.top old.height loop.level c.args.lo loop.new.end loop.new.items
+    loop.invariant.partly ready.alone (ap (λ (v : NodeView). v.known.desk.words) c.leave_upper.ensures.view) c.leave_upper.ensures.gone
 
 pub returns-clause-entries : goal.returns-clause-entries
 returns-clause-entries c =
-    let old = c.args.old in
     let loop = c.loop-level in
-    let is = loop.invariant in
-    let table = table_at loop.writer in
-    let Ends : Type 0 = (end_of 0 (upto c.args.lo (old_level table old.top old.height loop.level)) ≡ 0) × (loop.new.end ≡ old.top.end) in
-    let ends : Ends = elim c.loop-level-test.branch as (λ _. Ends) [
-      | then-loop-level-test+else-not-done w ↦ let whole = is.whole w.if-not-done.false in (whole.1.0, whole.1.1.0)
-      | else-loop-level-test w ↦ at_top table old.top old.height loop.level c.args.lo loop.new.end loop.new.items is.partly w.loop-level-test.false c.requires.shaped.tall
-    ] in
-    let ready = crown_ready table old.top old.height loop.level c.args.lo loop.new.end loop.new.items is.partly ends.0 ends.1 in
+    let ready = all_pages (goal.at.returns-clause-entries c).After-leave_upper in
     c.crown.ensures.entries ∙ ap (λ (v : NodeView). level_of (at_of v.known.desk.words) 0 loop.level loop.new.items) c.leave_upper.ensures.view
-    ∙ sym (ap (level_of (words_at loop.writer) 0 loop.level) ready.alone) ∙ is.entries
+    ∙ sym (ap (level_of (words_at loop.writer) 0 loop.level) ready.alone) ∙ loop.invariant.entries
 
 pub returns-clause-limit : goal.returns-clause-limit
 returns-clause-limit c =
-    let old = c.args.old in
-    let loop = c.loop-level in
-    let is = loop.invariant in
-    let table = table_at loop.writer in
-    let Ends : Type 0 = (end_of 0 (upto c.args.lo (old_level table old.top old.height loop.level)) ≡ 0) × (loop.new.end ≡ old.top.end) in
-    let ends : Ends = elim c.loop-level-test.branch as (λ _. Ends) [
-      | then-loop-level-test+else-not-done w ↦ let whole = is.whole w.if-not-done.false in (whole.1.0, whole.1.1.0)
-      | else-loop-level-test w ↦ at_top table old.top old.height loop.level c.args.lo loop.new.end loop.new.items is.partly w.loop-level-test.false c.requires.shaped.tall
-    ] in
-    let ready = crown_ready table old.top old.height loop.level c.args.lo loop.new.end loop.new.items is.partly ends.0 ends.1 in
-    c.crown.ensures.limit ∙ ready.limit
+    c.crown.ensures.limit ∙ (all_pages (goal.at.returns-clause-limit c).After-leave_upper).limit
 
 pub returns-clause-same : goal.returns-clause-same
 returns-clause-same c =

@@ -6,8 +6,9 @@ use Rattle.maple_node.specs.Trees.{entries_of}
 use Rattle.maple_items.specs.Splices.{upto, overwrite}
 use Rattle.node_slots.specs.Seats.{Writes, free_of}
 use Rattle.node_slots.specs.Built.{words_at}
-use Rattle.maple_write.specs.Tables.{table_at, FillsRows}
-use Rattle.maple_write.specs.Stores.{old_level, new_level, new_entries, Partly, tree_under, IsPath}
+use Rattle.maple_write.specs.Internal.Tables.{table_at}
+use Rattle.maple_write.specs.Tables.{FillsRows}
+use Rattle.maple_write.specs.Internal.Stores.{old_level, new_level, new_entries, Partly, tree_under, IsPath}
 use Rattle.maple_write.proofs.tree.replace.Given as goal
 
 abbrev pub invariant-loop-level : goal.invariant-loop-level

@@ -1,17 +1,24 @@
--- What `place_part` writes is the place of an area in what it maps.
-use Rattle.std.proofs.Common.{◌≡◌, ◌^◌, ◌<◌, arith, append_assoc}
+-- What `place_part` puts together is the place of an area in what it maps.
+use Rattle.std.proofs.Common.{◌≡◌, arith}
 use Rattle.std.proofs.lemmas.Grind.{common_steps}
-use Rattle.mm_types.specs.MapsText.{place_text}
-use Rattle.maps_print.proofs.Parts.{wrote_part}
-use Rattle.maps_print.proofs.Hex.{padded_start, padded_hex}
+use Rattle.maps_print.proofs.Hex.{place_joined}
 use Rattle.maps_print.proofs.line.place_part.Goals as goal
 
-pub returns-in-Ok : goal.returns-in-Ok
-unfolding place_text
-returns-in-Ok c =
-    let small : c.args.offset < 2 ^ 64 = omega arith in
-    let major : c.mapped.inside.major ≡ c.args.mapped.now.major = grind (arith, common_steps) in
-    let minor : c.mapped.inside.minor ≡ c.args.mapped.now.minor = grind (arith, common_steps) in
+pub returns : goal.returns
+returns c =
+    let major : c.from.result ≡ c.args.mapped.now.major = grind (arith, common_steps) in
+    let minor : c.from-2.result ≡ c.args.mapped.now.minor = grind (arith, common_steps) in
     let inode : c.mapped.inside.inode ≡ c.args.mapped.now.inode = grind (arith, common_steps) in
-    wrote_part c.new-part.result c.write.new.self _ _ c.in-Ok.ensures.writes c.new-part.ensures
-    (rw (c.in_radix.ensures, c.laid_out.ensures, c.in_radix-2.ensures, c.laid_out-2.ensures, c.in_radix-3.ensures, c.laid_out-3.ensures, padded_start, padded_hex, padded_hex) (simp append_assoc (cc)))
+    rw (
+      c.in_ok-add-5.ensures,
+      c.in_ok-add_decimal.ensures,
+      c.in_ok-add-4.ensures,
+      c.in_ok-add_padded-3.ensures,
+      c.in_ok-add-3.ensures,
+      c.in_ok-add_padded-2.ensures,
+      c.in_ok-add-2.ensures,
+      c.in_ok-add_padded.ensures,
+      c.in_ok-add.ensures,
+      c.new-part.ensures,
+    )
+    (place_joined c.args.offset c.from.result c.from-2.result c.mapped.inside.inode c.args.mapped.now (omega arith) major minor inode)

@@ -1,6 +1,6 @@
 -- For `push_file_line`: its goal.
 use Rattle.std.proofs.Common.{refl}
-use Rattle.maps_print.proofs.Hex.{padded_hex}
+use Rattle.maps_retrace.proofs.Hex.{padded_hex}
 use Rattle.maps_retrace.specs.FileLines.{file_text}
 use Rattle.maps_retrace.proofs.Texts.{wrote}
 use Rattle.maps_retrace.proofs.file_lines.push_file_line.Goals as goal

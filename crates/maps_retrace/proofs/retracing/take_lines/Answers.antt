@@ -3,7 +3,7 @@ use Rattle.std.proofs.Common.{◌≡◌, ◌+◌, ◌-◌, ◌∙◌, ℕ, drop,
 use Rattle.trace_reader.specs.RawLines.{lines_from}
 use Rattle.trace_reader.specs.Reading.{line_view}
 use Rattle.maps_retrace.specs.Retracing.{nothing_taken, with_lines, lines_taken}
-use Rattle.maps_retrace.specs.Taking.{IsTaken, what_taken}
+use Rattle.maps_retrace.specs.Internal.Taking.{IsTaken, what_taken}
 use Rattle.maps_retrace.proofs.Kept.{line_kept, nothing_kept}
 use Rattle.maps_retrace.proofs.RawMaps.{AreReadAs, maps_read_as}
 use Rattle.maps_retrace.proofs.Steps.{dropped_item, some_left, take_more, read_more, all_taken}

@@ -2,7 +2,7 @@
 use Rattle.std.proofs.Common.{◌≡◌, ◌+◌, ◌-◌, ◌≤◌, length, drop}
 use Rattle.trace_reader.specs.RawLines.{lines_from}
 use Rattle.maps_retrace.specs.Retracing.{with_lines, lines_taken}
-use Rattle.maps_retrace.specs.Taking.{IsTaken, what_taken}
+use Rattle.maps_retrace.specs.Internal.Taking.{IsTaken, what_taken}
 use Rattle.maps_retrace.proofs.RawMaps.{AreReadAs}
 use Rattle.maps_retrace.proofs.retracing.take_lines.Given as goal
 

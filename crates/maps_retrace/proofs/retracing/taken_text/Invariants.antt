@@ -2,7 +2,7 @@
 use Rattle.std.proofs.Common.{◌≡◌, ◌+◌, ◌++◌, flat_map, drop, string_bytes}
 use Rattle.maps_retrace.specs.FileLines.{header, file_texts}
 use Rattle.maps_retrace.specs.Mappings.{mapping_text}
-use Rattle.maps_retrace.specs.Taking.{what_taken}
+use Rattle.maps_retrace.specs.Internal.Taking.{what_taken}
 use Rattle.maps_retrace.proofs.retracing.taken_text.Given as goal
 
 -- the text so far, and the lines of the files that are left

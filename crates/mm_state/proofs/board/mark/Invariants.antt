@@ -1,7 +1,7 @@
 -- For `mark`: what the writer knows stays, but for its tries.
 use Rattle.std.proofs.Common.{◌≡◌}
 use Rattle.vma_lock.specs.Seats.{Writes, sight}
-use Rattle.mm_state.specs.Boards.{IsBeside}
+use Rattle.mm_state.specs.Internal.Boards.{IsBeside}
 use Rattle.mm_state.proofs.board.mark.Given as goal
 
 abbrev pub invariant-loop : goal.invariant-loop

@@ -1,6 +1,6 @@
 -- For `wait_for_slots`: only what is settled rises, and slots are freed.
 use Rattle.std.proofs.Common.{◌≤◌}
-use Rattle.mm_state.specs.Boards.{CanFree, IsFreed, IsScanned}
+use Rattle.mm_state.specs.Internal.Boards.{CanFree, IsFreed, IsScanned}
 use Rattle.mm_state.proofs.spans.wait_for_slots.Given as goal
 
 abbrev pub invariant-loop : goal.invariant-loop

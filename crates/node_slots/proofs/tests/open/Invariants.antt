@@ -1,5 +1,5 @@
 -- For `open`: the readers that are left are beside the writer.
-use Rattle.node_slots.specs.Leaves.{AreBeside}
+use Rattle.node_slots.specs.Internal.Leaves.{AreBeside}
 use Rattle.node_slots.proofs.tests.open.Given as goal
 
 abbrev pub invariant-loop : goal.invariant-loop

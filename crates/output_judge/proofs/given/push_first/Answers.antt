@@ -7,7 +7,7 @@ use Rattle.trace_reader.specs.Values.{child_of}
 use Rattle.output_text.specs.Output.{forked_text}
 use Rattle.output_judge.specs.declared.answers.Answer.{Answer}
 use Rattle.output_judge.specs.declared.answers.Answer.TheVariants as answers
-use Rattle.output_judge.specs.Printed.{first_text, shown}
+use Rattle.output_judge.specs.Internal.Printed.{first_text, shown}
 use Rattle.output_judge.proofs.given.push_first.Goals as goal
 
 forked_is : (op : Op) (answer : Answer) (child count : ℕ) (areas : List Record) → op ≡ ops.Fork child → answer ≡ answers.List → length areas ≡ count

@@ -1,6 +1,6 @@
 //! Searches among areas of one page each.
 ghost use Rattle.std.specs.Prelude.{◌≡◌, false, [], IfOk};
-ghost use Rattle.span_tree.specs.Tests.{IsWide, IsRow};
+ghost use Rattle.span_tree.specs.Internal.Tests.{IsWide, IsRow};
 
 use super::SpanTree;
 use mm_types::{NoMemory, Page, Slot, Span};

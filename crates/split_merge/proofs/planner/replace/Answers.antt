@@ -1,7 +1,7 @@
 -- Where the old area is the new one, nothing is planned.
 use Rattle.std.proofs.Common.{sym}
 use Rattle.std.proofs.lemmas.Bool.{not-false}
-use Rattle.split_merge.specs.Planner.{same_area, replacing}
+use Rattle.split_merge.specs.Internal.Planner.{same_area, replacing}
 use Rattle.split_merge.proofs.Planning.{plan_unchanged}
 use Rattle.split_merge.proofs.Steps.{replaced_same}
 use Rattle.split_merge.proofs.planner.replace.Goals as goal

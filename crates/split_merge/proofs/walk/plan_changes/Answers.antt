@@ -2,9 +2,9 @@
 use Rattle.std.proofs.Common.{◌≡◌, ◌<◌, ◌-◌, ◌++◌, [], ◌∷◌, List, IfSome, map, length, refl, ap, sym, subst, ◌∙◌, arith}
 use Rattle.mm_types.specs.declared.area.Span.{Span}
 use Rattle.mm_types.specs.declared.area.Record.{Record}
-use Rattle.split_merge.specs.Becoming.{low_of, high_of, parts_left, BeginsOne}
+use Rattle.split_merge.specs.Internal.Becoming.{low_of, high_of, parts_left, BeginsOne}
 use Rattle.split_merge.specs.declared.planner.Planner.{Planner}
-use Rattle.split_merge.specs.Planner.{Event, planned, events_along, weight}
+use Rattle.split_merge.specs.Internal.Planner.{Event, planned, events_along, weight}
 use Rattle.split_merge.proofs.Planning.{same_plan}
 use Rattle.split_merge.proofs.Walking.{in_order, next_is, ending_above}
 use Rattle.split_merge.proofs.Walks.{first_planned, first_within, next_close, next_far, next_planned, next_within, passed_planned, passed_weight, end_planned, high_planned, still_begins, near_either, taken_weight}

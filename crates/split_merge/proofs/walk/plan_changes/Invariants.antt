@@ -1,7 +1,7 @@
 -- What is planned so far, and what is left to plan along the areas that end above the page.
 use Rattle.std.proofs.Common.{◌≡◌, ◌≤◌, ◌+◌, ◌++◌, length}
-use Rattle.split_merge.specs.Becoming.{BeginsOne}
-use Rattle.split_merge.specs.Planner.{planned, held, weight, events_along, all_planned}
+use Rattle.split_merge.specs.Internal.Becoming.{BeginsOne}
+use Rattle.split_merge.specs.Internal.Planner.{planned, held, weight, events_along, all_planned}
 use Rattle.split_merge.proofs.Walking.{ending_above}
 use Rattle.split_merge.proofs.walk.plan_changes.Given as goal
 

@@ -10,7 +10,7 @@ use Rattle.area_rules.specs.Placement.{bounds_of, place_low}
 use Rattle.area_rules.specs.Tables.{pages_of}
 use Rattle.area_rules.proofs.Narrow.{place-zero}
 use Rattle.split_merge.specs.PageNumbers.{page_number}
-use Rattle.sys_mremap.specs.Cases.{other_place}
+use Rattle.sys_mremap.specs.Internal.Cases.{other_place}
 use Rattle.sys_mremap.proofs.destination.other_place.Goals as goal
 
 -- a range that may move, and not to a fixed place, goes where the list has a place

@@ -2,7 +2,7 @@
 use Rattle.std.proofs.Common.{◌<◌, option_map, ap, subst, sym, ◌∙◌, arith}
 use Rattle.mm_types.specs.declared.area.Span.{Span}
 use Rattle.area_rules.specs.Mremap.{moved, moved_list, mremap_change}
-use Rattle.sys_mremap.specs.Cases.{PlansChange}
+use Rattle.sys_mremap.specs.Internal.Cases.{PlansChange}
 use Rattle.area_list.proofs.Order.{IsGood}
 use Rattle.sys_mremap.proofs.Cases.{elsewhere_change, old_small, old_some, new_some, moved_by_bounds, moved_low, moved_beside}
 use Rattle.sys_mremap.proofs.Made.{carried_there, beside_there, moved_by_plan}

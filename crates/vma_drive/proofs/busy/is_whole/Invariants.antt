@@ -3,7 +3,7 @@ use Rattle.std.proofs.Common.{ℕ, ◌≡◌, ◌<◌, slice_get, Some}
 use Rattle.std.specs.Prelude.{Vec}
 use Rattle.std.specs.declared.alloc.Global.{Global}
 use Rattle.fault_path.specs.Passes.{PassView}
-use Rattle.vma_drive.specs.Rounds.{HasLine}
+use Rattle.vma_drive.specs.Internal.Rounds.{HasLine}
 use Rattle.vma_drive.proofs.busy.is_whole.Given as goal
 
 -- the first callers have no line left

@@ -1,5 +1,5 @@
 -- The proof of `run_rounds`: what its loop keeps.
-use Rattle.vma_drive.specs.Rounds.{AtRound}
+use Rattle.vma_drive.specs.Internal.Rounds.{AtRound}
 use Rattle.vma_drive.proofs.driving.run_rounds.Given as goal
 
 abbrev pub invariant-loop-round : goal.invariant-loop-round

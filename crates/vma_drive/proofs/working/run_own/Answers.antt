@@ -1,7 +1,7 @@
 -- The proof of `run_own`: the line at the next place is the next of the caller's lines.
 use Rattle.std.proofs.Common.{ℕ, List, get_or, length, subst, arith}
 use Rattle.history.specs.Histories.{lines_of}
-use Rattle.vma_drive.specs.Rounds.{RanRound}
+use Rattle.vma_drive.specs.Internal.Rounds.{RanRound}
 use Rattle.vma_drive.proofs.Operations.{stopped}
 use Rattle.vma_drive.proofs.OwnLines.{run_none, run_line, run_stop, shown_stand, shown_is, place_in, some_left}
 use Rattle.vma_drive.proofs.working.run_own.Goals as goal

@@ -2,7 +2,7 @@
 use Rattle.std.proofs.Common.{◌∙◌, List, All, subst, sym, rules}
 use Rattle.mm_types.specs.declared.call.Entry.{Entry}
 use Rattle.trace_reader.specs.Values.{IsTraceValue}
-use Rattle.vma_replay.specs.Families.{AreRunsOfChildren, IsForkOf, IsOfParent}
+use Rattle.vma_replay.specs.Internal.Families.{AreRunsOfChildren, IsForkOf, IsOfParent}
 use Rattle.vma_replay.proofs.Parents.{bears, family_made, few_lines, found_right, legal_items, low_threads, parent_value}
 use Rattle.vma_replay.proofs.families.closed_family.Goals as goal
 

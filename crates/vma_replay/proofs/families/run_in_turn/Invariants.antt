@@ -1,6 +1,6 @@
 -- The proof of `run_in_turn`: the children so far have run.
 use Rattle.std.proofs.Common.{take}
-use Rattle.vma_replay.specs.Families.{AreRunsOfChildren}
+use Rattle.vma_replay.specs.Internal.Families.{AreRunsOfChildren}
 use Rattle.vma_replay.proofs.families.run_in_turn.Given as goal
 
 abbrev pub invariant-loop-fork : goal.invariant-loop-fork

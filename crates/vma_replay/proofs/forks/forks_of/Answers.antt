@@ -2,7 +2,7 @@
 use Rattle.std.proofs.Common.{◌∙◌, ap, rules}
 use Rattle.std.proofs.lemmas.List.Sorted.{answers_always}
 use Rattle.mm_types.specs.Sorts.{sort_by}
-use Rattle.stable_sort.proofs.Sorting.{sort_by-from_stable}
+use Rattle.mm_types.proofs.Sorting.{sort_by-from_stable}
 use Rattle.vma_replay.specs.declared.forks.Fork.{Fork}
 use Rattle.vma_replay.proofs.forks.forks_of.Goals as goal
 

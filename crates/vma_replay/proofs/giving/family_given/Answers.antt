@@ -1,8 +1,8 @@
 -- The proof of `family_given`: where memory runs out before anything was given, and what giving the texts of the runs results in.
 use Rattle.std.proofs.Common.{refl, subst, sym, List, ℕ}
 use Rattle.mm_space.specs.Closing.{ClosedView}
-use Rattle.vma_replay.specs.Families.{text_of_family}
-use Rattle.vma_replay.specs.Giving.{GivesAnOutput}
+use Rattle.vma_replay.specs.Internal.Families.{text_of_family}
+use Rattle.vma_replay.specs.Internal.Giving.{GivesAnOutput}
 use Rattle.vma_replay.proofs.Doing.{doing_cut, wants_memory}
 use Rattle.vma_replay.proofs.FamilyTexts.{family_gives}
 use Rattle.vma_replay.proofs.giving.family_given.Goals as goal

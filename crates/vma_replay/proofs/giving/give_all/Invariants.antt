@@ -1,6 +1,6 @@
 -- The proof of `give_all`: what its loop keeps, and that it ends.
 use Rattle.std.proofs.Common.{◌-◌, ◌≤◌, length, take}
-use Rattle.vma_replay.specs.Giving.{Gave}
+use Rattle.vma_replay.specs.Internal.Giving.{Gave}
 use Rattle.vma_replay.proofs.giving.give_all.Given as goal
 
 -- the text before this place was given, and nothing else

@@ -8,7 +8,7 @@ use Rattle.trace_reader.specs.declared.trace.Trace.{Trace}
 use Rattle.vma_replay.specs.declared.forks.Fork.{Fork}
 use Rattle.vma_replay.specs.declared.words.Mode.{Mode}
 use Rattle.vma_replay.specs.declared.words.Mode.TheVariants as modes
-use Rattle.vma_replay.specs.Families.{AreRunsOfChildren, IsFamily}
+use Rattle.vma_replay.specs.Internal.Families.{AreRunsOfChildren, IsFamily}
 use Rattle.vma_replay.proofs.order_tests.judge.Goals as goal
 
 behind_parent : (mode : Mode) (trace : Trace) (history : List Item) (forks seen : List Fork) (runs rest : List ClosedView)

@@ -1,7 +1,7 @@
 -- The proof of `print_items`: the items so far were printed.
 use Rattle.std.proofs.Common.{ℕ, List, length}
 use Rattle.output_text.specs.Output.{item_text}
-use Rattle.vma_replay.specs.Giving.{Prints}
+use Rattle.vma_replay.specs.Internal.Giving.{Prints}
 use Rattle.vma_replay.proofs.Telling.{Told}
 use Rattle.vma_replay.proofs.printing.print_items.Given as goal
 

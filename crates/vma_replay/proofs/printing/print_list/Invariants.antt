@@ -1,7 +1,7 @@
 -- The proof of `print_list`: the lines of the areas so far were printed.
 use Rattle.std.proofs.Common.{take}
 use Rattle.mm_types.specs.MapsText.{list_text}
-use Rattle.vma_replay.specs.Giving.{Prints}
+use Rattle.vma_replay.specs.Internal.Giving.{Prints}
 use Rattle.vma_replay.proofs.printing.print_list.Given as goal
 
 abbrev pub invariant-loop-area : goal.invariant-loop-area

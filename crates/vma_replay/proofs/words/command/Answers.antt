@@ -4,7 +4,7 @@ use Rattle.std.specs.Option.{IsSomeAnd}
 use Rattle.clap.specs.Simple.{App, app_of, new_app, new_rule, on_top, with_rule}
 use Rattle.clap.specs.Walk.{Rule, rule_of}
 use Rattle.clap.specs.declared.builder.range.ValueRange.{ValueRange}
-use Rattle.vma_replay.specs.CommandLine.{mode_rule, rest_rule, words_command}
+use Rattle.vma_replay.specs.Internal.CommandLine.{mode_rule, rest_rule, words_command}
 use Rattle.vma_replay.proofs.words.command.Goals as goal
 
 range_is : (range : Option ValueRange) (r : ValueRange) → IsSomeAnd range (λ other. other ≡ r) → range ≡ Some r

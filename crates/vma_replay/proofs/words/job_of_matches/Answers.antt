@@ -7,7 +7,7 @@ use Rattle.clap.specs.Words.{first_value, found_of}
 use Rattle.clap.specs.declared.parser.matches.Found.{Found}
 use Rattle.clap.proofs.WalkLemmas.{first_value-rows, raw_values-rows}
 use Rattle.vma_replay.specs.Jobs.{named_job}
-use Rattle.vma_replay.specs.CommandLine.{job_of_rows}
+use Rattle.vma_replay.specs.Internal.CommandLine.{job_of_rows}
 use Rattle.vma_replay.proofs.words.job_of_matches.Goals as goal
 
 -- the rest that the getter gives is the rest that was found

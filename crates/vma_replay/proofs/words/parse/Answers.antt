@@ -2,7 +2,7 @@
 use Rattle.std.proofs.Common.{ap, map, refl, string_bytes, true, ◌≡◌, ◌∙◌}
 use Rattle.clap.specs.Words.{is_simple, matches_of}
 use Rattle.clap.proofs.OnLiterals.{clap_on_literals}
-use Rattle.vma_replay.specs.CommandLine.{words_command}
+use Rattle.vma_replay.specs.Internal.CommandLine.{words_command}
 use Rattle.vma_replay.proofs.words.parse.Goals as goal
 
 simple : is_simple words_command ≡ true

@@ -2,7 +2,7 @@
 use Rattle.std.specs.List.{last_or}
 use Rattle.std.proofs.Common.{None, take, subst, sym, ap, ◌∙◌}
 use Rattle.split_merge.specs.Finding.{last_before}
-use Rattle.area_chunks.specs.BinarySearch.{begins_below, BeginsAscend}
+use Rattle.area_chunks.specs.Internal.BinarySearch.{begins_below, BeginsAscend}
 use Rattle.area_chunks.proofs.Going.{ascending_pairs}
 use Rattle.area_chunks.proofs.InOrder.{front_is}
 use Rattle.area_chunks.proofs.chunk.Chunk.before.Goals as goal

@@ -1,7 +1,7 @@
 -- For `Chunk::from` of chunk.rt: its goals.
 use Rattle.std.proofs.Common.{slice_get, ap, ◌∙◌}
 use Rattle.split_merge.specs.Finding.{first_from}
-use Rattle.area_chunks.specs.BinarySearch.{ends_by}
+use Rattle.area_chunks.specs.Internal.BinarySearch.{ends_by}
 use Rattle.area_chunks.proofs.InOrder.{from_is}
 use Rattle.area_chunks.proofs.chunk.Chunk.from.Goals as goal
 

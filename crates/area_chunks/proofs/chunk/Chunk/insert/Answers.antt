@@ -4,7 +4,7 @@ use Rattle.std.specs.List.{insert}
 use Rattle.std.specs.Result.{is_ok}
 use Rattle.std.proofs.lemmas.Bool.{cond-true}
 use Rattle.area_list.specs.Changes.{insert_area}
-use Rattle.area_chunks.specs.BinarySearch.{begins_below}
+use Rattle.area_chunks.specs.Internal.BinarySearch.{begins_below}
 use Rattle.area_chunks.proofs.Going.{insert_is}
 use Rattle.area_chunks.proofs.chunk.Chunk.insert.Goals as goal
 

@@ -4,8 +4,8 @@ use Rattle.std.proofs.lemmas.Bool.{false≢true}
 use Rattle.std.proofs.lemmas.List.Elements.{All-from_recursion}
 use Rattle.mm_types.specs.declared.area.Record.{Record}
 use Rattle.area_list.proofs.Elements.{Each-weaker}
-use Rattle.area_chunks.specs.Chunks.{low_of, high_of}
-use Rattle.area_chunks.specs.Gaps.{HasGapsUpTo}
+use Rattle.area_chunks.specs.Internal.Chunks.{low_of, high_of}
+use Rattle.area_chunks.specs.Internal.Gaps.{HasGapsUpTo}
 use Rattle.area_chunks.proofs.Parting.{above_low, rise_pairs}
 use Rattle.area_chunks.proofs.Ranging.{rise_from_ascend}
 use Rattle.area_chunks.proofs.Skipping.{skipped_down}

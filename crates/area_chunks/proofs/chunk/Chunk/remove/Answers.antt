@@ -3,7 +3,7 @@ use Rattle.std.proofs.Common.{◌≡◌, [], ◌∷◌, List, length, subst, sym
 use Rattle.std.specs.List.{remove, Contains}
 use Rattle.mm_types.specs.declared.area.Record.{Record}
 use Rattle.split_merge.specs.Plans.{without}
-use Rattle.area_chunks.specs.BinarySearch.{begins_below, BeginsAscend}
+use Rattle.area_chunks.specs.Internal.BinarySearch.{begins_below, BeginsAscend}
 use Rattle.area_chunks.proofs.Editing.{begins_member}
 use Rattle.area_chunks.proofs.Going.{remove_is}
 use Rattle.area_chunks.proofs.chunk.Chunk.remove.Goals as goal

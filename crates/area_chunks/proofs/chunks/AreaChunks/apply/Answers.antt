@@ -6,7 +6,7 @@ use Rattle.split_merge.specs.declared.plan.Change.{Change}
 use Rattle.split_merge.specs.Plans.{olds_of, news_of, applied, IsPlanOf, IsKept}
 use Rattle.split_merge.proofs.Ascending.{ascending}
 use Rattle.split_merge.proofs.Counting.{plan_counts}
-use Rattle.area_chunks.specs.Chunks.{areas_of}
+use Rattle.area_chunks.specs.Internal.Chunks.{areas_of}
 use Rattle.area_chunks.specs.Stored.{Stored}
 use Rattle.area_chunks.proofs.InOrder.{begins_ascend}
 use Rattle.area_chunks.proofs.Unsealed.{IsUnsealed, unsealed_applied}

@@ -1,6 +1,6 @@
 -- For `AreaChunks::place` of chunks.rt: its goals.
 use Rattle.std.proofs.Common.{subst, sym}
-use Rattle.area_chunks.specs.Chunks.{AreApart}
+use Rattle.area_chunks.specs.Internal.Chunks.{AreApart}
 use Rattle.area_chunks.proofs.InOrder.{apart}
 use Rattle.area_chunks.proofs.chunks.AreaChunksAreas.place.Goals as goal
 

@@ -3,7 +3,7 @@ use Rattle.std.proofs.Common.{◌≡◌, ◌<◌, ◌-◌, ◌==◌, false, ℕ,
 use Rattle.std.specs.List.{prefix_len}
 use Rattle.std.proofs.lemmas.Bool.Decides.{nat_tests}
 use Rattle.mm_types.specs.declared.area.Record.{Record}
-use Rattle.area_chunks.specs.Chunks.{areas_of, low_of}
+use Rattle.area_chunks.specs.Internal.Chunks.{areas_of, low_of}
 use Rattle.area_chunks.proofs.Locating.{comes_into, come_into, pairs_within}
 use Rattle.area_chunks.proofs.Parting.{rise_pairs, pairs_rise, NotAbove}
 use Rattle.area_chunks.proofs.store.Store.insert.Goals as goal

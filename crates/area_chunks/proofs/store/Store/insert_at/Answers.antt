@@ -5,7 +5,7 @@ use Rattle.std.proofs.lemmas.List.{get_or_read, get_or-set_same}
 use Rattle.std.proofs.lemmas.List.Elements.{All-set}
 use Rattle.mm_types.specs.declared.area.Record.{Record}
 use Rattle.area_list.specs.Changes.{insert_area}
-use Rattle.area_chunks.specs.Chunks.{areas_of, IsFilled}
+use Rattle.area_chunks.specs.Internal.Chunks.{areas_of, IsFilled}
 use Rattle.area_chunks.proofs.Filling.{others_filled, one_longer, one_longer_at}
 use Rattle.area_chunks.proofs.store.Store.insert_at.Goals as goal
 

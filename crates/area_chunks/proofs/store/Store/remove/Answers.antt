@@ -2,7 +2,7 @@
 use Rattle.std.proofs.Common.{◌-◌, nat_le, List, ap, ◌∙◌, arith}
 use Rattle.std.specs.List.{prefix_len}
 use Rattle.mm_types.specs.declared.area.Record.{Record}
-use Rattle.area_chunks.specs.Chunks.{low_of}
+use Rattle.area_chunks.specs.Internal.Chunks.{low_of}
 use Rattle.area_chunks.proofs.Locating.{some_begins, goes_from, ascends_within, member_within, go_from}
 use Rattle.area_chunks.proofs.store.Store.remove.Goals as goal
 

@@ -6,7 +6,7 @@ use Rattle.std.proofs.lemmas.List.Elements.{All-set}
 use Rattle.mm_types.specs.declared.area.Record.{Record}
 use Rattle.split_merge.specs.Plans.{starts_alike, without}
 use Rattle.split_merge.proofs.Lists.{length-filter_at_most}
-use Rattle.area_chunks.specs.Chunks.{areas_of, IsFilled}
+use Rattle.area_chunks.specs.Internal.Chunks.{areas_of, IsFilled}
 use Rattle.area_chunks.proofs.Filling.{emptied_areas}
 use Rattle.area_chunks.proofs.store.Store.remove_at.Goals as goal
 

@@ -1,7 +1,8 @@
 -- For `AreaTree::facts`: the areas are those that the slots of the pairs show.
 use Rattle.std.proofs.Common.{◌≡◌, ◌+◌, ◌*◌, map, subst}
 use Rattle.mm_types.specs.declared.area.Record.{Record}
-use Rattle.area_tree.specs.AreaTrees.{AreaTreeView, AreasRise, areas_of, span_of}
+use Rattle.maple_gap.specs.Gaps.{span_of}
+use Rattle.area_tree.specs.AreaTrees.{AreaTreeView, AreasRise, areas_of}
 use Rattle.area_tree.proofs.Order.{areas_rise, areas_spans}
 use Rattle.area_tree.proofs.tree.AreaTree.facts.Goals as goal
 

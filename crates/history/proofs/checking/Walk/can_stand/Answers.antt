@@ -10,7 +10,7 @@ can_stand-requires c = let room = (walked_room _ _ _ c.requires.walked).1 in ome
 
 pub returns-then-is_made : goal.returns-then-is_made
 returns-then-is_made c =
-    let told = c.is_told.ensures (take c.args.place c.args.case.now.items.now) c.requires.walked.progress in (
+    let told = c.is_told.ensures _ (take c.args.place c.args.case.now.items.now) c.requires.walked.progress in (
       λ yes. elim c.if-can_stand.branch [
         | then-can_stand w ↦
             stands_from_next _ _ _ _ c.args.line c.requires.walked c.requires.next (c.can_stand.ensures.0 w.if-can_stand.true)

@@ -3,4 +3,4 @@ use Rattle.history.proofs.Advances.{AreAnswered}
 use Rattle.history.proofs.progress.Progress.unfinished.Given as goal
 
 abbrev pub invariant-loop-caller : goal.invariant-loop-caller
-invariant-loop-caller l = AreAnswered l.self l.caller
+invariant-loop-caller l = AreAnswered l.self-inside l.caller

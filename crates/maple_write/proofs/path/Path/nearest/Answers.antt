@@ -1,5 +1,5 @@
 -- For `nearest`: an item has each page from where it begins up to where it ends.
-use Rattle.maple_write.specs.Stores.{place_at}
+use Rattle.maple_write.specs.Internal.Stores.{place_at}
 use Rattle.maple_write.proofs.Paths.{begins_near}
 use Rattle.maple_write.proofs.path.Path.nearest.Goals as goal
 

@@ -4,7 +4,7 @@ use Rattle.std.proofs.lemmas.Bool.Decides.{nat_tests}
 use Rattle.std.proofs.lemmas.Option.{slice_get-get_or}
 use Rattle.std.proofs.lemmas.Grind.{common_steps}
 use Rattle.maps_retrace.specs.Retracing.{file_at}
-use Rattle.maps_retrace.specs.Taking.{what_taken}
+use Rattle.maps_retrace.specs.Internal.Taking.{what_taken}
 use Rattle.maps_retrace.proofs.Kept.{file_kept}
 use Rattle.maps_retrace.proofs.Steps.{line_of_file, area_given}
 use Rattle.maps_retrace.proofs.taking.Taken.add.Goals as goal

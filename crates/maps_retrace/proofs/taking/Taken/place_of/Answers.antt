@@ -2,7 +2,7 @@
 use Rattle.std.proofs.Common.{◌≡◌, ◌∙◌, ℕ, Some, None, Ok, position, length, sym, ap, arith}
 use Rattle.maps_read.specs.declared.maps.MapsLine.{MapsLine}
 use Rattle.maps_retrace.specs.FileLines.{same_file, file_place}
-use Rattle.maps_retrace.specs.Taking.{what_taken}
+use Rattle.maps_retrace.specs.Internal.Taking.{what_taken}
 use Rattle.maps_retrace.proofs.Steps.{position_map, length_map, file_so_far, file_next, file_fails}
 use Rattle.maps_retrace.proofs.taking.Taken.place_of.Goals as goal
 

@@ -4,10 +4,10 @@ use Rattle.std.proofs.lemmas.List.Sums.{sum_by-append}
 use Rattle.std.proofs.lemmas.List.Sorted.{IsPermutation-refl}
 use Rattle.area_slots.specs.Slots.{one_at}
 use Rattle.vma_lock.specs.Seats.{sight, slots}
-use Rattle.area_tree.specs.declared.shown.Shown.{Shown}
-use Rattle.area_tree.specs.AreaTrees.{shown_of}
-use Rattle.mm_state.specs.Boards.{IsSameTree, IsWritten}
-use Rattle.mm_state.proofs.Changing.{same_span}
+use Rattle.area_tree.specs.declared.shown.ShownArea.{ShownArea}
+use Rattle.area_tree.specs.AreaTrees.{shown_of, areas_of}
+use Rattle.mm_state.specs.Internal.Boards.{IsSameTree, IsWritten}
+use Rattle.mm_state.proofs.Changing.{same_span, same_meets, end_meets, room_meets, old_pages}
 use Rattle.mm_state.proofs.Hanging.{taken_in, at_most_once}
 use Rattle.mm_state.proofs.board.Board.alter.Goals as goal
 
@@ -26,7 +26,25 @@ update-requires-clause-once g c =
     omega (
       arith,
       at_most_once (slots board.writer) (shown_of board.areas ++ board.moved.items) board.slots c.slot_of-slot.result.0 c.requires.can.hangs,
-      sum_by-append (λ (s : Shown). one_at c.slot_of-slot.result.0 s.slot) (shown_of board.areas) board.moved.items,
+      sum_by-append (λ (s : ShownArea). one_at c.slot_of-slot.result.0 s.slot) (shown_of board.areas) board.moved.items,
+    )
+
+pub shrink-requires-clause-once : goal.shrink-requires-clause-once
+shrink-requires-clause-once g c =
+    let board = c.args.self.now in
+    omega (
+      arith,
+      at_most_once (slots board.writer) (shown_of board.areas ++ board.moved.items) board.slots c.slot_of-slot.result.0 c.requires.can.hangs,
+      sum_by-append (λ (s : ShownArea). one_at c.slot_of-slot.result.0 s.slot) (shown_of board.areas) board.moved.items,
+    )
+
+pub grow-requires-clause-once : goal.grow-requires-clause-once
+grow-requires-clause-once g c =
+    let board = c.args.self.now in
+    omega (
+      arith,
+      at_most_once (slots board.writer) (shown_of board.areas ++ board.moved.items) board.slots c.slot_of-slot.result.0 c.requires.can.hangs,
+      sum_by-append (λ (s : ShownArea). one_at c.slot_of-slot.result.0 s.slot) (shown_of board.areas) board.moved.items,
     )
 
 pub returns-then-eq : goal.returns-then-eq
@@ -42,7 +60,50 @@ returns-then-eq g c =
         same = subst (IsSameTree board.areas) (sym c.update.ensures.same) refl;
         moved_room = refl;
       },
-      record { rest = out.0; before = out.1; after = inl (out.2, refl, same_span c.args.old.now.span c.args.new.now.span c.eq.result c.if-eq.true c.eq.ensures) },
+      record { rest = out.0; before = out.1; after = inl (out.2, refl, same_meets c.args.old.now c.args.new.now c.requires.new.some_pages (same_span c.args.old.now.span c.args.new.now.span c.eq.result c.if-eq.true c.eq.ensures)) },
+      refl,
+    )
+
+pub returns-then-is_end : goal.returns-then-is_end
+returns-then-is_end g c =
+    let board = c.args.self.now in
+    let out = c.shrink.ensures.shown in
+    λ tree. (
+      c.slot_of-slot.result.0,
+      record {
+        table = refl;
+        mine = c.write_slot.ensures.table;
+        written = subst (λ row. IsWritten (sight board.writer) c.slot_of-slot.result.0 row (sight c.write_slot.new.writer)) c.pack-row.ensures c.write_slot.ensures.written;
+        same = subst (IsSameTree board.areas) (sym c.shrink.ensures.same) refl;
+        moved_room = refl;
+      },
+      record { rest = out.0; before = out.1; after = inl (out.2, refl, end_meets c.args.old.now c.args.new.now (c.is_end.ensures c.if-is_end.true)) },
+      refl,
+    )
+
+pub returns-then-has_room : goal.returns-then-has_room
+returns-then-has_room g c =
+    let board = c.args.self.now in
+    let out = c.grow.ensures.shown in
+    λ tree. (
+      c.slot_of-slot.result.0,
+      record {
+        table = refl;
+        mine = c.write_slot.ensures.table;
+        written = subst (λ row. IsWritten (sight board.writer) c.slot_of-slot.result.0 row (sight c.write_slot.new.writer)) c.pack-row.ensures c.write_slot.ensures.written;
+        same = subst (IsSameTree board.areas) (sym c.grow.ensures.same) refl;
+        moved_room = refl;
+      },
+      record {
+        rest = out.0;
+        before = out.1;
+        after = inl (
+          out.2,
+          refl,
+          room_meets c.args.old.now c.args.new.now c.args.self.now.areas.tree.limit (areas_of c.args.self.now.areas) (c.has_room.ensures c.if-has_room.true)
+              (old_pages c.args.self.now.areas.tree.limit 0 (areas_of c.args.self.now.areas) c.args.old.now c.facts.ensures.rise c.requires.old),
+        );
+      },
       refl,
     )
 

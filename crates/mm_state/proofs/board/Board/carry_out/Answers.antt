@@ -19,7 +19,7 @@ use Rattle.area_tree.specs.AreaTrees.{AreaTreeView, shown_of, areas_of, AreasRis
 use Rattle.mm_state.specs.declared.board.Board.{Board}
 use Rattle.mm_state.specs.Shelves.{Hangs}
 use Rattle.mm_state.specs.States.{MarksChanged, KeepsSlots, KeepsLeft, HaveLeft}
-use Rattle.mm_state.specs.Boards.{IsPackable, ChangesAtMost}
+use Rattle.mm_state.specs.Internal.Boards.{IsPackable, ChangesAtMost}
 use Rattle.mm_state.proofs.Changing.{tree_step}
 use Rattle.mm_state.proofs.Hanging.{hangs_permuted}
 use Rattle.mm_state.proofs.Readying.{prepared, can_store, rows_then, areas_then, news_few, slots_suffice}

@@ -2,9 +2,7 @@
 use Rattle.std.proofs.Common.{◌-◌, ◌<◌, length, List, drop, subst, sym, arith}
 use Rattle.std.proofs.lemmas.List.{drop_all}
 use Rattle.split_merge.specs.declared.plan.Change.{Change}
-use Rattle.area_tree.specs.AreaTrees.{areas_of}
-use Rattle.mm_state.specs.Boards.{IsChanging}
-use Rattle.mm_state.proofs.InOrder.{rise_ascend}
+use Rattle.mm_state.specs.Internal.Boards.{IsChanging}
 use Rattle.mm_state.proofs.Carrying.{can_change, free_left, room_left, left_there, in_tree, drop_one}
 use Rattle.mm_state.proofs.Changing.{change_step, none_changed}
 use Rattle.mm_state.proofs.board.Board.change_all.Goals as goal
@@ -14,7 +12,7 @@ loop-left-init g c = record {
   within = omega arith;
   changing = subst (λ (done : List Change). IsChanging c.args.self.now c.args.self.now done c.args.tree) (sym (drop_all (length c.args.changes.now) c.args.changes.now (omega arith)))
       (none_changed c.args.self.now c.args.tree c.requires.can.table c.requires.can.hangs c.requires.moved c.requires.leaving
-      (rise_ascend c.args.self.now.areas.tree.limit 0 (areas_of c.args.self.now.areas) c.facts.ensures.rise).1);
+      c.facts.ensures.rise);
 }
 
 pub change-requires-clause-can : goal.change-requires-clause-can

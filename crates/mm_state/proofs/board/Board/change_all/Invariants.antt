@@ -1,6 +1,6 @@
 -- For `Board::change_all`: the later changes were carried out.
 use Rattle.std.proofs.Common.{◌≤◌, length, drop}
-use Rattle.mm_state.specs.Boards.{IsChanging}
+use Rattle.mm_state.specs.Internal.Boards.{IsChanging}
 use Rattle.mm_state.proofs.board.Board.change_all.Given as goal
 
 abbrev pub invariant-loop-left : goal.invariant-loop-left

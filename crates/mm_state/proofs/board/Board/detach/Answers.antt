@@ -2,7 +2,7 @@
 use Rattle.std.proofs.Common.{refl, sym, subst, arith}
 use Rattle.vma_lock.specs.Seats.{slots}
 use Rattle.area_tree.specs.AreaTrees.{shown_of}
-use Rattle.mm_state.specs.Boards.{IsSameTree}
+use Rattle.mm_state.specs.Internal.Boards.{IsSameTree}
 use Rattle.mm_state.proofs.Hanging.{taken_in}
 use Rattle.mm_state.proofs.board.Board.detach.Goals as goal
 

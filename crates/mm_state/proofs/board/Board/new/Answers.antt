@@ -9,7 +9,7 @@ use Rattle.area_slots.specs.declared.leaving.Leaving.{Leaving}
 use Rattle.area_slots.specs.Slots.{SlotSet}
 use Rattle.vma_lock.specs.declared.view.View.{View}
 use Rattle.vma_lock.specs.Seats.{config_of, sight}
-use Rattle.area_tree.specs.declared.shown.Shown.{Shown}
+use Rattle.area_tree.specs.declared.shown.ShownArea.{ShownArea}
 use Rattle.area_tree.specs.AreaTrees.{AreaTreeView, shown_of}
 use Rattle.mm_state.specs.Shelves.{Hangs}
 use Rattle.mm_state.proofs.Opening.{hangs_new}
@@ -34,7 +34,7 @@ returns-clause-rest c =
       count = ap (λ (s : SlotSet). s.count) made ∙ ap (λ n. 2 * n + 2) (sym areas);
       records = ap (λ (s : SlotSet). s.count) made ∙ ap (λ (t : AreaTreeView). slots_for t.tree.areas) (sym tree);
       hangs = subst (λ (s : SlotSet). Hangs (sight c.args.writer).desk.slots (shown_of c.in_ok-new.field-0) s) (sym made)
-          (subst (λ (shown : List Shown). Hangs (sight c.args.writer).desk.slots shown first) (sym (ap shown_of tree))
+          (subst (λ (shown : List ShownArea). Hangs (sight c.args.writer).desk.slots shown first) (sym (ap shown_of tree))
           (subst (λ (s : List SlotState). Hangs s [] first) (sym states) hangs));
       tree = record {
         shown = ap (λ (t : AreaTreeView). t.tree.shown) tree ∙ sym (ap (λ (t : AreaTreeView). t.tree.pairs) tree);

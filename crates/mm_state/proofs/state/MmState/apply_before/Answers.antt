@@ -6,7 +6,7 @@ use Rattle.split_merge.specs.Plans.{applied}
 use Rattle.lock_core.specs.Facts.{list_after}
 use Rattle.vma_lock.specs.Seats.{slots}
 use Rattle.area_tree.specs.AreaTrees.{areas_of}
-use Rattle.mm_state.specs.Boards.{IsEntered, IsCarriedOut}
+use Rattle.mm_state.specs.Internal.Boards.{IsEntered, IsCarriedOut}
 use Rattle.mm_state.specs.States.{StateView, list_of, ChangesOne, MarksChanged, KeepsSlots, KeepsLeft, HaveLeft}
 use Rattle.mm_state.proofs.Entering.{ready_now}
 use Rattle.mm_state.proofs.Made.{may_enter, one_slot, state_made, stays_made}

@@ -1,6 +1,6 @@
 -- For `publish`: the tree is a next one of new rows, and the lists keep what they keep.
 use Rattle.std.proofs.Common.{◌+◌, sym, ap, subst, arith}
-use Rattle.node_slots.specs.declared.view.Shown.{Shown}
+use Rattle.node_slots.specs.declared.view.ShownTree.{ShownTree}
 use Rattle.node_slots.specs.Trees.{shown_rows}
 use Rattle.node_slots.specs.Plays.{RowsExist}
 use Rattle.node_slots.specs.Views.{named_tree}
@@ -30,7 +30,7 @@ invariant_of-writer c =
     let writer = c.args.writer.now in
     let number = writer.desk.kept.number_is in
     let size = ap (λ t. t.size.rows) c.publish_root.ensures.same in
-    let shown : Shown = named_tree (sight writer).known (record { tree = writer.desk.root.tree + 1; height = c.args.height; row = c.args.root }) in
+    let shown : ShownTree = named_tree (sight writer).known (record { tree = writer.desk.root.tree + 1; height = c.args.height; row = c.args.root }) in
     let reaches : ReachesNewRows writer shown =
     subst (λ n. ReachesNewRows writer (named_tree (sight writer).known (record { tree = n + 1; height = c.args.height; row = c.args.root }))) number
     c.requires.rows in

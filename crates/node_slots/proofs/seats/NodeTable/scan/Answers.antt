@@ -1,14 +1,12 @@
 -- For `scan`: what is freed was left out by a tree up to which every reader is cleared.
-use Rattle.std.proofs.Common.{ℕ, ◌≡◌, ◌<◌, ◌≤◌, ◌∙◌, List, length, map, false, sym, ap, subst, arith, inl, inr}
+use Rattle.std.proofs.Common.{◌≡◌, ◌<◌, ◌∙◌, List, length, map, sym, ap, subst, arith, inl, inr}
 use Rattle.std.proofs.lemmas.Bool.{cases_Bool}
 use Rattle.grace_core.specs.declared.clearing.Clearing.{Clearing}
 use Rattle.grace_core.specs.Core.{since_at}
 use Rattle.grace_core.specs.Steps.{least}
 use Rattle.grace_core.proofs.Clearings.{least_number}
-use Rattle.node_slots.specs.declared.seats.WriterSeat.{WriterSeat}
+use Rattle.node_slots.specs.declared.seats.NodeWriterSeat.{NodeWriterSeat}
 use Rattle.node_slots.specs.Seats.{seat_sight, sight, desk}
-use Rattle.node_slots.specs.declared.view.NodeView.{NodeView}
-use Rattle.node_slots.specs.Views.{scan_from}
 use Rattle.node_slots.specs.Seats.{is_waiting, AreOut}
 use Rattle.node_slots.proofs.Gone.{scanned_least}
 use Rattle.node_slots.proofs.Listing.{scans_lists, waiting_past}
@@ -47,7 +45,7 @@ returns-clause-rest c =
     let is : c.least-passed.result ≡ least seat.root.tree seat.clearings.items = c.least-passed.ensures
     ∙ ap (least seat.root.tree) c.as_slice.ensures.value in
     let same : least seat.root.tree seat.clearings.items ≡ least writer.desk.root.tree writer.desk.clearings.items =
-    ap (λ (s : WriterSeat). least s.root.tree s.clearings.items) (sym c.free_passed.ensures.desk) in
+    ap (λ (s : NodeWriterSeat). least s.root.tree s.clearings.items) (sym c.free_passed.ensures.desk) in
     let known : least writer.desk.root.tree writer.desk.clearings.items ≡ least (desk writer).tree.number (desk writer).clearings =
     ap (λ n. least n writer.desk.clearings.items) (sym writer.desk.kept.number_is)
     ∙ ap (least (desk writer).tree.number) (sym writer.desk.kept.clearings_are) in
@@ -68,12 +66,12 @@ returns-clause-gone c =
     let same = ap (λ s. s.readers) c.requires.table.size_is in
     let was = ap (λ (l : List Clearing). length l) old.desk.kept.clearings_are in
     let after = ap (λ (l : List Clearing). length l) seat.kept.clearings_are in
-    let number = ap (λ (s : WriterSeat). (seat_sight s).known.desk.tree.number) c.free_passed.ensures.desk in
+    let number = ap (λ (s : NodeWriterSeat). (seat_sight s).known.desk.tree.number) c.free_passed.ensures.desk in
     λ out row. elim (cases_Bool (is_waiting writer row)) [
       | inl waits ↦
           let all = scanned_least told.0 (sight old) (seat_sight seat) told.2 (omega (arith, told.1, was, old.desk.kept.readers, same))
           (omega (arith, told.1, after, seat.kept.readers, size, old.desk.kept.readers, same))
-          (subst (λ (s : WriterSeat). AreOut (map (λ (found : Clearing). found.pin) (seat_sight s).known.desk.clearings)) c.free_passed.ensures.desk out) in
+          (subst (λ (s : NodeWriterSeat). AreOut (map (λ (found : Clearing). found.pin) (seat_sight s).known.desk.clearings)) c.free_passed.ensures.desk out) in
           let later = c.free_passed.ensures.rest row waits in
           let past = waiting_past writer.desk.table.size.rows writer.free.items writer.left.items writer.firsts.items (desk writer) writer.rows row waits in
           absurd (omega (arith, all, later, past, is, known, number))

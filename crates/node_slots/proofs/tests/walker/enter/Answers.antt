@@ -4,7 +4,7 @@ use Rattle.grace_core.specs.Core.{has_row}
 use Rattle.maple_node.specs.declared.root.Root.{Root}
 use Rattle.node_slots.specs.declared.view.NodeView.{NodeView}
 use Rattle.node_slots.specs.Trees.{grace_tree}
-use Rattle.node_slots.specs.Leaves.{has_shown}
+use Rattle.node_slots.specs.Internal.Leaves.{has_shown}
 use Rattle.node_slots.proofs.Seated.{root_there}
 use Rattle.node_slots.proofs.tests.walker.enter.Goals as goal
 

@@ -1,5 +1,5 @@
 -- For `read`: the reader stays open, and its snapshot has the row.
-use Rattle.node_slots.specs.Leaves.{IsInside}
+use Rattle.node_slots.specs.Internal.Leaves.{IsInside}
 use Rattle.node_slots.proofs.tests.walker.read.Given as goal
 
 abbrev pub invariant-loop-place : goal.invariant-loop-place

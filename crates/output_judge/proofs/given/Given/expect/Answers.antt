@@ -3,7 +3,7 @@ use Rattle.std.proofs.Common.{◌≡◌, ◌++◌, refl, sym, subst, Some, None}
 use Rattle.std.proofs.lemmas.Bool.Decides.{Decides-eqb}
 use Rattle.std.proofs.lemmas.Slice.Eq.{strip_prefix_is}
 use Rattle.output_judge.specs.declared.stop.Stop.{Stop}
-use Rattle.output_judge.specs.Judging.{IsBadAt}
+use Rattle.output_judge.specs.Internal.Judging.{IsBadAt}
 use Rattle.output_judge.proofs.Compared.{read_more, differs_line}
 use Rattle.output_judge.proofs.given.Given.expect.Goals as goal
 

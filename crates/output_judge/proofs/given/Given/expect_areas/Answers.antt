@@ -1,7 +1,7 @@
 -- The proof of `Given::expect_areas`: the line of each area is one line, and it agrees or does not.
 use Rattle.std.proofs.Common.{◌++◌, take, arith}
 use Rattle.mm_types.specs.MapsText.{list_text}
-use Rattle.output_judge.specs.Judging.{IsBadAt}
+use Rattle.output_judge.specs.Internal.Judging.{IsBadAt}
 use Rattle.output_judge.proofs.Stopped.{area_line_is, areas_step, areas_stop, areas_all, err_is}
 use Rattle.output_judge.proofs.given.Given.expect_areas.Goals as goal
 

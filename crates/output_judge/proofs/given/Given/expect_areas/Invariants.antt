@@ -1,7 +1,7 @@
 -- The proof of `Given::expect_areas`: the lines of the areas so far were read.
 use Rattle.std.proofs.Common.{ℕ, ◌+◌, ◌≤◌, List, ◌++◌, length, take}
 use Rattle.mm_types.specs.MapsText.{list_text}
-use Rattle.output_judge.specs.Judging.{HasRead}
+use Rattle.output_judge.specs.Internal.Judging.{HasRead}
 use Rattle.output_judge.proofs.given.Given.expect_areas.Given as goal
 
 abbrev pub invariant-loop-area : goal.invariant-loop-area

@@ -4,8 +4,8 @@ use Rattle.mm_types.specs.MapsText.{list_text}
 use Rattle.trace_reader.specs.Values.{child_of}
 use Rattle.history.specs.declared.items.Content.{Content}
 use Rattle.output_text.specs.Output.{start_text, result_text}
-use Rattle.output_judge.specs.Printed.{IsLine, first_text, more_text, shown}
-use Rattle.output_judge.specs.Judging.{HasRead, IsBadAt}
+use Rattle.output_judge.specs.Internal.Printed.{IsLine, first_text, more_text, shown}
+use Rattle.output_judge.specs.Internal.Judging.{HasRead, IsBadAt}
 use Rattle.output_judge.proofs.ItemLines.{first_line, start_plain}
 use Rattle.output_judge.proofs.Stopped.{item_printed, item_parts, two_parts, two_stop, stop_more, err_is, on_ok, if_err}
 use Rattle.output_judge.proofs.given.Given.expect_item.Goals as goal

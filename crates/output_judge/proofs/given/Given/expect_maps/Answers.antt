@@ -3,8 +3,8 @@ use Rattle.std.proofs.Common.{ℕ, ◌≡◌, ◌++◌, List, sym, subst, length
 use Rattle.mm_types.specs.declared.area.Record.{Record}
 use Rattle.mm_types.specs.MapsText.{list_text}
 use Rattle.output_text.specs.Output.{maps_text}
-use Rattle.output_judge.specs.Printed.{IsLine}
-use Rattle.output_judge.specs.Judging.{HasRead, IsBadAt}
+use Rattle.output_judge.specs.Internal.Printed.{IsLine}
+use Rattle.output_judge.specs.Internal.Judging.{HasRead, IsBadAt}
 use Rattle.output_judge.proofs.ItemLines.{count_line, count_printed, maps_is}
 use Rattle.output_judge.proofs.Stopped.{two_parts, two_stop, stop_more, err_is, on_ok, if_err}
 use Rattle.output_judge.proofs.given.Given.expect_maps.Goals as goal

@@ -3,7 +3,7 @@ use Rattle.std.proofs.Common.{◌==◌, ◌∙◌, sym, ap, subst, length, eqb-t
 use Rattle.std.proofs.lemmas.Bool.{false≢true}
 use Rattle.output_judge.specs.declared.stop.Stop.{Stop}
 use Rattle.output_judge.specs.Judgements.{items_text}
-use Rattle.output_judge.specs.Judging.{IsToldRightly}
+use Rattle.output_judge.specs.Internal.Judging.{IsToldRightly}
 use Rattle.output_judge.proofs.Stopped.{stop_list, stop_behind, ends_whole, none_long, err_is}
 use Rattle.output_judge.proofs.judging.Walk.end.Goals as goal
 

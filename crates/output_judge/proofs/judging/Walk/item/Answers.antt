@@ -3,7 +3,7 @@ use Rattle.std.proofs.Common.{◌==◌, ◌∙◌, sym, ap, subst, refl, length,
 use Rattle.std.proofs.lemmas.Bool.{false≢true}
 use Rattle.output_judge.specs.declared.stop.Stop.{Stop}
 use Rattle.output_judge.specs.Judgements.{items_text}
-use Rattle.output_judge.specs.Judging.{IsToldRightly}
+use Rattle.output_judge.specs.Internal.Judging.{IsToldRightly}
 use Rattle.output_judge.proofs.Walked.{walked_room, counts_room, walked_more}
 use Rattle.output_judge.proofs.Stopped.{stop_short, stop_none, stop_order, stop_item, ran_from, passed_version, passed_lowest, none_long, err_is, called_no}
 use Rattle.output_judge.proofs.judging.Walk.item.Goals as goal
@@ -33,7 +33,9 @@ returns-then-not-is_in_order-clause-bad c = λ text walked.
     (λ read. order (called_no _ c.run_op-answer.new.space.space.areas c.run_op-answer.result c.is_call-is_call.ensures read)))))
 
 pub version_with-version-requires : goal.version_with-version-requires
-version_with-version-requires c = (walked_room c.args.trace.now c.requires.walked.0 c.args.self.now c.requires.walked.1 c.requires.trace).1
+version_with-version-requires c =
+    let room = (walked_room c.args.trace.now c.requires.walked.0 c.args.self.now c.requires.walked.1 c.requires.trace).1 in
+    omega arith
 
 pub returns-in_err-expect_item-clause-bad : goal.returns-in_err-expect_item-clause-bad
 returns-in_err-expect_item-clause-bad c = λ text walked.
@@ -57,7 +59,9 @@ pass-requires-clause-room c =
     (c.in-Some.ensures c.requires.walked.0 c.requires.walked.1)).1
 
 pub pass-requires-clause-version : goal.pass-requires-clause-version
-pass-requires-clause-version c = (walked_room c.args.trace.now c.requires.walked.0 c.args.self.now c.requires.walked.1 c.requires.trace).1
+pass-requires-clause-version c =
+    let room = (walked_room c.args.trace.now c.requires.walked.0 c.args.self.now c.requires.walked.1 c.requires.trace).1 in
+    omega arith
 
 pub returns-clause-ok : goal.returns-clause-ok
 returns-clause-ok c = λ text walked.
@@ -69,8 +73,7 @@ returns-clause-ok c = λ text walked.
     c.is_call-is_call.ensures c.version_with-version.ensures (c.if-not-is_in_order.ensures.0 refl))
     (record {
       answered = c.pass.ensures.answered;
-      places = c.pass.ensures.places;
-      callers = c.pass.ensures.callers;
+      lines = c.pass.ensures.lines;
       counted = passed_version _ _ _ _ c.pass.ensures.version c.version_with-version.ensures;
       lowest = passed_lowest _ _ c.run_op-answer.new.space.space.areas c.run_op-answer.result c.is_call-is_call.result c.is_call-is_call.ensures
           c.pass.ensures.lowest;

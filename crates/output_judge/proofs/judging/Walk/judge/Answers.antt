@@ -1,5 +1,5 @@
 -- The proof of `Walk::judge`: at the next item, and where no line is left.
-use Rattle.output_judge.specs.Judging.{IsToldRightly}
+use Rattle.output_judge.specs.Internal.Judging.{IsToldRightly}
 use Rattle.output_judge.proofs.Stopped.{err_is}
 use Rattle.output_judge.proofs.judging.Walk.judge.Goals as goal
 

@@ -1,6 +1,6 @@
 -- The proof of `Walk::judge`: the items so far were compared, and each shortens what is left.
 use Rattle.std.proofs.Common.{ℕ, List, length}
-use Rattle.output_judge.specs.Judging.{IsWalked}
+use Rattle.output_judge.specs.Internal.Judging.{IsWalked}
 use Rattle.output_judge.proofs.judging.Walk.judge.Given as goal
 
 abbrev pub invariant-loop-self : goal.invariant-loop-self

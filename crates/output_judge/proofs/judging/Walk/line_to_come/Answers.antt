@@ -3,8 +3,8 @@ use Rattle.std.proofs.Common.{ℕ, ◌≡◌, ◌∙◌, sym, subst, Option, Som
 use Rattle.std.specs.Prelude.{MatchOption}
 use Rattle.std.proofs.lemmas.Option.{none-some}
 use Rattle.trace_reader.specs.declared.trace.TraceLine.{TraceLine}
-use Rattle.output_judge.specs.Judging.{NoneComes, TheOneComes}
-use Rattle.output_judge.proofs.Telling.{number_fits, come_of}
+use Rattle.output_judge.specs.Internal.Judging.{NoneComes, TheOneComes}
+use Rattle.output_judge.proofs.Telling.{number_fits, come_from}
 use Rattle.output_judge.proofs.judging.Walk.line_to_come.Goals as goal
 
 pub returns-in_err-number : goal.returns-in_err-number
@@ -17,8 +17,8 @@ returns-in_err-number c = λ text walked.
 
 pub returns : goal.returns
 returns c = λ text walked.
-    come_of c.args.trace.now.lines c.items.result.now c.items.ensures walked.items c.args.self.now.given.rest.now c.in_ok-number.number
-    c.args.self.now.progress c.line_to_come.result walked.progress c.line_to_come.ensures
+    come_from c.args.trace.now.lines walked.items c.args.self.now.given.rest.now c.in_ok-number.number c.line_to_come.result
+    (c.line_to_come.ensures c.args.trace.now.lines walked.items walked.progress)
     (λ other teller begins. same_number other.number c.in_ok-number.number
     (sym (c.number.ensures other begins.version begins.behind
     (number_fits c.args.trace.now walked.items other teller c.requires begins.next) begins.begins) ∙ c.in_ok-number.was))

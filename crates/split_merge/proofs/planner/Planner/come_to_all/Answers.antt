@@ -5,7 +5,7 @@ use Rattle.std.specs.List.{flat_map}
 use Rattle.std.specs.Option.{option_to_list}
 use Rattle.split_merge.specs.declared.planner.Planner.{Planner}
 use Rattle.split_merge.specs.Plans.{PlanView}
-use Rattle.split_merge.specs.Planner.{Event, GoesAlong}
+use Rattle.split_merge.specs.Internal.Planner.{Event, GoesAlong}
 use Rattle.split_merge.proofs.Steps.{goes_on, goes_room, parts_more, parts_within}
 use Rattle.split_merge.proofs.planner.Planner.come_to_all.Goals as goal
 use Rattle.split_merge.proofs.planner.Planner.come_to_all.Goals.{in-Some, in_default}

@@ -2,7 +2,7 @@
 use Rattle.std.proofs.Common.{take, map}
 use Rattle.std.specs.List.{flat_map}
 use Rattle.std.specs.Option.{option_to_list}
-use Rattle.split_merge.specs.Planner.{Event, GoesAlong}
+use Rattle.split_merge.specs.Internal.Planner.{Event, GoesAlong}
 use Rattle.split_merge.proofs.planner.Planner.come_to_all.Given as goal
 
 abbrev pub invariant-loop-part : goal.invariant-loop-part

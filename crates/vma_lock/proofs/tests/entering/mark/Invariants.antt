@@ -1,6 +1,6 @@
 -- For `mark`: what the writer knows stays, but for its tries.
 use Rattle.vma_lock.specs.Seats.{Writes, sight}
-use Rattle.vma_lock.specs.Small.{IsMarking}
+use Rattle.vma_lock.specs.Internal.Small.{IsMarking}
 use Rattle.vma_lock.proofs.tests.entering.mark.Given as goal
 
 abbrev pub invariant-loop : goal.invariant-loop

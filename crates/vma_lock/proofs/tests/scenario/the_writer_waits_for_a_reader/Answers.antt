@@ -1,7 +1,7 @@
 -- For the scenario: the reply and the list are the model's.
 use Rattle.std.proofs.Common.{◌≡◌, ◌∙◌, refl, sym, ap, subst, [], Some}
 use Rattle.area_model.specs.Stepped.{outcome_of}
-use Rattle.vma_lock.specs.Small.{ShowsOne}
+use Rattle.vma_lock.specs.Internal.Small.{ShowsOne}
 use Rattle.vma_lock.specs.Seats.{sight}
 use Rattle.vma_lock.specs.declared.view.View.{View}
 use Rattle.vma_lock.proofs.Small.{opened_is_small, small_after, small_reply}

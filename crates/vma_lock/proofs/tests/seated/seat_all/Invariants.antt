@@ -1,5 +1,5 @@
 -- For `seat_all`: the readers that are left are beside the writer.
-use Rattle.vma_lock.specs.Small.{AreBeside}
+use Rattle.vma_lock.specs.Internal.Small.{AreBeside}
 use Rattle.vma_lock.proofs.tests.seated.seat_all.Given as goal
 
 abbrev pub invariant-loop : goal.invariant-loop

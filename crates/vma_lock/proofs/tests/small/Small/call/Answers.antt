@@ -5,7 +5,7 @@ use Rattle.area_rules.specs.Tables.{space_of}
 use Rattle.area_model.specs.Stepped.{outcome_of}
 use Rattle.area_rules.specs.Steps.{after}
 use Rattle.vma_lock.specs.Seats.{sight, journal}
-use Rattle.vma_lock.specs.Small.{ShowsOne}
+use Rattle.vma_lock.specs.Internal.Small.{ShowsOne}
 use Rattle.vma_lock.proofs.Small.{small_after}
 use Rattle.vma_lock.proofs.tests.small.Small.call.Goals as goal
 

@@ -1,0 +1,83 @@
+//! Areas that get fewer pages, or more, in one store.
+ghost use Rattle.std.specs.Prelude.{◌≡◌, ◌≤◌, ◌-◌, ◌∷◌, ◌&&◌, nat_le, true, List, slice_set, Contains, IsPermutation};
+ghost use Rattle.area_rules.specs.Placement.{is_free};
+ghost use Rattle.area_tree.specs.declared.shown.ShownArea.{ShownArea};
+ghost use Rattle.area_tree.specs.AreaTrees.{shown_of, areas_of, times_shown, IsEndOf, IsRoomFor};
+ghost use Rattle.area_tree.specs.Internal.Ends.{beside};
+
+use crate::shown::ShownArea;
+use crate::tree::AreaTree;
+use mm_types::{Page, Record, Slot, Span};
+use split_merge::Areas;
+
+/// What a span has beside a part of it, which begins or ends where the span does.
+fn beside(part: Span, whole: Span) -> Span
+    ensures { result ≡ beside part whole }
+{
+    if part.lo == whole.lo {
+        Span {
+            lo: part.hi,
+            hi: whole.hi,
+        }
+    } else {
+        Span {
+            lo: whole.lo,
+            hi: part.lo,
+        }
+    }
+}
+
+impl AreaTree {
+    /// Whether the pages from one on up to another are below the limit, and no area has one of them.
+    pub fn has_free(&self, lo: u64, hi: u64) -> bool
+        requires { lo ≤ hi }
+        ensures { result ≡ (nat_le hi self.now.tree.limit && is_free (areas_of self.now) (hi - lo) lo) }
+    {
+        self.facts();
+        if hi > self.bounds.limit {
+            return false;
+        }
+        match self.from(Page(lo)) {
+            Some(area) => hi <= area.span.lo,
+            None => true,
+        }
+    }
+
+    /// A slot of the tree shows an area with fewer pages than the one before: only the pages that it loses are stored.
+    pub fn shrink(&mut self, old: &Record, shown: ShownArea)
+        requires roomy { self.old.tree.roomy ≡ true }
+        requires member { Contains (shown_of self.old) (record { slot = shown.slot; area = old.now }) }
+        requires part { IsEndOf shown.area.span old.now.span }
+        requires once { times_shown shown.slot (shown_of self.old) ≤ 1 }
+        ensures shown { (rest : List ShownArea) × IsPermutation (record { slot = shown.slot; area = old.now } ∷ rest) (shown_of self.old)
+            × IsPermutation (shown ∷ rest) (shown_of self.new) }
+        ensures same { self.new ≡ record self.old {
+          tree = record self.old.tree { pairs = self.new.tree.pairs; changed = true };
+          records = slice_set self.old.records shown.slot shown.area;
+        } }
+    {
+        self.tree.facts();
+        self.records[shown.slot as usize] = shown.area;
+        self.sealed |= shown.area.attr.sealed;
+        self.tree.store(beside(shown.area.span, old.span), None);
+    }
+
+    /// A slot of the tree shows an area with the pages of the one before and free ones beside them.
+    pub fn grow(&mut self, old: &Record, shown: ShownArea)
+        requires roomy { self.old.tree.roomy ≡ true }
+        requires member { Contains (shown_of self.old) (record { slot = shown.slot; area = old.now }) }
+        requires pages { IsRoomFor self.old.tree.limit (areas_of self.old) old.now.span shown.area.span }
+        requires once { times_shown shown.slot (shown_of self.old) ≤ 1 }
+        ensures shown { (rest : List ShownArea) × IsPermutation (record { slot = shown.slot; area = old.now } ∷ rest) (shown_of self.old)
+            × IsPermutation (shown ∷ rest) (shown_of self.new) }
+        ensures same { self.new ≡ record self.old {
+          tree = record self.old.tree { pairs = self.new.tree.pairs; changed = true };
+          records = slice_set self.old.records shown.slot shown.area;
+        } }
+    {
+        self.tree.facts();
+        self.records[shown.slot as usize] = shown.area;
+        self.sealed |= shown.area.attr.sealed;
+        self.tree.store(shown.area.span, Some(Slot(shown.slot)));
+    }
+}

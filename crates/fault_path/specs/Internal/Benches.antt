@@ -1,0 +1,13 @@
+-- A call that a test makes on a table of at most one area, which lies in slot 0.
+use Rattle.std.specs.Prelude.{◌≡◌, ◌%◌, [], ◌∷◌, ◌++◌, None}
+use Rattle.mm_types.specs.declared.call.Entry.{Entry}
+use Rattle.vma_lock.specs.declared.view.View.{View}
+use Rattle.vma_lock.specs.Internal.Small.{AreFree}
+
+-- The entry was made: no call is open, it is nobody's turn, and the slots but the first are detached.
+pub record IsEntered (old new : View) (entry : Entry) : Type 0 where
+  pub closed : new.desk.seq % 2 ≡ 0
+  pub turn : new.turn ≡ None
+  pub config : new.config ≡ old.config
+  pub free : AreFree new.desk.slots
+  pub journal : new.seen ≡ old.seen ++ entry ∷ []

@@ -1,0 +1,24 @@
+use mm_types::Text;
+use std::alloc::AllocError;
+
+/// Why a text of flags was refused.
+#[derive(Debug, Drop)]
+pub enum NameError {
+    /// No flag of the table has this name.
+    Unknown(Text),
+    /// The name came before.
+    Twice(Text),
+    /// No memory was left to keep the name that was refused.
+    NoMemory,
+}
+
+impl From<AllocError> for NameError {
+    ghost use Rattle.std.specs.Prelude.{◌≡◌};
+    ghost use Rattle.flag_table.specs.declared.error.NameError.TheVariants.{NoMemory};
+
+    ghost from_gives = { λ _ fault. fault ≡ NoMemory };
+
+    fn from(_error: AllocError) -> NameError {
+        NameError::NoMemory
+    }
+}

@@ -1,6 +1,0 @@
--- What the loop of `Protocol::new` keeps: no reader so far has a snapshot.
-use Rattle.std.proofs.Common.{◌≡◌, replicate, None}
-use Rattle.grace_core.proofs.protocol.Protocol.new.Given as goal
-
-abbrev pub invariant-loop : goal.invariant-loop
-invariant-loop l = l.snapshots.items ≡ replicate l.counter None

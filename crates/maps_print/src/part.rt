@@ -1,0 +1,86 @@
+//! Parts of a line that are put together before they are appended, and the numbers in them.
+ghost use Rattle.std.specs.Prelude.{◌≡◌, ◌≤◌, ◌<◌, ◌++◌, ◌%◌, false, decimal, drop, length, replicate, take, OnErr, OnOk};
+ghost use Rattle.std.specs.Fmt.{digit_glyph, digits};
+ghost use Rattle.mm_types.specs.MapsText.{hex};
+
+use arrayvec::ArrayVec;
+use itoa::Buffer;
+use mm_types::NoMemory;
+
+/// Room for the longest addresses and the longest place that numbers of 64 bits make, of 40 and 60 characters.
+const MOST_CHARACTERS: usize = 64;
+
+/// A part of a line, before it is appended.
+pub(crate) type Part = ArrayVec<u8, MOST_CHARACTERS>;
+
+/// How many digits a number of 64 bits has at most in hexadecimal.
+const MOST_DIGITS: usize = 16;
+
+/// Adds bytes to a part.
+pub(crate) fn add(part: &mut Part, bytes: &[u8]) -> Result<(), NoMemory>
+    ensures { OnOk result (part.new.items ≡ part.old.items ++ bytes.now) }
+{
+    match part.try_extend_from_slice(bytes) {
+        Ok(()) => Ok(()),
+        Err(_) => Err(NoMemory),
+    }
+}
+
+/// Adds a number in decimal.
+pub(crate) fn add_decimal(part: &mut Part, number: u64) -> Result<(), NoMemory>
+    ensures { OnOk result (part.new.items ≡ part.old.items ++ decimal number) }
+{
+    let mut buffer = Buffer::new();
+    add(part, buffer.format(number).as_bytes())
+}
+
+/// Adds a number in hexadecimal, filled with leading zeros up to this width.
+#[tactic(auto, unfolding(mm_types::specs::MapsText::hex))]
+pub(crate) fn add_padded(part: &mut Part, number: u64, width: usize) -> Result<(), NoMemory>
+    requires { width ≤ MOST_DIGITS }
+    ensures { OnOk result (part.new.items ≡ part.old.items ++ hex width number) }
+{
+    let (text, first) = hex_digits(number);
+    add(part, &text[first.min(MOST_DIGITS - width)..])
+}
+
+/// Appends a number in hexadecimal.
+pub fn push_hex(text: &mut Vec<u8>, number: u64) -> Result<(), NoMemory>
+    ensures ok { OnOk result (text.new.items ≡ text.old.items ++ digits 16 false number) }
+    ensures no_memory { OnErr result (text.new.items ≡ text.old.items) }
+{
+    let (digits, first) = hex_digits(number);
+    text.extend_from_slice(&digits[first..])?;
+    Ok(())
+}
+
+/// Zeros up to a place, and from there on the digits of a number in hexadecimal.
+fn hex_digits(number: u64) -> ([u8; MOST_DIGITS], usize)
+    ensures long { length result.0 ≡ MOST_DIGITS }
+    ensures place { result.1 < MOST_DIGITS }
+    ensures zeros { take result.1 result.0 ≡ replicate result.1 48 }
+    ensures digits { drop result.1 result.0 ≡ digits 16 false number }
+{
+    let mut text = [b'0'; MOST_DIGITS];
+    let mut first = MOST_DIGITS - 1;
+    text[first] = glyph(number);
+    let mut rest = number / 16;
+    while rest > 0 {
+        first -= 1;
+        text[first] = glyph(rest);
+        rest /= 16;
+    }
+    (text, first)
+}
+
+/// The last digit of a number in hexadecimal, in lower case.
+fn glyph(number: u64) -> u8
+    ensures { result ≡ digit_glyph false (number % 16) }
+{
+    let digit = (number % 16) as u8;
+    if digit < 10 {
+        b'0' + digit
+    } else {
+        b'a' + (digit - 10)
+    }
+}

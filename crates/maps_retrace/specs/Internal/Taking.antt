@@ -1,0 +1,24 @@
+-- What was taken, as the definition has it, and what holds of it.
+use Rattle.std.specs.Prelude.{◌≡◌, ◌<◌, ◌≤◌, length, map, All}
+use Rattle.mm_types.specs.declared.area.Record.{Record}
+use Rattle.mm_types.specs.declared.config.TheConstants.{MOST_FILES}
+use Rattle.mm_types.specs.Records.{IsValid}
+use Rattle.maps_retrace.specs.declared.taking.Taken as code
+use Rattle.maps_retrace.specs.Retracing.{Taken}
+
+-- what was taken, without where its lines lie in memory
+abbrev pub what_taken : code.Taken → Taken
+what_taken taken = record { named = map (λ line. line.now) taken.named.items; opened = taken.opened.items; areas = taken.areas.items }
+
+-- an area that a line of a trace maps: it is valid, does not begin at address 0, and is of none of too many objects
+pub record IsPrinted (area : Record) : Type 0 where
+  pub valid : IsValid area
+  pub above : 0 < area.span.lo
+  pub object : area.object ≤ MOST_FILES
+
+-- at most 1,024 lines show a file first, each opens one, and each area is one that a line of a trace maps
+pub record IsTaken (taken : Taken) : Type 0 where
+  pub few : length taken.named ≤ MOST_FILES
+  pub both : length taken.opened ≡ length taken.named
+  pub one : All (λ files. length files ≡ 1) taken.opened
+  pub areas : All IsPrinted taken.areas

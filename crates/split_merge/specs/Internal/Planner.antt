@@ -1,0 +1,165 @@
+-- How the planner goes along a list.
+use Rattle.std.specs.Prelude.{ℕ, ◌≡◌, ◌≤◌, ◌+◌, ◌⊎◌, Bool, ◌&&◌, if◌then◌else◌, nat_eq, nat_lt, List, [], ◌∷◌, ◌++◌, length, map, flat_map, Option, Some, None}
+use Rattle.std.specs.Option.{option_len, option_or}
+use Rattle.mm_types.specs.declared.area.Record.{Record}
+use Rattle.area_list.specs.Areas.{joins, same_attr}
+use Rattle.area_list.specs.Changes.{joined_area}
+use Rattle.split_merge.specs.declared.plan.Change.{Change}
+use Rattle.split_merge.specs.declared.plan.Change.TheVariants.{Detach, Alter, Add}
+use Rattle.split_merge.specs.declared.becoming.Becoming.{Becoming}
+use Rattle.split_merge.specs.declared.planner.Run.{Run}
+use Rattle.split_merge.specs.declared.planner.Planner.{Planner}
+use Rattle.split_merge.specs.Internal.Becoming.{low_of, high_of, parts_left}
+use Rattle.split_merge.specs.Plans.{PlanView, is_near_either}
+
+-- what the planner meets, by ascending page: the first page of an old area, a part that takes its place (or the new area), or an old area that it passes over
+pub data Event : Type 0 where
+  Begins : Record → Event
+  Comes : Record → Event
+  Passed : Record → Event
+
+-- the page at which it does
+abbrev pub page_at : Event → ℕ
+page_at (Event.Begins area) = area.span.lo
+page_at (Event.Comes area) = area.span.lo
+page_at (Event.Passed area) = area.span.lo
+
+-- whether two areas are the same
+abbrev pub same_area : Record → Record → Bool
+same_area a b = (nat_eq a.span.lo b.span.lo && nat_eq a.span.hi b.span.hi) && (same_attr a.attr b.attr && (nat_eq a.object b.object && nat_eq a.offset b.offset))
+
+-- this old area goes, if there is one
+abbrev pub detaching : Option Record → List Change
+detaching None = []
+detaching (Some old) = Detach old ∷ []
+
+-- the new area takes the place of the old one that has some of its pages, or is added where there is none
+abbrev pub replacing : Option Record → Record → List Change
+replacing None new = Add new ∷ []
+replacing (Some old) new = if same_area old new then [] else Alter old new ∷ []
+
+-- what is planned where a run ends, if there is one
+abbrev pub closing : Option Run → List Change
+closing None = []
+closing (Some run) = replacing run.old run.new
+
+-- the pending old area, where a part begins below its end
+abbrev pub taken : Option Record → Record → Option Record
+taken None part = None
+taken (Some old) part = if nat_lt part.span.lo old.span.hi then Some old else None
+
+-- and where it does not
+abbrev pub left : Option Record → Record → Option Record
+left None part = None
+left (Some old) part = if nat_lt part.span.lo old.span.hi then None else Some old
+
+-- an old area for a run that has another already, which leaves it over
+abbrev pub spare : Option Record → Option Record → Option Record
+spare None old = None
+spare (Some partner) old = old
+
+-- the pending old area, where it begins below the end of a new one
+abbrev pub covered : Option Record → Record → Option Record
+covered None new = None
+covered (Some old) new = if nat_lt old.span.lo new.span.hi then Some old else None
+
+-- the pending old area that a new one leaves over, which has an old area already or ends below it
+abbrev pub left_over : Option Record → Option Record → Record → Option Record
+left_over (Some partner) pending new = pending
+left_over None None new = None
+left_over None (Some old) new = if nat_lt old.span.lo new.span.hi then None else Some old
+
+-- the run where no more parts of the pending old area come: it takes the place of that, if it has its first page and no old area yet
+abbrev pub settled : Option Record → Option Run → Option Run
+settled pending None = None
+settled pending (Some run) = Some (record { old = option_or run.old (covered pending run.new); new = run.new })
+
+-- the old area that goes then
+abbrev pub unsettled : Option Record → Option Run → Option Record
+unsettled pending None = pending
+unsettled pending (Some run) = left_over run.old pending run.new
+
+-- the run with a part: it goes on where the part joins, with the pending old area if it has none yet, and else another begins
+abbrev pub run_with : Option Record → Option Run → Record → Run
+run_with pending None part = record { old = taken pending part; new = part }
+run_with pending (Some run) part = if joins run.new part then record { old = option_or run.old (taken pending part); new = joined_area run.new part } else record { old = taken pending part; new = part }
+
+-- what is planned then: an old area goes where its part joins a run that has another already, and the run ends where the part does not join
+abbrev pub planned_with : Option Record → Option Run → Record → List Change
+planned_with pending None part = []
+planned_with pending (Some run) part = if joins run.new part then detaching (spare run.old (taken pending part)) else replacing run.old run.new
+
+-- what is planned for what comes, with this old area pending and this run
+abbrev pub along : Option Record → Option Run → List Event → List Change
+along pending run [] = detaching (unsettled pending run) ++ closing (settled pending run)
+along pending run (Event.Begins area ∷ events) = detaching (unsettled pending run) ++ along (Some area) (settled pending run) events
+along pending run (Event.Comes part ∷ events) = planned_with pending run part ++ along (left pending part) (Some (run_with pending run part)) events
+along pending run (Event.Passed area ∷ events) = (detaching (unsettled pending run) ++ closing (settled pending run)) ++ along None None events
+
+-- the new area in its place among what comes
+abbrev pub come_in : Record → List Event → List Event
+come_in new [] = Event.Comes new ∷ []
+come_in new (event ∷ events) = if nat_lt new.span.lo (page_at event) then Event.Comes new ∷ (event ∷ events) else event ∷ come_in new events
+
+-- and the same where there may be none
+abbrev pub come : Option Record → List Event → List Event
+come None events = events
+come (Some new) events = come_in new events
+
+-- what a planner still plans
+abbrev pub planned : Planner → List Event → List Change
+planned planner events = along planner.pending planner.run (come planner.coming events)
+
+-- the planner after a part
+abbrev pub laid : Planner → Record → Planner
+laid planner part = record { coming = planner.coming; pending = left planner.pending part; run = Some (run_with planner.pending planner.run part) }
+
+-- the planner where it reaches a page: the new area is laid if it begins below that
+abbrev pub reached_with : Option Record → Planner → ℕ → Planner
+reached_with None planner page = planner
+reached_with (Some new) planner page = if nat_lt new.span.lo page then laid (record planner { coming = None }) new else planner
+
+-- and with the new area that is to come, if there is one
+abbrev pub reached : Planner → ℕ → Planner
+reached planner page = reached_with planner.coming planner page
+
+-- what is planned then
+abbrev pub reaching_with : Option Record → Planner → ℕ → List Change
+reaching_with None planner page = []
+reaching_with (Some new) planner page = if nat_lt new.span.lo page then planned_with planner.pending planner.run new else []
+
+-- and with the new area that is to come, if there is one
+abbrev pub reaching : Planner → ℕ → List Change
+reaching planner page = reaching_with planner.coming planner page
+
+-- for how many areas a planner may still plan a change
+abbrev pub held : Planner → ℕ
+held planner = option_len planner.coming + (option_len planner.pending + option_len planner.run)
+
+-- at most how many changes are planned for what comes
+abbrev pub weight : List Event → ℕ
+weight [] = 0
+weight (Event.Begins area ∷ events) = 1 + weight events
+weight (Event.Comes part ∷ events) = 1 + weight events
+weight (Event.Passed area ∷ events) = weight events
+
+-- the planner goes along these: what it plans then and later is what it would have planned for these and what comes later
+pub record GoesAlong (events : List Event) (planner next : Planner) (old new : PlanView) : Type 0 where
+  pub planned : (later : List Event) → new.changes ++ planned next later ≡ old.changes ++ planned planner (events ++ later)
+  pub within : length new.changes + held next ≤ length old.changes + (held planner + weight events)
+  pub room : new.room ≡ old.room
+  pub coming : (next.coming ≡ None) ⊎ (next.coming ≡ planner.coming)
+
+-- what an area brings: it is passed over where it is not near a span whose pages change
+unfoldable pub events_at : Becoming → Record → List Event
+events_at becoming area = if is_near_either (low_of becoming) (high_of becoming) area
+    then Event.Begins area ∷ map Event.Comes (parts_left becoming area)
+    else Event.Passed area ∷ []
+
+-- what a list brings
+abbrev pub events_along : Becoming → List Record → List Event
+events_along becoming areas = flat_map (events_at becoming) areas
+
+-- all that is planned for a list, with at most one new area
+abbrev pub all_planned : Becoming → Option Record → List Record → List Change
+all_planned becoming new areas = along None None (come new (events_along becoming areas))
