@@ -1,0 +1,25 @@
+-- For `share`: each pass is new, and what each caller called is what the closed journal has of it.
+use Rattle.std.proofs.Common.{ap, slice_get, slice_index_or, sym, ◌∙◌}
+use Rattle.mm_space.specs.Names.{SpaceId}
+use Rattle.two_callers.proofs.Calling.{starts, closed_called}
+use Rattle.two_callers.proofs.callers.share.Goals as goal
+
+pub join-one-requires-after_bounds : goal.join-one-requires-after_bounds
+join-one-requires-after_bounds g c κs within =
+    let none = ap (λ (r : SpaceId). r.before) (sym c.requires.name) ∙ c.requires.before in
+    let operations = ap (λ (r : SpaceId). r.operations) (sym c.requires.name) ∙ c.requires.operations in (
+      starts g.N.SpaceName.name _ 0 _ _ c.open-space.ensures none c.both-one.ensures.first (ap (λ ops. slice_index_or ops 0 0) operations),
+      starts g.N.SpaceName.name _ 1 _ _ c.open-space.ensures none c.both-one.ensures.second (ap (λ ops. slice_index_or ops 1 0) operations),
+    )
+
+pub returns-clause-first : goal.returns-clause-first
+returns-clause-first g c =
+    closed_called g.N.SpaceName.name _ _ 0 c.join-one.result.0 _ c.close.ensures (ap (λ passes. slice_get passes 0) c.in_ok-all_of.ensures.items)
+    c.join-one.ensures.first.0
+    (c.join-one.ensures.first.1 ∙ (c.open-space.ensures.passes_are.each 0 c.both-one.result.0 c.both-one.ensures.first).1)
+
+pub returns-clause-second : goal.returns-clause-second
+returns-clause-second g c =
+    closed_called g.N.SpaceName.name _ _ 1 c.join-one.result.1 _ c.close.ensures (ap (λ passes. slice_get passes 1) c.in_ok-all_of.ensures.items)
+    c.join-one.ensures.second.0
+    (c.join-one.ensures.second.1 ∙ (c.open-space.ensures.passes_are.each 1 c.both-one.result.1 c.both-one.ensures.second).1)
