@@ -8,59 +8,59 @@ use Rattle.std.proofs.lemmas.List.Folds.{Any-from_list_any, list_any_at}
 use Rattle.std.proofs.lemmas.Option.{none-some}
 use Rattle.std.proofs.lemmas.Slice.Eq.{bytes_eq-Decides}
 use Rattle.flag_table.specs.Tables.{Row, Table, row_named, bits_of, names_of, words_of}
-use Rattle.flag_table.specs.Reading.{is_among, is_zero, fault_of, first_fault, unless_fault, read_words, reading}
-use Rattle.flag_table.specs.Laws.{IsSound, AreRows, IsFault, IsRefused}
+use Rattle.flag_table.specs.Reading.{is_among, is_zero, error_of, first_error, unless_error, read_words, reading}
+use Rattle.flag_table.specs.Laws.{IsSound, AreRows, IsBadWord, IsRefused}
 use Rattle.flag_table.specs.declared.error.NameError.{NameError}
 use Rattle.flag_table.specs.declared.error.NameError.TheVariants.{Unknown, Twice}
 use Rattle.flag_table.proofs.Names.{find-Contains, row_named-name, row_named-Some}
-use Rattle.flag_table.proofs.Texts.{AreRows-AreGood, first_fault-names}
-use Rattle.flag_table.proofs.Words.{named_rows, first_fault-append, AreGood-first_fault, fault_of-named}
+use Rattle.flag_table.proofs.Texts.{AreRows-AreGood, first_error-names}
+use Rattle.flag_table.proofs.Words.{named_rows, first_error-append, AreGood-first_error, error_of-named}
 
--- a first fault, with the words before the bad one and after it
-record BadWord (rows : List Row) (before words : List (List ℕ)) (fault : NameError) : Type 0 where
+-- a first error, with the words before the bad one and after it
+record BadWord (rows : List Row) (before words : List (List ℕ)) (error : NameError) : Type 0 where
   good : List (List ℕ)
   word : List ℕ
   rest : List (List ℕ)
   words_are : words ≡ good ++ word ∷ rest
-  are_good : first_fault rows before good ≡ None
-  bad : fault_of rows (before ++ good) word ≡ Some fault
+  are_good : first_error rows before good ≡ None
+  bad : error_of rows (before ++ good) word ≡ Some error
 
-bad_word : (rows : List Row) (before words : List (List ℕ)) (fault : NameError) → first_fault rows before words
-    ≡ Some fault → BadWord rows before words fault
-bad_word rows before [] fault is = absurd (none-some fault is)
-bad_word rows before (word ∷ words) fault is =
-    at_word (fault_of rows before word) refl is (bad_word rows (before ++ word ∷ []) words fault)
+bad_word : (rows : List Row) (before words : List (List ℕ)) (error : NameError) → first_error rows before words
+    ≡ Some error → BadWord rows before words error
+bad_word rows before [] error is = absurd (none-some error is)
+bad_word rows before (word ∷ words) error is =
+    at_word (error_of rows before word) refl is (bad_word rows (before ++ word ∷ []) words error)
   where
-    at_word : (here : Option NameError) → fault_of rows before word ≡ here
-        → option_or here (first_fault rows (before ++ word ∷ []) words) ≡ Some fault
-        → (first_fault rows (before ++ word ∷ []) words ≡ Some fault → BadWord rows (before ++ word ∷ []) words fault)
-        → BadWord rows before (word ∷ words) fault
+    at_word : (here : Option NameError) → error_of rows before word ≡ here
+        → option_or here (first_error rows (before ++ word ∷ []) words) ≡ Some error
+        → (first_error rows (before ++ word ∷ []) words ≡ Some error → BadWord rows (before ++ word ∷ []) words error)
+        → BadWord rows before (word ∷ words) error
     at_word (Some here) at is later = record {
       good = [];
       word = word;
       rest = words;
       words_are = refl;
       are_good = refl;
-      bad = ap (λ (b : List (List ℕ)). fault_of rows b word) (append-nil before) ∙ at ∙ is;
+      bad = ap (λ (b : List (List ℕ)). error_of rows b word) (append-nil before) ∙ at ∙ is;
     }
     at_word None at is later = let found = later is in record {
       good = word ∷ found.good;
       word = found.word;
       rest = found.rest;
       words_are = ap (λ (ws : List (List ℕ)). word ∷ ws) found.words_are;
-      are_good = ap (λ (o : Option NameError). option_or o (first_fault rows (before ++ word ∷ []) found.good)) at
+      are_good = ap (λ (o : Option NameError). option_or o (first_error rows (before ++ word ∷ []) found.good)) at
           ∙ found.are_good;
-      bad = ap (λ (b : List (List ℕ)). fault_of rows b found.word) (sym (append_assoc before (word ∷ []) found.good))
+      bad = ap (λ (b : List (List ℕ)). error_of rows b found.word) (sym (append_assoc before (word ∷ []) found.good))
           ∙ found.bad;
     }
 
--- the two faults of a word
-two_faults : (named : Option Row) (twice : Bool) (word : List ℕ) (fault : NameError)
-    → cond (is_none named) (Some (Unknown word)) (cond twice (Some (Twice word)) None) ≡ Some fault
-    → ((named ≡ None) × (fault ≡ Unknown word)) ⊎ ((twice ≡ true) × (fault ≡ Twice word))
-two_faults None twice word fault is = inl (refl, cc)
-two_faults (Some row) true word fault is = inr (refl, cc)
-two_faults (Some row) false word fault is = absurd (none-some fault is)
+-- the two errors of a word
+two_errors : (named : Option Row) (twice : Bool) (word : List ℕ) (error : NameError)
+    → cond (is_none named) (Some (Unknown word)) (cond twice (Some (Twice word)) None) ≡ Some error
+    → ((named ≡ None) × (error ≡ Unknown word)) ⊎ ((twice ≡ true) × (error ≡ Twice word))
+two_errors None twice word error is = inl (refl, cc)
+two_errors (Some row) true word error is = inr (refl, cc)
+two_errors (Some row) false word error is = absurd (none-some error is)
 
 -- a word that names no row, as a fact of each row
 All-unnamed : (rows : List Row) (word : List ℕ) → row_named rows word ≡ None → All (λ row. row.name ≢ word) rows
@@ -89,16 +89,16 @@ among-Contains : (words : List (List ℕ)) (word : List ℕ) → Contains words 
 among-Contains words word has = list_any_at (λ (w : List ℕ). bytes_eq w word) words has.0 word has.1
     ((bytes_eq-Decides (get_or words has.0 word) word).1 has.2)
 
-unless_fault-Err : (first : Option NameError) (bits : ℕ) (fault : NameError) → unless_fault first bits ≡ Err fault
-    → first ≡ Some fault
-unless_fault-Err None bits fault is = cc
-unless_fault-Err (Some first) bits fault is = ap Some cc
+unless_error-Err : (first : Option NameError) (bits : ℕ) (error : NameError) → unless_error first bits ≡ Err error
+    → first ≡ Some error
+unless_error-Err None bits error is = cc
+unless_error-Err (Some first) bits error is = ap Some cc
 
--- the fault of a word after names
-fault_of-IsFault : (table : Table) → IsSound table → (named : List Row) → AreRows table named
-    → (word : List ℕ) (fault : NameError)
-    → IsFault table named word fault → fault_of table.rows (names_of named) word ≡ Some fault
-fault_of-IsFault table sound named are word fault bad =
+-- the error of a word after names
+error_of-IsBadWord : (table : Table) → IsSound table → (named : List Row) → AreRows table named
+    → (word : List ℕ) (error : NameError)
+    → IsBadWord table named word error → error_of table.rows (names_of named) word ≡ Some error
+error_of-IsBadWord table sound named are word error bad =
     let rows = table.rows in
     let Name : Row → List ℕ = λ r. r.name in
     let names = map Name named in ⊎_elim
@@ -110,21 +110,21 @@ fault_of-IsFault table sound named are word fault bad =
     let below : k < length named = omega (arith, twice.0.1, length-map named Name) in
     let row = get_or named k d in
     let name_is : row.name ≡ word = sym (get_or-map Name named k d word below) ∙ twice.0.2 in
-    fault_of-named rows names word row true (ap (row_named rows) (sym name_is)
+    error_of-named rows names word row true (ap (row_named rows) (sym name_is)
     ∙ row_named-name table sound row (are.of_table k d below)) (among-Contains names word twice.0)
     ∙ ap Some (sym twice.1))
     bad
 
 -- words with a bad one
-IsRefused-words : (table : Table) (text : List ℕ) (fault : NameError) → is_zero table text ≡ false
-    → read_words table.rows (words_of text) ≡ Err fault → IsRefused table text fault
+IsRefused-words : (table : Table) (text : List ℕ) (error : NameError) → is_zero table text ≡ false
+    → read_words table.rows (words_of text) ≡ Err error → IsRefused table text error
 unfolding read_words
-IsRefused-words table text fault flags read =
+IsRefused-words table text error flags read =
     let words = words_of text in
     let rows = table.rows in
-    let found = bad_word rows [] words fault
-    (unless_fault-Err (first_fault rows [] words) (bits_of (named_rows rows words)) fault read) in
-    let good = AreGood-first_fault rows [] found.good found.are_good in
+    let found = bad_word rows [] words error
+    (unless_error-Err (first_error rows [] words) (bits_of (named_rows rows words)) error read) in
+    let good = AreGood-first_error rows [] found.good found.are_good in
     let names = names_of (named_rows rows found.good) in record {
       flags = flags;
       named = named_rows rows found.good;
@@ -138,30 +138,30 @@ IsRefused-words table text fault flags read =
                 (ap (λ (ws : List (List ℕ)). is_among ws found.word) good.names ∙ twice.0),
             twice.1,
           ))
-          (two_faults (row_named rows found.word) (is_among found.good found.word) found.word fault found.bad);
+          (two_errors (row_named rows found.word) (is_among found.good found.word) found.word error found.bad);
     }
 
-read_words-IsRefused : (table : Table) (text : List ℕ) (fault : NameError) → IsSound table → IsRefused table text fault
-    → read_words table.rows (words_of text) ≡ Err fault
+read_words-IsRefused : (table : Table) (text : List ℕ) (error : NameError) → IsSound table → IsRefused table text error
+    → read_words table.rows (words_of text) ≡ Err error
 unfolding read_words
-read_words-IsRefused table text fault sound is =
+read_words-IsRefused table text error sound is =
     let rows = table.rows in
     let names = names_of is.named in
-    let first : first_fault rows [] (names ++ is.word ∷ is.rest) ≡ Some fault =
-    first_fault-append rows [] names (is.word ∷ is.rest) (first_fault-names table sound is.named is.rows)
-    ∙ ap (λ (o : Option NameError). option_or o (first_fault rows (names ++ is.word ∷ []) is.rest))
-    (fault_of-IsFault table sound is.named is.rows is.word fault is.bad) in
-    ap (read_words rows) is.words ∙ ap (λ (o : Option NameError). unless_fault o
+    let first : first_error rows [] (names ++ is.word ∷ is.rest) ≡ Some error =
+    first_error-append rows [] names (is.word ∷ is.rest) (first_error-names table sound is.named is.rows)
+    ∙ ap (λ (o : Option NameError). option_or o (first_error rows (names ++ is.word ∷ []) is.rest))
+    (error_of-IsBadWord table sound is.named is.rows is.word error is.bad) in
+    ap (read_words rows) is.words ∙ ap (λ (o : Option NameError). unless_error o
     (bits_of (named_rows rows (names ++ is.word ∷ is.rest)))) first
 
 -- a text is refused for its first bad word
-pub reading-Err : (table : Table) (text : List ℕ) (fault : NameError) → IsSound table
-    → (reading table text ≡ Err fault) ↔ IsRefused table text fault
+pub reading-Err : (table : Table) (text : List ℕ) (error : NameError) → IsSound table
+    → (reading table text ≡ Err error) ↔ IsRefused table text error
 unfolding reading
-reading-Err table text fault sound =
+reading-Err table text error sound =
     let words = read_words table.rows (words_of text) in
-    let P : Result ℕ NameError → Type 0 = λ r. r ≡ Err fault → IsRefused table text fault in (
+    let P : Result ℕ NameError → Type 0 = λ r. r ≡ Err error → IsRefused table text error in (
       λ is. cond_both (is_zero table text) (Ok 0) words P (λ zero none. cc)
-          (λ flags read. IsRefused-words table text fault flags read) is,
-      λ is. ap (λ b. cond b (Ok 0) words) is.flags ∙ read_words-IsRefused table text fault sound is,
+          (λ flags read. IsRefused-words table text error flags read) is,
+      λ is. ap (λ b. cond b (Ok 0) words) is.flags ∙ read_words-IsRefused table text error sound is,
     )

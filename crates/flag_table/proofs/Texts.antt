@@ -10,7 +10,7 @@ use Rattle.std.proofs.lemmas.List.Kept.{AllPairs-filter}
 use Rattle.std.proofs.lemmas.List.Splits.{join_with_byte-slice_split, length-slice_split}
 use Rattle.std.proofs.lemmas.Slice.Eq.{bytes_eq-Decides}
 use Rattle.flag_table.specs.Tables.{Row, Table, bits_of, HasRows, names_of, text_of, words_of, bar}
-use Rattle.flag_table.specs.Reading.{is_among, is_zero, fault_of, first_fault, unless_fault, read_words, reading, Gives}
+use Rattle.flag_table.specs.Reading.{is_among, is_zero, error_of, first_error, unless_error, read_words, reading, Gives}
 use Rattle.mm_types.specs.Flags.{has_flag}
 use Rattle.flag_table.specs.Printing.{rows_with, printed}
 use Rattle.flag_table.specs.Laws.{IsSound, AreRows, IsNamed, IsFlagText, has_bar}
@@ -19,12 +19,12 @@ use Rattle.flag_table.proofs.Bits.{bits_of-filter, bits_of-within}
 use Rattle.flag_table.proofs.Joins.{words_of-no_bar, words_of-text_of}
 use Rattle.flag_table.proofs.Names.{row_named-name, name-apart}
 use Rattle.flag_table.proofs.Prints.{printed-zero}
-use Rattle.flag_table.proofs.Words.{AreGood, named_rows, AreGood-first_fault, fault_of-named}
+use Rattle.flag_table.proofs.Words.{AreGood, named_rows, AreGood-first_error, error_of-named}
 
--- what is read without a fault
-unless_fault-Ok : (fault : Option NameError) (n bits : ℕ) → unless_fault fault n ≡ Ok bits → (fault ≡ None) × (bits ≡ n)
-unless_fault-Ok None n bits is = (refl, grind arith)
-unless_fault-Ok (Some fault) n bits is = cc
+-- what is read without an error
+unless_error-Ok : (error : Option NameError) (n bits : ℕ) → unless_error error n ≡ Ok bits → (error ≡ None) × (bits ≡ n)
+unless_error-Ok None n bits is = (refl, grind arith)
+unless_error-Ok (Some error) n bits is = cc
 
 -- the rows of good words
 pub AreRows-AreGood : (table : Table) (before words : List (List ℕ)) → AreGood table.rows before words
@@ -41,8 +41,8 @@ unfolding read_words
 IsNamed-words table text bits is =
     let words = words_of text in
     let rows = table.rows in
-    let both = unless_fault-Ok (first_fault rows [] words) (bits_of (named_rows rows words)) bits is in
-    let good = AreGood-first_fault rows [] words both.0 in record {
+    let both = unless_error-Ok (first_error rows [] words) (bits_of (named_rows rows words)) bits is in
+    let good = AreGood-first_error rows [] words both.0 in record {
       named = named_rows rows words;
       some = omega (
         arith,
@@ -58,7 +58,7 @@ IsNamed-words table text bits is =
 
 -- different names of rows are good words
 good_names : (table : Table) → IsSound table → (prior named : List Row) → All (Contains table.rows) named
-    → AllPairs (λ a b. a.name ≢ b.name) (prior ++ named) → first_fault table.rows (names_of prior) (names_of named)
+    → AllPairs (λ a b. a.name ≢ b.name) (prior ++ named) → first_error table.rows (names_of prior) (names_of named)
     ≡ None
 good_names table sound prior [] inside apart = refl
 good_names table sound prior (row ∷ named) inside apart =
@@ -73,17 +73,17 @@ good_names table sound prior (row ∷ named) inside apart =
     ∙ sym (ap Name (get_or_at prior row named d (length prior) refl)))) in
     let new : is_among before row.name ≡ false = list_any_none (λ (w : List ℕ). bytes_eq w row.name) before
     (All-map (λ (w : List ℕ). bytes_eq w row.name ≡ false) Name prior others) in
-    let good : fault_of rows before row.name ≡ None = fault_of-named rows before row.name row false
+    let good : error_of rows before row.name ≡ None = error_of-named rows before row.name row false
     (row_named-name table sound row (All-head (Contains rows) row named inside)) new in
     let Apart : List Row → Type 0 = λ rs. AllPairs (λ a b. a.name ≢ b.name) rs in
     let rest = good_names table sound (prior ++ row ∷ []) named (All-tail (Contains rows) row named inside)
     (subst Apart (sym (append_assoc prior (row ∷ []) named)) apart) in
-    ap (λ (o : Option NameError). option_or o (first_fault rows (before ++ row.name ∷ []) (map Name named))) good
-    ∙ ap (λ (b : List (List ℕ)). first_fault rows b (map Name named)) (sym (map_push Name prior row)) ∙ rest
+    ap (λ (o : Option NameError). option_or o (first_error rows (before ++ row.name ∷ []) (map Name named))) good
+    ∙ ap (λ (b : List (List ℕ)). first_error rows b (map Name named)) (sym (map_push Name prior row)) ∙ rest
 
-pub first_fault-names : (table : Table) → IsSound table → (named : List Row) → AreRows table named
-    → first_fault table.rows [] (names_of named) ≡ None
-first_fault-names table sound named rows = good_names table sound [] named rows.of_table (λ i j d below within.
+pub first_error-names : (table : Table) → IsSound table → (named : List Row) → AreRows table named
+    → first_error table.rows [] (names_of named) ≡ None
+first_error-names table sound named rows = good_names table sound [] named rows.of_table (λ i j d below within.
     name-apart table sound (get_or named i d) (get_or named j d) (rows.of_table i d (omega arith))
     (rows.of_table j d within) (rows.distinct i j d below within))
 
@@ -129,9 +129,9 @@ reading-names table sound text bits (row ∷ named) some are text_is bits_are =
     let same : row.name ≡ text = cc in
     false≢true (sym (All-contains No_zero rows row sound.no_zero (All-head (Contains rows) row named inside))
     ∙ ap (is_zero table) same ∙ zero)) in
-    let good : first_fault rows [] words ≡ None = first_fault-names table sound (row ∷ named) are in
+    let good : first_error rows [] words ≡ None = first_error-names table sound (row ∷ named) are in
     ap (λ b. cond b (Ok 0) (read_words rows (words_of text))) flags ∙ ap (read_words rows) cut
-    ∙ ap (λ (o : Option NameError). unless_fault o (bits_of (named_rows rows words))) good
+    ∙ ap (λ (o : Option NameError). unless_error o (bits_of (named_rows rows words))) good
     ∙ ap (λ (rs : List Row). Ok (bits_of rs)) (named_rows-names table sound (row ∷ named) inside) ∙ ap Ok (sym bits_are)
 
 -- a sound table reads these texts and no others
@@ -199,4 +199,4 @@ pub HasRows-words : (table : Table) (text : List ℕ) (result : Result ℕ NameE
 unfolding reading
 HasRows-words table text (Ok bits) sound flags gives = HasRows-reading table text bits sound
     (ap (λ b. cond b (Ok 0) (read_words table.rows (words_of text))) flags ∙ gives)
-HasRows-words table text (Err fault) sound flags gives = tt
+HasRows-words table text (Err error) sound flags gives = tt

@@ -11,7 +11,7 @@ use Rattle.std.proofs.lemmas.Nat.{pow_pos}
 use Rattle.std.proofs.lemmas.Option.{none-some, same_Some}
 use Rattle.std.proofs.lemmas.Slice.Eq.{bytes_eq-Decides}
 use Rattle.flag_table.specs.Tables.{Row, Table, row_named, bits_of, bit_with_name, names_of}
-use Rattle.flag_table.specs.Reading.{Gives, is_among, fault_of, first_fault, unless_fault, read_words}
+use Rattle.flag_table.specs.Reading.{Gives, is_among, error_of, first_error, unless_error, read_words}
 use Rattle.mm_types.specs.Flags.{has_flag}
 use Rattle.flag_table.specs.Laws.{IsSound, IsOneBit}
 use Rattle.flag_table.specs.declared.error.NameError.{NameError}
@@ -28,16 +28,16 @@ option_or-None : {X : Type 0} (o p : Option X) → option_or o p ≡ None → (o
 option_or-None None p is = (refl, is)
 option_or-None (Some x) p is = absurd (none-some x (sym is))
 
--- after words that are good the first fault is that of the others
-pub first_fault-append : (rows : List Row) (before words more : List (List ℕ)) → first_fault rows before words ≡ None
-    → first_fault rows before (words ++ more) ≡ first_fault rows (before ++ words) more
-first_fault-append rows before [] more good = ap (λ (b : List (List ℕ)). first_fault rows b more)
+-- after words that are good the first error is that of the others
+pub first_error-append : (rows : List Row) (before words more : List (List ℕ)) → first_error rows before words ≡ None
+    → first_error rows before (words ++ more) ≡ first_error rows (before ++ words) more
+first_error-append rows before [] more good = ap (λ (b : List (List ℕ)). first_error rows b more)
     (sym (append-nil before))
-first_fault-append rows before (word ∷ words) more good =
-    let both = option_or-None (fault_of rows before word) (first_fault rows (before ++ word ∷ []) words) good in
-    ap (λ o. option_or o (first_fault rows (before ++ word ∷ []) (words ++ more))) both.0
-    ∙ first_fault-append rows (before ++ word ∷ []) words more both.1
-    ∙ ap (λ (b : List (List ℕ)). first_fault rows b more) (append_assoc before (word ∷ []) words)
+first_error-append rows before (word ∷ words) more good =
+    let both = option_or-None (error_of rows before word) (first_error rows (before ++ word ∷ []) words) good in
+    ap (λ o. option_or o (first_error rows (before ++ word ∷ []) (words ++ more))) both.0
+    ∙ first_error-append rows (before ++ word ∷ []) words more both.1
+    ∙ ap (λ (b : List (List ℕ)). first_error rows b more) (append_assoc before (word ∷ []) words)
 
 -- a good word names a row, and is new
 good_is : (named : Option Row) (twice : Bool) (word : List ℕ)
@@ -68,20 +68,20 @@ is_among-push before word other none =
           (or_parts (bytes_eq word other) false parts.1).0,
     )
 
-pub AreGood-first_fault : (rows : List Row) (before words : List (List ℕ)) → first_fault rows before words ≡ None
+pub AreGood-first_error : (rows : List Row) (before words : List (List ℕ)) → first_error rows before words ≡ None
     → AreGood rows before words
-AreGood-first_fault rows before [] good = record {
+AreGood-first_error rows before [] good = record {
   names = refl;
   inside = All-nil (Contains rows);
   new = All-nil (λ (w : List ℕ). is_among before w ≡ false);
   apart = λ i j d below within. absurd (omega arith);
 }
-AreGood-first_fault rows before (word ∷ words) good =
-    let both = option_or-None (fault_of rows before word) (first_fault rows (before ++ word ∷ []) words) good in
+AreGood-first_error rows before (word ∷ words) good =
+    let both = option_or-None (error_of rows before word) (first_error rows (before ++ word ∷ []) words) good in
     let is = good_is (row_named rows word) (is_among before word) word both.0 in
     let row = is.0.0 in
     let found = row_named-Some rows word row is.0.1 in
-    let rest = AreGood-first_fault rows (before ++ word ∷ []) words both.1 in
+    let rest = AreGood-first_error rows (before ++ word ∷ []) words both.1 in
     let named = named_rows rows words in
     let e : named_rows rows (word ∷ words) ≡ row ∷ named = ap (λ (o : Option Row). cons_option o named) is.0.1 in
     let New : List ℕ → Type 0 = λ w. is_among (before ++ word ∷ []) w ≡ false in
@@ -112,11 +112,11 @@ list_any-map p f (x ∷ xs) = ap (λ b. p (f x) || b) (list_any-map p f xs)
 
 -- whether the bit of a named row is among those so far says whether its name is
 seen : (table : Table) → IsSound table → (words : List (List ℕ)) (word : List ℕ) (row : Row)
-    → first_fault table.rows [] words ≡ None
+    → first_error table.rows [] words ≡ None
     → row_named table.rows word ≡ Some row → bit_and (bits_of (named_rows table.rows words)) row.bit
     ≡ cond (is_among words word) row.bit 0
 seen table sound words word row none is =
-    let good = AreGood-first_fault table.rows [] words none in
+    let good = AreGood-first_error table.rows [] words none in
     let found = row_named-Some table.rows word row is in
     let named = named_rows table.rows words in
     let One : Row → Type 0 = λ r. IsOneBit r.bit in
@@ -143,10 +143,10 @@ row_of rows word bit is = of_option (row_named rows word) is
     of_option None is = absurd (none-some bit is)
     of_option (Some row) is = (row, refl, same_Some row.bit bit is)
 
-pub fault_of-Unknown : (rows : List Row) (before : List (List ℕ)) (word : List ℕ) → bit_with_name rows word ≡ None
-    → fault_of rows before word ≡ Some (Unknown word)
+pub error_of-Unknown : (rows : List Row) (before : List (List ℕ)) (word : List ℕ) → bit_with_name rows word ≡ None
+    → error_of rows before word ≡ Some (Unknown word)
 unfolding bit_with_name
-fault_of-Unknown rows before word is = of_option (row_named rows word) is
+error_of-Unknown rows before word is = of_option (row_named rows word) is
   where
     of_option : (o : Option Row) → option_map (λ row. row.bit) o ≡ None
         → cond (is_none o) (Some (Unknown word)) (cond (is_among before word) (Some (Twice word)) None)
@@ -154,10 +154,10 @@ fault_of-Unknown rows before word is = of_option (row_named rows word) is
     of_option None is = refl
     of_option (Some row) is = absurd (none-some row.bit (sym is))
 
-pub fault_of-named : (rows : List Row) (before : List (List ℕ)) (word : List ℕ) (row : Row) (twice : Bool)
+pub error_of-named : (rows : List Row) (before : List (List ℕ)) (word : List ℕ) (row : Row) (twice : Bool)
     → row_named rows word ≡ Some row
-    → is_among before word ≡ twice → fault_of rows before word ≡ cond twice (Some (Twice word)) None
-fault_of-named rows before word row twice named among = ap
+    → is_among before word ≡ twice → error_of rows before word ≡ cond twice (Some (Twice word)) None
+error_of-named rows before word row twice named among = ap
     (λ (o : Option Row). cond (is_none o) (Some (Unknown word)) (cond (is_among before word) (Some (Twice word)) None))
     named
     ∙ ap (λ b. cond b (Some (Twice word)) None) among
@@ -171,19 +171,19 @@ has_flag-false bits bit absent = eqb-true (bit_and bits bit) 0 (not-false (nat_e
 
 -- where the words so far are good and have these bits together
 pub record AreRead (rows : List Row) (words : List (List ℕ)) (bits : ℕ) : Type 0 where
-  pub good : first_fault rows [] words ≡ None
+  pub good : first_error rows [] words ≡ None
   pub together : bits ≡ bits_of (named_rows rows words)
 
-pub fault_of-Twice : (table : Table) → IsSound table → (words : List (List ℕ)) (word : List ℕ) (bits bit : ℕ)
+pub error_of-Twice : (table : Table) → IsSound table → (words : List (List ℕ)) (word : List ℕ) (bits bit : ℕ)
     → AreRead table.rows words bits
-    → bit_with_name table.rows word ≡ Some bit → has_flag bits bit ≡ true → fault_of table.rows words word
+    → bit_with_name table.rows word ≡ Some bit → has_flag bits bit ≡ true → error_of table.rows words word
     ≡ Some (Twice word)
-fault_of-Twice table sound words word bits bit read is there =
+error_of-Twice table sound words word bits bit read is there =
     let row = row_of table.rows word bit is in
     let both : bit_and bits bit ≡ cond (is_among words word) row.0.bit 0 = ap (λ n. bit_and n bit) read.together
     ∙ ap (bit_and (bits_of (named_rows table.rows words))) (sym row.2)
     ∙ seen table sound words word row.0 read.good row.1 in
-    ⊎_elim (λ twice. fault_of-named table.rows words word row.0 true row.1 twice)
+    ⊎_elim (λ twice. error_of-named table.rows words word row.0 true row.1 twice)
     (λ new. absurd (has_flag-true bits bit there (both ∙ ap (λ b. cond b row.0.bit 0) new)))
     (cases_Bool (is_among words word))
 
@@ -201,8 +201,8 @@ AreRead-push table sound words word bits bit read is absent =
     (row_named-Some rows word row.0 row.1).0 in
     let new : is_among words word ≡ false = false_from_ne_true (is_among words word)
     (λ twice. absurd (omega (arith, one.1, pow_pos one.0, sym (ap (λ b. cond b row.0.bit 0) twice) ∙ both))) in record {
-      good = first_fault-append rows [] words (word ∷ []) read.good
-          ∙ ap (λ (o : Option NameError). option_or o None) (fault_of-named rows words word row.0 false row.1 new);
+      good = first_error-append rows [] words (word ∷ []) read.good
+          ∙ ap (λ (o : Option NameError). option_or o None) (error_of-named rows words word row.0 false row.1 new);
       together = ap (bit_or bits) (sym row.2) ∙ ap (λ n. bit_or n row.0.bit) read.together
           ∙ sym (bits_of-push (named_rows rows words) row.0)
           ∙ ap bits_of (sym (filter_map-append (row_named rows) words (word ∷ [])
@@ -219,29 +219,29 @@ from_place all words word n front next = sym (take-append-drop n all)
     ∙ ap (λ (w : List ℕ). words ++ w ∷ drop (n + 1) all) (sym next.1)
 
 -- the first bad word decides
-pub read_words-bad : (rows : List Row) (all words : List (List ℕ)) (word : List ℕ) (bits n : ℕ) (fault : NameError)
+pub read_words-bad : (rows : List Row) (all words : List (List ℕ)) (word : List ℕ) (bits n : ℕ) (error : NameError)
     → AreRead rows words bits
     → words ≡ take n all → (n < length all) × (word ≡ get_or all n word)
-    → fault_of rows words word ≡ Some fault → read_words rows all ≡ Err fault
+    → error_of rows words word ≡ Some error → read_words rows all ≡ Err error
 unfolding read_words
-read_words-bad rows all words word bits n fault read front next bad =
+read_words-bad rows all words word bits n error read front next bad =
     let rest = drop (n + 1) all in
-    let first : first_fault rows [] all ≡ Some fault = ap (first_fault rows []) (from_place all words word n front next)
-    ∙ first_fault-append rows [] words (word ∷ rest) read.good
-    ∙ ap (λ (o : Option NameError). option_or o (first_fault rows (words ++ word ∷ []) rest)) bad in
-    ap (λ (o : Option NameError). unless_fault o (bits_of (named_rows rows all))) first
+    let first : first_error rows [] all ≡ Some error = ap (first_error rows []) (from_place all words word n front next)
+    ∙ first_error-append rows [] words (word ∷ rest) read.good
+    ∙ ap (λ (o : Option NameError). option_or o (first_error rows (words ++ word ∷ []) rest)) bad in
+    ap (λ (o : Option NameError). unless_error o (bits_of (named_rows rows all))) first
 
 -- where all words are good their bits are what is read
 pub read_words-good : (rows : List Row) (all words : List (List ℕ)) (bits : ℕ) → AreRead rows words bits → words ≡ all
     → read_words rows all ≡ Ok bits
 unfolding read_words
 read_words-good rows all words bits read whole = ap (read_words rows) (sym whole)
-    ∙ ap (λ (o : Option NameError). unless_fault o (bits_of (named_rows rows words))) read.good
+    ∙ ap (λ (o : Option NameError). unless_error o (bits_of (named_rows rows words))) read.good
     ∙ ap Ok (sym read.together)
 
--- out of memory, in place of a fault
-pub Gives-NoMemory : (result read : Result ℕ NameError) (fault : NameError) → IsErrAnd result (λ e. e ≡ NoMemory)
-    → read ≡ Err fault → Gives result read
-Gives-NoMemory (Ok bits) read fault no_memory is = absurd no_memory
-Gives-NoMemory (Err e) read fault no_memory is = let P : NameError → Type 0 = λ f. Gives (Err f) read in
+-- out of memory, in place of an error
+pub Gives-NoMemory : (result read : Result ℕ NameError) (error : NameError) → IsErrAnd result (λ e. e ≡ NoMemory)
+    → read ≡ Err error → Gives result read
+Gives-NoMemory (Ok bits) read error no_memory is = absurd no_memory
+Gives-NoMemory (Err e) read error no_memory is = let P : NameError → Type 0 = λ f. Gives (Err f) read in
     subst P (sym no_memory) (ap is_err is)

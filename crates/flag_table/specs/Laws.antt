@@ -42,17 +42,17 @@ pub record IsNamed (table : Table) (text : List ℕ) (bits : ℕ) : Type 0 where
 abbrev pub IsFlagText : Table → List ℕ → ℕ → Type 0
 IsFlagText table text bits = ((is_zero table text ≡ true) × (bits ≡ 0)) ⊎ IsNamed table text bits
 
--- the fault of a word after the names of these rows
-abbrev pub IsFault : Table → List Row → List ℕ → NameError → Type 0
-IsFault table named word fault = (All (λ row. row.name ≢ word) table.rows × (fault ≡ Unknown word))
-    ⊎ (Contains (names_of named) word × (fault ≡ Twice word))
+-- the error of a word after the names of these rows
+abbrev pub IsBadWord : Table → List Row → List ℕ → NameError → Type 0
+IsBadWord table named word error = (All (λ row. row.name ≢ word) table.rows × (error ≡ Unknown word))
+    ⊎ (Contains (names_of named) word × (error ≡ Twice word))
 
--- The text has a bad word, after the names of rows alone: the first bad one. This is its fault.
-pub record IsRefused (table : Table) (text : List ℕ) (fault : NameError) : Type 0 where
+-- The text has a bad word, after the names of rows alone: the first bad one. This is its error.
+pub record IsRefused (table : Table) (text : List ℕ) (error : NameError) : Type 0 where
   pub flags : is_zero table text ≡ false
   pub named : List Row
   pub word : List ℕ
   pub rest : List (List ℕ)
   pub words : words_of text ≡ names_of named ++ word ∷ rest
   pub rows : AreRows table named
-  pub bad : IsFault table named word fault
+  pub bad : IsBadWord table named word error

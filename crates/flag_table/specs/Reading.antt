@@ -11,24 +11,24 @@ abbrev pub is_among : List (List ℕ) → List ℕ → Bool
 is_among words word = list_any (λ other. bytes_eq other word) words
 
 -- what is wrong with a word after these: it names no row, or it is one of them
-abbrev pub fault_of : List Row → List (List ℕ) → List ℕ → Option NameError
-fault_of rows before word = if is_none (row_named rows word) then Some (Unknown word)
+abbrev pub error_of : List Row → List (List ℕ) → List ℕ → Option NameError
+error_of rows before word = if is_none (row_named rows word) then Some (Unknown word)
     else (if is_among before word then Some (Twice word) else None)
 
--- the fault of the first bad one of these words, after the words before
-abbrev pub first_fault : List Row → List (List ℕ) → List (List ℕ) → Option NameError
-first_fault rows before [] = None
-first_fault rows before (word ∷ words) =
-    option_or (fault_of rows before word) (first_fault rows (before ++ word ∷ []) words)
+-- the error of the first bad one of these words, after the words before
+abbrev pub first_error : List Row → List (List ℕ) → List (List ℕ) → Option NameError
+first_error rows before [] = None
+first_error rows before (word ∷ words) =
+    option_or (error_of rows before word) (first_error rows (before ++ word ∷ []) words)
 
--- a fault where there is one, and else the bits
-abbrev pub unless_fault : Option NameError → ℕ → Result ℕ NameError
-unless_fault None bits = Ok bits
-unless_fault (Some fault) bits = Err fault
+-- an error where there is one, and else the bits
+abbrev pub unless_error : Option NameError → ℕ → Result ℕ NameError
+unless_error None bits = Ok bits
+unless_error (Some error) bits = Err error
 
--- the fault of the first bad word, or else the bits of the named rows together
+-- the error of the first bad word, or else the bits of the named rows together
 unfoldable pub read_words : List Row → List (List ℕ) → Result ℕ NameError
-read_words rows words = unless_fault (first_fault rows [] words) (bits_of (filter_map (row_named rows) words))
+read_words rows words = unless_error (first_error rows [] words) (bits_of (filter_map (row_named rows) words))
 
 -- whether a text is `0` or the name for no flag
 unfoldable pub is_zero : Table → List ℕ → Bool
@@ -38,7 +38,7 @@ is_zero table text = bytes_eq text (codes "0") || bytes_eq text table.zero
 unfoldable pub reading : Table → List ℕ → Result ℕ NameError
 reading table text = if is_zero table text then Ok 0 else read_words table.rows (words_of text)
 
--- An answer gives what was to be read, except that it may be out of memory in place of a fault.
+-- An answer gives what was to be read, except that it may be out of memory in place of an error.
 abbrev pub Gives : Result ℕ NameError → Result ℕ NameError → Type 0
 Gives (Ok bits) read = read ≡ Ok bits
 Gives (Err NoMemory) read = IsErr read

@@ -16,7 +16,7 @@ impl From<AllocError> for NameError {
     ghost use Rattle.std.specs.Prelude.{◌≡◌};
     ghost use Rattle.flag_table.specs.declared.error.NameError.TheVariants.{NoMemory};
 
-    ghost from_gives = { λ _ fault. fault ≡ NoMemory };
+    ghost from_gives = { λ _ error. error ≡ NoMemory };
 
     fn from(_error: AllocError) -> NameError {
         NameError::NoMemory

@@ -28,6 +28,6 @@ pub fn flag_texts_are_read()
 
 /// A sound table refuses a text for its first bad word, and for that alone.
 pub fn bad_words_are_refused()
-    ensures { (table : Table) (text : List ℕ) (fault : NameError) → IsSound table
-        → (reading table text ≡ Err fault) ↔ IsRefused table text fault }
+    ensures { (table : Table) (text : List ℕ) (error : NameError) → IsSound table
+        → (reading table text ≡ Err error) ↔ IsRefused table text error }
 {}

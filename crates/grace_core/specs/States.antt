@@ -64,10 +64,10 @@ takes_memory _ = false
 abbrev pub IsDone : Core → GraceEvent → Core → GraceAnswer → Type 0
 IsDone core event new found = (refusal core event ≡ None) × (new ≡ after_event core event) × (found ≡ answer core event)
 
--- The event is refused for this reason, and the state is as it was. An event that takes memory may find none.
+-- The event is refused for this reason, and the state is as it was. Where nothing else refuses an event that takes memory, it may find none.
 abbrev pub IsRefused : Core → GraceEvent → Core → GraceRefusal → Type 0
 IsRefused core event new reason = (new ≡ core)
-    × ((refusal core event ≡ Some reason) ⊎ ((takes_memory event ≡ true) × (reason ≡ NoMemory)))
+    × ((refusal core event ≡ Some reason) ⊎ ((refusal core event ≡ None) × (takes_memory event ≡ true) × (reason ≡ NoMemory)))
 
 -- the outcome of a change of a state
 abbrev pub IsStep : Core → GraceEvent → Result GraceAnswer GraceRefusal → Core → Type 0

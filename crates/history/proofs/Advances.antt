@@ -20,8 +20,9 @@ use Rattle.history.specs.Threads.{counts_below}
 use Rattle.history.specs.Histories.{caller_of, lines_of, items_of, is_call, journal_of}
 use Rattle.history.specs.CallerPlaces.{ArePlaces, StandAt}
 use Rattle.history.specs.Checking.{next_line}
-use Rattle.history.specs.Coming.{ProgressView, lowest_after, IsProgress, HasNoneLeft, IsLowestLeft}
+use Rattle.history.specs.Coming.{ProgressView, lowest_after, IsProgress, HasNoneLeft}
 use Rattle.history.specs.Internal.Kept.{progress_of, IsPlaced}
+use Rattle.history.specs.Internal.Walks.{IsLowestLeft}
 use Rattle.history.proofs.Lists.{slice_get_found}
 use Rattle.history.proofs.ThreadCounts.{items_within}
 use Rattle.history.proofs.Legal.{calls}

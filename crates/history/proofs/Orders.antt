@@ -1,10 +1,10 @@
 -- For gathering and labelling: lists of items that are in order, and what comes of putting them so.
 use Rattle.std.proofs.Common.{ℕ, suc, ◌≡◌, ◌+◌, ◌*◌, ◌<◌, ◌≤◌, ◌∙◌, refl, sym, ap, subst, cond, Bool, true, false, not, ◌&&◌, ◌||◌, nat_eq, nat_lt, nat_le, List, [], ◌∷◌, ◌++◌, length, length-append, take, get_or, All, arith, inl, inr}
 use Rattle.std.specs.List.{AllPairs}
-use Rattle.std.proofs.lemmas.Bool.{cases_Bool, cases_lt, cond_both, cond-true, le-leb}
+use Rattle.std.proofs.lemmas.Bool.{cases_Bool, cases_lt, cond_both, cond-true, le-leb, leb-true}
 use Rattle.std.proofs.lemmas.Bool.Decides.{nat_tests}
-use Rattle.std.proofs.lemmas.List.{take_all, take_more, get_or_append_left, get_or_at, get_or-append-add}
-use Rattle.std.proofs.lemmas.List.Elements.{All-nil, All-cons, All-head, All-tail, All-push, All-weaker}
+use Rattle.std.proofs.lemmas.List.{take_all, take_more, get_or_append_left, get_or_at, get_or-append-add, get_or-take, length-take-le}
+use Rattle.std.proofs.lemmas.List.Elements.{All-nil, All-cons, All-head, All-tail, All-push, All-weaker, All-from_get_or}
 use Rattle.std.proofs.lemmas.List.Kept.{AllPairs-cons}
 use Rattle.trace_reader.specs.declared.trace.TraceLine.{TraceLine}
 use Rattle.mm_types.proofs.Sorting.{Rises, Rises-sort_by, All-sort_by}
@@ -228,3 +228,28 @@ places_more items place item last now rises low here is up within =
 
 pub all_places : (items : List Item) (place : ℕ) → Rises place_key 0 (take place items) → length items ≤ place → Rises place_key 0 items
 all_places items place rises past = subst (λ (l : List Item). Rises place_key 0 l) (take_all place items past) rises
+
+-- the place of an item is no more than what bounds the places up to it
+pub place_reached : (items : List Item) (place : ℕ) (item : Item) (now : ℕ) → item ≡ get_or items place item → now ≡ place_key item
+    → place < length items → (bound : ℕ) → All (λ y. place_key y ≤ bound) (take (place + 1) items) → now ≤ bound
+place_reached items place item now here is within bound all =
+    let size : length (take (place + 1) items) ≡ place + 1 = length-take-le (place + 1) items (omega arith) in
+    let same : get_or (take (place + 1) items) place item ≡ item = get_or-take (place + 1) items place item (omega arith) ∙ sym here in
+    let low : place_key item ≤ bound = subst (λ (y : Item). place_key y ≤ bound) same (all place item (omega arith)) in omega arith
+
+-- of items in order none has a place below the greatest of those before it
+pub place_falls : (items : List Item) (place : ℕ) (item : Item) (last now : ℕ) → All Small items → AllPairs (λ a b. goes_first a b ≡ true) items
+    → ((bound : ℕ) → All (λ y. place_key y ≤ bound) (take place items) → last ≤ bound)
+    → item ≡ get_or items place item → now ≡ place_key item → place < length items → now < last → ⊥
+place_falls items place item last now small pairs reached here is within falls =
+    let size : length (take place items) ≡ place = length-take-le place items (omega arith) in
+    let one : Small item = subst Small (sym here) (small place item within) in
+    let low : All (λ y. place_key y ≤ place_key item) (take place items) =
+    All-from_get_or (λ (y : Item). place_key y ≤ place_key item) (take place items) item (λ k inside.
+    let before : k < place = omega (arith, inside, size) in
+    let first : goes_first (get_or items k item) item ≡ true =
+    subst (λ (y : Item). goes_first (get_or items k item) y ≡ true) (sym here) (pairs k place item before within) in
+    let small_too : Small (get_or items k item) = small k item (omega arith) in
+    subst (λ (y : Item). place_key y ≤ place_key item) (sym (get_or-take place items k item before))
+    (leb-true (place_key (get_or items k item)) (place_key item) (sym (goes_alike (get_or items k item) item small_too one) ∙ first))) in
+    let bound : last ≤ place_key item = reached (place_key item) low in omega arith

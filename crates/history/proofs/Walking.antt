@@ -28,8 +28,8 @@ use Rattle.history.specs.declared.items.Content.TheVariants as contents
 use Rattle.history.specs.declared.items.Item.{Item}
 use Rattle.history.specs.Histories.{items_of, lines_of, line_of, journal_of, is_call, read_as, asks_for, op_of, call_of, answer_by, space_by, answer_of, space_after, StandsAmong, CanStand, IsMade, IsLegalHistory}
 use Rattle.history.specs.Checking.{answer_in, answer_to, next_line, expected_of, IsGood, IsRefused}
-use Rattle.history.specs.Coming.{lowest_after, IsProgress, HasNoneLeft, IsLowestLeft}
-use Rattle.history.specs.Internal.Walks.{space_after_line, IsNext, IsTold, HasBegun, IsWalked}
+use Rattle.history.specs.Coming.{lowest_after, IsProgress, HasNoneLeft}
+use Rattle.history.specs.Internal.Walks.{space_after_line, IsNext, IsTold, IsLowestLeft, HasBegun, IsWalked}
 use Rattle.history.proofs.Advances.{journal_within, left_within, left_fewer, lines_within, progress_more, progress_within}
 use Rattle.history.proofs.Calls.{list_call, reads_answer, reads_space, IsAnswer, answer_right, is_answer}
 use Rattle.history.proofs.Placed.{journal_append}

@@ -43,8 +43,3 @@ NoneIsToCome lines before number = (line : TraceLine) (caller : ℕ) → IsToCom
 -- no caller has a line left
 abbrev pub HasNoneLeft : List TraceLine → List Item → Type 0
 HasNoneLeft lines items = (caller : ℕ) → length (items_of items caller) ≡ length (lines_of lines caller)
-
--- a caller has lines left, and no lower one has
-pub record IsLowestLeft (lines : List TraceLine) (items : List Item) (caller : ℕ) : Type 0 where
-  pub left : length (items_of items caller) < length (lines_of lines caller)
-  pub lowest : (lower : ℕ) → lower < caller → length (items_of items lower) ≡ length (lines_of lines lower)

@@ -1,6 +1,6 @@
 //! The history of a trace that one caller ran, as the history of the callers of its lines.
-ghost use Rattle.std.specs.Prelude.{◌≡◌, ◌<◌, ◌≤◌, ◌^◌, ◌++◌, [], All, AllPairs, IfOk, OnOk};
-ghost use Rattle.history.specs.Histories.{gather};
+ghost use Rattle.std.specs.Prelude.{◌≡◌, ◌<◌, ◌≤◌, ◌^◌, ◌++◌, [], All, AllPairs, IfOk, IsOk, OnOk, true};
+ghost use Rattle.history.specs.Histories.{goes_first, gather};
 ghost use Rattle.history.specs.Runs.{time_key};
 ghost use Rattle.history.specs.Labels.{labelled, label_of};
 
@@ -42,11 +42,13 @@ fn give_callers(items: &mut Vec<Item>, lines: &[TraceLine])
     items.truncate(count);
 }
 
-/// Items that are in order but for the callers of reads, in the order of a history. The reads between two calls are put in order alone.
+/// Items that are in order but for the callers of reads, in the order of a history. The reads between two calls are put in order alone; where
+/// all are in order, no memory is taken.
 fn in_order(alloc: Global, items: Vec<Item>) -> Result<Vec<Item>, NoMemory>
     requires time { AllPairs (λ a b. time_key a ≤ time_key b) items.items }
     requires callers { All (λ item. item.caller < 2 ^ 32) items.items }
-    ensures { IfOk result (λ sorted. sorted.items ≡ gather items.items) }
+    ensures order { IfOk result (λ sorted. sorted.items ≡ gather items.items) }
+    ensures at_once { AllPairs (λ a b. goes_first a b ≡ true) items.items → IsOk result }
 {
     if are_in_order(items.as_slice()) {
         return Ok(items);

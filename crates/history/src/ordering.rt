@@ -1,5 +1,5 @@
 //! The order of a history.
-ghost use Rattle.std.specs.Prelude.{◌≡◌, ◌<◌, ◌^◌, ℕ, All, AllPairs, IfOk, OnOk, true};
+ghost use Rattle.std.specs.Prelude.{◌≡◌, ◌<◌, ◌^◌, ◌↔◌, ℕ, All, AllPairs, IfOk, IsOk, IsTrue, OnOk, true};
 ghost use Rattle.std.specs.Bool.{OnTrue};
 ghost use Rattle.history.specs.declared.items.Item.{Item};
 ghost use Rattle.history.specs.Histories.{goes_first, gather};
@@ -11,11 +11,14 @@ use mm_types::NoMemory;
 /// What a version counts for in a place: more than any caller does.
 const VERSION_STEP: u128 = 1 << 33;
 
-/// Puts items in the order of a history, those that tie in the order that they had; in linear time where they are so already.
+/// Puts items in the order of a history, those that tie in the order that they had; where they are so already, in linear time and without
+/// memory.
 pub(crate) fn put_in_order(items: &mut Vec<Item>) -> Result<(), NoMemory>
     requires { All (λ item. item.caller < 2 ^ 32) items.old.items }
     ensures order { OnOk result (items.new.items ≡ gather items.old.items) }
     ensures pairs { OnOk result (AllPairs (λ a b. goes_first a b ≡ true) items.new.items) }
+    // A sort may find no memory, so there is none.
+    ensures at_once { AllPairs (λ a b. goes_first a b ≡ true) items.old.items → IsOk result }
 {
     if are_in_order(items.as_slice()) {
         return Ok(());
@@ -24,11 +27,11 @@ pub(crate) fn put_in_order(items: &mut Vec<Item>) -> Result<(), NoMemory>
     Ok(())
 }
 
-/// Whether the places of items do not fall.
+/// Whether items are in the order of a history: their places do not fall.
 pub(crate) fn are_in_order(items: &[Item]) -> bool
     requires { All (λ item. item.caller < 2 ^ 32) items.now }
     ensures order { OnTrue result (items.now ≡ gather items.now) }
-    ensures pairs { OnTrue result (AllPairs (λ a b. goes_first a b ≡ true) items.now) }
+    ensures pairs { IsTrue result ↔ AllPairs (λ a b. goes_first a b ≡ true) items.now }
 {
     let mut last = 0;
     for item in items {

@@ -6,8 +6,8 @@ ghost use Rattle.history.specs.declared.callers.TheConstants.{MOST_THREADS};
 ghost use Rattle.history.specs.declared.items.Item.{Item};
 ghost use Rattle.history.specs.Histories.{StandsAmong};
 ghost use Rattle.history.specs.Checking.{next_line};
-ghost use Rattle.history.specs.Coming.{IsProgress, IsToCome, NoneIsToCome, HasNoneLeft, IsLowestLeft};
-ghost use Rattle.history.specs.Internal.Walks.{IsNext, IsTold};
+ghost use Rattle.history.specs.Coming.{IsProgress, IsToCome, NoneIsToCome, HasNoneLeft};
+ghost use Rattle.history.specs.Internal.Walks.{IsNext, IsTold, IsLowestLeft};
 
 use crate::callers::Callers;
 use crate::items::Item;

@@ -18,7 +18,7 @@ use Rattle.history.specs.declared.callers.TheConstants.{MOST_THREADS}
 use Rattle.history.specs.declared.checking.Case.{Case}
 use Rattle.history.specs.declared.checking.Walk.{Walk}
 use Rattle.history.specs.declared.items.Item.{Item}
-use Rattle.history.specs.Histories.{journal_of, is_call, read_as, op_of, space_after, StandsAmong}
+use Rattle.history.specs.Histories.{items_of, lines_of, journal_of, is_call, read_as, op_of, space_after, StandsAmong}
 use Rattle.history.specs.Checking.{AreGood, IsRefused}
 use Rattle.history.specs.Coming.{ProgressView, IsProgress}
 
@@ -43,6 +43,11 @@ space_after_line config space (Some line) = space_after config space line.op
 -- the line that a line names, if there is one and it names one, is among some items
 abbrev pub IsTold : List TraceLine → List Item → Option TraceLine → Type 0
 IsTold lines before line = IfSome line (λ line. IfSome line.after (StandsAmong lines before))
+
+-- a caller has lines left, and no lower one has
+pub record IsLowestLeft (lines : List TraceLine) (items : List Item) (caller : ℕ) : Type 0 where
+  pub left : length (items_of items caller) < length (lines_of lines caller)
+  pub lowest : (lower : ℕ) → lower < caller → length (items_of items lower) ≡ length (lines_of lines lower)
 
 -- a space began with some entries
 pub record HasBegun (config : Config) (start : List Entry) (begun : PlainView) : Type 0 where

@@ -48,8 +48,8 @@ loop-item-preserved-in-Continue-branch-3 c =
       small = subst (λ (l : List Item). All Small l) (sym c.in_ok-push_reads.ensures.reads) (All-nil Small);
     }
 
-pub returns : goal.returns
-returns c =
+pub returns-clause-order : goal.returns-clause-order
+returns-clause-order c =
     halfway_end c.args.items.items c.loop-item.yielded _ c.loop-item.done.items c.loop-item.reads.items c.push_reads-2.new.done.items
     c.loop-item.invariant.all
     (omega (arith, c.loop-item.item-iterator.rest.ok.0, c.in-None.ensures.steps.0)) c.loop-item.invariant.half c.in_ok-push_reads-2.ensures.done

@@ -28,7 +28,7 @@ in_order-requires-clause-callers c =
 
 pub returns : goal.returns
 returns c =
-    c.of.ensures ∙ c.in_ok-items-2.ensures
+    c.of.ensures ∙ c.in_ok-items-2.ensures.order
     ∙ label_made c.args.trace.now.lines c.args.journal.now c.args.log.now c.give_callers.new.items.items
     (c.give_callers.ensures ∙ ap (λ (l : List TraceLine). labelled l l c.in_ok-items.items.items) c.items.ensures
     ∙ ap (λ (l : List Item). labelled c.args.trace.now.lines c.args.trace.now.lines l) c.in_ok-items.ensures)

@@ -2,7 +2,8 @@
 use Rattle.std.proofs.Common.{◌≡◌, ◌<◌, refl, List, length, get_or, arith}
 use Rattle.std.proofs.lemmas.List.{get_or_read}
 use Rattle.trace_reader.specs.declared.trace.TraceLine.{TraceLine}
-use Rattle.history.specs.Coming.{HasNoneLeft, IsLowestLeft}
+use Rattle.history.specs.Coming.{HasNoneLeft}
+use Rattle.history.specs.Internal.Walks.{IsLowestLeft}
 use Rattle.history.proofs.Advances.{of_fields, read_at, answered_none, answered_more, none_left, lowest_left}
 use Rattle.history.proofs.progress.Progress.unfinished.Goals as goal
 
