@@ -1,16 +1,18 @@
 -- For `load` and `push_line`: a text, line after line.
-use Rattle.std.proofs.Common.{◌≡◌, ℕ, suc, ◌+◌, ◌-◌, ◌<◌, ◌≤◌, List, ◌++◌, flat_map, codes, Option, Some, Result, Ok, Err, OnOk, refl, sym, ap, ◌∙◌, subst, append_assoc, arith}
+use Rattle.std.proofs.Common.{◌≡◌, ℕ, suc, ◌+◌, ◌-◌, ◌<◌, ◌≤◌, List, ◌++◌, flat_map, codes, Result, Ok, Err, OnOk, refl, sym, ap, ◌∙◌, append_assoc, arith}
 use Rattle.std.proofs.lemmas.List.{append-nil}
-use Rattle.std.specs.declared.alloc.AllocError.{AllocError}
-use Rattle.std.specs.Fmt.{AppendsText}
+use Rattle.mm_types.specs.declared.memory.NoMemory.{NoMemory}
 use Rattle.trace_text.specs.LineTexts.{line_words, text_of, line_text}
 use Rattle.gen_load.specs.Loads.{next_of, draw_of, line_of, lines_after, load_text}
 
--- what was written is this text
-pub wrote : (answer : Result (Unit {0}) AllocError) (old new text : List ℕ) (output : Option (List ℕ))
-    → OnOk answer (AppendsText old new output) → output ≡ Some text → OnOk answer (new ≡ old ++ text)
-wrote (Ok done) old new text output appended is = subst (AppendsText old new) is appended
-wrote (Err error) old new text output appended is = tt
+-- three parts that are appended one after the other, unless memory runs out in the last, are a text
+pub three_parts : (answer : Result (Unit {0}) NoMemory) → (old first second third text one two three : List ℕ)
+    → one ≡ old ++ first → two ≡ one ++ second → OnOk answer (three ≡ two ++ third)
+    → text ≡ first ++ (second ++ third) → OnOk answer (three ≡ old ++ text)
+three_parts (Ok done) old first second third text one two three is_one is_two is_three is =
+    is_three ∙ ap (λ (t : List ℕ). t ++ third) (is_two ∙ ap (λ (t : List ℕ). t ++ second) is_one)
+    ∙ (simp append_assoc) ∙ ap (λ (t : List ℕ). old ++ t) (sym is)
+three_parts (Err error) old first second third text one two three is_one is_two is_three is = tt
 
 -- the text of a line does not have its number
 pub line_text-number : (number draw : ℕ) → line_text (line_of number draw) ≡ line_text (line_of 0 draw)

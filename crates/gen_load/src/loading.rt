@@ -1,71 +1,125 @@
 //! The text of a load.
 
-ghost use Rattle.std.specs.Prelude.{◌≡◌, ◌≤◌, ◌++◌, IfOk, OnOk, string_bytes};
-ghost use Rattle.trace_text.specs.LineTexts.{text_of, line_text};
+ghost use Rattle.std.specs.Prelude.{◌≡◌, ◌≤◌, ◌++◌, false, codes, decimal, IfOk, OnOk};
+ghost use Rattle.std.specs.Fmt.{digits};
+ghost use Rattle.trace_text.specs.LineTexts.{line_text};
 ghost use Rattle.gen_load.specs.Loads.{line_of, load_text};
 
 use crate::draw::{Draw, next_number};
+use maps_print::{push_decimal, push_hex};
 use mm_types::NoMemory;
-use std::alloc::{AllocError, Global};
+use std::alloc::Global;
 
 /// The most operations of a load.
 pub const MOST_OPERATIONS: u32 = 400_000;
 
 /// Line 1 of each trace.
-const HEADER: &str = "vmatrace 1\n";
+const HEADER: &[u8] = b"vmatrace 1\n";
 
 /// The bytes to reserve for each line. Most lines have fewer.
 const LINE_ROOM: usize = 80;
 
-/// The flags of memory that is mapped exactly at its address.
-const EXACTLY: &str = "MAP_PRIVATE|MAP_FIXED|MAP_ANONYMOUS";
+/// What ends a line that maps memory exactly at its address.
+const EXACTLY: &[u8] = b" MAP_PRIVATE|MAP_FIXED|MAP_ANONYMOUS -1 0\n";
 
-/// The flags of memory that is mapped where there is room, or near a hint.
-const ANYWHERE: &str = "MAP_PRIVATE|MAP_ANONYMOUS";
+/// What ends a line that maps memory where there is room, or near a hint.
+const ANYWHERE: &[u8] = b" MAP_PRIVATE|MAP_ANONYMOUS -1 0\n";
 
 /// Makes the load of so many operations from a seed, as the bytes of a trace. It fails only where memory runs out.
 pub fn load(alloc: Global, count: u32, seed: u64) -> Result<Vec<u8>, NoMemory>
     requires { count ≤ MOST_OPERATIONS }
     ensures { IfOk result (λ bytes. bytes.items ≡ load_text count seed) }
 {
-    let mut text = String::with_capacity(alloc, HEADER.len() + count as usize * LINE_ROOM)?;
-    text.push_str(HEADER)?;
+    let mut text = Vec::with_capacity(alloc, HEADER.len() + count as usize * LINE_ROOM)?;
+    text.extend_from_slice(HEADER)?;
     let mut number = seed;
     for _ in 0..count {
         number = next_number(number);
         push_line(&mut text, Draw::of(number))?;
     }
-    Ok(text.into_bytes())
+    Ok(text)
+}
+
+/// Appends an address in hexadecimal after these bytes.
+fn push_address(text: &mut Vec<u8>, before: &[u8], address: u64) -> Result<(), NoMemory>
+    ensures { OnOk result (text.new.items ≡ text.old.items ++ (before.now ++ digits 16 false address)) }
+{
+    text.extend_from_slice(before)?;
+    push_hex(text, address)
+}
+
+/// Appends a space and a number in decimal.
+fn push_number(text: &mut Vec<u8>, number: u64) -> Result<(), NoMemory>
+    ensures { OnOk result (text.new.items ≡ text.old.items ++ (codes " " ++ decimal number)) }
+{
+    text.push(b' ')?;
+    push_decimal(text, number)
+}
+
+/// Appends a length and the names of accesses, each after a space, and these bytes.
+fn push_prot(text: &mut Vec<u8>, length: u64, prot: &str, after: &[u8]) -> Result<(), NoMemory>
+    ensures { OnOk result (text.new.items ≡ text.old.items ++ (codes " " ++ (decimal length ++ (codes " " ++ (prot.now ++ after.now))))) }
+{
+    push_number(text, length)?;
+    text.push(b' ')?;
+    text.extend_from_slice(prot.as_bytes())?;
+    text.extend_from_slice(after)?;
+    Ok(())
+}
+
+/// Appends the length of an area and the one to which it moves, each after a space, and what ends the line.
+fn push_lengths(text: &mut Vec<u8>, length: u64, new_length: u64) -> Result<(), NoMemory>
+    ensures { OnOk result (text.new.items ≡ text.old.items ++ (codes " " ++ (decimal length ++ (codes " " ++ (decimal new_length ++ codes " MREMAP_MAYMOVE\n"))))) }
+{
+    push_number(text, length)?;
+    push_number(text, new_length)?;
+    text.extend_from_slice(b" MREMAP_MAYMOVE\n")?;
+    Ok(())
+}
+
+/// Appends the name and the address of a fault, and these bytes.
+fn push_fault(text: &mut Vec<u8>, address: u64, after: &[u8]) -> Result<(), NoMemory>
+    ensures { OnOk result (text.new.items ≡ text.old.items ++ (codes " fault 0x" ++ (digits 16 false address ++ after.now))) }
+{
+    push_address(text, b" fault 0x", address)?;
+    text.extend_from_slice(after)?;
+    Ok(())
 }
 
 /// Appends the line of a draw.
-fn push_line(text: &mut String, draw: Draw) -> Result<(), AllocError>
-    ensures { OnOk result (string_bytes text.new ≡ string_bytes text.old ++ line_text (line_of 0 draw.0)) }
+fn push_line(text: &mut Vec<u8>, draw: Draw) -> Result<(), NoMemory>
+    ensures { OnOk result (text.new.items ≡ text.old.items ++ line_text (line_of 0 draw.0)) }
 {
-    let thread = draw.thread();
     let address = draw.address();
     let length = draw.length();
-    let prot = draw.prot();
+    push_decimal(text, draw.thread())?;
     match draw.kind() {
-        0 => writeln!(
-            text,
-            "{thread} mmap 0x{address:x} {length} {prot} {EXACTLY} -1 0"
-        ),
-        1 => writeln!(
-            text,
-            "{thread} mmap 0x{address:x} {length} {prot} {ANYWHERE} -1 0"
-        ),
-        2 => writeln!(text, "{thread} mmap 0 {length} {prot} {ANYWHERE} -1 0"),
-        3 => writeln!(text, "{thread} munmap 0x{address:x} {length}"),
-        4 => writeln!(text, "{thread} mprotect 0x{address:x} {length} {prot}"),
-        5 => {
-            let new_length = draw.new_length();
-            writeln!(
-                text,
-                "{thread} mremap 0x{address:x} {length} {new_length} MREMAP_MAYMOVE"
-            )
+        0 => {
+            push_address(text, b" mmap 0x", address)?;
+            push_prot(text, length, draw.prot(), EXACTLY)
         }
-        6 => writeln!(text, "{thread} fault 0x{address:x} r"),
-        _ => writeln!(text, "{thread} fault 0x{address:x} w"),
+        1 => {
+            push_address(text, b" mmap 0x", address)?;
+            push_prot(text, length, draw.prot(), ANYWHERE)
+        }
+        2 => {
+            text.extend_from_slice(b" mmap 0")?;
+            push_prot(text, length, draw.prot(), ANYWHERE)
+        }
+        3 => {
+            push_address(text, b" munmap 0x", address)?;
+            push_number(text, length)?;
+            Ok(text.push(b'\n')?)
+        }
+        4 => {
+            push_address(text, b" mprotect 0x", address)?;
+            push_prot(text, length, draw.prot(), b"\n")
+        }
+        5 => {
+            push_address(text, b" mremap 0x", address)?;
+            push_lengths(text, length, draw.new_length())
+        }
+        6 => push_fault(text, address, b" r\n"),
+        _ => push_fault(text, address, b" w\n"),
     }
 }

@@ -11,4 +11,4 @@ mod tests;
 
 pub use line::{print_line, push_line, push_range};
 pub use list::{print_list, push_list};
-pub use part::push_hex;
+pub use part::{push_decimal, push_hex};

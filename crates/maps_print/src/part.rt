@@ -44,6 +44,16 @@ pub(crate) fn add_padded(part: &mut Part, number: u64, width: usize) -> Result<(
     add(part, &text[first.min(MOST_DIGITS - width)..])
 }
 
+/// Appends a number in decimal.
+pub fn push_decimal(text: &mut Vec<u8>, number: u64) -> Result<(), NoMemory>
+    ensures ok { OnOk result (text.new.items ≡ text.old.items ++ decimal number) }
+    ensures no_memory { OnErr result (text.new.items ≡ text.old.items) }
+{
+    let mut buffer = Buffer::new();
+    text.extend_from_slice(buffer.format(number).as_bytes())?;
+    Ok(())
+}
+
 /// Appends a number in hexadecimal.
 pub fn push_hex(text: &mut Vec<u8>, number: u64) -> Result<(), NoMemory>
     ensures ok { OnOk result (text.new.items ≡ text.old.items ++ digits 16 false number) }

@@ -8,4 +8,4 @@ mod output;
 mod tests;
 
 pub use items::{push_content, push_item, push_maps, push_result};
-pub use output::{push_count, push_decimal, push_forked, push_reply, push_start, push_verdict};
+pub use output::{push_count, push_forked, push_reply, push_start, push_verdict};

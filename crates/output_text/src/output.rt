@@ -2,8 +2,7 @@
 ghost use Rattle.std.specs.Prelude.{◌≡◌, ◌++◌, OnOk, codes, decimal};
 ghost use Rattle.output_text.specs.Output.{errno_name, reply_text, served_text, verdict_text, start_text};
 
-use itoa::Buffer;
-use maps_print::{push_hex, push_range};
+use maps_print::{push_decimal, push_hex, push_range};
 use mm_types::{Errno, NoMemory, Record, Reply, Verdict};
 use std::io::Write;
 use trace_reader::TraceLine;
@@ -38,15 +37,6 @@ fn push_page(text: &mut Vec<u8>, index: u64) -> Result<(), NoMemory>
 {
     text.extend_from_slice(b" page ")?;
     push_decimal(text, index)
-}
-
-/// Appends a number in decimal.
-pub fn push_decimal(text: &mut Vec<u8>, number: u64) -> Result<(), NoMemory>
-    ensures { OnOk result (text.new.items ≡ text.old.items ++ decimal number) }
-{
-    let mut buffer = Buffer::new();
-    text.extend_from_slice(buffer.format(number).as_bytes())?;
-    Ok(())
 }
 
 /// Appends what stands before what a line results in: `L<line> t<thread> v<version> = `.

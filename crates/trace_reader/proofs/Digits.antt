@@ -1,23 +1,15 @@
--- For `digits_of` and `device_part`: digits of a base, as `from_str_radix` reads them.
-use Rattle.std.proofs.Common.{◌≡◌, ℕ, ◌^◌, ◌<◌, ◌≤◌, Bool, true, false, ◌&&◌, cond, nat_eq, nat_lt, nat_le, List, [], ◌∷◌, length, drop, Some, None, Result, Ok, Err, if◌then◌else◌, refl, sym, ap, ◌∙◌, subst, arith}
+-- For `digits_of` and `device_part`: digits of a base, read one after another.
+use Rattle.std.proofs.Common.{◌≡◌, ℕ, ◌+◌, ◌*◌, ◌^◌, ◌<◌, ◌≤◌, Bool, true, false, ◌&&◌, nat_lt, nat_le, List, [], ◌∷◌, length, get_or, take, Some, None, if◌then◌else◌, refl, sym, ap, ◌∙◌, subst, arith}
 use Rattle.std.specs.Char.{is_digit, digit_value}
 use Rattle.std.specs.List.{list_all}
-use Rattle.std.specs.Result.{result_ok}
-use Rattle.std.specs.Str.Parse.{AllDigits, ParsesUnsigned, without_leading_plus, digits_value}
-use Rattle.std.proofs.lemmas.Bool.{and_parts, and_from, ltb-true, lt-ltb, le-leb, leb-true, cond-true, cond-false, false_from_ne_true, ne_eqb}
-use Rattle.std.proofs.lemmas.Int.Digits.{digits_value-lt}
+use Rattle.std.specs.Str.Parse.{AllDigits, digits_value}
+use Rattle.std.proofs.lemmas.Bool.{and_parts, and_from, ltb-true, lt-ltb, le-leb, leb-true, cond-true, cond-false, false_from_ne_true}
+use Rattle.std.proofs.lemmas.Int.Digits.{digits_value-lt, digits_value_more}
+use Rattle.std.proofs.lemmas.List.{take_all}
+use Rattle.std.proofs.lemmas.List.Folds.{list_all_more}
+use Rattle.std.proofs.lemmas.Str.Parse.{digits_value-take-le}
 use Rattle.std.proofs.Math.Nat.{pow-le-pow_right}
 use Rattle.trace_reader.specs.Numbers.{digits_of}
-
--- a plus is no digit
-no_plus : (base : ℕ) (word : List ℕ) → base ≤ 36 → list_all (λ c. is_digit c base) word ≡ true
-    → without_leading_plus word ≡ word
-no_plus base [] small digits = refl
-no_plus base (c ∷ word) small digits =
-    let first = (and_parts (is_digit c base) (list_all (λ c. is_digit c base) word) digits).0 in
-    let other : nat_eq c 43 ≡ false = ne_eqb c 43 (λ plus. let below : 36 < base =
-    ltb-true 36 base (subst (λ (d : ℕ). is_digit d base ≡ true) plus first) in omega arith) in
-    ap (λ (b : Bool). drop (cond b 1 0) (c ∷ word)) other
 
 all_digits : (base : ℕ) (word : List ℕ) → list_all (λ c. is_digit c base) word ≡ true → AllDigits base word
 all_digits base [] digits = tt
@@ -25,32 +17,54 @@ all_digits base (c ∷ word) digits =
     let parts = and_parts (is_digit c base) (list_all (λ c. is_digit c base) word) digits in
     (ltb-true (digit_value c) base parts.0, all_digits base word parts.1)
 
--- what `from_str_radix` reads of so many digits
-pub reads_digits : {E : Type 0} (base most : ℕ) (word : List ℕ) (read : Result ℕ E) → base ≤ 36 → length word ≤ most
-    → list_all (λ c. is_digit c base) word ≡ true →
-    ParsesUnsigned 64 base word read → result_ok read ≡ digits_of base most word
-unfolding digits_of
-reads_digits base most word (Ok n) small few digits parsed =
-    let same = no_plus base word small digits in
-    let plain = subst (λ (bs : List ℕ). (((0 < length bs) × AllDigits base bs) × (digits_value base bs < 2 ^ 64)) ×
-    (n ≡ digits_value base bs)) same parsed in
-    ap Some plain.1 ∙ sym (cond-true _ (Some (digits_value base word)) None
-    (and_from _ _ (lt-ltb 0 (length word) plain.0.0.0) (and_from _ _ (le-leb (length word) most few)
-    (and_from _ _ digits (lt-ltb (digits_value base word) (2 ^ 64) plain.0.1)))))
-reads_digits base most word (Err e) small few digits parsed =
-    let same = no_plus base word small digits in
-    let refused : ((0 < length word) × AllDigits base word) × (digits_value base word < 2 ^ 64) → ⊥ =
-    subst (λ (bs : List ℕ). ((0 < length bs) × AllDigits base bs) × (digits_value base bs < 2 ^ 64)
-    → ⊥) same parsed in
-    sym (cond-false _ (Some (digits_value base word)) None (false_from_ne_true _ (λ tests.
-    let a = and_parts _ _ tests in
-    let b = and_parts _ _ a.1 in
-    let d = and_parts _ _ b.1 in
-    refused (
-      (ltb-true 0 (length word) a.0, all_digits base word digits),
-      ltb-true (digits_value base word)
-          (2 ^ 64) d.1,
-    ))))
+-- so many bytes of a word were read: they are digits, and this is the value that they spell
+pub record AreRead (base : ℕ) (word : List ℕ) (read value : ℕ) : Type 0 where
+  pub digits : list_all (λ c. is_digit c base) (take read word) ≡ true
+  pub spelled : value ≡ digits_value base (take read word)
+
+-- one digit more
+pub AreRead-more : (base read value : ℕ) (word : List ℕ) → AreRead base word read value → read < length word
+    → digit_value (get_or word read 0) < base
+    → AreRead base word (read + 1) (value * base + digit_value (get_or word read 0))
+AreRead-more base read value word so_far within digit = record {
+  digits = list_all_more (λ c. is_digit c base) word read 0 within
+      ∙ and_from _ _ so_far.digits (lt-ltb (digit_value (get_or word read 0)) base digit);
+  spelled = ap (λ (n : ℕ). n * base + digit_value (get_or word read 0)) so_far.spelled
+      ∙ sym (digits_value_more base word read within);
+}
+
+last_test : (a b c d : Bool) → a && (b && (c && d)) ≡ true → d ≡ true
+last_test true true true true e = refl
+last_test false b c d e = absurd cc
+last_test true false c d e = absurd cc
+last_test true true false d e = absurd cc
+last_test true true true false e = absurd cc
+
+module _ (base most : ℕ) (word : List ℕ) where
+  -- where so many of its bytes spell too much, so do all
+  pub none_by_value : (read value : ℕ) → 1 ≤ base → AreRead base word read value → 2 ^ 64 ≤ value
+      → None ≡ digits_of base most word
+  unfolding digits_of
+  none_by_value read value some so_far large = sym (cond-false _ (Some (digits_value base word)) None (false_from_ne_true _
+      (λ tests.
+      let below : digits_value base word < 2 ^ 64 = ltb-true (digits_value base word) (2 ^ 64)
+      (last_test (nat_lt 0 (length word)) (nat_le (length word) most) (list_all (λ c. is_digit c base) word)
+      (nat_lt (digits_value base word) (2 ^ 64)) tests) in
+      let rises : digits_value base (take read word) ≤ digits_value base word = digits_value-take-le base word read some in
+      omega (arith, so_far.spelled))))
+
+  -- all of its bytes were read
+  pub some_when_read : (read value : ℕ) → 0 < length word → length word ≤ most → length word ≤ read
+      → AreRead base word read value → value < 2 ^ 64 → Some value ≡ digits_of base most word
+  unfolding digits_of
+  some_when_read read value some few past so_far fits =
+      let whole : take read word ≡ word = take_all read word past in
+      let digits : list_all (λ c. is_digit c base) word ≡ true = subst
+      (λ (bs : List ℕ). list_all (λ c. is_digit c base) bs ≡ true) whole so_far.digits in
+      let spelled : value ≡ digits_value base word = so_far.spelled ∙ ap (digits_value base) whole in
+      ap Some spelled ∙ sym (cond-true _ (Some (digits_value base word)) None
+      (and_from _ _ (lt-ltb 0 (length word) some) (and_from _ _ (le-leb (length word) most few)
+      (and_from _ _ digits (lt-ltb (digits_value base word) (2 ^ 64) (omega arith))))))
 
 -- what is known of a number that so many digits spell
 pub record AreDigits (base most n : ℕ) : Type 0 where

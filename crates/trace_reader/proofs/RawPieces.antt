@@ -1,10 +1,11 @@
 -- For `first_line`: lines of bytes, one after another.
-use Rattle.std.proofs.Common.{◌≡◌, ℕ, ◌+◌, ◌-◌, ◌<◌, ◌≤◌, Bool, true, false, nat_eq, nat_lt, cond, List, [], ◌∷◌, length, take, drop, Some, None, position, refl, sym, ap, ◌∙◌, subst, arith}
+use Rattle.std.proofs.Common.{◌≡◌, ℕ, ◌+◌, ◌-◌, ◌<◌, ◌≤◌, Bool, true, false, nat_eq, nat_lt, cond, List, [], ◌∷◌, length, take, drop, Option, Some, None, position, refl, sym, ap, ◌∙◌, subst, arith}
 use Rattle.std.specs.List.{slice_split, position_or_len, before_first, after_first}
-use Rattle.std.proofs.lemmas.Bool.{cond-false, ltb-true, ltb-false, ne_eqb}
+use Rattle.std.proofs.lemmas.Bool.{cond-true, cond-false, false_from_ne_true, ltb-true, ltb-false, lt-ltb, le-ltb, ne_eqb}
 use Rattle.std.proofs.lemmas.List.{length-drop, length-take-le}
-use Rattle.std.proofs.lemmas.List.Sums.{fails_before_first}
+use Rattle.std.proofs.lemmas.List.Sums.{fails_before_first, position_or_len_is}
 use Rattle.std.proofs.lemmas.List.Splits.{slice_split_first, slice_split_none, length-slice_split}
+use Rattle.memchr.specs.Find.{IsFirstByte, is_byte}
 use Rattle.trace_reader.specs.RawLines.{RawLine, raw_line, is_newline, lines_of_pieces, lines_from}
 
 -- a piece that others follow ends
@@ -71,6 +72,20 @@ no_place bytes e = of_test (nat_lt (position_or_len is_newline bytes) (length by
         → length bytes ≤ position_or_len is_newline bytes
     of_test true is e = absurd cc
     of_test false is e = ltb-false (position_or_len is_newline bytes) (length bytes) is
+
+-- a search for that byte gives the same place
+pub place_searched : (bytes : List ℕ) (found : Option ℕ) → IsFirstByte (is_byte 10) bytes found → found ≡ position is_newline bytes
+place_searched bytes None nowhere =
+    let n = position_or_len is_newline bytes in
+    let past : n ≡ length bytes = position_or_len_is is_newline bytes (length bytes) 0 (omega arith)
+    (λ k below. false_from_ne_true _ (nowhere k (omega arith) below)) (λ within. absurd (omega arith)) in
+    sym (cond-false (nat_lt n (length bytes)) (Some n) None (le-ltb n (length bytes) (omega arith)))
+place_searched bytes (Some k) is_first =
+    let n = position_or_len is_newline bytes in
+    let place : n ≡ k = position_or_len_is is_newline bytes k 0 (omega (arith, is_first.0.high))
+    (λ j below. false_from_ne_true _ (is_first.0.before j (omega arith) below)) (λ within. is_first.1) in
+    sym (cond-true (nat_lt n (length bytes)) (Some n) None (lt-ltb n (length bytes) (omega (arith, is_first.0.high)))
+    ∙ ap Some place)
 
 -- the first line by that place
 pub ended_line : (number start : ℕ) (bytes rest : List ℕ) (n : ℕ) → position is_newline bytes ≡ Some n

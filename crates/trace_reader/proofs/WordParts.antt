@@ -1,4 +1,4 @@
--- For `words_of` and the functions that it calls: words and the blanks between them.
+-- For `set_words` and the functions that it calls: words and the blanks between them.
 use Rattle.std.proofs.Common.{◌≡◌, ℕ, zero, suc, ◌+◌, ◌<◌, ◌≤◌, Bool, true, false, not, cond, nat_lt, List, [], ◌∷◌, ◌++◌, length, get_or, take, drop, filter, Option, Some, None, unwrap_or, position, refl, sym, ap, ◌∙◌, subst, inl, inr, append_assoc, add-zero, arith}
 use Rattle.std.specs.List.{slice_split, position_or_len, before_first}
 use Rattle.std.specs.Str.{IsUtf8, IsCharBoundary}

@@ -13,7 +13,7 @@ use crate::lines::{RawLine, text_of};
 use crate::operations::line_of;
 use crate::settings::{bound_of, file_of, limit_of};
 use crate::trace::{Lines, Op, Trace, TraceLine};
-use crate::words::{text_after_words, words_of};
+use crate::words::{set_words, text_after_words};
 use mm_types::{ADDRESS_LIMIT, Config, FileRow, Files, MOST_FILES, WIDE_LIMIT};
 use std::alloc::Global;
 
@@ -71,14 +71,20 @@ impl TraceBuilder {
         }
     }
 
-    /// Adds a line, of which the first is the header. Its bytes are tested before its words.
+    /// Adds a line, of which the first is the header. Its bytes are tested before its words, which come into `words`, a list that
+    /// serves for every line.
     #[tactic(auto, unfolding(crate::specs::Lines::after_line))]
-    pub(crate) fn add(&mut self, alloc: Global, line: &RawLine) -> Result<(), CallError>
+    pub(crate) fn add<'a>(
+        &mut self,
+        alloc: Global,
+        words: &mut Vec<&'a str>,
+        line: &RawLine<'a>,
+    ) -> Result<(), CallError>
         requires { AreNumbered self.old.lines.items }
         ensures { Gives (λ _. so_far self.new) result (after_line (so_far self.old) (line_view line.now)) }
     {
         let text = text_of(line)?;
-        let words = words_of(alloc, text)?;
+        set_words(words, text)?;
         if line.number == 1 {
             self.set_version(words.as_slice())
         } else {

@@ -7,6 +7,7 @@ ghost use Rattle.trace_reader.specs.Reading.{Gives, line_view};
 
 use crate::error::{CallError, Cause};
 use crate::limits::{LINE_LIMIT, TRACE_LIMIT};
+use memchr::memchr;
 
 /// A line of a file, as it stands in its bytes.
 #[derive(Clone, Copy, Debug)]
@@ -29,7 +30,7 @@ pub fn first_line(bytes: &[u8], number: u64, start: usize) -> (RawLine<'_>, &[u8
     ensures number { result.0.number ≡ number }
     ensures shorter { length result.1.now < length bytes.now }
 {
-    match bytes.iter().position(|byte| *byte == b'\n') {
+    match memchr(b'\n', bytes) {
         Some(len) => {
             let line = RawLine {
                 number,

@@ -1,7 +1,6 @@
 //! The numbers of a trace.
 
 ghost use Rattle.std.specs.Prelude.{◌≡◌, ◌≤◌};
-ghost use Rattle.std.specs.Char.{is_digit};
 ghost use Rattle.std.specs.List.{list_all};
 ghost use Rattle.trace_reader.specs.Numbers.{decimal_of, digits_of, is_lower_digit, lower_hexadecimal_of, number_of, thread_of};
 
@@ -74,20 +73,22 @@ pub fn digits_of(word: &str, base: u32, most: usize) -> Option<u64>
     requires high { base ≤ 36 }
     ensures { result ≡ digits_of base most word.now }
 {
-    if word.len() <= most && are_digits(word, base) {
-        u64::from_str_radix(word, base).ok()
-    } else {
-        None
+    let digits = word.as_bytes();
+    if digits.is_empty() || most < digits.len() {
+        return None;
     }
-}
-
-/// Whether every byte is a digit of the base.
-fn are_digits(word: &str, base: u32) -> bool
-    requires low { 2 ≤ base }
-    requires high { base ≤ 36 }
-    ensures { result ≡ list_all (λ c. is_digit c base) word.now }
-{
-    word.as_bytes()
-        .iter()
-        .all(|byte| char::from(*byte).is_digit(base))
+    let mut value: u64 = 0;
+    for byte in digits {
+        let Some(digit) = char::from(*byte).to_digit(base) else {
+            return None;
+        };
+        let Some(shifted) = value.checked_mul(base as u64) else {
+            return None;
+        };
+        let Some(next) = shifted.checked_add(digit as u64) else {
+            return None;
+        };
+        value = next;
+    }
+    Some(value)
 }

@@ -31,11 +31,12 @@ fn read_lines(alloc: Global, bytes: &[u8]) -> Result<TraceBuilder, ReadError>
     ensures { GivesLines result (lines_read bytes.now) }
 {
     let mut builder = TraceBuilder::new(alloc);
+    let mut words = Vec::new(alloc);
     let mut rest = bytes;
     let mut number = 1;
     while !rest.is_empty() {
         let (line, after) = first_line(rest, number, bytes.len() - rest.len());
-        if let Err(error) = builder.add(alloc, &line) {
+        if let Err(error) = builder.add(alloc, &mut words, &line) {
             return Err(at_line(number, error));
         }
         rest = after;

@@ -1,6 +1,6 @@
 //! The words of a line.
 
-ghost use Rattle.std.specs.Prelude.{◌≡◌, IfOk, map};
+ghost use Rattle.std.specs.Prelude.{◌≡◌, IfOk, OnOk, map};
 ghost use Rattle.std.specs.List.{position_or_len, before_first};
 ghost use Rattle.trace_reader.specs.Words.{is_blank, is_part, words_of, after_blanks, after_word, text_after_words};
 
@@ -54,13 +54,22 @@ pub fn words_of(alloc: Global, text: &str) -> Result<Vec<&str>, AllocError>
     ensures { IfOk result (λ words. map (λ word. word.now) words.items ≡ words_of text.now) }
 {
     let mut words = Vec::new(alloc);
+    set_words(&mut words, text)?;
+    Ok(words)
+}
+
+/// Makes a list that of the words of a text, in the room that it has. It fails only where it needs more and memory runs out.
+pub(crate) fn set_words<'a>(words: &mut Vec<&'a str>, text: &'a str) -> Result<(), AllocError>
+    ensures { OnOk result (map (λ word. word.now) words.new.items ≡ words_of text.now) }
+{
+    words.clear();
     let mut rest = after_blanks(text);
     while !rest.is_empty() {
         let (word, after) = split_word(rest);
         words.push(word)?;
         rest = after_blanks(after);
     }
-    Ok(words)
+    Ok(())
 }
 
 /// What follows so many words and the blanks after them.

@@ -1,7 +1,6 @@
 -- The loop of `load`: the text so far and the lines that are left are the text of the load.
-use Rattle.std.proofs.Common.{string_bytes}
 use Rattle.gen_load.proofs.Written.{IsLoading}
 use Rattle.gen_load.proofs.loading.load.Given as goal
 
 abbrev pub invariant-loop : goal.invariant-loop
-invariant-loop l = IsLoading (string_bytes l.text) l.counter l.count l.number l.seed
+invariant-loop l = IsLoading l.text.items l.counter l.count l.number l.seed

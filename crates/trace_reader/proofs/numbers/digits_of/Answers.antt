@@ -1,8 +1,53 @@
 -- For `digits_of`: its goals.
-use Rattle.std.proofs.Common.{◌∙◌, arith}
-use Rattle.trace_reader.proofs.Digits.{reads_digits}
+use Rattle.std.proofs.Common.{◌≡◌, ℕ, ◌+◌, ◌*◌, ◌<◌, List, length, get_or, None, Some, ◌∙◌, ap, subst, arith}
+use Rattle.std.specs.Char.{digit_value}
+use Rattle.std.proofs.lemmas.Bool.Decides.{nat_tests}
+use Rattle.trace_reader.specs.Numbers.{digits_of}
+use Rattle.trace_reader.proofs.Digits.{AreRead, AreRead-more, none_by_value, some_when_read}
 use Rattle.trace_reader.proofs.numbers.digits_of.Goals as goal
 
-pub returns-then-are_digits : goal.returns-then-are_digits
-returns-then-are_digits c = c.ok.ensures.value ∙ reads_digits c.args.base c.args.most c.args.word.now
-    c.from_str_radix.result c.requires.high (omega arith) (cc) c.from_str_radix.ensures.value
+pub returns-in_default-checked_mul : goal.returns-in_default-checked_mul
+returns-in_default-checked_mul c =
+    let bytes = c.as_bytes-digits.result.now in
+    let i = c.loop-byte.byte-index in
+    let digit : digit_value (get_or bytes i 0) < c.args.base = subst (λ (n : ℕ). digit_value n < c.args.base)
+    c.from.ensures c.in-Some.ensures.value.0 in
+    subst (λ (bs : List ℕ). None ≡ digits_of c.args.base c.args.most bs) c.as_bytes-digits.ensures.value
+    (none_by_value c.args.base c.args.most bytes (i + 1) _ (omega arith)
+    (AreRead-more c.args.base i c.loop-byte.value bytes c.loop-byte.invariant.read c.loop-byte-test.true digit)
+    (omega (arith, c.in_default-checked_mul.ensures)))
+
+pub returns-in_default-checked_add : goal.returns-in_default-checked_add
+returns-in_default-checked_add c =
+    let bytes = c.as_bytes-digits.result.now in
+    let i = c.loop-byte.byte-index in
+    let digit : digit_value (get_or bytes i 0) < c.args.base = subst (λ (n : ℕ). digit_value n < c.args.base)
+    c.from.ensures c.in-Some.ensures.value.0 in
+    let spelled : c.in-Some.digit ≡ digit_value (get_or bytes i 0) = c.in-Some.ensures.value.1 ∙ ap digit_value c.from.ensures in
+    subst (λ (bs : List ℕ). None ≡ digits_of c.args.base c.args.most bs) c.as_bytes-digits.ensures.value
+    (none_by_value c.args.base c.args.most bytes (i + 1) _ (omega arith)
+    (AreRead-more c.args.base i c.loop-byte.value bytes c.loop-byte.invariant.read c.loop-byte-test.true digit)
+    (omega (arith, spelled, c.in-Some-checked_mul.ensures, c.in_default-checked_add.ensures)))
+
+pub loop-byte-preserved : goal.loop-byte-preserved
+loop-byte-preserved c =
+    let bytes = c.as_bytes-digits.result.now in
+    let i = c.loop-byte.byte-index in
+    let digit : digit_value (get_or bytes i 0) < c.args.base = subst (λ (n : ℕ). digit_value n < c.args.base)
+    c.from.ensures c.in-Some.ensures.value.0 in
+    let spelled : c.in-Some.digit ≡ digit_value (get_or bytes i 0) = c.in-Some.ensures.value.1 ∙ ap digit_value c.from.ensures in
+    let next : c.loop-byte.value * c.args.base + digit_value (get_or bytes i 0) ≡ c.in-Some-checked_add.next =
+    omega (arith, spelled, c.in-Some-checked_mul.ensures, c.in-Some-checked_add.ensures) in
+    record {
+      read = subst (AreRead c.args.base bytes (i + 1)) next
+          (AreRead-more c.args.base i c.loop-byte.value bytes c.loop-byte.invariant.read c.loop-byte-test.true digit);
+      fits = omega (arith, c.in-Some-checked_add.ensures);
+    }
+
+pub returns : goal.returns
+returns c =
+    let bytes = c.as_bytes-digits.result.now in
+    let some : 0 < length bytes = grind (arith, nat_tests, c.is_empty.ensures, c.if-is_empty.false) in
+    subst (λ (bs : List ℕ). Some c.loop-byte.value ≡ digits_of c.args.base c.args.most bs) c.as_bytes-digits.ensures.value
+    (some_when_read c.args.base c.args.most bytes c.loop-byte.byte-index c.loop-byte.value some (omega arith)
+    (omega (arith, c.loop-byte-test.false)) c.loop-byte.invariant.read c.loop-byte.invariant.fits)

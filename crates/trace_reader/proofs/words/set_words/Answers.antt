@@ -1,16 +1,16 @@
--- For `words_of`: its goals.
+-- For `set_words`: its goals.
 use Rattle.std.proofs.Common.{◌≡◌, ◌<◌, ◌∙◌, sym, ap, subst, List, ℕ, map, length, arith}
 use Rattle.std.proofs.lemmas.Bool.Decides.{nat_tests}
 use Rattle.std.proofs.lemmas.List.{map_push}
 use Rattle.trace_reader.specs.Words.{after_blanks, after_word}
 use Rattle.trace_reader.proofs.WordParts.{IsAtWord, words_start, words_more, words_end, rest_shorter, after_blanks-at_word}
-use Rattle.trace_reader.proofs.words.words_of.Goals as goal
+use Rattle.trace_reader.proofs.words.set_words.Goals as goal
 
 pub loop-rest-init : goal.loop-rest-init
 loop-rest-init c = (
   c.after_blanks-rest.utf8,
   words_start _ c.args.text.now c.after_blanks-rest.result.now
-      (ap (map (λ word. word.now)) c.new-words.ensures.items) c.after_blanks-rest.ensures,
+      (ap (map (λ word. word.now)) c.clear.ensures.items) c.after_blanks-rest.ensures,
   subst IsAtWord (sym c.after_blanks-rest.ensures) (after_blanks-at_word c.args.text.now),
 )
 

@@ -1,10 +1,10 @@
--- For `words_of`: what each loop keeps.
+-- For `set_words`: what each loop keeps.
 use Rattle.std.proofs.Common.{◌≡◌, ◌++◌, length, map}
 use denote.Text.{Utf8}
 use denote.Shadow.{shadow}
 use Rattle.trace_reader.specs.Words.{words_of}
 use Rattle.trace_reader.proofs.WordParts.{IsAtWord}
-use Rattle.trace_reader.proofs.words.words_of.Given as goal
+use Rattle.trace_reader.proofs.words.set_words.Given as goal
 
 -- the words so far and those of the rest, which begins with one
 abbrev pub invariant-loop-rest : goal.invariant-loop-rest
