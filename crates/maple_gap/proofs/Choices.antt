@@ -13,7 +13,7 @@ use Rattle.maple_gap.specs.declared.window.Side.{Side}
 use Rattle.maple_gap.specs.declared.window.Side.TheVariants.{Low, High}
 use Rattle.maple_gap.specs.declared.window.Window.{Window}
 use Rattle.maple_gap.specs.declared.window.Choice.{Choice}
-use Rattle.maple_gap.specs.Internal.Searches.{may_have, pick, chosen, nothing_chosen, chosen_from, IsFar}
+use Rattle.maple_gap.specs.Internal.Searches.{may_have, pick, chosen, chosen_from, IsFar}
 use Rattle.maple_gap.proofs.Best.{or_none, or_some, pick_none, pick_assoc, touches}
 use Rattle.maple_gap.proofs.Under.{over, Known}
 
@@ -189,24 +189,20 @@ chosen_all side window leaf P found begin page choice (x ∷ xs) some all are ab
       nothing None is out known = refl
       nothing (Some s) is out known = let may = known.room s (sym is) in absurd (cc)
 
--- For `choose`: the item at the place, and none
-pub chosen_next : (side : Side) (window : Window) (leaf : Bool) (choice more : Choice) (page start place : ℕ) (words : List ℕ)
-    → place + width_of leaf ≤ length words → get_or words place 0 ≢ 0
-    → more ≡ (if may_have window leaf page (listed_at leaf words place)
-    then chosen side choice (record { start = page; item = listed_at leaf words place }) else choice)
-    → chosen_from side window leaf choice page (items_of leaf (drop place words)) ≡ chosen_from side window leaf nothing_chosen start (items_of leaf words)
-    → chosen_from side window leaf more (listed_at leaf words place).end (items_of leaf (drop (place + width_of leaf) words))
-    ≡ chosen_from side window leaf nothing_chosen start (items_of leaf words)
+-- For `next_room` and `choose`: what is chosen with the item that is listed at a place, which may have room or may not
+pub chosen_step : (side : Side) (window : Window) (leaf : Bool) (choice : Choice) (page place : ℕ) (words : List ℕ) (fits : Bool)
+    → place + width_of leaf ≤ length words → get_or words place 0 ≢ 0 → may_have window leaf page (listed_at leaf words place) ≡ fits
+    → chosen_from side window leaf choice page (items_of leaf (drop place words))
+    ≡ chosen_from side window leaf (if fits then chosen side choice (record { start = page; item = listed_at leaf words place }) else choice)
+    (listed_at leaf words place).end (items_of leaf (drop (place + width_of leaf) words))
 unfolding chosen_from
-chosen_next side window leaf choice more page start place words room some is before =
-    ap (λ (c : Choice). chosen_from side window leaf c (listed_at leaf words place).end (items_of leaf (drop (place + width_of leaf) words))) is
-    ∙ ap (chosen_from side window leaf choice page) (sym (listed_there leaf words place room some))
-    ∙ before
+chosen_step side window leaf choice page place words fits room some is =
+    ap (chosen_from side window leaf choice page) (listed_there leaf words place room some)
+    ∙ ap (λ (b : Bool). chosen_from side window leaf (if b then chosen side choice (record { start = page; item = listed_at leaf words place }) else choice)
+    (listed_at leaf words place).end (items_of leaf (drop (place + width_of leaf) words))) is
 
-pub chosen_end : (side : Side) (window : Window) (leaf : Bool) (choice : Choice) (page start place : ℕ) (words : List ℕ)
-    → items_of leaf (drop place words) ≡ []
-    → chosen_from side window leaf choice page (items_of leaf (drop place words)) ≡ chosen_from side window leaf nothing_chosen start (items_of leaf words)
-    → choice ≡ chosen_from side window leaf nothing_chosen start (items_of leaf words)
+-- and where none is listed
+pub chosen_none : (side : Side) (window : Window) (leaf : Bool) (choice : Choice) (page place : ℕ) (words : List ℕ)
+    → items_of leaf (drop place words) ≡ [] → chosen_from side window leaf choice page (items_of leaf (drop place words)) ≡ choice
 unfolding chosen_from
-chosen_end side window leaf choice page start place words none before =
-    sym (ap (chosen_from side window leaf choice page) none) ∙ before
+chosen_none side window leaf choice page place words none = ap (chosen_from side window leaf choice page) none

@@ -1,8 +1,9 @@
 //! The items of a node that may have room for so many pages.
 
-ghost use Rattle.std.specs.Prelude.{◌≡◌, if◌then◌else◌};
+ghost use Rattle.std.specs.Prelude.{◌≡◌, ◌≤◌, IfNone, IfSome};
 ghost use Rattle.maple_node.specs.Nodes.{items_of, item_gap};
 ghost use Rattle.maple_gap.specs.Internal.Searches.{may_have, edge, chosen, nothing_chosen, chosen_from};
+ghost use Rattle.maple_gap.specs.Internal.Spots.{IsNextRoom, HasNoRoom};
 
 use maple_items::{Place, listed_at, width_of};
 
@@ -31,12 +32,16 @@ impl Window {
     pub(crate) fn may_have(self, leaf: bool, place: Place) -> bool
         ensures { result ≡ may_have self leaf place.start place.item }
     {
+        // Most items fail this first test, which is the cheaper one.
+        if largest_gap(leaf, place) < self.len {
+            return false;
+        }
         let part = place
             .item
             .end
             .min(self.hi)
             .saturating_sub(place.start.max(self.lo));
-        self.len <= largest_gap(leaf, place) && self.len <= part
+        self.len <= part
     }
 
     /// The least or the greatest start in an entry that has room.
@@ -71,24 +76,53 @@ pub(crate) struct Choice {
 }
 
 impl Choice {
-    /// The same with an item that lies above those before, if it may have room.
-    fn with(self, window: Window, side: Side, leaf: bool, place: Place) -> Choice
-        ensures { result ≡ (if may_have window leaf place.start place.item then chosen side self place else self) }
+    /// Adds an item that may have room, and lies above those before.
+    fn add(&mut self, side: Side, place: Place)
+        ensures { self.new ≡ chosen side self.old place }
     {
-        if !window.may_have(leaf, place) {
-            return self;
-        }
         match side {
-            Side::Low => Choice {
-                first: self.first.or(Some(place)),
-                second: self.first.and(self.second.or(Some(place))),
-            },
-            Side::High => Choice {
-                first: Some(place),
-                second: self.first,
-            },
+            Side::Low => {
+                self.second = self.first.and(self.second.or(Some(place)));
+                self.first = self.first.or(Some(place));
+            }
+            Side::High => {
+                self.second = self.first;
+                self.first = Some(place);
+            }
         }
     }
+}
+
+/// Where the words of a node list an item, and the page where the item begins.
+#[derive(Clone, Copy)]
+struct Spot {
+    place: usize,
+    page: u64,
+}
+
+/// The first item from a spot on that may have room, if there is one.
+fn next_room(window: Window, leaf: bool, words: &[u64; 32], from: Spot) -> Option<Spot>
+    requires { from.place ≤ 32 }
+    ensures some { IfSome result (IsNextRoom window leaf words.now from) }
+    ensures none { IfNone result (HasNoRoom window leaf words.now from) }
+{
+    let width = width_of(leaf);
+    let mut spot = from;
+    while spot.place + width <= WORDS && words[spot.place] != 0 {
+        let item = listed_at(leaf, words, spot.place);
+        let here = Place {
+            start: spot.page,
+            item,
+        };
+        if window.may_have(leaf, here) {
+            return Some(spot);
+        }
+        spot = Spot {
+            place: spot.place + width,
+            page: item.end,
+        };
+    }
+    None
 }
 
 /// Which items of a node that begins at the page `start` are searched, as its words tell: of those that may have room the two that
@@ -102,19 +136,25 @@ pub(crate) fn choose(
 ) -> Choice
     ensures { result ≡ chosen_from side window leaf nothing_chosen start (items_of leaf words.now) }
 {
-    let width = width_of(leaf);
     let mut choice = Choice {
         first: None,
         second: None,
     };
-    let mut page = start;
-    let mut place = 0;
-    while place + width <= WORDS && words[place] != 0 {
-        let item = listed_at(leaf, words, place);
-        let here = Place { start: page, item };
-        choice = choice.with(window, side, leaf, here);
-        page = item.end;
-        place += width;
+    let mut from = Spot {
+        place: 0,
+        page: start,
+    };
+    while let Some(spot) = next_room(window, leaf, words, from) {
+        let item = listed_at(leaf, words, spot.place);
+        let here = Place {
+            start: spot.page,
+            item,
+        };
+        choice.add(side, here);
+        from = Spot {
+            place: spot.place + width_of(leaf),
+            page: item.end,
+        };
     }
     choice
 }

@@ -8,6 +8,7 @@ use Rattle.maple_node.specs.Nodes.{item_words, words_of, items_of, most, end_of,
 use Rattle.maple_items.specs.Splices.{upto, beyond, spliced}
 use Rattle.maple_items.specs.Parts.{width_of, listed_at}
 use Rattle.maple_items.specs.Padding.{padded}
+use Rattle.maple_items.specs.Internal.Counts.{IsCounted}
 use Rattle.maple_items.proofs.Lists.{upto-first, upto_first, upto_all, upto-beyond, length-upto}
 use Rattle.maple_items.proofs.Parts.{listed_there}
 use Rattle.maple_items.proofs.Padded.{length-words}
@@ -22,14 +23,9 @@ pub ascends_from : (start low : ℕ) (items : List Item) → low ≤ start → A
 ascends_from start low [] below ascends = tt
 ascends_from start low (item ∷ items) below ascends = let first = ascends.0 in (omega arith, ascends.1)
 
--- the words before a place are those of items that end up to a page
-pub record Upto (leaf : Bool) (page place : ℕ) (words : List ℕ) : Type 0 where
-  pub count : width_of leaf * length (upto page (items_of leaf words)) ≡ place + width_of leaf * length (upto page (items_of leaf (drop place words)))
-  pub ascends : Ascends 0 (items_of leaf (drop place words))
-
 -- the item at the place ends up to the page
-pub upto_more : (leaf : Bool) (page place : ℕ) (words : List ℕ) → Upto leaf page place words → place + width_of leaf ≤ length words
-    → get_or words place 0 ≢ 0 → get_or words place 0 ≤ page → Upto leaf page (place + width_of leaf) words
+pub upto_more : (leaf : Bool) (page place : ℕ) (words : List ℕ) → IsCounted leaf page place words → place + width_of leaf ≤ length words
+    → get_or words place 0 ≢ 0 → get_or words place 0 ≤ page → IsCounted leaf page (place + width_of leaf) words
 upto_more leaf page place words is room some ends =
     let item = listed_at leaf words place in
     let rest = items_of leaf (drop (place + width_of leaf) words) in
@@ -48,7 +44,7 @@ upto_more leaf page place words is room some ends =
       counted false all here later at is more = omega arith
 
 -- no item from the place on does
-pub upto_done : (leaf : Bool) (page place : ℕ) (words : List ℕ) → Upto leaf page place words → upto page (items_of leaf (drop place words)) ≡ []
+pub upto_done : (leaf : Bool) (page place : ℕ) (words : List ℕ) → IsCounted leaf page place words → upto page (items_of leaf (drop place words)) ≡ []
     → place ≡ width_of leaf * length (upto page (items_of leaf words))
 upto_done leaf page place words is none =
     let long = ap (λ (xs : List Item). width_of leaf * length xs) none in
@@ -56,7 +52,7 @@ upto_done leaf page place words is none =
     let count = is.count in
     omega arith
 
-pub upto_past : (leaf : Bool) (page place : ℕ) (words : List ℕ) → Upto leaf page place words → place + width_of leaf ≤ length words
+pub upto_past : (leaf : Bool) (page place : ℕ) (words : List ℕ) → IsCounted leaf page place words → place + width_of leaf ≤ length words
     → get_or words place 0 ≢ 0 → page < get_or words place 0 → upto page (items_of leaf (drop place words)) ≡ []
 upto_past leaf page place words is room some above =
     let item = listed_at leaf words place in

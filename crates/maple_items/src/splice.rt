@@ -1,10 +1,11 @@
 //! Nodes with some of their items replaced, from words to words.
 
-ghost use Rattle.std.specs.Prelude.{◌≡◌, ◌<◌, ◌≤◌, ◌*◌, ◌⊎◌, length, take, slice_range, IfSome, IfNone};
+ghost use Rattle.std.specs.Prelude.{◌≡◌, ◌<◌, ◌≤◌, ◌*◌, ◌⊎◌, ℕ, length, take, slice_range, IfSome, IfNone};
 ghost use Rattle.std.specs.List.{flat_map};
 ghost use Rattle.maple_node.specs.Nodes.{items_of, words_of, item_words, most, end_of, Ascends, gap_of};
 ghost use Rattle.maple_items.specs.Splices.{upto, beyond, spliced};
 ghost use Rattle.maple_items.specs.Parts.{width_of};
+ghost use Rattle.maple_items.specs.Internal.Counts.{IsCounted};
 
 use crate::node::{item_gap, most};
 use crate::packed::NodeWords;
@@ -14,13 +15,16 @@ use maple_node::Item;
 /// The words of a node.
 const WORDS: usize = 32;
 
-/// How many words the items of a node have that end up to a page.
-fn words_upto(leaf: bool, words: &[u64; 32], page: u64) -> usize
-    requires { Ascends 0 (items_of leaf words.now) }
-    ensures { result ≡ width_of leaf * length (upto page (items_of leaf words.now)) }
+/// How many words the items of a node have that end up to a page, counted from a place up to which they do.
+fn words_upto(leaf: bool, words: &[u64; 32], from: usize, page: u64) -> usize
+    requires within { from ≤ 32 }
+    requires counted { (later : ℕ) → page ≤ later → IsCounted leaf later from words.now }
+    ensures count { result ≡ width_of leaf * length (upto page (items_of leaf words.now)) }
+    ensures within { result ≤ 32 }
+    ensures counted { (later : ℕ) → page ≤ later → IsCounted leaf later result words.now }
 {
     let width = width_of(leaf);
-    let mut place = 0;
+    let mut place = from;
     while place + width <= WORDS && words[place] != 0 && words[place] <= page {
         place += width;
     }
@@ -36,7 +40,8 @@ struct Parts {
     used: usize,
 }
 
-/// Where the words stand of the items of a node, which ends at a page, that end up to `lo`, and of those that end above `hi`.
+/// Where the words stand of the items of a node, which ends at a page, that end up to `lo`, and of those that end above `hi`. Each
+/// count goes on from where the one before it stopped.
 fn parts_of(leaf: bool, words: &[u64; 32], end: u64, lo: u64, hi: u64) -> Parts
     requires ascends { Ascends 0 (items_of leaf words.now) }
     requires whole { words.now ≡ words_of leaf (items_of leaf words.now) }
@@ -47,11 +52,11 @@ fn parts_of(leaf: bool, words: &[u64; 32], end: u64, lo: u64, hi: u64) -> Parts
     ensures front { take result.before words.now ≡ flat_map (item_words leaf) (upto lo (items_of leaf words.now)) }
     ensures back { slice_range words.now result.past result.used ≡ flat_map (item_words leaf) (beyond hi (items_of leaf words.now)) }
 {
-    Parts {
-        before: words_upto(leaf, words, lo),
-        past: words_upto(leaf, words, hi),
-        used: words_upto(leaf, words, end),
-    }
+    let before = words_upto(leaf, words, 0, lo);
+    let from = if lo <= hi { before } else { 0 };
+    let past = words_upto(leaf, words, from, hi);
+    let used = words_upto(leaf, words, past, end.max(hi));
+    Parts { before, past, used }
 }
 
 /// The words of a node, which ends at a page, with new items in the place of those between two pages. None exactly where it has no

@@ -1,14 +1,14 @@
--- For `find` and `leave_block`: the item of a level that has a page, and the next one to leave.
+-- For `find`, `leave_block` and `leave_one`: the item of a level that has a page, and the next one to leave.
 use Rattle.std.proofs.Common.{ℕ, ◌≡◌, ◌<◌, ◌≤◌, ◌+◌, ◌-◌, nat_lt, cond, List, [], ◌∷◌, length, Some, refl, sym, ap, subst, ◌∙◌, arith}
 use Rattle.maple_node.specs.declared.item.Item.{Item}
 use Rattle.maple_node.specs.Nodes.{end_of, Ascends}
 use Rattle.maple_node.specs.Levels.{is_leaf, at_of, read, item_at, level_of, IsTower, times}
 use Rattle.maple_items.specs.Splices.{upto, beyond}
-use Rattle.maple_items.proofs.Lists.{item_at-first, upto-later}
+use Rattle.maple_items.proofs.Lists.{item_at-first, upto-later, stands}
 use Rattle.maple_write.specs.Internal.Tables.{rows_in}
 use Rattle.maple_write.proofs.Levels.{descend, row_there, step_down, level_of-top}
 use Rattle.maple_write.proofs.Times.{times_same}
-use Rattle.maple_write.proofs.Blocks.{next_of}
+use Rattle.maple_write.proofs.Blocks.{next_of, block_done, item_edge}
 use Rattle.maple_write.proofs.Steps.{counts}
 
 -- the root has each page
@@ -95,4 +95,25 @@ leaves_next items page lo hi item before gone rows ascends less edge found same 
       above = is.above;
       within = is.within;
       rest = rest;
+    }
+
+-- the one node that has a page
+pub record LeavesOne (items : List Item) (page : ℕ) (item : Item) (gone : ℕ → ℕ) (rows : ℕ) : Type 0 where
+  pub none : gone item.word ≡ 0
+  pub there : item.word < rows
+  pub one : (row : ℕ) → times row (rows_in (upto item.end (beyond page items))) ≡ times row (item.word ∷ [])
+
+pub leaves_one : (items : List Item) (page : ℕ) (item : Item) (gone : ℕ → ℕ) (rows : ℕ) → Ascends 0 items → item_at page items ≡ Some item
+    → ((row : ℕ) → gone row + times row (rows_in (upto item.end (beyond page items))) ≤ cond (nat_lt row rows) 1 0)
+    → LeavesOne items page item gone rows
+leaves_one items page item gone rows ascends found few =
+    let next = leaves_next items page page item.end item gone gone rows ascends (stands 0 page items item ascends found).above
+    (item_edge 0 page items item ascends found) found (λ row. refl) few in
+    record {
+      none = next.none;
+      there = next.there;
+      one = λ row.
+          let rest = next.rest row in
+          let done = ap (λ (xs : List Item). times row (rows_in xs)) (block_done item.end item.end items (omega arith)) in
+          omega arith;
     }

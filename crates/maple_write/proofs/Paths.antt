@@ -1,4 +1,4 @@
--- For `path_to`, `find` and `rise`: what a path tells of other pages, and of a table whose free rows were filled.
+-- For `lead`, `find` and `rise`: what a path tells of other pages, and of a table whose free rows were filled.
 use Rattle.std.proofs.Common.{ℕ, zero, suc, ◌≡◌, ◌<◌, ◌≤◌, ◌+◌, ◌-◌, List, [], ◌∷◌, Some, refl, sym, ap, ◌∙◌, arith, inl, inr}
 use Rattle.std.proofs.lemmas.Bool.{cases_lt}
 use Rattle.maple_node.specs.declared.item.Item.{Item}

@@ -67,6 +67,34 @@ pub(crate) fn leave_block(
     }
 }
 
+/// Leaves the one node of a level of an old tree that has page `lo`, in its row.
+fn leave_one(
+    nodes: &NodeTable,
+    writer: &mut NodeWriter,
+    old: Rooted,
+    level: u32,
+    lo: u64,
+    left: Place,
+    row: Row,
+)
+    requires table { Writes writer.old nodes.now }
+    requires limit { 0 < old.top.end }
+    requires tower { IsTower (words_at writer.old) old.top.end level (old.height - level) (old.top ∷ []) }
+    requires left { item_at lo (old_level (table_at writer.old) old.top old.height level) ≡ Some left.item }
+    requires row { row.0 ≡ left.item.word }
+    requires apart { (row : ℕ) → gone (table_at writer.old) row
+        + times row (rows_in (upto left.item.end (beyond lo (old_level (table_at writer.old) old.top old.height level))))
+        ≤ (if nat_lt row (row_count writer.old) then 1 else 0) }
+    ensures table { Writes writer.new nodes.now }
+    ensures view { sight writer.new ≡ sight writer.old }
+    ensures free { length (free_of writer.old) ≤ length (free_of writer.new) }
+    ensures waits { (row : ℕ) → is_waiting writer.new row ≡ is_waiting writer.old row }
+    ensures gone { (row : ℕ) → gone (table_at writer.new) row ≡ gone (table_at writer.old) row
+        + times row (rows_in (upto left.item.end (beyond lo (old_level (table_at writer.old) old.top old.height level)))) }
+{
+    nodes.leave(writer, row);
+}
+
 /// Lists the items of two nodes of a level with new ones between: those of the left one up to page `lo`, and those of the right one
 /// above the page where the new ones end.
 fn joined(
@@ -282,6 +310,7 @@ fn rise_by_words(
     requires below { level < old.height }
     requires path { IsPath (words_at writer.old) old.top old.height (level + 1) path.now }
     requires renewed { IsRenewed (table_at writer.old) old.top old.height level lo new.now.end new.now.items left words.now }
+    requires left { item_at lo (old_level (table_at writer.old) old.top old.height (level + 1)) ≡ Some left.item }
     requires there { left.item.word < row_count writer.old }
     ensures table { Writes writer.new nodes.now }
     ensures same { FillsRows writer.old writer.new }
@@ -295,8 +324,8 @@ fn rise_by_words(
         ≡ new_level (table_at writer.old) old.top old.height level lo new.now.end new.now.items }
 {
     let end = left.item.end;
-    leave_block(nodes, writer, old, path, level + 1, lo, end);
     let row = Row(left.item.word as u32);
+    leave_one(nodes, writer, old, level + 1, lo, left, row);
     let items = pack_words(nodes, writer, row, level == 0, left.start, end, words);
     Stretch {
         begin: left.start,

@@ -12,10 +12,11 @@ ghost use Rattle.maple_write.specs.Internal.Stores.{old_level, Begins, IsPath};
 
 use crate::rows::{Rooted, words};
 use maple_items::{Place, item_in};
+use maple_node::Item;
 use node_slots::{NodeTable, NodeWriter};
 
 /// How many levels a path keeps, from the entries up. A published tree has no more.
-const LEVELS: usize = 9;
+pub(crate) const LEVELS: usize = 9;
 
 /// The way down a tree to a page: by level the item that has the page, and the page where it begins.
 #[derive(Drop)]
@@ -23,6 +24,16 @@ pub(crate) struct Path {
     pub(crate) page: u64,
     pub(crate) places: [Place; LEVELS],
 }
+
+/// What a path has in a level that it does not keep.
+pub(crate) const NO_PLACE: Place = Place {
+    start: 0,
+    item: Item {
+        end: 0,
+        word: 0,
+        gap: 0,
+    },
+};
 
 /// Where a search begins: at an item that has its page, and at the item's level.
 #[derive(Clone, Copy)]
@@ -71,26 +82,22 @@ fn above(tree: Rooted) -> Begin
     }
 }
 
-/// The way down to a page.
-pub(crate) fn path_to(nodes: &NodeTable, writer: &NodeWriter, tree: Rooted, page: u64) -> Path
-    requires table { Writes writer.now nodes.now }
-    requires tower { IsTower (words_at writer.now) tree.top.end 0 tree.height (tree.top ∷ []) }
-    requires within { page < tree.top.end }
-    ensures { IsPath (words_at writer.now) tree.top tree.height 0 result }
-{
-    let mut begin = above(tree);
-    let mut path = Path {
-        page,
-        places: [begin.place; LEVELS],
-    };
-    while begin.level > 0 {
-        begin = down(nodes, writer, tree, 0, begin, page);
-        path.keep(begin);
-    }
-    path
-}
-
 impl Path {
+    /// Keeps the way down a tree to the path's page. The path is filled where it stands, since it is long.
+    pub(crate) fn lead(&mut self, nodes: &NodeTable, writer: &NodeWriter, tree: Rooted)
+        requires table { Writes writer.now nodes.now }
+        requires tower { IsTower (words_at writer.now) tree.top.end 0 tree.height (tree.top ∷ []) }
+        requires within { self.old.page < tree.top.end }
+        ensures { IsPath (words_at writer.now) tree.top tree.height 0 self.new }
+    {
+        let page = self.page;
+        let mut begin = above(tree);
+        while begin.level > 0 {
+            begin = down(nodes, writer, tree, 0, begin, page);
+            self.keep(begin);
+        }
+    }
+
     /// Keeps the item of a level, if it is one of the lowest.
     fn keep(&mut self, begin: Begin)
         ensures page { self.new.page ≡ self.old.page }

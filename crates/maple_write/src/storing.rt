@@ -12,7 +12,7 @@ ghost use Rattle.maple_write.specs.Internal.Tables.{table_at};
 ghost use Rattle.maple_write.specs.Tables.{FillsRows};
 ghost use Rattle.maple_write.specs.Internal.Stores.{IsShaped, IsWhole, Finds, tree_under, all_gap, IsPath};
 
-use crate::path::{Path, find, path_to};
+use crate::path::{LEVELS, NO_PLACE, Path, find};
 use crate::rows::{Rooted, put, words};
 use crate::tree::{first, replace};
 use maple_items::{ItemList, Place, gap_in, lists_nothing};
@@ -162,7 +162,11 @@ fn overwrite(
     ensures height { result.height ≤ old.height + 1 }
     ensures free { length (free_of writer.old) ≤ length (free_of writer.new) + 3 * old.height + 1 }
 {
-    let path = path_to(nodes, writer, old, span.lo);
+    let mut path = Path {
+        page: span.lo,
+        places: [NO_PLACE; LEVELS],
+    };
+    path.lead(nodes, writer, old);
     if word != 0 {
         return replace(nodes, writer, old, &path, span.lo, span.hi, word);
     }

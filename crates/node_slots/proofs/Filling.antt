@@ -1,9 +1,10 @@
 -- For `NodeTable::fill_row` and `NodeTable::scan_pins`: steps one after another.
-use Rattle.std.proofs.Common.{ℕ, zero, suc, ◌≡◌, ◌<◌, ◌+◌, ◌∙◌, refl, ap, List, [], ◌∷◌, ◌++◌, length, get_or, set, arith}
+use Rattle.std.proofs.Common.{ℕ, zero, suc, ◌≡◌, ◌<◌, ◌≤◌, ◌+◌, ◌∙◌, refl, ap, List, [], ◌∷◌, ◌++◌, length, get_or, set, arith}
 use Rattle.std.proofs.lemmas.List.{get_or-set_same, set-get_or, set-set}
 use Rattle.grace_core.specs.Core.{row_at}
 use Rattle.node_slots.specs.declared.view.NodeView.{NodeView}
 use Rattle.node_slots.specs.Views.{store_at, fill_at, scan_at, scan_from}
+use Rattle.node_slots.specs.Internal.Stores.{store_four_at}
 
 -- the first words of one row, and then those of another
 pub blend : ℕ → List ℕ → List ℕ → List ℕ
@@ -58,6 +59,29 @@ store_filled view row place word words within =
     ap (λ (l : List ℕ). with_words view (set (set view.known.desk.words row words) row (set l place word)))
     (get_or-set_same view.known.desk.words row words [] within)
     ∙ ap (with_words view) (set-set view.known.desk.words row words (set words place word))
+
+-- one word more of a row that was filled up to a place, and four
+one_filled : (view : NodeView) (row place next : ℕ) (words old : List ℕ) → row < length view.known.desk.words → place + 1 ≡ next
+    → place < length words → place < length old
+    → store_at (fill_at view row (blend place words old)) row place (get_or words place 0) ≡ fill_at view row (blend next words old)
+one_filled view row place next words old there one new_there old_there =
+    store_filled view row place (get_or words place 0) (blend place words old) there
+    ∙ ap (fill_at view row) (blend_next place words old new_there old_there ∙ ap (λ (n : ℕ). blend n words old) one)
+
+pub four_filled : (view : NodeView) (row place : ℕ) (words old : List ℕ) → row < length view.known.desk.words → place + 4 ≤ length words
+    → place + 4 ≤ length old
+    → store_four_at (fill_at view row (blend place words old)) row place words ≡ fill_at view row (blend (place + 4) words old)
+four_filled view row place words old there new_there old_there =
+    let a : ℕ = get_or words (place + 1) 0 in
+    let b : ℕ = get_or words (place + 2) 0 in
+    let c : ℕ = get_or words (place + 3) 0 in
+    ap (λ (v : NodeView). store_at (store_at (store_at v row (place + 1) a) row (place + 2) b) row (place + 3) c)
+    (one_filled view row place (place + 1) words old there refl (omega arith) (omega arith))
+    ∙ ap (λ (v : NodeView). store_at (store_at v row (place + 2) b) row (place + 3) c)
+    (one_filled view row (place + 1) (place + 2) words old there (omega arith) (omega arith) (omega arith))
+    ∙ ap (λ (v : NodeView). store_at v row (place + 3) c)
+    (one_filled view row (place + 2) (place + 3) words old there (omega arith) (omega arith) (omega arith))
+    ∙ one_filled view row (place + 3) (place + 4) words old there (omega arith) (omega arith) (omega arith)
 
 -- one pin more
 pub scan_more : (reader : ℕ) (pins : List ℕ) (found : ℕ) (view : NodeView)

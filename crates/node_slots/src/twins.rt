@@ -88,12 +88,23 @@ impl NodeWriter {
         }
     }
 
+    /// Whether a row is the last in the free list, as it is where the writer took it since the last publish and has just left it.
+    fn is_last(&self, row: Row) -> bool {
+        match self.free.back() {
+            Some(last) => *last == row,
+            None => false,
+        }
+    }
+
     /// Puts the row that is to be taken for the next version of a row's node last in the free list.
     pub(crate) fn choose_for(&mut self, row: Row)
         ensures desk { self.new.desk ≡ self.old.desk }
         ensures left { left_of self.new ≡ left_of self.old }
         ensures free { IsPermutation (free_of self.old) (free_of self.new) }
     {
+        if self.is_last(row) {
+            return;
+        }
         match self.nearest_spot(row) {
             Some(place) => self.bring(place),
             None => self.bring_oldest(),

@@ -1,10 +1,11 @@
-ghost use Rattle.std.specs.Prelude.{◌≡◌, ◌<◌, true, ℕ, List, length};
+ghost use Rattle.std.specs.Prelude.{◌≡◌, ◌<◌, ◌≤◌, ◌+◌, true, ℕ, List, length};
 ghost use Rattle.grace_core.specs.Core.{is_free};
 ghost use Rattle.maple_node.specs.Roots.{FitsRoot};
 ghost use Rattle.node_slots.specs.Trees.{IsShown};
 ghost use Rattle.node_slots.specs.Plays.{RowsExist};
 ghost use Rattle.node_slots.specs.Views.{store_at, fill_at, named_tree, publish_at, scan_at, scan_from};
 ghost use Rattle.node_slots.specs.Seats.{SitsAt, seat_sight};
+ghost use Rattle.node_slots.specs.Internal.Stores.{store_four_at};
 
 use crate::rule::{Published, Scanned, Stored};
 use crate::seats::{NodeTable, NodeWriterSeat};
@@ -31,6 +32,30 @@ impl NodeTable {
         self.table.shared.store::<Stored>(&mut seat.seat, at, word);
     }
 
+    /// Stores four words of a free row from a place on. Most often the table has all of them there already.
+    fn store_four(&self, seat: &mut NodeWriterSeat, row: Row, place: usize, words: &[u64; 32])
+        requires table { SitsAt seat.old self.now }
+        requires row { row.0 < seat.old.table.size.rows }
+        requires place { place + 4 ≤ 32 }
+        requires free { is_free (seat_sight seat.old).known.desk row.0 ≡ true }
+        ensures table { SitsAt seat.new self.now }
+        ensures view { seat_sight seat.new ≡ store_four_at (seat_sight seat.old) row.0 place words.now }
+        ensures same { seat.new.table ≡ seat.old.table }
+    {
+        let old = &seat.words[row.0 as usize];
+        if old[place] == words[place]
+            && old[place + 1] == words[place + 1]
+            && old[place + 2] == words[place + 2]
+            && old[place + 3] == words[place + 3]
+        {
+            return;
+        }
+        self.store_word(seat, row, place, words[place]);
+        self.store_word(seat, row, place + 1, words[place + 1]);
+        self.store_word(seat, row, place + 2, words[place + 2]);
+        self.store_word(seat, row, place + 3, words[place + 3]);
+    }
+
     /// Stores the words of a free row.
     pub(crate) fn fill_row(&self, seat: &mut NodeWriterSeat, row: Row, words: &[u64; 32])
         requires table { SitsAt seat.old self.now }
@@ -40,8 +65,8 @@ impl NodeTable {
         ensures view { seat_sight seat.new ≡ fill_at (seat_sight seat.old) row.0 words.now }
         ensures same { seat.new.table ≡ seat.old.table }
     {
-        for place in 0..32 {
-            self.store_word(seat, row, place, words[place]);
+        for part in 0..8 {
+            self.store_four(seat, row, 4 * part, words);
         }
     }
 

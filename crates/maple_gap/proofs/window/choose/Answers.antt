@@ -1,46 +1,32 @@
--- For `choose`: one item more, and the end.
-use Rattle.std.proofs.Common.{ℕ, ◌≡◌, ◌+◌, drop, if◌then◌else◌, sym, ap, subst, arith}
+-- For `choose`: one item more that may have room.
+use Rattle.std.proofs.Common.{ℕ, ◌≡◌, ◌+◌, drop, true, sym, ap, ◌∙◌, arith}
 use Rattle.maple_node.specs.declared.item.Item.{Item}
 use Rattle.maple_node.specs.Nodes.{items_of}
-use Rattle.maple_items.specs.Parts.{width_of}
-use Rattle.maple_items.proofs.Parts.{listed_none, listed_past}
-use Rattle.maple_items.proofs.Spliced.{some_words}
-use Rattle.maple_gap.specs.Internal.Searches.{may_have, chosen, chosen_from, nothing_chosen}
-use Rattle.maple_gap.proofs.Choices.{chosen_next, chosen_end}
+use Rattle.maple_items.specs.Parts.{width_of, listed_at}
+use Rattle.maple_gap.specs.declared.window.Choice.{Choice}
+use Rattle.maple_gap.specs.Internal.Searches.{chosen, chosen_from}
+use Rattle.maple_gap.proofs.Choices.{chosen_step}
 use Rattle.maple_gap.proofs.window.choose.Goals as goal
 
-pub loop-place-preserved : goal.loop-place-preserved
-loop-place-preserved c =
-    let is = c.loop-place.invariant in
+pub loop-spot-preserved : goal.loop-spot-preserved
+loop-spot-preserved c =
+    let room = c.in-Some.ensures.some in
+    let side = c.args.side in
+    let window = c.args.window in
     let leaf = c.args.leaf in
     let words = c.args.words.now in
-    let place = c.loop-place.place in
-    let page = c.loop-place.page in
-    let choice = c.loop-place.choice in
-    let next = c.with-choice.result in
-    let all = chosen_from c.args.side c.args.window leaf nothing_chosen c.args.start (items_of leaf words) in
-    let end = ap (λ (x : Item). x.end) c.listed_at-item.ensures in
-    let More : Item → Type 0 = λ x. next ≡ (if may_have c.args.window leaf page x then chosen c.args.side choice (record { start = page; item = x }) else choice) in
-    let Wide : ℕ → Type 0 = λ n. chosen_from c.args.side c.args.window leaf next c.listed_at-item.result.end (items_of leaf (drop (place + n) words)) ≡ all in
-    let Ends : ℕ → Type 0 = λ n. chosen_from c.args.side c.args.window leaf next n (items_of leaf (drop (place + width_of leaf) words)) ≡ all in
+    let choice = c.loop-spot.choice in
+    let place = c.in-Some.spot.place in
+    let page = c.in-Some.spot.page in
+    let item = c.listed_at-item.ensures in
+    let adds : c.add.new.self ≡ chosen side choice (record { start = page; item = listed_at leaf words place }) =
+    c.add.ensures ∙ ap (λ (x : Item). chosen side choice (record { start = page; item = x })) item in
     record {
-      within = c.loop-place-test.true;
-      width = is.width;
-      chosen_so = subst Wide (sym is.width) (subst Ends (sym end)
-          (chosen_next c.args.side c.args.window leaf choice next page c.args.start place words
-          (omega (arith, c.loop-place-test.true, is.width, c.told-words)) c.if-words-place-ne0.true
-          (subst More c.listed_at-item.ensures c.with-choice.ensures) is.chosen_so));
+      within = omega (arith, room.within, c.width_of.ensures, c.told-words);
+      chosen_so = ap (λ (n : ℕ). chosen_from side window leaf c.add.new.self c.listed_at-item.result.end (items_of leaf (drop (place + n) words))) c.width_of.ensures
+          ∙ ap (λ (x : Item). chosen_from side window leaf c.add.new.self x.end (items_of leaf (drop (place + width_of leaf) words))) item
+          ∙ ap (λ (more : Choice). chosen_from side window leaf more (listed_at leaf words place).end (items_of leaf (drop (place + width_of leaf) words))) adds
+          ∙ sym (chosen_step side window leaf choice page place words true room.within room.some room.may)
+          ∙ sym (room.same side choice)
+          ∙ c.loop-spot.invariant.chosen_so;
     }
-
-pub returns-else-words-place-ne0 : goal.returns-else-words-place-ne0
-returns-else-words-place-ne0 c =
-    let is = c.loop-place.invariant in
-    chosen_end c.args.side c.args.window c.args.leaf c.loop-place.choice c.loop-place.page c.args.start c.loop-place.place c.args.words.now
-    (listed_none c.args.leaf c.args.words.now c.loop-place.place
-    (omega (arith, c.loop-place-test.true, is.width, c.told-words, some_words c.args.leaf)) c.if-words-place-ne0.false) is.chosen_so
-
-pub returns-after-loop-place : goal.returns-after-loop-place
-returns-after-loop-place c =
-    let is = c.loop-place.invariant in
-    chosen_end c.args.side c.args.window c.args.leaf c.loop-place.choice c.loop-place.page c.args.start c.loop-place.place c.args.words.now
-    (listed_past c.args.leaf c.args.words.now c.loop-place.place (omega (arith, c.loop-place-test.false, is.width, c.told-words))) is.chosen_so

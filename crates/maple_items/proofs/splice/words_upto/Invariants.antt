@@ -1,7 +1,7 @@
 -- The loop of `words_upto`.
-use Rattle.std.proofs.Common.{◌-◌, ◌≡◌, ◌≤◌}
+use Rattle.std.proofs.Common.{ℕ, ◌-◌, ◌≡◌, ◌≤◌}
 use Rattle.maple_items.specs.Parts.{width_of}
-use Rattle.maple_items.proofs.Spliced.{Upto}
+use Rattle.maple_items.specs.Internal.Counts.{IsCounted}
 use Rattle.maple_items.proofs.splice.words_upto.Given as goal
 
 -- the items before the place end up to the page
@@ -9,7 +9,7 @@ abbrev pub invariant-loop-place : goal.invariant-loop-place
 invariant-loop-place l = record {
   within : l.place ≤ 32;
   width : l.width ≡ width_of l.leaf;
-  counts : Upto l.leaf l.page l.place l.words;
+  counts : (later : ℕ) → l.page ≤ later → IsCounted l.leaf later l.place l.words;
 }
 
 -- the words that are left

@@ -14,14 +14,14 @@ use Rattle.maple_write.proofs.Paths.{path_rises}
 use Rattle.maple_write.proofs.level.rise_by_words.Goals as goal
 use Rattle.maple_write.proofs.level.rise_by_words.Goals.{After-pack_words-items}
 
-pub leave_block-requires-clause-tower : goal.leave_block-requires-clause-tower
-leave_block-requires-clause-tower c =
+pub leave_one-requires-clause-tower : goal.leave_one-requires-clause-tower
+leave_one-requires-clause-tower c =
     let left = c.args.left in
     (ready (table_at c.args.writer.now) c.args.old.top c.args.old.height c.args.level c.args.lo c.args.new.now.end left.start left.item.end
     c.args.new.now.items (items_of (is_leaf c.args.level) c.args.words.now) c.requires.partly c.requires.below c.requires.renewed.cut).tower
 
-pub leave_block-requires-clause-apart : goal.leave_block-requires-clause-apart
-leave_block-requires-clause-apart c row =
+pub leave_one-requires-clause-apart : goal.leave_one-requires-clause-apart
+leave_one-requires-clause-apart c row =
     let left = c.args.left in
     let few = (ready (table_at c.args.writer.now) c.args.old.top c.args.old.height c.args.level c.args.lo c.args.new.now.end left.start left.item.end
     c.args.new.now.items (items_of (is_leaf c.args.level) c.args.words.now) c.requires.partly c.requires.below c.requires.renewed.cut).apart row in
@@ -32,10 +32,10 @@ leave_block-requires-clause-apart c row =
 rebuilt : (c : After-pack_words-items) → Rose (table_at c.args.writer.now) (table_at c.pack_words-items.new.writer) c.args.old.top c.args.old.height
     c.args.level c.args.lo c.args.new.now.end c.args.new.now.items c.args.left.start c.args.left.item.end c.pack_words-items.result
 rebuilt c =
-    rose_anew (table_at c.args.writer.now) (table_at c.leave_block.new.writer) (table_at c.pack_words-items.new.writer) c.args.old.top c.args.old.height
+    rose_anew (table_at c.args.writer.now) (table_at c.leave_one.new.writer) (table_at c.pack_words-items.new.writer) c.args.old.top c.args.old.height
     c.args.level c.args.lo c.args.new.now.end c.args.new.now.items c.pack_words-items.result c.args.left c.args.words.now c.requires.partly
-    c.requires.below c.requires.renewed (ap (λ (v : NodeView). v.known.desk.words) c.leave_block.ensures.view) c.leave_block.ensures.free
-    c.leave_block.ensures.gone c.pack_words-items.ensures.nodes c.pack_words-items.ensures.below c.pack_words-items.ensures.one
+    c.requires.below c.requires.renewed (ap (λ (v : NodeView). v.known.desk.words) c.leave_one.ensures.view) c.leave_one.ensures.free
+    c.leave_one.ensures.gone c.pack_words-items.ensures.nodes c.pack_words-items.ensures.below c.pack_words-items.ensures.one
     c.pack_words-items.ensures.kept c.pack_words-items.ensures.same.long c.pack_words-items.ensures.taken c.pack_words-items.ensures.free
     c.pack_words-items.ensures.left
 
@@ -53,8 +53,8 @@ returns-clause-under c = (rebuilt (goal.at.returns-clause-under c).After-pack_wo
 
 pub returns-clause-same : goal.returns-clause-same
 returns-clause-same c =
-    fills_both c.args.writer.now c.leave_block.new.writer c.pack_words-items.new.writer
-    (fills_none c.args.writer.now c.leave_block.new.writer c.leave_block.ensures.view c.leave_block.ensures.waits) c.pack_words-items.ensures.same
+    fills_both c.args.writer.now c.leave_one.new.writer c.pack_words-items.new.writer
+    (fills_none c.args.writer.now c.leave_one.new.writer c.leave_one.ensures.view c.leave_one.ensures.waits) c.pack_words-items.ensures.same
 
 pub returns-clause-path : goal.returns-clause-path
 returns-clause-path c =
@@ -64,7 +64,7 @@ returns-clause-path c =
     let above = c.requires.renewed.cut.above in
     path_rises old (words_at c.pack_words-items.new.writer) tree.top tree.height c.args.level c.args.lo c.args.new.now.end end c.args.new.now.items
     c.args.path.now c.requires.partly c.requires.below (omega arith)
-    (kept_after old (table_at c.leave_block.new.writer) (table_at c.pack_words-items.new.writer)
+    (kept_after old (table_at c.leave_one.new.writer) (table_at c.pack_words-items.new.writer)
     (λ row. times row (rows_in (upto end (beyond c.args.lo (old_level old tree.top tree.height (c.args.level + 1))))))
-    (ap (λ (v : NodeView). v.known.desk.words) c.leave_block.ensures.view) c.leave_block.ensures.gone c.pack_words-items.ensures.kept)
+    (ap (λ (v : NodeView). v.known.desk.words) c.leave_one.ensures.view) c.leave_one.ensures.gone c.pack_words-items.ensures.kept)
     c.requires.path

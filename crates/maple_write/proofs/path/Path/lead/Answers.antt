@@ -1,7 +1,7 @@
--- For `path_to`: at first no level is kept.
+-- For `lead`: at first no level is kept.
 use Rattle.std.proofs.Common.{refl, arith}
 use Rattle.node_slots.specs.Built.{words_at}
-use Rattle.maple_write.proofs.path.path_to.Goals as goal
+use Rattle.maple_write.proofs.path.Path.lead.Goals as goal
 
 pub loop-begin-init : goal.loop-begin-init
 loop-begin-init c =
@@ -9,6 +9,6 @@ loop-begin-init c =
     record {
       high = omega arith;
       page = refl;
-      begins = c.above-begin.ensures.begins (words_at c.args.writer.now) c.args.page c.requires.within;
+      begins = c.above-begin.ensures.begins (words_at c.args.writer.now) c.args.self.now.page c.requires.within;
       path = record { each = λ other order within few. absurd (omega arith) };
     }
