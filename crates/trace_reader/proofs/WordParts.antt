@@ -1,7 +1,7 @@
 -- For `set_words` and the functions that it calls: words and the blanks between them.
-use Rattle.std.proofs.Common.{◌≡◌, ℕ, zero, suc, ◌+◌, ◌<◌, ◌≤◌, Bool, true, false, not, cond, nat_lt, List, [], ◌∷◌, ◌++◌, length, get_or, take, drop, filter, Option, Some, None, unwrap_or, position, refl, sym, ap, ◌∙◌, subst, inl, inr, append_assoc, add-zero, arith}
+use Rattle.std.proofs.Common.{◌≡◌, ℕ, zero, suc, ◌+◌, ◌<◌, ◌≤◌, Bool, true, false, not, cond, nat_lt, nat_le, List, [], ◌∷◌, ◌++◌, length, get_or, take, drop, filter, Option, Some, None, unwrap_or, position, refl, sym, ap, ◌∙◌, subst, inl, inr, append_assoc, add-zero, arith}
 use Rattle.std.specs.List.{slice_split, position_or_len, before_first}
-use Rattle.std.specs.Str.{IsUtf8, IsCharBoundary}
+use Rattle.std.specs.Str.{byte, IsUtf8, IsCharBoundary}
 use Rattle.std.proofs.lemmas.Bool.{cond_both, cases_lt, ltb-false, not-false, cond-true, ne_eqb, not_from_false}
 use Rattle.std.proofs.lemmas.Bool.Decides.{nat_tests}
 use Rattle.std.proofs.lemmas.List.{take_all, append-nil, drop_all, drop_more, length-drop, length-take-le, get_or-drop}
@@ -21,6 +21,20 @@ place_is p xs found place e u =
     u ∙ ap (λ (o : Option ℕ). unwrap_or o (length xs)) e
     ∙ cond_both (nat_lt n (length xs)) (Some n) None (λ o. unwrap_or o (length xs) ≡ n) (λ _. refl)
     (λ past. omega (arith, ltb-false n (length xs) past, position_or_len-le p xs))
+
+-- what is no greater than a space, as blanks are
+abbrev pub is_low : ℕ → Bool
+is_low c = nat_le c (byte " ")
+
+high_is_part : (c : ℕ) → is_low c ≡ false → is_blank c ≡ false
+high_is_part c e = grind (arith, nat_tests)
+
+-- the first such byte of a text is its first blank, where it is a blank, or there is none
+pub place_at_low : (text : List ℕ) (place : ℕ) → place ≡ position_or_len is_low text
+    → (place < length text → is_blank (get_or text place 0) ≡ true) → place ≡ position_or_len is_blank text
+place_at_low text place e blank = sym (position_or_len_is is_blank text place 0
+    (omega (arith, position_or_len-le is_low text))
+    (λ k below. high_is_part (get_or text k 0) (fails_before_first is_low text k 0 (omega arith))) blank)
 
 blank_is_ascii : (c : ℕ) → is_blank c ≡ true → c < 128
 blank_is_ascii c e = grind (arith, nat_tests)

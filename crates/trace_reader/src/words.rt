@@ -1,7 +1,8 @@
 //! The words of a line.
 
-ghost use Rattle.std.specs.Prelude.{◌≡◌, IfOk, OnOk, map};
+ghost use Rattle.std.specs.Prelude.{◌≡◌, IfOk, OnOk, map, nat_le};
 ghost use Rattle.std.specs.List.{position_or_len, before_first};
+ghost use Rattle.std.specs.Str.{byte};
 ghost use Rattle.trace_reader.specs.Words.{is_blank, is_part, words_of, after_blanks, after_word, text_after_words};
 
 use std::alloc::{AllocError, Global};
@@ -26,8 +27,25 @@ fn first_part(text: &[u8]) -> usize
 fn first_blank(text: &[u8]) -> usize
     ensures { result ≡ position_or_len is_blank text.now }
 {
+    let low = first_low(text);
+    if low == text.len() {
+        return low;
+    }
+    if is_blank(text[low]) {
+        return low;
+    }
     text.iter()
         .position(|byte| is_blank(*byte))
+        .unwrap_or(text.len())
+}
+
+/// The place of the first byte that is no greater than a space, or the length. Most bytes of a word are greater, which one test
+/// tells, and most of these are blanks.
+fn first_low(text: &[u8]) -> usize
+    ensures { result ≡ position_or_len (λ c. nat_le c (byte " ")) text.now }
+{
+    text.iter()
+        .position(|byte| *byte <= b' ')
         .unwrap_or(text.len())
 }
 

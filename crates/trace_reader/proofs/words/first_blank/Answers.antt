@@ -1,10 +1,21 @@
 -- For `first_blank`: its goals.
-use Rattle.std.proofs.Common.{rules, tests}
+use Rattle.std.proofs.Common.{◌∙◌, sym, rules, tests, arith}
 use Rattle.std.proofs.lemmas.Iterator.{YieldsList-from_slice}
 use Rattle.std.proofs.lemmas.Iterator.Search.{position_from_yields_List}
 use Rattle.trace_reader.specs.Words.{is_blank}
-use Rattle.trace_reader.proofs.WordParts.{place_is}
+use Rattle.trace_reader.proofs.WordParts.{is_low, position_or_len-le, place_is, place_at_low}
 use Rattle.trace_reader.proofs.words.first_blank.Goals as goal
+
+pub bounds-text-low : goal.bounds-text-low
+bounds-text-low c = omega (arith, c.first_low-low.ensures, position_or_len-le is_low c.args.text.now)
+
+pub returns-then-low-text : goal.returns-then-low-text
+returns-then-low-text c = place_at_low c.args.text.now c.first_low-low.result c.first_low-low.ensures
+    (λ within. absurd (omega arith))
+
+pub returns-then-is_blank : goal.returns-then-is_blank
+returns-then-is_blank c = place_at_low c.args.text.now c.first_low-low.result c.first_low-low.ensures
+    (λ within. sym c.is_blank.ensures ∙ c.if-is_blank.true)
 
 pub returns : goal.returns
 returns c =
