@@ -1,10 +1,15 @@
 //! The numbers of a trace.
 
-ghost use Rattle.std.specs.Prelude.{◌≡◌, ◌≤◌};
+ghost use Rattle.std.specs.Prelude.{◌≡◌, ◌≤◌, length, Some, None, if◌then◌else◌};
+ghost use Rattle.std.specs.Char.{is_digit};
 ghost use Rattle.std.specs.List.{list_all};
+ghost use Rattle.std.specs.Str.Parse.{digits_value};
 ghost use Rattle.trace_reader.specs.Numbers.{decimal_of, digits_of, is_lower_digit, lower_hexadecimal_of, number_of, thread_of};
 
 use crate::limits::GREATEST_THREAD;
+
+/// So many digits of any base of at most 36 spell a value that fits 64 bits.
+const FEW_DIGITS: usize = 12;
 
 /// The number that a word is: 1 to 20 decimal digits, or `0x` and 1 to 16 hexadecimal digits of either case, with a
 /// value below 2^64. There is none where the word is no number.
@@ -77,6 +82,9 @@ pub fn digits_of(word: &str, base: u32, most: usize) -> Option<u64>
     if digits.is_empty() || most < digits.len() {
         return None;
     }
+    if digits.len() <= FEW_DIGITS {
+        return value_of_few(digits, base);
+    }
     let mut value: u64 = 0;
     for byte in digits {
         let Some(digit) = char::from(*byte).to_digit(base) else {
@@ -89,6 +97,23 @@ pub fn digits_of(word: &str, base: u32, most: usize) -> Option<u64>
             return None;
         };
         value = next;
+    }
+    Some(value)
+}
+
+/// The value that at most 12 digits of a base spell, which fits 64 bits. There is none where a byte is no digit.
+fn value_of_few(digits: &[u8], base: u32) -> Option<u64>
+    requires low { 2 ≤ base }
+    requires high { base ≤ 36 }
+    requires few { length digits.now ≤ 12 }
+    ensures { result ≡ if list_all (λ c. is_digit c base) digits.now then Some (digits_value base digits.now) else None }
+{
+    let mut value: u64 = 0;
+    for byte in digits {
+        let Some(digit) = char::from(*byte).to_digit(base) else {
+            return None;
+        };
+        value = value * base as u64 + digit as u64;
     }
     Some(value)
 }

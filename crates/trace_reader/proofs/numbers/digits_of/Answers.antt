@@ -3,8 +3,16 @@ use Rattle.std.proofs.Common.{◌≡◌, ℕ, ◌+◌, ◌*◌, ◌<◌, List, l
 use Rattle.std.specs.Char.{digit_value}
 use Rattle.std.proofs.lemmas.Bool.Decides.{nat_tests}
 use Rattle.trace_reader.specs.Numbers.{digits_of}
-use Rattle.trace_reader.proofs.Digits.{AreRead, AreRead-more, none_by_value, some_when_read}
+use Rattle.trace_reader.proofs.Digits.{AreRead, AreRead-more, digits_of-few, none_by_value, some_when_read}
 use Rattle.trace_reader.proofs.numbers.digits_of.Goals as goal
+
+pub returns-then-digits-le-FEW_DIGITS : goal.returns-then-digits-le-FEW_DIGITS
+returns-then-digits-le-FEW_DIGITS c =
+    let bytes = c.as_bytes-digits.result.now in
+    let some : 0 < length bytes = grind (arith, nat_tests, c.is_empty.ensures, c.if-is_empty.false) in
+    subst (λ (bs : List ℕ). c.value_of_few.result ≡ digits_of c.args.base c.args.most bs) c.as_bytes-digits.ensures.value
+    (c.value_of_few.ensures ∙ digits_of-few c.args.base c.args.most bytes c.requires.low c.requires.high some (omega arith)
+    (omega arith))
 
 pub returns-in_default-checked_mul : goal.returns-in_default-checked_mul
 returns-in_default-checked_mul c =
