@@ -98,7 +98,20 @@ pub fn gap_in(leaf: bool, start: u64, words: &[u64; 32]) -> u64
     requires { Ascends start (items_of leaf words.now) }
     ensures { result ≡ gap_of leaf start (items_of leaf words.now) }
 {
-    let width = width_of(leaf);
+    // a width that is known makes the loop of each kind shorter
+    if leaf {
+        gap_by(true, 2, start, words)
+    } else {
+        gap_by(false, 3, start, words)
+    }
+}
+
+/// The largest gap of a node whose items have so many words.
+fn gap_by(leaf: bool, width: usize, start: u64, words: &[u64; 32]) -> u64
+    requires ascends { Ascends start (items_of leaf words.now) }
+    requires width { width ≡ width_of leaf }
+    ensures { result ≡ gap_of leaf start (items_of leaf words.now) }
+{
     let mut start = start;
     let mut largest = 0;
     let mut place = 0;

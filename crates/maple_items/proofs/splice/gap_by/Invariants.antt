@@ -1,8 +1,8 @@
--- The loop of `gap_in`.
+-- The loop of `gap_by`.
 use Rattle.std.proofs.Common.{◌-◌, ◌≡◌, ◌≤◌}
 use Rattle.maple_items.specs.Parts.{width_of}
 use Rattle.maple_items.proofs.Spliced.{Gapped}
-use Rattle.maple_items.proofs.splice.gap_in.Given as goal
+use Rattle.maple_items.proofs.splice.gap_by.Given as goal
 
 -- the items before the place have this largest gap
 abbrev pub invariant-loop-place : goal.invariant-loop-place

@@ -1,11 +1,11 @@
--- For `gap_in`: the gap of the item at the place.
+-- For `gap_by`: the gap of the item at the place.
 use Rattle.std.proofs.Common.{ℕ, ◌+◌, max, sym, ap, subst, ◌∙◌, arith}
 use Rattle.maple_node.specs.declared.item.Item.{Item}
 use Rattle.maple_node.specs.Nodes.{item_gap}
 use Rattle.maple_items.specs.Parts.{width_of}
 use Rattle.maple_items.proofs.Parts.{listed_none, listed_past}
 use Rattle.maple_items.proofs.Spliced.{Gapped, gapped_above, gapped_more, gapped_all, some_words}
-use Rattle.maple_items.proofs.splice.gap_in.Goals as goal
+use Rattle.maple_items.proofs.splice.gap_by.Goals as goal
 
 pub item_gap-requires : goal.item_gap-requires
 item_gap-requires c =
