@@ -15,6 +15,7 @@ pub use laws::{
 };
 pub use list::ItemList;
 pub use node::{least, lists_nothing, most, node_words, share};
+pub use packed::NodeWords;
 pub use part::{Part, listed_at, width_of};
 pub use place::{Place, item_in};
 pub use splice::{gap_in, spliced_words};

@@ -12,9 +12,9 @@ use std::marker::Model;
 /// The words of a node.
 const WORDS: usize = 32;
 
-/// The words of a node as far as they were added, with zeros after them.
+/// The words of a node as far as they were added, with zeros after them. They are added where they stand, since they are many.
 #[derive(Drop)]
-pub(crate) struct NodeWords {
+pub struct NodeWords {
     words: [u64; WORDS],
     used: usize,
 }
@@ -32,7 +32,7 @@ impl Model for NodeWords {
 
 impl NodeWords {
     /// No words.
-    pub(crate) fn new() -> Self
+    pub fn new() -> Self
         ensures { result ≡ [] }
     {
         NodeWords {
@@ -42,11 +42,10 @@ impl NodeWords {
     }
 
     /// All 32 words.
-    pub(crate) fn into_array(self) -> [u64; 32]
-        ensures { result ≡ padded self }
+    pub fn words(&self) -> &[u64; 32]
+        ensures { result.now ≡ padded self.now }
     {
-        let NodeWords { words, used: _ } = self;
-        words
+        &self.words
     }
 
     /// Adds a word.

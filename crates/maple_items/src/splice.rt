@@ -1,10 +1,11 @@
 //! Nodes with some of their items replaced, from words to words.
 
-ghost use Rattle.std.specs.Prelude.{◌≡◌, ◌<◌, ◌≤◌, ◌*◌, ◌⊎◌, ℕ, length, take, slice_range, IfSome, IfNone};
+ghost use Rattle.std.specs.Prelude.{◌≡◌, ◌<◌, ◌≤◌, ◌*◌, ◌⊎◌, ℕ, true, false, [], length, take, slice_range};
 ghost use Rattle.std.specs.List.{flat_map};
 ghost use Rattle.maple_node.specs.Nodes.{items_of, words_of, item_words, most, end_of, Ascends, gap_of};
 ghost use Rattle.maple_items.specs.Splices.{upto, beyond, spliced};
 ghost use Rattle.maple_items.specs.Parts.{width_of};
+ghost use Rattle.maple_items.specs.Padding.{padded};
 ghost use Rattle.maple_items.specs.Internal.Counts.{IsCounted};
 
 use crate::node::{item_gap, most};
@@ -59,8 +60,8 @@ fn parts_of(leaf: bool, words: &[u64; 32], end: u64, lo: u64, hi: u64) -> Parts
     Parts { before, past, used }
 }
 
-/// The words of a node, which ends at a page, with new items in the place of those between two pages. None exactly where it has no
-/// room for them, or would have fewer than so many items.
+/// Makes the words of a node, which ends at a page, with new items in the place of those between two pages, and answers whether it
+/// did: not exactly where the node has no room for them, or would have fewer than so many items.
 pub fn spliced_words(
     leaf: bool,
     words: &[u64; 32],
@@ -69,28 +70,29 @@ pub fn spliced_words(
     lo: u64,
     hi: u64,
     new: &[Item],
-) -> Option<[u64; 32]>
+    made: &mut NodeWords,
+) -> bool
     requires ascends { Ascends 0 (items_of leaf words.now) }
     requires whole { words.now ≡ words_of leaf (items_of leaf words.now) }
     requires end { end_of 0 (items_of leaf words.now) ≤ end }
     requires few { (fewest ≤ 16) × (length new.now ≤ 40) }
-    ensures words { IfSome result (λ made. made ≡ words_of leaf (spliced lo hi new.now (items_of leaf words.now))) }
-    ensures most { IfSome result (λ _. length (spliced lo hi new.now (items_of leaf words.now)) ≤ most leaf) }
-    ensures least { IfSome result (λ _. fewest ≤ length (spliced lo hi new.now (items_of leaf words.now))) }
-    ensures none { IfNone result ((most leaf < length (spliced lo hi new.now (items_of leaf words.now)))
-        ⊎ (length (spliced lo hi new.now (items_of leaf words.now)) < fewest)) }
+    requires none { made.old ≡ [] }
+    ensures words { result ≡ true → padded made.new ≡ words_of leaf (spliced lo hi new.now (items_of leaf words.now)) }
+    ensures most { result ≡ true → length (spliced lo hi new.now (items_of leaf words.now)) ≤ most leaf }
+    ensures least { result ≡ true → fewest ≤ length (spliced lo hi new.now (items_of leaf words.now)) }
+    ensures none { result ≡ false → (most leaf < length (spliced lo hi new.now (items_of leaf words.now)))
+        ⊎ (length (spliced lo hi new.now (items_of leaf words.now)) < fewest) }
 {
     let width = width_of(leaf);
     let Parts { before, past, used } = parts_of(leaf, words, end, lo, hi);
     let count = before + width * new.len() + (used - past);
     if count < width * fewest || width * most(leaf) < count {
-        return None;
+        return false;
     }
-    let mut made = NodeWords::new();
     made.push_words(&words[..before]);
     made.push_items(leaf, new);
     made.push_words(&words[past..used]);
-    Some(made.into_array())
+    true
 }
 
 /// The largest gap in pages of a node, which begins at the page `start`, as its words tell.

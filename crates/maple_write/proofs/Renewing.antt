@@ -1,6 +1,5 @@
 -- For `renewed` and `rise_by_words`: a node that is made of the words of an old one.
-use Rattle.std.proofs.Common.{ℕ, ◌≡◌, ◌<◌, ◌≤◌, ◌+◌, ◌-◌, List, [], ◌∷◌, length, Option, Some, None, refl, sym, ap, subst, ◌∙◌, arith}
-use Rattle.std.specs.Prelude.{IfSome}
+use Rattle.std.proofs.Common.{ℕ, ◌≡◌, ◌<◌, ◌≤◌, ◌+◌, ◌-◌, List, [], ◌∷◌, length, Some, refl, sym, ap, subst, ◌∙◌, arith}
 use Rattle.maple_node.specs.declared.item.Item.{Item}
 use Rattle.maple_node.specs.Nodes.{words_of, items_of, most, least, end_of, Ascends}
 use Rattle.maple_node.specs.Levels.{is_leaf, at_of, read, below, item_at, times}
@@ -71,19 +70,6 @@ renewed_is table top height level lo hi fewest new left words made partly less f
       most = subst (λ (xs : List Item). length xs ≤ most leaf) (same ∙ sym back) fits;
       least = λ inner. let few = least_told inner in subst (λ (xs : List Item). least leaf ≤ length xs) (same ∙ sym back) (omega arith);
     }
-
-pub renewed_if : (table : Table) (top : Item) (height level lo hi fewest : ℕ) (new : List Item) (left : Place) (words : List ℕ) (result : Option (List ℕ))
-    → Partly table top height level lo hi new → level < height → item_at lo (old_level table top height (level + 1)) ≡ Some left.item
-    → left.start ≡ end_of 0 (upto lo (old_level table top height (level + 1))) → hi ≤ left.item.end
-    → words ≡ at_of table.rows left.item.word
-    → IfSome result (λ made. made ≡ words_of (is_leaf level) (spliced lo hi new (items_of (is_leaf level) words)))
-    → IfSome result (λ _. length (spliced lo hi new (items_of (is_leaf level) words)) ≤ most (is_leaf level))
-    → IfSome result (λ _. fewest ≤ length (spliced lo hi new (items_of (is_leaf level) words)))
-    → (left.item.end < top.end → least (is_leaf level) ≤ fewest)
-    → IfSome result (IsRenewed table top height level lo hi new left)
-renewed_if table top height level lo hi fewest new left words None partly less found begins within is told fits enough least_told = tt
-renewed_if table top height level lo hi fewest new left words (Some made) partly less found begins within is told fits enough least_told =
-    renewed_is table top height level lo hi fewest new left words made partly less found begins within is told fits enough least_told
 
 -- the level is built of that node
 pub rose_anew : (old mid after : Table) (top : Item) (height level lo hi : ℕ) (new nodes : List Item) (left : Place) (words : List ℕ)

@@ -1,9 +1,10 @@
 //! One level of a store: the items that are to stand anew, and the nodes that are made of them.
 
-ghost use Rattle.std.specs.Prelude.{◌≡◌, ◌<◌, ◌≤◌, ◌+◌, ◌-◌, ℕ, Some, [], ◌∷◌, ◌++◌, length, IfSome, if◌then◌else◌, nat_lt};
+ghost use Rattle.std.specs.Prelude.{◌≡◌, ◌<◌, ◌≤◌, ◌+◌, ◌-◌, ℕ, true, Some, [], ◌∷◌, ◌++◌, length, if◌then◌else◌, nat_lt};
 ghost use Rattle.maple_node.specs.Nodes.{least, end_of};
 ghost use Rattle.maple_node.specs.Levels.{is_leaf, read, below, item_at, IsTower, times};
 ghost use Rattle.maple_items.specs.Splices.{upto, beyond};
+ghost use Rattle.maple_items.specs.Padding.{padded};
 ghost use Rattle.node_slots.specs.Seats.{Writes, sight, row_count, free_of, is_waiting};
 ghost use Rattle.node_slots.specs.Built.{words_at};
 ghost use Rattle.maple_write.specs.Internal.Tables.{table_at, rows_in, gone};
@@ -13,7 +14,7 @@ ghost use Rattle.maple_write.specs.Internal.Stores.{old_level, new_level, new_en
 use crate::few::FewItems;
 use crate::path::{Path, find};
 use crate::rows::{Rooted, pack, pack_words, words};
-use maple_items::{ItemList, Part, Place, least, spliced_words};
+use maple_items::{ItemList, NodeWords, Part, Place, least, spliced_words};
 use mm_types::Row;
 use node_slots::{NodeTable, NodeWriter};
 
@@ -220,22 +221,22 @@ fn rise_by_list(
     path: &Path,
     level: u32,
     lo: u64,
-    new: &Stretch,
-) -> Stretch
+    new: &mut Stretch,
+)
     requires table { Writes writer.old nodes.now }
-    requires partly { Partly (table_at writer.old) old.top old.height level lo new.now.end new.now.items }
+    requires partly { Partly (table_at writer.old) old.top old.height level lo new.old.end new.old.items }
     requires below { level < old.height }
     requires path { IsPath (words_at writer.old) old.top old.height (level + 1) path.now }
     ensures table { Writes writer.new nodes.now }
     ensures same { FillsRows writer.old writer.new }
     ensures path { IsPath (words_at writer.new) old.top old.height (level + 1) path.now }
-    ensures partly { Partly (table_at writer.new) old.top old.height (level + 1) lo result.end result.items }
-    ensures begin { result.begin ≡ end_of 0 (upto lo (old_level (table_at writer.new) old.top old.height (level + 1))) }
-    ensures entries { new_entries (table_at writer.new) old.top old.height (level + 1) lo result.end result.items
-        ≡ new_entries (table_at writer.old) old.top old.height level lo new.now.end new.now.items }
+    ensures partly { Partly (table_at writer.new) old.top old.height (level + 1) lo new.new.end new.new.items }
+    ensures begin { new.new.begin ≡ end_of 0 (upto lo (old_level (table_at writer.new) old.top old.height (level + 1))) }
+    ensures entries { new_entries (table_at writer.new) old.top old.height (level + 1) lo new.new.end new.new.items
+        ≡ new_entries (table_at writer.old) old.top old.height level lo new.old.end new.old.items }
     ensures free { length (free_of writer.old) ≤ length (free_of writer.new) + 3 }
-    ensures under { below (words_at writer.new) (is_leaf level) (new_level (table_at writer.new) old.top old.height (level + 1) lo result.end result.items)
-        ≡ new_level (table_at writer.old) old.top old.height level lo new.now.end new.now.items }
+    ensures under { below (words_at writer.new) (is_leaf level) (new_level (table_at writer.new) old.top old.height (level + 1) lo new.new.end new.new.items)
+        ≡ new_level (table_at writer.old) old.top old.height level lo new.old.end new.old.items }
 {
     let mut list = ItemList::new();
     let edges = stretched(nodes, writer, old, path, level, lo, new, &mut list);
@@ -248,15 +249,13 @@ fn rise_by_list(
         edges.begin,
         list.items(),
     );
-    Stretch {
-        begin: edges.begin,
-        end: edges.end,
-        items,
-    }
+    new.begin = edges.begin;
+    new.end = edges.end;
+    new.items = items;
 }
 
-/// The words of a node anew, with the new items of the level below in the place of those that it lists there. None where they end in
-/// another node, or where it must be split or joined with another one.
+/// Makes the words of a node anew, with the new items of the level below in the place of those that it lists there, and answers
+/// whether it did: not where they end in another node, or where it must be split or joined with another one.
 fn renewed(
     nodes: &NodeTable,
     writer: &NodeWriter,
@@ -265,16 +264,18 @@ fn renewed(
     lo: u64,
     new: &Stretch,
     left: Place,
-) -> Option<[u64; 32]>
+    made: &mut NodeWords,
+) -> bool
     requires table { Writes writer.now nodes.now }
     requires partly { Partly (table_at writer.now) old.top old.height level lo new.now.end new.now.items }
     requires below { level < old.height }
     requires left { item_at lo (old_level (table_at writer.now) old.top old.height (level + 1)) ≡ Some left.item }
     requires start { left.start ≡ end_of 0 (upto lo (old_level (table_at writer.now) old.top old.height (level + 1))) }
-    ensures { IfSome result (IsRenewed (table_at writer.now) old.top old.height level lo new.now.end new.now.items left) }
+    requires none { made.old ≡ [] }
+    ensures { result ≡ true → IsRenewed (table_at writer.now) old.top old.height level lo new.now.end new.now.items left (padded made.new) }
 {
     if left.item.end < new.end {
-        return None;
+        return false;
     }
     let leaf = level == 0;
     let fewest = if left.item.end < old.top.end {
@@ -290,6 +291,7 @@ fn renewed(
         lo,
         new.end,
         new.items.items(),
+        made,
     )
 }
 
@@ -301,41 +303,38 @@ fn rise_by_words(
     path: &Path,
     level: u32,
     lo: u64,
-    new: &Stretch,
+    new: &mut Stretch,
     left: Place,
     words: &[u64; 32],
-) -> Stretch
+)
     requires table { Writes writer.old nodes.now }
-    requires partly { Partly (table_at writer.old) old.top old.height level lo new.now.end new.now.items }
+    requires partly { Partly (table_at writer.old) old.top old.height level lo new.old.end new.old.items }
     requires below { level < old.height }
     requires path { IsPath (words_at writer.old) old.top old.height (level + 1) path.now }
-    requires renewed { IsRenewed (table_at writer.old) old.top old.height level lo new.now.end new.now.items left words.now }
+    requires renewed { IsRenewed (table_at writer.old) old.top old.height level lo new.old.end new.old.items left words.now }
     requires left { item_at lo (old_level (table_at writer.old) old.top old.height (level + 1)) ≡ Some left.item }
     requires there { left.item.word < row_count writer.old }
     ensures table { Writes writer.new nodes.now }
     ensures same { FillsRows writer.old writer.new }
     ensures path { IsPath (words_at writer.new) old.top old.height (level + 1) path.now }
-    ensures partly { Partly (table_at writer.new) old.top old.height (level + 1) lo result.end result.items }
-    ensures begin { result.begin ≡ end_of 0 (upto lo (old_level (table_at writer.new) old.top old.height (level + 1))) }
-    ensures entries { new_entries (table_at writer.new) old.top old.height (level + 1) lo result.end result.items
-        ≡ new_entries (table_at writer.old) old.top old.height level lo new.now.end new.now.items }
+    ensures partly { Partly (table_at writer.new) old.top old.height (level + 1) lo new.new.end new.new.items }
+    ensures begin { new.new.begin ≡ end_of 0 (upto lo (old_level (table_at writer.new) old.top old.height (level + 1))) }
+    ensures entries { new_entries (table_at writer.new) old.top old.height (level + 1) lo new.new.end new.new.items
+        ≡ new_entries (table_at writer.old) old.top old.height level lo new.old.end new.old.items }
     ensures free { length (free_of writer.old) ≤ length (free_of writer.new) + 3 }
-    ensures under { below (words_at writer.new) (is_leaf level) (new_level (table_at writer.new) old.top old.height (level + 1) lo result.end result.items)
-        ≡ new_level (table_at writer.old) old.top old.height level lo new.now.end new.now.items }
+    ensures under { below (words_at writer.new) (is_leaf level) (new_level (table_at writer.new) old.top old.height (level + 1) lo new.new.end new.new.items)
+        ≡ new_level (table_at writer.old) old.top old.height level lo new.old.end new.old.items }
 {
     let end = left.item.end;
     let row = Row(left.item.word as u32);
     leave_one(nodes, writer, old, level + 1, lo, left, row);
-    let items = pack_words(nodes, writer, row, level == 0, left.start, end, words);
-    Stretch {
-        begin: left.start,
-        end,
-        items,
-    }
+    new.items = pack_words(nodes, writer, row, level == 0, left.start, end, words);
+    new.begin = left.start;
+    new.end = end;
 }
 
 /// Leaves the nodes of a level where items of it are replaced, and makes them anew. A row that was taken since the last publish is
-/// free at once, and is taken again. Answers the items of the level above that stand for the new nodes.
+/// free at once, and is taken again. The new items are then those of the level above that stand for the new nodes.
 pub(crate) fn rise(
     nodes: &NodeTable,
     writer: &mut NodeWriter,
@@ -343,26 +342,29 @@ pub(crate) fn rise(
     path: &Path,
     level: u32,
     lo: u64,
-    new: &Stretch,
-) -> Stretch
+    new: &mut Stretch,
+)
     requires table { Writes writer.old nodes.now }
-    requires partly { Partly (table_at writer.old) old.top old.height level lo new.now.end new.now.items }
+    requires partly { Partly (table_at writer.old) old.top old.height level lo new.old.end new.old.items }
     requires below { level < old.height }
     requires path { IsPath (words_at writer.old) old.top old.height (level + 1) path.now }
     ensures table { Writes writer.new nodes.now }
     ensures same { FillsRows writer.old writer.new }
     ensures path { IsPath (words_at writer.new) old.top old.height (level + 1) path.now }
-    ensures partly { Partly (table_at writer.new) old.top old.height (level + 1) lo result.end result.items }
-    ensures begin { result.begin ≡ end_of 0 (upto lo (old_level (table_at writer.new) old.top old.height (level + 1))) }
-    ensures entries { new_entries (table_at writer.new) old.top old.height (level + 1) lo result.end result.items
-        ≡ new_entries (table_at writer.old) old.top old.height level lo new.now.end new.now.items }
+    ensures partly { Partly (table_at writer.new) old.top old.height (level + 1) lo new.new.end new.new.items }
+    ensures begin { new.new.begin ≡ end_of 0 (upto lo (old_level (table_at writer.new) old.top old.height (level + 1))) }
+    ensures entries { new_entries (table_at writer.new) old.top old.height (level + 1) lo new.new.end new.new.items
+        ≡ new_entries (table_at writer.old) old.top old.height level lo new.old.end new.old.items }
     ensures free { length (free_of writer.old) ≤ length (free_of writer.new) + 3 }
-    ensures under { below (words_at writer.new) (is_leaf level) (new_level (table_at writer.new) old.top old.height (level + 1) lo result.end result.items)
-        ≡ new_level (table_at writer.old) old.top old.height level lo new.now.end new.now.items }
+    ensures under { below (words_at writer.new) (is_leaf level) (new_level (table_at writer.new) old.top old.height (level + 1) lo new.new.end new.new.items)
+        ≡ new_level (table_at writer.old) old.top old.height level lo new.old.end new.old.items }
 {
     let left = find(nodes, writer, old, path, level + 1, lo);
-    match renewed(nodes, writer, old, level, lo, new, left) {
-        Some(words) => rise_by_words(nodes, writer, old, path, level, lo, new, left, &words),
-        None => rise_by_list(nodes, writer, old, path, level, lo, new),
+    let mut made = NodeWords::new();
+    if renewed(nodes, writer, old, level, lo, new, left, &mut made) {
+        let words = made.words();
+        rise_by_words(nodes, writer, old, path, level, lo, new, left, words);
+    } else {
+        rise_by_list(nodes, writer, old, path, level, lo, new);
     }
 }

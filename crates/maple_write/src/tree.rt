@@ -151,7 +151,7 @@ pub(crate) fn replace(
     let mut level = 0;
     let mut done = false;
     while level < old.height && !done {
-        new = rise(nodes, writer, old, path, level, lo, &new);
+        rise(nodes, writer, old, path, level, lo, &mut new);
         level += 1;
         done = is_whole(&new, old.top.end);
     }

@@ -22,8 +22,8 @@ push_words-requires-2 c =
     let bound = ap (λ (n : ℕ). n * c.most.result) c.width_of-width.ensures ∙ ap (λ (n : ℕ). width_of leaf * n) c.most.ensures in
     let room = most_words leaf in
     let under = c.if-width-most.false in
-    let first = ap (λ (ws : List ℕ). length ws) c.push_words.ensures ∙ length-append c.new-made.result (take parts.before words) in
-    let none = ap (λ (ws : List ℕ). length ws) c.new-made.ensures in
+    let first = ap (λ (ws : List ℕ). length ws) c.push_words.ensures ∙ length-append c.args.made.now (take parts.before words) in
+    let none = ap (λ (ws : List ℕ). length ws) c.requires.none in
     let front = length-take-le parts.before words (omega (arith, told.before, told.within, c.told-words)) in
     let second = ap (λ (ws : List ℕ). length ws) c.push_items.ensures ∙ length-append c.push_words.new.self (flat_map (item_words leaf) new) in
     let items = length-words leaf new in
@@ -32,7 +32,7 @@ push_words-requires-2 c =
     omega (arith, wide, bound, room, under, first, none, front, second, items, back)
 
 pub returns-clause-words : goal.returns-clause-words
-returns-clause-words c =
+returns-clause-words c done =
     let leaf = c.args.leaf in
     let words = c.args.words.now in
     let new = c.args.new.now in
@@ -41,16 +41,15 @@ returns-clause-words c =
     let parts = c.parts_of-before.result in
     let told = c.parts_of-before.ensures in
     let mid = take (parts.used - parts.past) (drop parts.past words) in
-    c.into_array.ensures
-    ∙ ap padded (c.push_words-2.ensures
+    ap padded (c.push_words-2.ensures
     ∙ ap (λ (ws : List ℕ). ws ++ mid) (c.push_items.ensures
     ∙ ap (λ (ws : List ℕ). ws ++ F new) (c.push_words.ensures
-    ∙ ap (λ (ws : List ℕ). ws ++ take parts.before words) c.new-made.ensures ∙ told.front))
+    ∙ ap (λ (ws : List ℕ). ws ++ take parts.before words) c.requires.none ∙ told.front))
     ∙ ap (λ (ws : List ℕ). (F (upto c.args.lo items) ++ F new) ++ ws) told.back)
     ∙ spliced_is leaf c.args.lo c.args.hi new items
 
 pub returns-clause-most : goal.returns-clause-most
-returns-clause-most c =
+returns-clause-most c done =
     let leaf = c.args.leaf in
     let words = c.args.words.now in
     let new = c.args.new.now in
@@ -64,7 +63,7 @@ returns-clause-most c =
     (omega (arith, wide, count)) c.width_of-width.ensures c.most.ensures c.if-count-width.false c.if-width-most.false).most
 
 pub returns-clause-least : goal.returns-clause-least
-returns-clause-least c =
+returns-clause-least c done =
     let leaf = c.args.leaf in
     let words = c.args.words.now in
     let new = c.args.new.now in
@@ -78,7 +77,7 @@ returns-clause-least c =
     (omega (arith, wide, count)) c.width_of-width.ensures c.most.ensures c.if-count-width.false c.if-width-most.false).least
 
 pub returns-then-count-width-clause-none : goal.returns-then-count-width-clause-none
-returns-then-count-width-clause-none c =
+returns-then-count-width-clause-none c not_done =
     let leaf = c.args.leaf in
     let words = c.args.words.now in
     let new = c.args.new.now in

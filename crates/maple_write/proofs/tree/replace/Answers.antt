@@ -55,24 +55,24 @@ loop-level-preserved c =
     let old = c.args.old in
     let loop = c.loop-level in
     let is = loop.invariant in
-    let after = c.rise-new.new.writer in
-    let new = c.rise-new.result in
+    let after = c.rise.new.writer in
+    let new = c.rise.new.new in
     let made = new_level (table_at after) old.top old.height (loop.level + 1) c.args.lo new.end new.items in
     let was = new_level (table_at loop.writer) old.top old.height loop.level c.args.lo loop.new.end loop.new.items in
     record {
-      table = c.rise-new.ensures.table;
-      same = fills_both c.args.writer.now loop.writer after is.same c.rise-new.ensures.same;
-      partly = c.rise-new.ensures.partly;
-      path = c.rise-new.ensures.path;
-      entries = c.rise-new.ensures.entries ∙ is.entries;
-      free = let before = is.free in let taken = c.rise-new.ensures.free in omega arith;
-      whole = λ yes. let all = c.is_whole-done.ensures.yes yes in (omega arith, (sym c.rise-new.ensures.begin ∙ all.0, all.1));
-      wide = λ inner no. two_items (table_at after) old.top old.height (loop.level + 1) c.args.lo new.end new.begin new.items c.rise-new.ensures.partly
-          inner c.rise-new.ensures.begin (c.is_whole-done.ensures.no no);
+      table = c.rise.ensures.table;
+      same = fills_both c.args.writer.now loop.writer after is.same c.rise.ensures.same;
+      partly = c.rise.ensures.partly;
+      path = c.rise.ensures.path;
+      entries = c.rise.ensures.entries ∙ is.entries;
+      free = let before = is.free in let taken = c.rise.ensures.free in omega arith;
+      whole = λ yes. let all = c.is_whole-done.ensures.yes yes in (omega arith, (sym c.rise.ensures.begin ∙ all.0, all.1));
+      wide = λ inner no. two_items (table_at after) old.top old.height (loop.level + 1) c.args.lo new.end new.begin new.items c.rise.ensures.partly
+          inner c.rise.ensures.begin (c.is_whole-done.ensures.no no);
       under = λ high.
           let some : 1 ≤ loop.level = omega arith in
           let inner : is_leaf loop.level ≡ false = let test : nat_eq loop.level 0 ≡ false = grind (arith, nat_tests) in test in
-          let same : below (words_at after) false made ≡ was = subst (λ b. below (words_at after) b made ≡ was) inner c.rise-new.ensures.under in
+          let same : below (words_at after) false made ≡ was = subst (λ b. below (words_at after) b made ≡ was) inner c.rise.ensures.under in
           subst (λ (xs : List Item). 2 ≤ length xs) (sym same) (is.wide some c.if-not-done.true);
     }
 
@@ -138,8 +138,8 @@ returns-clause-free c =
     let root = c.crown.ensures.free in
     omega arith
 
-pub rise-new-requires-clause-path : goal.rise-new-requires-clause-path
-rise-new-requires-clause-path c =
+pub rise-requires-clause-path : goal.rise-requires-clause-path
+rise-requires-clause-path c =
     let loop = c.loop-level in
     path_high (words_at loop.writer) c.args.old.top c.args.old.height loop.level (loop.level + 1) c.args.path.now (omega arith) loop.invariant.path
 
