@@ -11,6 +11,7 @@ use Rattle.std.proofs.lemmas.Str.Parse.{digits_value-take-le}
 use Rattle.std.proofs.Math.Nat.{pow-le-pow_left, pow-le-pow_right}
 use Rattle.trace_reader.specs.Numbers.{digits_of}
 
+-- each of them, where all are
 all_digits : (base : ℕ) (word : List ℕ) → list_all (λ c. is_digit c base) word ≡ true → AllDigits base word
 all_digits base [] digits = tt
 all_digits base (c ∷ word) digits =
@@ -33,7 +34,7 @@ AreRead-more base read value word so_far within digit = record {
       ∙ sym (digits_value_more base word read within);
 }
 
--- the value so far has fewer than so many digits
+-- the value of at most 12 digits fits
 read_fits : (base read value : ℕ) (word : List ℕ) → 2 ≤ base → base ≤ 36 → read ≤ length word → read ≤ 12
     → AreRead base word read value → value < 2 ^ 64
 read_fits base read value word low high within few so_far =
@@ -44,7 +45,7 @@ read_fits base read value word low high within few so_far =
     let wider : base ^ 12 ≤ 36 ^ 12 = pow-le-pow_left high 12 in
     omega (arith, so_far.spelled)
 
--- and so has the next one
+-- and so does the next one
 pub next_fits : (base read value : ℕ) (word : List ℕ) → 2 ≤ base → base ≤ 36 → length word ≤ 12
     → AreRead base word read value → read < length word → digit_value (get_or word read 0) < base
     → value * base + digit_value (get_or word read 0) < 2 ^ 64
@@ -61,6 +62,7 @@ some_of_few base read value word past so_far =
     ap Some (so_far.spelled ∙ ap (digits_value base) whole)
     ∙ sym (cond-true (list_all (λ c. is_digit c base) word) (Some (digits_value base word)) None digits)
 
+-- tests that all hold, one by one
 last_test : (a b c d : Bool) → a && (b && (c && d)) ≡ true → d ≡ true
 last_test true true true true e = refl
 last_test false b c d e = absurd cc

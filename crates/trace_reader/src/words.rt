@@ -39,8 +39,8 @@ fn first_blank(text: &[u8]) -> usize
         .unwrap_or(text.len())
 }
 
-/// The place of the first byte that is no greater than a space, or the length. Most bytes of a word are greater, which one test
-/// tells, and most of these are blanks.
+/// The place of the first byte that is no greater than a space, or the length. One test passes over nearly every byte of a word,
+/// and what it stops at is nearly always a blank.
 fn first_low(text: &[u8]) -> usize
     ensures { result ≡ position_or_len (λ c. nat_le c (byte " ")) text.now }
 {
