@@ -40,9 +40,9 @@ pub enum CheckError {
 
 impl From<NoMemory> for CheckError {
     ghost use Rattle.std.specs.Prelude.{◌≡◌};
-    ghost use Rattle.history.specs.declared.answers.CheckError.TheVariants as faults;
+    ghost use Rattle.history.specs.declared.answers.CheckError.TheVariants as errors;
 
-    ghost from_gives = { λ _ fault. fault ≡ faults.NoMemory };
+    ghost from_gives = { λ _ error. error ≡ errors.NoMemory };
 
     fn from(_error: NoMemory) -> CheckError {
         CheckError::NoMemory
