@@ -5,6 +5,6 @@ use Rattle.trace_reader.specs.declared.error.ReadError.TheVariants.{Bad, NoMemor
 use Rattle.trace_reader.specs.declared.error.BadLine.{BadLine}
 
 -- a bad line is that of the definition; out of memory is free
-abbrev pub IsFault : {Y : Type 0} → ReadError → Result Y BadLine → Type 0
-IsFault (Bad first) read = read ≡ Err first
-IsFault NoMemory read = Unit {0}
+abbrev pub IsErrorOf : {Y : Type 0} → ReadError → Result Y BadLine → Type 0
+IsErrorOf (Bad first) read = read ≡ Err first
+IsErrorOf NoMemory read = Unit {0}

@@ -3,7 +3,7 @@
 ghost use Rattle.std.specs.Prelude.{◌≡◌, ◌<◌, IfOk, IfErr, IfSome, Ok, length, slice_get};
 ghost use Rattle.trace_reader.specs.RawLines.{raw_lines};
 ghost use Rattle.maps_read.specs.Query.{query_answer, query_text, without_spaces_after};
-ghost use Rattle.maps_read.specs.Reading.{IsFault};
+ghost use Rattle.maps_read.specs.Reading.{IsErrorOf};
 
 use crate::querying::query;
 use crate::reading::read_maps;
@@ -22,7 +22,7 @@ struct Comparisons;
 #[tactic(auto, unfolding(crate::specs::Query::query_answer))]
 pub fn answer_of(alloc: Global, bytes: &[u8], address: u64) -> Result<Vec<u8>, ReadError>
     ensures text { IfOk result (λ text. query_answer address bytes.now ≡ Ok text.items) }
-    ensures bad { IfErr result (λ error. IsFault error (query_answer address bytes.now)) }
+    ensures bad { IfErr result (λ error. IsErrorOf error (query_answer address bytes.now)) }
 {
     let maps = read_maps(alloc, bytes)?;
     let mut steps = Steps::<Comparisons>::new();

@@ -3,7 +3,7 @@
 ghost use Rattle.std.specs.Prelude.{◌≡◌, IfOk, IfErr, Ok};
 ghost use Rattle.trace_reader.specs.Reading.{Gives, line_view};
 ghost use Rattle.maps_read.specs.Maps.{maps_of, after_line, end_of, is_in_order, next_line};
-ghost use Rattle.maps_read.specs.Reading.{IsFault};
+ghost use Rattle.maps_read.specs.Reading.{IsErrorOf};
 
 use crate::fields::line_of;
 use crate::maps::{MapsLine, MapsText};
@@ -22,7 +22,7 @@ pub const LINE_LIMIT: usize = 8192;
 #[tactic(auto, unfolding(crate::specs::Maps::maps_of))]
 pub fn read_maps(alloc: Global, bytes: &[u8]) -> Result<MapsText, ReadError>
     ensures maps { IfOk result (λ maps. maps_of bytes.now ≡ Ok maps) }
-    ensures bad { IfErr result (λ error. IsFault error (maps_of bytes.now)) }
+    ensures bad { IfErr result (λ error. IsErrorOf error (maps_of bytes.now)) }
 {
     let mut lines = Vec::new(alloc);
     let mut rest = bytes;

@@ -2,7 +2,7 @@
 
 ghost use Rattle.std.specs.Prelude.{◌≡◌, IfOk, IfErr, Ok, string_bytes};
 ghost use Rattle.maps_read.specs.Maps.{maps_of};
-ghost use Rattle.maps_read.specs.Reading.{IsFault};
+ghost use Rattle.maps_read.specs.Reading.{IsErrorOf};
 ghost use Rattle.maps_retrace.specs.Retracing.{lines_taken, taken_text, retraced_of};
 ghost use Rattle.maps_retrace.specs.Internal.Taking.{IsTaken, what_taken};
 
@@ -22,7 +22,7 @@ use trace_reader::{ReadError, at_line, first_line};
 #[tactic(auto, unfolding(crate::specs::Retracing::retraced_of))]
 pub fn retraced(alloc: Global, bytes: &[u8]) -> Result<Vec<u8>, ReadError>
     ensures text { IfOk result (λ text. retraced_of bytes.now ≡ Ok text.items) }
-    ensures bad { IfErr result (λ error. IsFault error (retraced_of bytes.now)) }
+    ensures bad { IfErr result (λ error. IsErrorOf error (retraced_of bytes.now)) }
 {
     let maps = read_maps(alloc, bytes)?;
     retrace(alloc, bytes, &maps)
@@ -36,7 +36,7 @@ pub fn retraced(alloc: Global, bytes: &[u8]) -> Result<Vec<u8>, ReadError>
 pub fn retrace(alloc: Global, bytes: &[u8], maps: &MapsText) -> Result<Vec<u8>, ReadError>
     requires { maps_of bytes.now ≡ Ok maps.now }
     ensures text { IfOk result (λ text. retraced_of bytes.now ≡ Ok text.items) }
-    ensures bad { IfErr result (λ error. IsFault error (retraced_of bytes.now)) }
+    ensures bad { IfErr result (λ error. IsErrorOf error (retraced_of bytes.now)) }
 {
     let taken = take_lines(alloc, bytes, maps.items())?;
     match taken_text(alloc, &taken) {
@@ -55,7 +55,7 @@ fn take_lines<'a>(
     requires { maps_of bytes.now ≡ Ok lines.now }
     ensures taken { IfOk result (λ taken. lines_taken bytes.now lines.now ≡ Ok (what_taken taken)) }
     ensures right { IfOk result (λ taken. IsTaken (what_taken taken)) }
-    ensures bad { IfErr result (λ error. IsFault error (lines_taken bytes.now lines.now)) }
+    ensures bad { IfErr result (λ error. IsErrorOf error (lines_taken bytes.now lines.now)) }
 {
     let mut taken = Taken::new(alloc);
     let mut rest = bytes;

@@ -90,7 +90,7 @@ fn lines_that_are_not_ours(rt: HostRuntime) -> Result<(), Fail> {
     let apart =
         b"00010000-00011000 r--p 00000000 00:00 0 \n00011000-00012000 r-xp 00000000 00:00 0 \n";
     assert_eq!(rt; refused(alloc, apart.as_slice()), None);
-    // The faults of the form come first, and the empty text is that of no area.
+    // The errors of the form come first, and the empty text is that of no area.
     assert_eq!(rt;
         refused(alloc, b"00010000-00011000 r--p 00000000 00:00 0"),
         Some((1, Cause::NoEnd))

@@ -7,9 +7,9 @@ use Rattle.output_check.specs.declared.input.Input.{Input}
 use Rattle.output_check.specs.Input.{CheckInput}
 
 -- a bad line is that of the definition; out of memory is free
-abbrev pub IsFault : {Y : Type 0} → ReadError → Result Y BadLine → Type 0
-IsFault (Bad first) read = read ≡ Err first
-IsFault NoMemory read = Unit {0}
+abbrev pub IsErrorOf : {Y : Type 0} → ReadError → Result Y BadLine → Type 0
+IsErrorOf (Bad first) read = read ≡ Err first
+IsErrorOf NoMemory read = Unit {0}
 
 -- an input as the definition has it
 abbrev pub input_view : Input → CheckInput
@@ -18,4 +18,4 @@ input_view input = record { trace = input.trace; given = input.given.now }
 -- what was read is what the definition gives
 abbrev pub GivesInput : Result Input ReadError → Result CheckInput BadLine → Type 0
 GivesInput (Ok input) read = read ≡ Ok (input_view input)
-GivesInput (Err error) read = IsFault error read
+GivesInput (Err error) read = IsErrorOf error read

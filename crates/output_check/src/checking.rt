@@ -3,7 +3,7 @@ ghost use Rattle.std.specs.Prelude.{◌≡◌, IfOk, IfErr, IsOkAnd};
 ghost use Rattle.trace_reader.specs.Values.{IsTraceValue};
 ghost use Rattle.output_check.specs.Input.{input_of};
 ghost use Rattle.output_check.specs.Checked.{IsCheckedAs};
-ghost use Rattle.output_check.specs.Reading.{IsFault, input_view};
+ghost use Rattle.output_check.specs.Reading.{IsErrorOf, input_view};
 
 use crate::input::{Input, read_input};
 use mm_types::NoMemory;
@@ -18,7 +18,7 @@ use trace_reader::ReadError;
 /// where memory runs out.
 pub fn checked(alloc: Global, bytes: &[u8]) -> Result<Vec<u8>, ReadError>
     ensures text { IfOk result (λ text. IsOkAnd (input_of bytes.now) (λ input. IsCheckedAs input text.items)) }
-    ensures bad { IfErr result (λ error. IsFault error (input_of bytes.now)) }
+    ensures bad { IfErr result (λ error. IsErrorOf error (input_of bytes.now)) }
 {
     let input = read_input(alloc, bytes)?;
     match judged(alloc, &input) {

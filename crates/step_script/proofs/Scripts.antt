@@ -25,7 +25,7 @@ by_lines bytes first (Ok (Some script)) is e = absurd cc
 by_lines bytes first (Ok None) is e = inr (is, cc)
 by_lines bytes first (Err bad) is e = inl (lines_leave-Err after_line None bytes first (is ∙ cc))
 
--- the fault of a script is that of its first bad line, or there is no core
+-- the error of a script is that of its first bad line, or there is no core
 pub script_of-Err : (bytes : List ℕ) (first : BadLine) → script_of bytes ≡ Err first → IsFirstBad bytes first ⊎ NamesNoCore bytes first
 unfolding script_of
 script_of-Err bytes first e = by_lines bytes first (after_lines None (raw_lines bytes)) refl e

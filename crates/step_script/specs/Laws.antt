@@ -12,6 +12,6 @@ use Rattle.step_script.specs.Lines.{after_line}
 abbrev pub IsFirstBad : List ℕ → BadLine → Type 0
 IsFirstBad bytes first = IsFirstBadBy after_line None bytes first
 
--- no line is bad, and none names a core: this is told as a fault of line 1
+-- no line is bad, and none names a core: this is told as an error of line 1
 abbrev pub NamesNoCore : List ℕ → BadLine → Type 0
 NamesNoCore bytes first = (after_lines None (raw_lines bytes) ≡ Ok None) × (first ≡ fault 1 Header)

@@ -5,11 +5,11 @@ use Rattle.trace_reader.specs.declared.error.ReadError.TheVariants.{Bad, NoMemor
 use Rattle.trace_reader.specs.declared.error.BadLine.{BadLine}
 
 -- a bad line is that of the definition; out of memory is free
-abbrev pub IsFault : {Y : Type 0} → ReadError → Result Y BadLine → Type 0
-IsFault (Bad first) read = read ≡ Err first
-IsFault NoMemory read = Unit {0}
+abbrev pub IsErrorOf : {Y : Type 0} → ReadError → Result Y BadLine → Type 0
+IsErrorOf (Bad first) read = read ≡ Err first
+IsErrorOf NoMemory read = Unit {0}
 
 -- what was answered is what the definition gives
 abbrev pub GivesRead : {Y : Type 0} → Result Y ReadError → Result Y BadLine → Type 0
 GivesRead (Ok y) read = read ≡ Ok y
-GivesRead (Err error) read = IsFault error read
+GivesRead (Err error) read = IsErrorOf error read

@@ -2,7 +2,7 @@
 
 ghost use Rattle.std.specs.Prelude.{◌≡◌, ◌+◌, IfOk, IfErr, Ok};
 ghost use Rattle.step_script.specs.Output.{script_output, script_text};
-ghost use Rattle.step_script.specs.Reading.{IsFault};
+ghost use Rattle.step_script.specs.Reading.{IsErrorOf};
 ghost use Rattle.step_script.specs.Values.{IsScript};
 
 use crate::grace_run::grace_text;
@@ -21,7 +21,7 @@ use trace_reader::ReadError;
 #[tactic(auto, unfolding(crate::specs::Output::script_output))]
 pub fn run_script(alloc: Global, bytes: &[u8]) -> Result<Vec<u8>, ReadError>
     ensures text { IfOk result (λ text. script_output bytes.now ≡ Ok text.items) }
-    ensures bad { IfErr result (λ error. IsFault error (script_output bytes.now)) }
+    ensures bad { IfErr result (λ error. IsErrorOf error (script_output bytes.now)) }
 {
     let script = read_script(alloc, bytes)?;
     match script_text(alloc, script) {

@@ -52,7 +52,7 @@ fn check(rt: &(impl Abort + AllocGlobal), script: &str, wanted: &str) -> Result<
 fn refusal(alloc: Global, bytes: &[u8]) -> Result<Option<BadLine>, ReadError> {
     match run_script(alloc, bytes) {
         Ok(_text) => Ok(None),
-        Err(ReadError::Bad(fault)) => Ok(Some(fault)),
+        Err(ReadError::Bad(first)) => Ok(Some(first)),
         Err(ReadError::NoMemory) => Err(ReadError::NoMemory),
     }
 }

@@ -10,7 +10,7 @@ use Rattle.trace_reader.specs.declared.error.BadLine.{BadLine}
 use Rattle.trace_reader.specs.declared.trace.Trace.{Trace}
 use Rattle.trace_reader.specs.Lines.{trace_limit}
 use Rattle.trace_reader.specs.Reading.{GivesTrace}
-use Rattle.step_script.specs.Reading.{IsFault}
+use Rattle.step_script.specs.Reading.{IsErrorOf}
 use Rattle.vma_replay.specs.declared.status.Status.{Status}
 use Rattle.vma_replay.specs.declared.words.Conversion.{Conversion}
 use Rattle.vma_replay.specs.declared.words.Conversion.TheVariants as conversions
@@ -59,14 +59,14 @@ found_whole read limit bounded old new bytes found taken is =
 
 -- where it is not, it has the source's first bad line, or memory ran out
 pub refused_first : {Y : Type 0} (read : List ℕ → Result Y BadLine) (limit : ℕ) → IsBounded read limit → (old new : SourceView) (bytes : List ℕ)
-    (error : ReadError) (status : Status) → IsTaking limit old new (Ok bytes) → IsFault error (read bytes)
+    (error : ReadError) (status : Status) → IsTaking limit old new (Ok bytes) → IsErrorOf error (read bytes)
     → status ≡ refused_as error → IsReading read limit old new (Err status)
-refused_first {Y} read limit bounded old new bytes error status taken fault is =
-    subst (λ (s : Status). IsReading read limit old new (Err s)) (sym is) (by_error error fault)
+refused_first {Y} read limit bounded old new bytes error status taken bad is =
+    subst (λ (s : Status). IsReading read limit old new (Err s)) (sym is) (by_error error bad)
   where
-    by_error : (error : ReadError) → IsFault error (read bytes) → IsReading read limit old new (Err (refused_as error))
-    by_error (reads.Bad first) fault = (taken.0, (bytes, taken.1), settled read limit bounded old.left new.left bytes (Err first) taken.1 fault)
-    by_error reads.NoMemory fault = taken.0
+    by_error : (error : ReadError) → IsErrorOf error (read bytes) → IsReading read limit old new (Err (refused_as error))
+    by_error (reads.Bad first) bad = (taken.0, (bytes, taken.1), settled read limit bounded old.left new.left bytes (Err first) taken.1 bad)
+    by_error reads.NoMemory bad = taken.0
 
 bounded_trace : IsBounded trace_of trace_limit
 bounded_trace = record { front = trace_of-front; within = trace_within }
@@ -77,9 +77,9 @@ bounded (conversions.Query address) = record { front = query_answer-front addres
 bounded conversions.Retrace = record { front = retraced-front; within = retraced-within }
 
 -- what the reader of traces answers in place of a trace
-trace_fault : (error : ReadError) (read : Result Trace BadLine) → GivesTrace (Err error) read → IsFault error read
-trace_fault (reads.Bad first) read is = is
-trace_fault reads.NoMemory read is = is
+trace_error : (error : ReadError) (read : Result Trace BadLine) → GivesTrace (Err error) read → IsErrorOf error read
+trace_error (reads.Bad first) read is = is
+trace_error reads.NoMemory read is = is
 
 -- of traces
 pub reads_trace : (old new : SourceView) (bytes : List ℕ) (trace : Trace)
@@ -90,7 +90,7 @@ pub reads_no_trace : (old new : SourceView) (bytes : List ℕ) (error : ReadErro
     → IsTaking trace_limit old new (Ok bytes) → GivesTrace (Err error) (trace_of bytes) → status ≡ refused_as error
     → IsReading trace_of trace_limit old new (Err status)
 reads_no_trace old new bytes error status taken given =
-    refused_first trace_of trace_limit bounded_trace old new bytes error status taken (trace_fault error (trace_of bytes) given)
+    refused_first trace_of trace_limit bounded_trace old new bytes error status taken (trace_error error (trace_of bytes) given)
 
 -- of what is turned into a text
 pub converts : (conversion : Conversion) (old new : SourceView) (bytes text : List ℕ)
@@ -99,6 +99,6 @@ pub converts : (conversion : Conversion) (old new : SourceView) (bytes text : Li
 converts conversion = found_whole (converted conversion) (most_converted conversion) (bounded conversion)
 
 pub converts_nothing : (conversion : Conversion) (old new : SourceView) (bytes : List ℕ) (error : ReadError) (status : Status)
-    → IsTaking (most_converted conversion) old new (Ok bytes) → IsFault error (converted conversion bytes) → status ≡ refused_as error
+    → IsTaking (most_converted conversion) old new (Ok bytes) → IsErrorOf error (converted conversion bytes) → status ≡ refused_as error
     → IsReading (converted conversion) (most_converted conversion) old new (Err status)
 converts_nothing conversion = refused_first (converted conversion) (most_converted conversion) (bounded conversion)

@@ -3,7 +3,7 @@ ghost use Rattle.std.specs.Prelude.{◌≡◌, ◌<◌, ◌^◌, ◌-◌, IfErr,
 ghost use Rattle.trace_reader.specs.Grammar.{trace_of};
 ghost use Rattle.trace_reader.specs.Lines.{trace_limit};
 ghost use Rattle.trace_reader.specs.Values.{IsTraceValue};
-ghost use Rattle.step_script.specs.Reading.{IsFault};
+ghost use Rattle.step_script.specs.Reading.{IsErrorOf};
 ghost use Rattle.vma_replay.specs.Internal.Reading.{IsChecking, IsReading, IsTaking, refused_as, taken_bytes};
 ghost use Rattle.vma_replay.specs.Replaying.{converted, most_converted};
 
@@ -57,7 +57,7 @@ pub(crate) fn convert_source<S: Source>(
 /// The text that bytes are turned into. An error is their first bad line, or that memory ran out.
 fn convert(alloc: Global, conversion: Conversion, bytes: &[u8]) -> Result<Vec<u8>, ReadError>
     ensures text { IfOk result (λ text. converted conversion bytes.now ≡ Ok text.items) }
-    ensures bad { IfErr result (λ error. IsFault error (converted conversion bytes.now)) }
+    ensures bad { IfErr result (λ error. IsErrorOf error (converted conversion bytes.now)) }
 {
     match conversion {
         Conversion::Steps => run_script(alloc, bytes),
