@@ -8,22 +8,22 @@ use Rattle.area_rules.specs.Steps.{after}
 use Rattle.history.specs.declared.items.Item.{Item}
 use Rattle.history.specs.Histories.{items_of, lines_of, journal_of}
 use Rattle.history.specs.Checking.{next_line}
-use Rattle.history.specs.Coming.{ProgressView, IsProgress}
+use Rattle.history.specs.Coming.{ProgressView, IsProgress, HasNoneLeft}
 use Rattle.history.proofs.Advances.{items_more, left_within}
 use Rattle.output_text.specs.Output.{maps_text}
-use Rattle.output_judge.specs.Judgements.{AnswerAll, IsEnding}
+use Rattle.output_judge.specs.Judgements.{IsEnding}
 
 -- where a line is left
-pub left_ending : (config : Config) (lines : List TraceLine) (items : List Item) → (AnswerAll lines items → ⊥) → IsEnding config lines items []
+pub left_ending : (config : Config) (lines : List TraceLine) (items : List Item) → (HasNoneLeft lines items → ⊥) → IsEnding config lines items []
 left_ending config lines items left = record { ended = λ all. absurd (left all); going_on = λ some. refl }
 
 -- and where none is
-pub whole_ending : (config : Config) (lines : List TraceLine) (items : List Item) → AnswerAll lines items
+pub whole_ending : (config : Config) (lines : List TraceLine) (items : List Item) → HasNoneLeft lines items
     → IsEnding config lines items (maps_text config.files (after config (journal_of items)).areas)
 whole_ending config lines items all = record { ended = λ _. refl; going_on = λ left. absurd (left all) }
 
 below : (lines : List TraceLine) (items : List Item) (count : ℕ)
-    → ((caller : ℕ) → caller < count → length (items_of items caller) ≡ length (lines_of lines caller)) ⊎ (AnswerAll lines items → ⊥)
+    → ((caller : ℕ) → caller < count → length (items_of items caller) ≡ length (lines_of lines caller)) ⊎ (HasNoneLeft lines items → ⊥)
 below lines items zero = inl (λ caller low. absurd (omega arith))
 below lines items (suc count) = elim (cases_eq (length (items_of items count)) (length (lines_of lines count))) [
   | inl same ↦ elim (below lines items count) [
@@ -74,7 +74,7 @@ some_ending config lines items item line progress is next =
     ]
 
 -- where no line is left none comes next
-pub none_next : (lines : List TraceLine) (items : List Item) (caller : ℕ) (line : TraceLine) → AnswerAll lines items
+pub none_next : (lines : List TraceLine) (items : List Item) (caller : ℕ) (line : TraceLine) → HasNoneLeft lines items
     → next_line lines items caller ≡ Some line → ⊥
 none_next lines items caller line all next =
     none-some line (sym (slice_get_past (lines_of lines caller) (length (items_of items caller)) (omega (arith, all caller))) ∙ next)

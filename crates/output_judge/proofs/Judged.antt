@@ -12,11 +12,11 @@ use Rattle.area_rules.specs.Steps.{after}
 use Rattle.history.specs.declared.items.Item.{Item}
 use Rattle.history.specs.Histories.{journal_of}
 use Rattle.history.specs.Checking.{IsGood, AreGood}
-use Rattle.history.specs.Coming.{ProgressView, IsProgress}
+use Rattle.history.specs.Coming.{ProgressView, IsProgress, HasNoneLeft}
 use Rattle.output_text.specs.Output.{start_text, result_text, item_text, told_by, maps_text, listed_text, output_text}
 use Rattle.output_judge.specs.declared.given.Given.{Given}
 use Rattle.output_judge.specs.TextLines.{text_lines}
-use Rattle.output_judge.specs.Judgements.{AnswerAll, IsEnding, items_text, IsRightText, Fits, IsLegalText, IsFirstBad}
+use Rattle.output_judge.specs.Judgements.{IsEnding, items_text, IsRightText, Fits, IsLegalText, IsFirstBad}
 use Rattle.output_judge.specs.Internal.Judging.{Begins, HasRead, Differs}
 use Rattle.output_judge.proofs.TextLines.{joined, agree_fewer, start_agrees}
 use Rattle.output_judge.proofs.ItemLines.{start_plain}
@@ -57,12 +57,12 @@ none_agrees text (line ∷ lines) is agree = absurd (cc)
 
 -- the items of a right text that agrees in one line more are more, where a line of the trace is left
 pub more_items : (trace : Trace) (text : List ℕ) (items : List Item) (given : Given) (others more : List Item) (right : List ℕ)
-    → HasRead text (items_text trace items) given → (AnswerAll trace.lines items → ⊥) → (given.rest.now ≡ [] → ⊥)
+    → HasRead text (items_text trace items) given → (HasNoneLeft trace.lines items → ⊥) → (given.rest.now ≡ [] → ⊥)
     → IsRightText trace others right → others ≡ items ++ more
     → take (given.line + 1) (text_lines right) ≡ take (given.line + 1) (text_lines text) → more ≡ [] → ⊥
 more_items trace text items given others more right read left some is whole agree none =
     let same : others ≡ items = whole ∙ ap (λ (l : List Item). items ++ l) none ∙ append-nil items in
-    let ending : is.ending ≡ [] = is.ends.going_on (λ all. left (subst (AnswerAll trace.lines) same all)) in
+    let ending : is.ending ≡ [] = is.ends.going_on (λ all. left (subst (HasNoneLeft trace.lines) same all)) in
     let text_is : right ≡ items_text trace items ++ [] =
     is.is ∙ ap (λ (t : List ℕ). items_text trace others ++ t) ending ∙ ap (λ (l : List Item). items_text trace l ++ []) same in
     some (none_agrees given.rest.now (text_lines given.rest.now) refl
@@ -135,7 +135,7 @@ comes trace text items given others (item ∷ later) right read some is whole ag
 
 -- where no item can come next, the next line is the first bad one
 pub no_item : (trace : Trace) (text : List ℕ) (items : List Item) (given : Given) → Stood trace text items given
-    → (AnswerAll trace.lines items → ⊥) → (given.rest.now ≡ [] → ⊥)
+    → (HasNoneLeft trace.lines items → ⊥) → (given.rest.now ≡ [] → ⊥)
     → ((line : TraceLine) (item : Item) (behind : List ℕ) → Known trace.config trace.lines items line item
     → given.rest.now ≡ start_text line item.version ++ behind → ⊥)
     → IsFirstBad trace text (given.line + 1)
@@ -164,7 +164,7 @@ starts line version behind same = cc
 
 -- where the text ends before the lines of the trace do, the line behind it is missing
 pub cut_short : (trace : Trace) (text : List ℕ) (items : List Item) (given : Given) → Stood trace text items given
-    → (AnswerAll trace.lines items → ⊥) → given.rest.now ≡ [] → IsFirstBad trace text (given.line + 1)
+    → (HasNoneLeft trace.lines items → ⊥) → given.rest.now ≡ [] → IsFirstBad trace text (given.line + 1)
 cut_short trace text items given stood left none =
     let ends = left_ending trace.config trace.lines items left in
     let all : text ≡ items_text trace items ++ [] = stood.read.is ∙ ap (λ (t : List ℕ). items_text trace items ++ t) none in
@@ -182,7 +182,7 @@ cut_short trace text items given stood left none =
             let more = stood.forced legal.items text right refl in
             let next = comes trace text items given legal.items more.0 text stood.read
             (λ nothing.
-            left (subst (AnswerAll trace.lines) (more.1 ∙ ap (λ (l : List Item). items ++ l) nothing ∙ append-nil items) legal.legal.none_left))
+            left (subst (HasNoneLeft trace.lines) (more.1 ∙ ap (λ (l : List Item). items ++ l) nothing ∙ append-nil items) legal.legal.none_left))
             right more.1 refl in
             starts next.line next.item.version next.behind (sym none ∙ next.begins);
         behind = ap (λ (n : ℕ). n + 1)
@@ -252,7 +252,7 @@ good_push config lines items item good last = λ place other below found.
 
 -- where the text differs from that of the next item, it does so at the first bad line
 pub bad_item : (trace : Trace) (text : List ℕ) (items : List Item) (given : Given) (progress : ProgressView) (line : TraceLine) (item : Item) (bad : ℕ)
-    → Stood trace text items given → IsProgress trace.lines items progress → (AnswerAll trace.lines items → ⊥) → (given.rest.now ≡ [] → ⊥)
+    → Stood trace text items given → IsProgress trace.lines items progress → (HasNoneLeft trace.lines items → ⊥) → (given.rest.now ≡ [] → ⊥)
     → AreNumbered trace.lines → IsItemOf trace.config trace.lines items line item → Tells trace.lines items given.rest.now line
     → Differs text (items_text trace items ++ item_text trace.config.files line item) bad → IsFirstBad trace text bad
 bad_item trace text items given progress line item bad stood going left some numbered is tells differs =
@@ -285,7 +285,7 @@ bad_item trace text items given progress line item bad stood going left some num
 
 -- after an item whose text agrees
 pub good_item : (trace : Trace) (text : List ℕ) (items : List Item) (old new : Given) (line : TraceLine) (item : Item)
-    → Stood trace text items old → (AnswerAll trace.lines items → ⊥) → (old.rest.now ≡ [] → ⊥) → AreNumbered trace.lines
+    → Stood trace text items old → (HasNoneLeft trace.lines items → ⊥) → (old.rest.now ≡ [] → ⊥) → AreNumbered trace.lines
     → IsItemOf trace.config trace.lines items line item → Tells trace.lines items old.rest.now line → old.line < new.line
     → HasRead text (items_text trace items ++ item_text trace.config.files line item) new → Stood trace text (items ++ item ∷ []) new
 good_item trace text items old new line item stood left some numbered is tells later read =
@@ -305,7 +305,7 @@ good_item trace text items old new line item stood left some numbered is tells l
 
 -- where no line is left, a right text that agrees so far has no other item, and ends with the list
 whole_text : (trace : Trace) (text : List ℕ) (items : List Item) (given : Given) (others : List Item) (right : List ℕ) (count : ℕ)
-    → Stood trace text items given → AnswerAll trace.lines items → IsRightText trace others right → given.line ≤ count
+    → Stood trace text items given → HasNoneLeft trace.lines items → IsRightText trace others right → given.line ≤ count
     → take count (text_lines right) ≡ take count (text_lines text)
     → right ≡ items_text trace items ++ maps_text trace.config.files (after trace.config (journal_of items)).areas
 whole_text trace text items given others right count stood all is within agree =
@@ -313,7 +313,7 @@ whole_text trace text items given others right count stood all is within agree =
     let more = begins trace text items given others right count stood is within agree in
     let none : more.0 ≡ [] = no_more more.0 more.1 in
     let same : others ≡ items = more.1 ∙ ap (λ (l : List Item). items ++ l) none ∙ append-nil items in
-    is.is ∙ ap (λ (t : List ℕ). items_text trace others ++ t) (is.ends.ended (subst (AnswerAll trace.lines) (sym same) all))
+    is.is ∙ ap (λ (t : List ℕ). items_text trace others ++ t) (is.ends.ended (subst (HasNoneLeft trace.lines) (sym same) all))
     ∙ ap (λ (l : List Item). items_text trace l ++ maps_text config.files (after config (journal_of l)).areas) same
   where
     no_more : (more : List Item) → others ≡ items ++ more → more ≡ []
@@ -331,7 +331,7 @@ whole_text trace text items given others right count stood all is within agree =
 
 -- where the text differs from the final list
 pub bad_list : (trace : Trace) (text : List ℕ) (items : List Item) (given : Given) (bad : ℕ) → Stood trace text items given
-    → AnswerAll trace.lines items
+    → HasNoneLeft trace.lines items
     → Differs text (items_text trace items ++ maps_text trace.config.files (after trace.config (journal_of items)).areas) bad
     → IsFirstBad trace text bad
 bad_list trace text items given bad stood all differs =
@@ -351,7 +351,7 @@ bad_list trace text items given bad stood all differs =
     }
 
 -- where the text goes on behind the final list
-pub bad_end : (trace : Trace) (text : List ℕ) (items : List Item) (old new : Given) → Stood trace text items old → AnswerAll trace.lines items
+pub bad_end : (trace : Trace) (text : List ℕ) (items : List Item) (old new : Given) → Stood trace text items old → HasNoneLeft trace.lines items
     → HasRead text (items_text trace items ++ maps_text trace.config.files (after trace.config (journal_of items)).areas) new
     → old.line ≤ new.line → (new.rest.now ≡ [] → ⊥) → IsFirstBad trace text (new.line + 1)
 bad_end trace text items old new stood all read later some =
@@ -372,7 +372,7 @@ bad_end trace text items old new stood all read later some =
     }
 
 -- where the text ends with the final list it is legal
-pub legal_end : (trace : Trace) (text : List ℕ) (items : List Item) (old new : Given) → Stood trace text items old → AnswerAll trace.lines items
+pub legal_end : (trace : Trace) (text : List ℕ) (items : List Item) (old new : Given) → Stood trace text items old → HasNoneLeft trace.lines items
     → HasRead text (items_text trace items ++ maps_text trace.config.files (after trace.config (journal_of items)).areas) new
     → new.rest.now ≡ [] → IsLegalText trace text
 unfolding output_text listed_text

@@ -9,7 +9,7 @@ use Rattle.area_rules.specs.Tables.{AddressSpace}
 use Rattle.area_rules.specs.Steps.{after, opening}
 use Rattle.area_rules.proofs.Journals.{after-nil}
 use Rattle.history.specs.declared.items.Item.{Item}
-use Rattle.history.specs.Coming.{IsProgress}
+use Rattle.history.specs.Coming.{IsProgress, HasNoneLeft}
 use Rattle.history.specs.Histories.{items_of, journal_of, is_call, read_as, op_of, answer_of, space_after}
 use Rattle.history.proofs.Advances.{journal_within, left_within, left_fewer, lines_within, progress_more, progress_within}
 use Rattle.history.proofs.Calls.{reads_space, IsAnswer, op_asks}
@@ -21,7 +21,7 @@ use Rattle.output_text.specs.Output.{item_text}
 use Rattle.output_judge.specs.declared.answers.Answer.{Answer}
 use Rattle.output_judge.specs.declared.answers.Answer.TheVariants as answers
 use Rattle.output_judge.specs.declared.judging.Walk.{Walk}
-use Rattle.output_judge.specs.Judgements.{AnswerAll, items_text}
+use Rattle.output_judge.specs.Judgements.{items_text}
 use Rattle.output_judge.specs.Internal.Judging.{TheOneComes, HasRead, IsWalked}
 use Rattle.output_judge.specs.Internal.Printed.{shown}
 use Rattle.output_judge.proofs.Answered.{IsItemOf, asked, item_answer}
@@ -123,7 +123,7 @@ pub record Passed (old new : Walk) (line : TraceLine) (caller version : ℕ) (ca
 
 -- after an item
 pub walked_more : (trace : Trace) (text : List ℕ) (old new : Walk) (walked : IsWalked trace text old) → IsTraceValue trace
-    → (AnswerAll trace.lines walked.items → ⊥) → (old.given.rest.now ≡ [] → ⊥)
+    → (HasNoneLeft trace.lines walked.items → ⊥) → (old.given.rest.now ≡ [] → ⊥)
     → (line : TraceLine) (caller version : ℕ) (areas : List Record) (answer : Answer)
     → TheOneComes trace.lines walked.items old.given.rest.now line caller → Ran trace old line caller version areas answer
     → Passed old new line caller version (is_call (shown areas answer))

@@ -5,21 +5,18 @@ use Rattle.trace_reader.specs.declared.trace.Trace.{Trace}
 use Rattle.trace_reader.specs.declared.trace.TraceLine.{TraceLine}
 use Rattle.area_rules.specs.Steps.{after}
 use Rattle.history.specs.declared.items.Item.{Item}
-use Rattle.history.specs.Histories.{items_of, lines_of, journal_of, IsLegalHistory}
+use Rattle.history.specs.Histories.{journal_of, IsLegalHistory}
 use Rattle.history.specs.Checking.{AreGood}
+use Rattle.history.specs.Coming.{HasNoneLeft}
 use Rattle.output_text.specs.Output.{item_text, told_by, maps_text, output_text}
 use Rattle.output_judge.specs.declared.judgement.Judgement.{Judgement}
 use Rattle.output_judge.specs.declared.judgement.Judgement.TheVariants.{Legal, Bad}
 use Rattle.output_judge.specs.TextLines.{text_lines}
 
--- no line of the trace is left
-abbrev pub AnswerAll : List TraceLine → List Item → Type 0
-AnswerAll lines items = (caller : ℕ) → length (items_of items caller) ≡ length (lines_of lines caller)
-
 -- behind some items stands the final list where no line is left, and else nothing
 pub record IsEnding (config : Config) (lines : List TraceLine) (items : List Item) (ending : List ℕ) : Type 0 where
-  pub ended : AnswerAll lines items → ending ≡ maps_text config.files (after config (journal_of items)).areas
-  pub going_on : ¬ AnswerAll lines items → ending ≡ []
+  pub ended : HasNoneLeft lines items → ending ≡ maps_text config.files (after config (journal_of items)).areas
+  pub going_on : ¬ HasNoneLeft lines items → ending ≡ []
 
 -- the text of some items, each with the line that it answers
 abbrev pub items_text : Trace → List Item → List ℕ

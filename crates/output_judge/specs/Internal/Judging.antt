@@ -6,14 +6,14 @@ use Rattle.area_rules.specs.Steps.{after}
 use Rattle.history.specs.declared.items.Item.{Item}
 use Rattle.history.specs.Histories.{caller_of, journal_of, StandsAmong}
 use Rattle.history.specs.Checking.{AreGood, next_line}
-use Rattle.history.specs.Coming.{IsProgress}
+use Rattle.history.specs.Coming.{IsProgress, HasNoneLeft}
 use Rattle.output_text.specs.Output.{start_text}
 use Rattle.output_judge.specs.declared.given.Given.{Given}
 use Rattle.output_judge.specs.declared.judging.Walk.{Walk}
 use Rattle.output_judge.specs.declared.stop.Stop.{Stop}
 use Rattle.output_judge.specs.declared.stop.Stop.TheVariants as stops
 use Rattle.output_judge.specs.TextLines.{text_lines}
-use Rattle.output_judge.specs.Judgements.{AnswerAll, items_text, IsRightText, IsFirstBad}
+use Rattle.output_judge.specs.Judgements.{items_text, IsRightText, IsFirstBad}
 
 -- a text was compared up to the end of these bytes, which are whole lines
 pub record HasRead (text before : List ℕ) (given : Given) : Type 0 where
@@ -50,11 +50,11 @@ pub record IsWalked (trace : Trace) (text : List ℕ) (walk : Walk) : Type 0 whe
 
 -- whatever items were compared, a line of the trace is left
 abbrev pub IsLeft : Trace → Walk → Type 0
-IsLeft trace walk = (items : List Item) → IsProgress trace.lines items walk.progress → AnswerAll trace.lines items → ⊥
+IsLeft trace walk = (items : List Item) → IsProgress trace.lines items walk.progress → HasNoneLeft trace.lines items → ⊥
 
 -- or none is
 abbrev pub IsEnded : Trace → Walk → Type 0
-IsEnded trace walk = (items : List Item) → IsProgress trace.lines items walk.progress → AnswerAll trace.lines items
+IsEnded trace walk = (items : List Item) → IsProgress trace.lines items walk.progress → HasNoneLeft trace.lines items
 
 -- a line can come next, and the text goes on as its item begins
 pub record Begins (lines : List TraceLine) (before : List Item) (rest : List ℕ) (line : TraceLine) (caller : ℕ) : Type 0 where
