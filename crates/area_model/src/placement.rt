@@ -1,5 +1,5 @@
 //! Where a new area goes that names no fixed place. Everything is counted in pages, but the hint is an address.
-ghost use Rattle.std.specs.Prelude.{◌≡◌, ◌<◌, ◌≤◌, ◌+◌, ◌^◌, ◌||◌, IfSome, max, nat_le};
+ghost use Rattle.std.specs.Prelude.{◌≡◌, ◌<◌, ◌≤◌, ◌+◌, ◌^◌, ◌||◌, ℕ, IfSome, false, max, nat_le};
 ghost use Rattle.std.specs.List.{list_all};
 ghost use Rattle.area_rules.specs.Placement.{is_free, hinted_place, highest_below, low_place, place_low, place};
 ghost use Rattle.area_rules.specs.Internal.Blockers.{blocker};
@@ -57,7 +57,7 @@ fn highest_below(bounds: Bounds, end: u64, areas: &[Record], pages: u64) -> Opti
     ensures value { result ≡ highest_below bounds end areas.now pages }
     ensures within { IfSome result (λ start. start ≤ end) }
 {
-    let mut last = end;
+    let mut last = lowered(bounds.low, end, areas, pages);
     while fits(bounds.low, pages, last) {
         match blocker(areas, pages, last - pages) {
             None => return Some(last - pages),
@@ -65,6 +65,21 @@ fn highest_below(bounds: Bounds, end: u64, areas: &[Record], pages: u64) -> Opti
         }
     }
     None
+}
+
+/// A page at or below this one past which no place ends that is free: one look at each area, from the last one on, so that where they are
+/// in order, none is in the way behind it.
+fn lowered(low: u64, end: u64, areas: &[Record], pages: u64) -> u64
+    ensures within { result ≤ end }
+    ensures none { (start : ℕ) → result < start + pages → start + pages ≤ end → is_free areas.now pages start ≡ false }
+{
+    let mut last = end;
+    for area in areas.iter().rev() {
+        if fits(low, pages, last) && area.span.lo < last && last - pages < area.span.hi {
+            last = area.span.lo;
+        }
+    }
+    last
 }
 
 /// The least free start from the floor on whose pages end at or below the end of the window. Above an area that is in the

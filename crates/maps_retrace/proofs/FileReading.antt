@@ -9,7 +9,7 @@ use Rattle.mm_types.specs.Rows.{first_row}
 use Rattle.trace_reader.specs.declared.error.Cause.{Cause}
 use Rattle.trace_reader.specs.declared.error.Cause.TheVariants.{Header, Word, TooLong, NoEnd, Utf8}
 use Rattle.trace_reader.specs.Causes.{◌>>=◌, unless}
-use Rattle.trace_reader.specs.Grammar.{fault, nothing, at_line, after_lines, lines_read, config_of, whole, trace_of}
+use Rattle.trace_reader.specs.Grammar.{bad_line, nothing, at_line, after_lines, lines_read, config_of, whole, trace_of}
 use Rattle.trace_reader.specs.Lines.{SoFar, trace_limit, with_limit, with_top, with_min, with_heap, has_descriptor, with_file, after_setting, is_comment, begins_with_digit, with_line, with_one, after_words, after_line}
 use Rattle.trace_reader.specs.Operations.{line_of}
 use Rattle.trace_reader.specs.Settings.{limit_of, bound_of, file_of}
@@ -177,7 +177,7 @@ leaves text file single opened =
     ∙ ap (λ rest. at_line 2 (after_line nothing (raw_line 2 11 text true)) (λ next. after_lines next rest)) (lines_from-nil 3 (11 + length text + 1)) in
     left_by text file (after_line nothing (raw_line 2 11 text true)) refl
     (ap (λ r. files_of (whole r)) (sym read)
-    ∙ ap files_of (sym (cond-false (nat_eq (length bytes) 0) (Err (fault 1 Header)) (whole (lines_read bytes)) some))
+    ∙ ap files_of (sym (cond-false (nat_eq (length bytes) 0) (Err (bad_line 1 Header)) (whole (lines_read bytes)) some))
     ∙ opened)
 
 -- a line that opens this file in a trace of it alone adds it to others, of which none has its descriptor

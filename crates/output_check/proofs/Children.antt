@@ -19,7 +19,7 @@ use Rattle.trace_reader.specs.declared.trace.TraceLine.{TraceLine}
 use Rattle.trace_reader.specs.Calls.{call_named, brk_of, mseal_of}
 use Rattle.trace_reader.specs.Causes.{◌>>=◌, unless}
 use Rattle.trace_reader.specs.Fields.{number, access}
-use Rattle.trace_reader.specs.Grammar.{fault, nothing, at_line, lines_leave, lines_read, whole, trace_of}
+use Rattle.trace_reader.specs.Grammar.{bad_line, nothing, at_line, lines_leave, lines_read, whole, trace_of}
 use Rattle.trace_reader.specs.Laws.{Follow}
 use Rattle.trace_reader.specs.Lines.{SoFar, version_of, with_header, with_one, with_line, once, with_limit, with_top, with_min, with_heap, with_file, after_setting, is_comment, begins_with_digit, after_words, after_line, text_of}
 use Rattle.trace_reader.specs.Numbers.{thread_of}
@@ -298,7 +298,7 @@ bad_first (Some n) first is = rw (le-ltb n first.line is) refl
 
 -- and a fork where no line is bad above it
 fork_first : {A : Type 0} (number : ℕ) (read : Result A BadLine) → IfErr read (λ first. number < first.line)
-    → without_forks (Some number) read ≡ Err (fault number Child)
+    → without_forks (Some number) read ≡ Err (bad_line number Child)
 fork_first number (Ok s) is = refl
 fork_first number (Err first) is = rw (lt-ltb number first.line is) refl
 
@@ -325,8 +325,8 @@ plain_lines number start (line ∷ lines) s follow none =
         → (r : Result SoFar Cause) (forks : Bool) → IfOk r (Adds forks s)
         → at_line line.number (r >>= λ next. if nat_eq (length next.children) 0 then Ok next else Err Child) (λ next. lines_leave plain_line next lines)
         ≡ without_forks (if forks then Some line.number else first_fork lines) (at_line line.number r (λ next. lines_leave after_line next lines))
-    by_line more (Err cause) true adds = sym (bad_first (Some line.number) (fault line.number cause) (omega arith))
-    by_line more (Err cause) false adds = sym (bad_first (first_fork lines) (fault line.number cause)
+    by_line more (Err cause) true adds = sym (bad_first (Some line.number) (bad_line line.number cause) (omega arith))
+    by_line more (Err cause) false adds = sym (bad_first (first_fork lines) (bad_line line.number cause)
         (past (first_fork lines) (first_fork-from (number + 1) _ lines follow.2)))
     by_line more (Ok next) true adds =
         let child : nat_eq (length next.children) 0 ≡ false = ne_eqb (length next.children) 0 (λ is. absurd (omega (arith, adds, is))) in
@@ -341,7 +341,7 @@ whole_without None r = refl
 whole_without (Some number) (Ok s) = refl
 whole_without (Some number) (Err first) = by_test (nat_lt number first.line)
   where
-    by_test : (b : Bool) → whole (if b then Err (fault number Child) else Err first) ≡ (if b then Err (fault number Child) else Err first)
+    by_test : (b : Bool) → whole (if b then Err (bad_line number Child) else Err first) ≡ (if b then Err (bad_line number Child) else Err first)
     by_test true = refl
     by_test false = refl
 
@@ -380,9 +380,9 @@ plain_is bytes = by_test (nat_eq (length bytes) 0) refl
     fork = first_fork (raw_lines bytes)
 
     by_test : (b : Bool) → nat_eq (length bytes) 0 ≡ b
-        → (if b then Err (fault 1 Header) else whole (lines_leave plain_line nothing (raw_lines bytes)))
-        ≡ without_forks fork (if b then Err (fault 1 Header) else whole (lines_leave after_line nothing (raw_lines bytes)))
-    by_test true none = ap (λ (o : Option ℕ). without_forks o (Err (fault 1 Header))) (sym (none_forks bytes (eqb-true (length bytes) 0 none)))
+        → (if b then Err (bad_line 1 Header) else whole (lines_leave plain_line nothing (raw_lines bytes)))
+        ≡ without_forks fork (if b then Err (bad_line 1 Header) else whole (lines_leave after_line nothing (raw_lines bytes)))
+    by_test true none = ap (λ (o : Option ℕ). without_forks o (Err (bad_line 1 Header))) (sym (none_forks bytes (eqb-true (length bytes) 0 none)))
     by_test false some = ap whole (plain_lines 1 0 (raw_lines bytes) nothing (raw_lines-AreLinesOf bytes).follow refl)
         ∙ whole_without fork (lines_leave after_line nothing (raw_lines bytes))
 
@@ -391,7 +391,7 @@ good_without None r trace is = is
 good_without (Some number) (Ok s) trace is = absurd cc
 good_without (Some number) (Err first) trace is = absurd (by_test (nat_lt number first.line) is)
   where
-    by_test : (b : Bool) → (if b then Err (fault number Child) else Err first) ≡ Ok trace → ⊥
+    by_test : (b : Bool) → (if b then Err (bad_line number Child) else Err first) ≡ Ok trace → ⊥
     by_test true is = cc
     by_test false is = cc
 

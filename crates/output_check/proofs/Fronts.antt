@@ -7,7 +7,7 @@ use Rattle.std.proofs.lemmas.List.{length-take, length-drop, take-take, take_all
 use Rattle.trace_reader.specs.declared.error.Cause.TheVariants.{Header, TooLong, NoEnd}
 use Rattle.trace_reader.specs.declared.error.BadLine.{BadLine}
 use Rattle.trace_reader.specs.declared.trace.Trace.{Trace}
-use Rattle.trace_reader.specs.Grammar.{fault, nothing, lines_leave, whole}
+use Rattle.trace_reader.specs.Grammar.{bad_line, nothing, lines_leave, whole}
 use Rattle.trace_reader.specs.Lines.{SoFar, trace_limit}
 use Rattle.trace_reader.specs.RawLines.{is_newline, raw_lines}
 use Rattle.trace_reader.proofs.Beginnings.{lines_leave-front}
@@ -22,8 +22,8 @@ unfolding plain_trace_of
 plain_front bytes =
     let front = take (trace_limit + 1) bytes in
     let none : nat_eq (length front) 0 ≡ nat_eq (length bytes) 0 = grind (arith, nat_tests, length-take (trace_limit + 1) bytes) in
-    ap (λ (b : Bool). if b then Err (fault 1 Header) else whole (lines_leave plain_line nothing (raw_lines front))) none
-    ∙ ap (λ (read : Result SoFar BadLine). if nat_eq (length bytes) 0 then Err (fault 1 Header) else whole read)
+    ap (λ (b : Bool). if b then Err (bad_line 1 Header) else whole (lines_leave plain_line nothing (raw_lines front))) none
+    ∙ ap (λ (read : Result SoFar BadLine). if nat_eq (length bytes) 0 then Err (bad_line 1 Header) else whole read)
     (lines_leave-front trace_limit plain_line plain_line-limited nothing bytes)
 
 -- so do more bytes
@@ -44,7 +44,7 @@ line_at-front offset count bytes within = ap (λ (front : List ℕ). count_by is
 
 -- a text of too many bytes
 too_long : (place : ℕ) (bytes : List ℕ) (trace : Trace) → place + 3 + TEXT_LIMIT < length bytes
-    → with_given place bytes trace ≡ Err (fault (line_at (place + 3 + TEXT_LIMIT) bytes) TooLong)
+    → with_given place bytes trace ≡ Err (bad_line (line_at (place + 3 + TEXT_LIMIT) bytes) TooLong)
 too_long place bytes trace long =
     rw (lt-ltb TEXT_LIMIT (length (drop (place + 3) bytes)) (omega (arith, length-drop (place + 3) bytes))) refl
 
@@ -53,7 +53,7 @@ given_front : (place count : ℕ) (bytes : List ℕ) (trace : Trace) → place +
     → with_given place (take count bytes) trace ≡ with_given place bytes trace
 given_front place count bytes trace enough = elim (cases_lt (place + 3 + TEXT_LIMIT) (length bytes)) [
   | inl long ↦ too_long place (take count bytes) trace (omega (arith, length-take count bytes))
-      ∙ ap (λ (line : ℕ). Err (fault line TooLong)) (line_at-front (place + 3 + TEXT_LIMIT) count bytes (omega arith))
+      ∙ ap (λ (line : ℕ). Err (bad_line line TooLong)) (line_at-front (place + 3 + TEXT_LIMIT) count bytes (omega arith))
       ∙ sym (too_long place bytes trace long)
   | inr short ↦ ap (λ (bs : List ℕ). with_given place bs trace) (take_all count bytes (omega arith))
 ]
@@ -84,7 +84,7 @@ past : (place : ℕ) (bytes : List ℕ) → check_limit + 1 < place + 3 → plac
 unfolding check_limit
 past place bytes far within =
     let front = take (check_limit + 1) bytes in
-    bad_decides (plain_trace_of front) (plain_trace_of (take place bytes)) (λ trace. Err (fault (line_at (length front) front) NoEnd)) (with_given place bytes)
+    bad_decides (plain_trace_of front) (plain_trace_of (take place bytes)) (λ trace. Err (bad_line (line_at (length front) front) NoEnd)) (with_given place bytes)
     (plain_beginning (check_limit + 1) bytes (omega arith) ∙ sym (plain_beginning place bytes (omega arith)))
     (λ trace good. absurd (long_front bytes trace (omega arith) good))
 
@@ -94,8 +94,8 @@ unfolding check_limit
 missing bytes =
     let front = take (check_limit + 1) bytes in
     elim (cases_lt check_limit (length bytes)) [
-      | inl long ↦ bad_decides (plain_trace_of front) (plain_trace_of bytes) (λ trace. Err (fault (line_at (length front) front) NoEnd))
-          (λ trace. Err (fault (line_at (length bytes) bytes) NoEnd))
+      | inl long ↦ bad_decides (plain_trace_of front) (plain_trace_of bytes) (λ trace. Err (bad_line (line_at (length front) front) NoEnd))
+          (λ trace. Err (bad_line (line_at (length bytes) bytes) NoEnd))
           (plain_beginning (check_limit + 1) bytes (omega arith))
           (λ trace good. absurd (long_front bytes trace long good))
       | inr short ↦ ap (parted None) (take_all (check_limit + 1) bytes (omega arith))

@@ -8,7 +8,7 @@ use Rattle.trace_reader.specs.declared.error.BadLine.{BadLine}
 use Rattle.trace_reader.specs.declared.limits.TheConstants.{LINE_LIMIT}
 use Rattle.trace_reader.specs.declared.trace.Trace.{Trace}
 use Rattle.trace_reader.specs.Causes.{◌>>=◌}
-use Rattle.trace_reader.specs.Grammar.{fault, nothing, lines_leave, whole}
+use Rattle.trace_reader.specs.Grammar.{bad_line, nothing, lines_leave, whole}
 use Rattle.trace_reader.specs.Lines.{SoFar, after_line, after_words, with_header, trace_limit}
 use Rattle.trace_reader.specs.RawLines.{raw_lines}
 use Rattle.trace_reader.specs.Values.{IsTraceValue}
@@ -35,7 +35,7 @@ whole_read (Err first) trace is = absurd cc
 -- a trace that does not fork has no byte past the limit
 pub plain_within : (bytes : List ℕ) (trace : Trace) → plain_trace_of bytes ≡ Ok trace → length bytes ≤ trace_limit
 unfolding plain_trace_of
-plain_within bytes trace = cond_both (nat_eq (length bytes) 0) (Err (fault 1 Header)) (whole (lines_leave plain_line nothing (raw_lines bytes)))
+plain_within bytes trace = cond_both (nat_eq (length bytes) 0) (Err (bad_line 1 Header)) (whole (lines_leave plain_line nothing (raw_lines bytes)))
     (λ r. r ≡ Ok trace → length bytes ≤ trace_limit)
     (λ none is. omega (arith, eqb-true (length bytes) 0 none))
     (λ _ is. let read = whole_read (lines_leave plain_line nothing (raw_lines bytes)) trace is in
@@ -49,7 +49,7 @@ good_trace (Err first) rest input is = absurd cc
 given_within : (place : ℕ) (bytes : List ℕ) (trace : Trace) (input : CheckInput) → with_given place bytes trace ≡ Ok input
     → length (drop (place + 3) bytes) ≤ TEXT_LIMIT
 given_within place bytes trace input = cond_both (nat_lt TEXT_LIMIT (length (drop (place + 3) bytes)))
-    (Err (fault (line_at (place + 3 + TEXT_LIMIT) bytes) TooLong)) (Ok (record { trace = trace; given = drop (place + 3) bytes }))
+    (Err (bad_line (line_at (place + 3 + TEXT_LIMIT) bytes) TooLong)) (Ok (record { trace = trace; given = drop (place + 3) bytes }))
     (λ r. r ≡ Ok input → length (drop (place + 3) bytes) ≤ TEXT_LIMIT)
     (λ _ is. absurd cc)
     (λ few _. ltb-false TEXT_LIMIT (length (drop (place + 3) bytes)) few)
@@ -61,9 +61,9 @@ parted_within (Some place) bytes input is =
     let text = given_within place bytes good.0 input good.2 in
     omega (arith, plain_within (take place bytes) good.0 good.1, text, length-take place bytes, length-drop (place + 3) bytes)
 parted_within None bytes input is =
-    let good = good_trace (plain_trace_of bytes) (λ trace. Err (fault (line_at (length bytes) bytes) NoEnd)) input is in absurd (no_ok good.2)
+    let good = good_trace (plain_trace_of bytes) (λ trace. Err (bad_line (line_at (length bytes) bytes) NoEnd)) input is in absurd (no_ok good.2)
   where
-    no_ok : Err (fault (line_at (length bytes) bytes) NoEnd) ≡ Ok input → ⊥
+    no_ok : Err (bad_line (line_at (length bytes) bytes) NoEnd) ≡ Ok input → ⊥
     no_ok e = cc
 
 -- an input has no byte past the limit
@@ -73,7 +73,7 @@ input_within bytes input is = parted_within (mark_from true bytes) bytes input i
 
 given_trace : (place : ℕ) (bytes : List ℕ) (trace : Trace) (input : CheckInput) → with_given place bytes trace ≡ Ok input → trace ≡ input.trace
 given_trace place bytes trace input = cond_both (nat_lt TEXT_LIMIT (length (drop (place + 3) bytes)))
-    (Err (fault (line_at (place + 3 + TEXT_LIMIT) bytes) TooLong)) (Ok (record { trace = trace; given = drop (place + 3) bytes }))
+    (Err (bad_line (line_at (place + 3 + TEXT_LIMIT) bytes) TooLong)) (Ok (record { trace = trace; given = drop (place + 3) bytes }))
     (λ r. r ≡ Ok input → trace ≡ input.trace)
     (λ _ is. absurd cc)
     (λ _ is.
@@ -86,9 +86,9 @@ parted_value (Some place) bytes input is =
     subst IsTraceValue (given_trace place bytes good.0 input good.2)
     (trace_of-value (take place bytes) good.0 (plain_good (take place bytes) good.0 good.1))
 parted_value None bytes input is =
-    let good = good_trace (plain_trace_of bytes) (λ trace. Err (fault (line_at (length bytes) bytes) NoEnd)) input is in absurd (no_ok good.2)
+    let good = good_trace (plain_trace_of bytes) (λ trace. Err (bad_line (line_at (length bytes) bytes) NoEnd)) input is in absurd (no_ok good.2)
   where
-    no_ok : Err (fault (line_at (length bytes) bytes) NoEnd) ≡ Ok input → ⊥
+    no_ok : Err (bad_line (line_at (length bytes) bytes) NoEnd) ≡ Ok input → ⊥
     no_ok e = cc
 
 -- the trace of an input is one that can be read

@@ -6,7 +6,7 @@ use Rattle.trace_reader.specs.declared.error.Cause.TheVariants.{Header, TooLong,
 use Rattle.trace_reader.specs.declared.error.BadLine.{BadLine}
 use Rattle.trace_reader.specs.declared.trace.Trace.{Trace}
 use Rattle.trace_reader.specs.Causes.{◌>>=◌}
-use Rattle.trace_reader.specs.Grammar.{fault, nothing, lines_leave, whole}
+use Rattle.trace_reader.specs.Grammar.{bad_line, nothing, lines_leave, whole}
 use Rattle.trace_reader.specs.Lines.{SoFar, after_line, trace_limit}
 use Rattle.trace_reader.specs.RawLines.{RawLine, is_newline, raw_lines}
 use Rattle.output_check.specs.declared.input.TheConstants.{TEXT_LIMIT}
@@ -32,7 +32,7 @@ plain_line so_far line = after_line so_far line >>= λ next. if nat_eq (length n
 
 -- the trace that bytes are where no line forks, or the first bad line and its cause
 unfoldable pub plain_trace_of : List ℕ → Result Trace BadLine
-plain_trace_of bytes = if nat_eq (length bytes) 0 then Err (fault 1 Header)
+plain_trace_of bytes = if nat_eq (length bytes) 0 then Err (bad_line 1 Header)
     else whole (lines_leave plain_line nothing (raw_lines bytes))
 
 -- the number of the line that holds the byte at an offset
@@ -47,13 +47,13 @@ after_trace (Err first) rest = Err first
 -- the text behind a mark at this offset, which has not too many bytes
 abbrev pub with_given : ℕ → List ℕ → Trace → Result CheckInput BadLine
 with_given place bytes trace = if nat_lt TEXT_LIMIT (length (drop (place + 3) bytes))
-    then Err (fault (line_at (place + 3 + TEXT_LIMIT) bytes) TooLong)
+    then Err (bad_line (line_at (place + 3 + TEXT_LIMIT) bytes) TooLong)
     else Ok (record { trace = trace; given = drop (place + 3) bytes })
 
 -- the trace before a mark, and the text behind it; without a mark, the line after the last is missing
 abbrev pub parted : Option ℕ → List ℕ → Result CheckInput BadLine
 parted (Some place) bytes = after_trace (plain_trace_of (take place bytes)) (with_given place bytes)
-parted None bytes = after_trace (plain_trace_of bytes) (λ trace. Err (fault (line_at (length bytes) bytes) NoEnd))
+parted None bytes = after_trace (plain_trace_of bytes) (λ trace. Err (bad_line (line_at (length bytes) bytes) NoEnd))
 
 -- the trace and the text that bytes are, or the first bad line and its cause
 unfoldable pub input_of : List ℕ → Result CheckInput BadLine

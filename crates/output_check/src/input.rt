@@ -1,6 +1,6 @@
 //! The trace and the text that the bytes of a check are.
 ghost use Rattle.std.specs.Prelude.{◌≡◌, ◌+◌, ◌≤◌, true, length, IfSome, Result};
-ghost use Rattle.trace_reader.specs.Grammar.{fault};
+ghost use Rattle.trace_reader.specs.Grammar.{bad_line};
 ghost use Rattle.trace_reader.specs.Reading.{GivesTrace};
 ghost use Rattle.trace_reader.specs.declared.error.BadLine.{BadLine};
 ghost use Rattle.trace_reader.specs.declared.trace.Trace.{Trace};
@@ -59,7 +59,7 @@ fn mark_of(bytes: &[u8]) -> Option<usize>
 #[tactic(auto, unfolding(crate::specs::Input::line_at))]
 fn bad_at(bytes: &[u8], offset: usize, cause: Cause) -> ReadError
     requires { offset ≤ length bytes.now }
-    ensures { result ≡ ReadError.Bad (fault (line_at offset bytes.now) cause) }
+    ensures { result ≡ ReadError.Bad (bad_line (line_at offset bytes.now) cause) }
 {
     let above = bytes[..offset]
         .iter()

@@ -2,7 +2,7 @@
 use Rattle.std.specs.Prelude.{ℕ, List, Option, Some, None, Result, Ok, Err}
 use Rattle.trace_reader.specs.declared.error.Cause.TheVariants.{Header}
 use Rattle.trace_reader.specs.declared.error.BadLine.{BadLine}
-use Rattle.trace_reader.specs.Grammar.{fault, lines_leave}
+use Rattle.trace_reader.specs.Grammar.{bad_line, lines_leave}
 use Rattle.trace_reader.specs.RawLines.{RawLine, raw_lines}
 use Rattle.step_script.specs.declared.script.Script.{Script}
 use Rattle.step_script.specs.Lines.{after_line}
@@ -14,7 +14,7 @@ after_lines script lines = lines_leave after_line script lines
 -- a script that names a core; where no line does, line 1 is bad
 abbrev pub whole : Result (Option Script) BadLine → Result Script BadLine
 whole (Ok (Some script)) = Ok script
-whole (Ok None) = Err (fault 1 Header)
+whole (Ok None) = Err (bad_line 1 Header)
 whole (Err first) = Err first
 
 -- the script that the bytes are, or the first bad line and its cause

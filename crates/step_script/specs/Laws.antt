@@ -2,7 +2,7 @@
 use Rattle.std.specs.Prelude.{ℕ, ◌≡◌, List, None, Ok}
 use Rattle.trace_reader.specs.declared.error.Cause.TheVariants.{Header}
 use Rattle.trace_reader.specs.declared.error.BadLine.{BadLine}
-use Rattle.trace_reader.specs.Grammar.{fault}
+use Rattle.trace_reader.specs.Grammar.{bad_line}
 use Rattle.trace_reader.specs.Laws.{IsFirstBadBy}
 use Rattle.trace_reader.specs.RawLines.{raw_lines}
 use Rattle.step_script.specs.Grammar.{after_lines}
@@ -14,4 +14,4 @@ IsFirstBad bytes first = IsFirstBadBy after_line None bytes first
 
 -- no line is bad, and none names a core: this is told as an error of line 1
 abbrev pub NamesNoCore : List ℕ → BadLine → Type 0
-NamesNoCore bytes first = (after_lines None (raw_lines bytes) ≡ Ok None) × (first ≡ fault 1 Header)
+NamesNoCore bytes first = (after_lines None (raw_lines bytes) ≡ Ok None) × (first ≡ bad_line 1 Header)

@@ -11,7 +11,7 @@ use Rattle.trace_reader.specs.declared.error.BadLine.{BadLine}
 use Rattle.trace_reader.specs.declared.limits.TheConstants.{LINE_LIMIT}
 use Rattle.trace_reader.specs.declared.trace.Trace.{Trace}
 use Rattle.trace_reader.specs.Causes.{◌>>=◌}
-use Rattle.trace_reader.specs.Grammar.{fault, nothing, at_line, lines_leave, lines_read, whole, trace_of}
+use Rattle.trace_reader.specs.Grammar.{bad_line, nothing, at_line, lines_leave, lines_read, whole, trace_of}
 use Rattle.trace_reader.specs.Lines.{SoFar, trace_limit, with_header, after_words, after_line}
 use Rattle.trace_reader.specs.RawLines.{RawLine, raw_line, raw_lines, is_newline, lines_from}
 use Rattle.trace_reader.specs.Words.{words_of}
@@ -25,14 +25,14 @@ IsLimited {S} limit step = (before : S) (line : RawLine) → limit < line.start 
 
 stops : {S : Type 0} (limit : ℕ) (step : S → RawLine → Result S Cause) (limited : IsLimited limit step) (before : S) (line : RawLine) (more : List RawLine)
     → limit < line.start + length line.text + 1
-    → lines_leave step before (line ∷ more) ≡ Err (fault line.number TooLong)
+    → lines_leave step before (line ∷ more) ≡ Err (bad_line line.number TooLong)
 stops {S} limit step limited before line more past =
     ap (λ (r : Result S Cause). at_line line.number r (λ next. lines_leave step next more)) (limited before line past)
 
 -- bytes that hold no newline up to the limit stop it in their first line
 stops_in_first : {S : Type 0} (limit : ℕ) (step : S → RawLine → Result S Cause) (limited : IsLimited limit step) (before : S) (number start : ℕ) (bytes : List ℕ) → 0 < length bytes
     → limit < start + position_or_len is_newline bytes + 1
-    → lines_leave step before (lines_from number start bytes) ≡ Err (fault number TooLong)
+    → lines_leave step before (lines_from number start bytes) ≡ Err (bad_line number TooLong)
 stops_in_first limit step limited before number start bytes some past =
     let n = position_or_len is_newline bytes in
     elim (cases_lt n (length bytes)) [
@@ -159,9 +159,9 @@ none_in_front limit bytes = grind (arith, nat_tests, length-take (limit + 1) byt
 pub trace_of-front : (bytes : List ℕ) → trace_of (take (trace_limit + 1) bytes) ≡ trace_of bytes
 unfolding trace_of
 trace_of-front bytes =
-    ap (λ (none : Bool). if none then Err (fault 1 Header) else whole (lines_read (take (trace_limit + 1) bytes)))
+    ap (λ (none : Bool). if none then Err (bad_line 1 Header) else whole (lines_read (take (trace_limit + 1) bytes)))
     (none_in_front trace_limit bytes)
-    ∙ ap (λ (read : Result SoFar BadLine). if nat_eq (length bytes) 0 then Err (fault 1 Header) else whole read)
+    ∙ ap (λ (read : Result SoFar BadLine). if nat_eq (length bytes) 0 then Err (bad_line 1 Header) else whole read)
     (lines_read-front bytes)
 
 -- where lines were all read, each was read, and so the first
@@ -178,7 +178,7 @@ read_within {S} limit step limited (suc fuel) number start bytes before read few
     let n = position_or_len is_newline bytes in
     elim (cases_lt 0 (length bytes)) [
       | inl some ↦ elim (cases_lt limit (start + n + 1)) [
-        | inl past ↦ absurd (ok_is_no_fault read (fault number TooLong) (sym all ∙ stops_in_first limit step limited before number start bytes some past))
+        | inl past ↦ absurd (ok_is_no_error read (bad_line number TooLong) (sym all ∙ stops_in_first limit step limited before number start bytes some past))
         | inr here ↦ elim (cases_lt n (length bytes)) [
           | inl within ↦
               let rest = lines_from (number + 1) (start + n + 1) (after_first is_newline bytes) in
@@ -192,8 +192,8 @@ read_within {S} limit step limited (suc fuel) number start bytes before read few
       | inr none ↦ omega arith
     ]
   where
-    ok_is_no_fault : (read : S) (first : BadLine) → Ok read ≡ Err first → ⊥
-    ok_is_no_fault read first same = cc
+    ok_is_no_error : (read : S) (first : BadLine) → Ok read ≡ Err first → ⊥
+    ok_is_no_error read first same = cc
 
 -- the bytes of lines that were all read end within the limit
 pub lines_leave-within : {S : Type 0} (limit : ℕ) (step : S → RawLine → Result S Cause) (limited : IsLimited limit step) (before read : S) (bytes : List ℕ)
@@ -210,7 +210,7 @@ pub trace_within : (bytes : List ℕ) (trace : Trace) → trace_of bytes ≡ Ok 
 unfolding trace_of lines_read
 trace_within bytes trace is = elim (cases_lt 0 (length bytes)) [
   | inl some ↦
-      let read = whole_read (lines_read bytes) trace (sym (ap (λ (t : Bool). if t then Err (fault 1 Header) else whole (lines_read bytes)) (is_some_length (length bytes) some)) ∙ is) in
+      let read = whole_read (lines_read bytes) trace (sym (ap (λ (t : Bool). if t then Err (bad_line 1 Header) else whole (lines_read bytes)) (is_some_length (length bytes) some)) ∙ is) in
       lines_leave-within trace_limit after_line after_line-limited nothing read.0 bytes read.1
   | inr none ↦ omega arith
 ]

@@ -5,7 +5,7 @@ use Rattle.std.proofs.lemmas.List.{nil_from_length}
 use Rattle.trace_reader.specs.declared.error.Cause.{Cause}
 use Rattle.trace_reader.specs.declared.error.Cause.TheVariants.{Header}
 use Rattle.trace_reader.specs.declared.error.BadLine.{BadLine}
-use Rattle.trace_reader.specs.Grammar.{fault, nothing, at_line, lines_leave, lines_read, whole, trace_of}
+use Rattle.trace_reader.specs.Grammar.{bad_line, nothing, at_line, lines_leave, lines_read, whole, trace_of}
 use Rattle.trace_reader.specs.Laws.{IsFirstBadBy, IsFirstBad}
 use Rattle.trace_reader.specs.Lines.{SoFar, after_line}
 use Rattle.trace_reader.specs.RawLines.{RawLine, raw_lines}
@@ -40,7 +40,7 @@ first_among {S} step before line lines first (Ok next) is e later =
       number = rest.number;
     }
 first_among {S} step before line lines first (Err cause) is e later =
-    let same : fault line.number cause ≡ first = cc in
+    let same : bad_line line.number cause ≡ first = cc in
     record {
       above = [];
       line = line;
@@ -59,7 +59,7 @@ lines_leave-among step before (line ∷ lines) first e =
     first_among step before line lines first (step before line) refl e
     (λ next bad. lines_leave-among step next lines first bad)
 
--- the fault of lines is that of the first bad one
+-- the error of lines is that of the first bad one
 pub lines_leave-Err : {S : Type 0} (step : S → RawLine → Result S Cause) (start : S) (bytes : List ℕ) (first : BadLine)
     → lines_leave step start (raw_lines bytes) ≡ Err first → IsFirstBadBy step start bytes first
 lines_leave-Err step start bytes first e =
@@ -81,9 +81,9 @@ whole-Err bytes (Ok s) first is e = absurd cc
 whole-Err bytes (Err other) first is e = is ∙ cc
 
 pub trace_of-Err : (bytes : List ℕ) (first : BadLine) → trace_of bytes ≡ Err first
-    → ((bytes ≡ []) × (first ≡ fault 1 Header)) ⊎ IsFirstBad bytes first
+    → ((bytes ≡ []) × (first ≡ bad_line 1 Header)) ⊎ IsFirstBad bytes first
 unfolding trace_of lines_read
-trace_of-Err bytes first = cond_both (nat_eq (length bytes) 0) (Err (fault 1 Header)) (whole (lines_read bytes))
-    (λ r. r ≡ Err first → ((bytes ≡ []) × (first ≡ fault 1 Header)) ⊎ IsFirstBad bytes first)
+trace_of-Err bytes first = cond_both (nat_eq (length bytes) 0) (Err (bad_line 1 Header)) (whole (lines_read bytes))
+    (λ r. r ≡ Err first → ((bytes ≡ []) × (first ≡ bad_line 1 Header)) ⊎ IsFirstBad bytes first)
     (λ none e. inl (nil_from_length bytes (eqb-true (length bytes) 0 none), cc))
     (λ _ e. inr (lines_leave-Err after_line nothing bytes first (whole-Err bytes (lines_read bytes) first refl e)))

@@ -4,7 +4,7 @@ use Rattle.trace_reader.specs.declared.error.CallError.{CallError}
 use Rattle.trace_reader.specs.declared.error.CallError.TheVariants as calls
 use Rattle.trace_reader.specs.declared.error.Cause.{Cause}
 use Rattle.trace_reader.specs.declared.error.BadLine.{BadLine}
-use Rattle.trace_reader.specs.Grammar.{fault, at_line, lines_leave, after_lines}
+use Rattle.trace_reader.specs.Grammar.{bad_line, at_line, lines_leave, after_lines}
 use Rattle.trace_reader.specs.Lines.{SoFar, after_line}
 use Rattle.trace_reader.specs.RawLines.{RawLine, lines_from}
 use Rattle.trace_reader.specs.Reading.{Fails, GivesLines, error_at}
@@ -14,11 +14,11 @@ use Rattle.trace_reader.proofs.RawPieces.{lines_from-nil}
 pub first_bad : {S : Type 0} (step : S → RawLine → Result S Cause) (before : S) (lines more : List RawLine) (line : RawLine) (cause : Cause)
     (all : Result S BadLine) (number : ℕ)
     → lines_leave step before lines ≡ all → lines ≡ line ∷ more → line.number ≡ number → step before line ≡ Err cause
-    → all ≡ Err (fault number cause)
+    → all ≡ Err (bad_line number cause)
 first_bad {S} step before lines more line cause all number so_far first numbered fails =
     sym so_far ∙ ap (lines_leave step before) first
     ∙ ap (λ (r : Result S Cause). at_line line.number r (λ next. lines_leave step next more)) fails
-    ∙ ap (λ (n : ℕ). Err (fault n cause)) numbered
+    ∙ ap (λ (n : ℕ). Err (bad_line n cause)) numbered
 
 pub first_fails : (before : SoFar) (lines more : List RawLine) (line : RawLine) (error : CallError)
     (all : Result SoFar BadLine) (number : ℕ)

@@ -22,7 +22,7 @@ use Rattle.trace_reader.specs.declared.error.BadLine.{BadLine}
 use Rattle.trace_reader.specs.declared.limits.TheConstants.{LINE_LIMIT}
 use Rattle.trace_reader.specs.declared.trace.Trace.{Trace}
 use Rattle.trace_reader.specs.Causes.{◌>>=◌, unless}
-use Rattle.trace_reader.specs.Grammar.{fault, nothing, at_line, after_lines, lines_read, address_limit, config_of, trace_so_far, whole, trace_of}
+use Rattle.trace_reader.specs.Grammar.{bad_line, nothing, at_line, after_lines, lines_read, address_limit, config_of, trace_so_far, whole, trace_of}
 use Rattle.trace_reader.specs.Lines.{SoFar, trace_limit, is_too_long, version_of, with_header, names_rightly, forks_rightly, is_full, with_one, with_line, once, with_limit, with_top, with_min, with_heap, has_descriptor, with_file, after_setting, is_comment, begins_with_digit, after_words, after_line}
 use Rattle.trace_reader.specs.Numbers.{thread_of}
 use Rattle.trace_reader.specs.Operations.{op_of, op_has_its_new, line_named, note_of, without_note, line_of}
@@ -401,6 +401,6 @@ whole-value (Err first) trace read e = absurd cc
 
 pub trace_of-value : (bytes : List ℕ) (trace : Trace) → trace_of bytes ≡ Ok trace → IsTraceValue trace
 unfolding trace_of
-trace_of-value bytes trace = cond_both (nat_eq (length bytes) 0) (Err (fault 1 Header)) (whole (lines_read bytes))
+trace_of-value bytes trace = cond_both (nat_eq (length bytes) 0) (Err (bad_line 1 Header)) (whole (lines_read bytes))
     (λ r. r ≡ Ok trace → IsTraceValue trace)
     (λ _ e. absurd cc) (λ _ e. whole-value (lines_read bytes) trace (lines_read-value bytes) e)

@@ -12,9 +12,9 @@ use Rattle.trace_reader.specs.declared.trace.Trace.{Trace}
 use Rattle.trace_reader.specs.RawLines.{RawLine, raw_lines}
 use Rattle.trace_reader.specs.Lines.{SoFar, after_line}
 
--- the fault of a line, from its number
-abbrev pub fault : ℕ → Cause → BadLine
-fault line cause = record { line = line; cause = cause }
+-- a bad line, by its number and what is wrong with it
+abbrev pub bad_line : ℕ → Cause → BadLine
+bad_line line cause = record { line = line; cause = cause }
 
 -- before the first line
 abbrev pub nothing : SoFar
@@ -34,7 +34,7 @@ nothing = record {
 -- what follows a line that was read, or the number of the bad line and its cause
 abbrev pub at_line : {A B : Type 0} → ℕ → Result A Cause → (A → Result B BadLine) → Result B BadLine
 at_line number (Ok so_far) rest = rest so_far
-at_line number (Err cause) rest = Err (fault number cause)
+at_line number (Err cause) rest = Err (bad_line number cause)
 
 -- what lines leave, each by what it does to what was read before it, or the first of them that is bad
 abbrev pub lines_leave : {S : Type 0} → (S → RawLine → Result S Cause) → S → List RawLine → Result S BadLine
@@ -76,4 +76,4 @@ whole (Err first) = Err first
 
 -- The trace that the bytes are, or the first bad line and its cause. Where there are no bytes, there is no header.
 unfoldable pub trace_of : List ℕ → Result Trace BadLine
-trace_of bytes = if nat_eq (length bytes) 0 then Err (fault 1 Header) else whole (lines_read bytes)
+trace_of bytes = if nat_eq (length bytes) 0 then Err (bad_line 1 Header) else whole (lines_read bytes)

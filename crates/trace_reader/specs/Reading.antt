@@ -9,7 +9,7 @@ use Rattle.trace_reader.specs.declared.error.ReadError.TheVariants as reads
 use Rattle.trace_reader.specs.declared.trace.Trace.{Trace}
 use Rattle.trace_reader.specs.declared.builder.TraceBuilder.{TraceBuilder}
 use Rattle.trace_reader.specs.declared.lines.RawLine as code
-use Rattle.trace_reader.specs.Grammar.{fault}
+use Rattle.trace_reader.specs.Grammar.{bad_line}
 use Rattle.trace_reader.specs.RawLines.{RawLine}
 use Rattle.trace_reader.specs.Lines.{SoFar}
 
@@ -31,7 +31,7 @@ GivesTrace (Err reads.NoMemory) read = Unit {0}
 
 -- an error in the line of this number
 abbrev pub error_at : ℕ → CallError → ReadError
-error_at number (calls.Bad cause) = reads.Bad (fault number cause)
+error_at number (calls.Bad cause) = reads.Bad (bad_line number cause)
 error_at number calls.NoMemory = reads.NoMemory
 
 -- a line without where its bytes lie in memory

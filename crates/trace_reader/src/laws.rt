@@ -1,7 +1,7 @@
 //! Laws of the definitions. Nothing runs here.
 
 ghost use Rattle.std.specs.Prelude.{◌≡◌, ◌≤◌, ◌⊎◌, ◌+◌, ◌-◌, ◌^◌, ℕ, List, [], length, take, Ok, Err};
-ghost use Rattle.trace_reader.specs.Grammar.{fault, trace_of};
+ghost use Rattle.trace_reader.specs.Grammar.{bad_line, trace_of};
 ghost use Rattle.trace_reader.specs.Laws.{AreLinesOf, IsFirstBad};
 ghost use Rattle.trace_reader.specs.Lines.{trace_limit};
 ghost use Rattle.trace_reader.specs.RawLines.{raw_lines};
@@ -16,7 +16,7 @@ ghost use Rattle.trace_reader.specs.declared.trace.Trace.{Trace};
 pub fn first_bad_line()
     ensures lines { (bytes : List ℕ) → AreLinesOf bytes (raw_lines bytes) }
     ensures first { (bytes : List ℕ) (first : BadLine) → trace_of bytes ≡ Err first
-        → ((bytes ≡ []) × (first ≡ fault 1 Header)) ⊎ IsFirstBad bytes first }
+        → ((bytes ≡ []) × (first ≡ bad_line 1 Header)) ⊎ IsFirstBad bytes first }
 {}
 
 /// One byte more than the limit settles which trace bytes are, or which line is bad first.

@@ -1,5 +1,5 @@
 ghost use Rattle.std.specs.Prelude.{◌≡◌, ◌<◌, length};
-ghost use Rattle.trace_reader.specs.Grammar.{fault, trace_of, lines_read};
+ghost use Rattle.trace_reader.specs.Grammar.{bad_line, trace_of, lines_read};
 ghost use Rattle.trace_reader.specs.Reading.{GivesLines, GivesTrace, error_at};
 
 use crate::builder::TraceBuilder;
@@ -10,7 +10,7 @@ use std::alloc::Global;
 
 /// Says that this line is the first bad one.
 fn bad(line: u64, cause: Cause) -> ReadError
-    ensures { result ≡ ReadError.Bad (fault line cause) }
+    ensures { result ≡ ReadError.Bad (bad_line line cause) }
 {
     ReadError::Bad(BadLine { line, cause })
 }

@@ -15,7 +15,7 @@ use Rattle.std.proofs.lemmas.Str.Ascii.{IsAscii-from_all}
 use Rattle.trace_reader.specs.declared.error.Cause.TheVariants.{Header}
 use Rattle.trace_reader.specs.declared.trace.Op.{Op}
 use Rattle.trace_reader.specs.declared.trace.TraceLine.{TraceLine}
-use Rattle.trace_reader.specs.Grammar.{fault, nothing, at_line, after_lines, lines_read, trace_so_far, whole, trace_of}
+use Rattle.trace_reader.specs.Grammar.{bad_line, nothing, at_line, after_lines, lines_read, trace_so_far, whole, trace_of}
 use Rattle.trace_reader.specs.Lines.{SoFar, trace_limit, version_numbered, version_of, with_header, names_rightly, forks_rightly, is_full, with_one, with_line, is_comment, begins_with_digit, after_words, after_line}
 use Rattle.trace_reader.specs.Lines as lines
 use Rattle.trace_reader.specs.RawLines.{raw_line, is_newline, is_longer_than, text_within, lines_of_pieces, lines_from}
@@ -205,4 +205,4 @@ pub trace_of-read : (bytes : List ℕ) (so_far : SoFar) → 0 < length bytes →
 unfolding trace_of
 trace_of-read bytes so_far some read =
     let apart : nat_eq (length bytes) 0 ≡ false = ne_eqb (length bytes) 0 (λ none. omega arith) in
-    cond-false (nat_eq (length bytes) 0) (Err (fault 1 Header)) (whole (lines_read bytes)) apart ∙ ap whole read
+    cond-false (nat_eq (length bytes) 0) (Err (bad_line 1 Header)) (whole (lines_read bytes)) apart ∙ ap whole read

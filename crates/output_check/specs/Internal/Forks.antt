@@ -3,7 +3,7 @@ use Rattle.std.specs.Prelude.{ℕ, Bool, false, not, ◌&&◌, List, [], ◌∷�
 use Rattle.trace_reader.specs.declared.error.Cause.{Cause}
 use Rattle.trace_reader.specs.declared.error.Cause.TheVariants.{Child}
 use Rattle.trace_reader.specs.declared.error.BadLine.{BadLine}
-use Rattle.trace_reader.specs.Grammar.{fault}
+use Rattle.trace_reader.specs.Grammar.{bad_line}
 use Rattle.trace_reader.specs.Lines.{text_of, begins_with_digit}
 use Rattle.trace_reader.specs.RawLines.{RawLine}
 use Rattle.trace_reader.specs.Words.{words_of}
@@ -30,5 +30,5 @@ first_fork (line ∷ lines) = if is_fork line then Some line.number else first_f
 -- what was read, where the first line that forks has this number: unless a bad line comes before it, it is the first bad one
 abbrev pub without_forks : {A : Type 0} → Option ℕ → Result A BadLine → Result A BadLine
 without_forks None read = read
-without_forks (Some number) (Ok so_far) = Err (fault number Child)
-without_forks (Some number) (Err first) = if nat_lt number first.line then Err (fault number Child) else Err first
+without_forks (Some number) (Ok so_far) = Err (bad_line number Child)
+without_forks (Some number) (Err first) = if nat_lt number first.line then Err (bad_line number Child) else Err first
