@@ -1,2 +1,3 @@
 pub mod Holes
+pub mod Lowering
 pub mod MmapTable

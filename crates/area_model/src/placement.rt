@@ -67,8 +67,8 @@ fn highest_below(bounds: Bounds, end: u64, areas: &[Record], pages: u64) -> Opti
     None
 }
 
-/// A page at or below this one past which no place ends that is free: one look at each area, from the last one on, so that where they are
-/// in order, none is in the way behind it.
+/// A page at or below this one past which no place that is free ends. Each area is looked at once, from the last one on: where they are in
+/// order, none of them is in the way below it.
 fn lowered(low: u64, end: u64, areas: &[Record], pages: u64) -> u64
     ensures within { result ≤ end }
     ensures none { (start : ℕ) → result < start + pages → start + pages ≤ end → is_free areas.now pages start ≡ false }

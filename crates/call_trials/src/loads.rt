@@ -31,7 +31,7 @@ fn compare_lines(rt: &impl Abort, alloc: Global, trace: &Trace) -> Result<(), No
 
 #[test]
 fn a_load_does_as_the_model(rt: HostRuntime) -> Result<(), Fail> {
-    let bytes = load(rt.alloc(), 3_000, 1)?;
+    let bytes = load(rt.alloc(), 20_000, 1)?;
     let trace = read(rt.alloc(), bytes.as_slice())?;
     compare_lines(&rt, rt.alloc(), &trace)?;
     Ok(())
