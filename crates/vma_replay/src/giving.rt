@@ -132,12 +132,16 @@ pub(crate) fn give_full<K: Sink>(sink: &mut K, piece: &mut Vec<u8>) -> Result<()
     Ok(())
 }
 
-/// Drops so many bytes from the front of a piece.
+/// Drops so many bytes from the front of a piece, of which no more are left.
 fn drop_front(piece: &mut Vec<u8>, count: usize)
-    requires { count ≤ length piece.old.items }
+    requires within { count ≤ length piece.old.items }
+    requires rest { length piece.old.items - count ≤ count }
     ensures { piece.new.items ≡ drop count piece.old.items }
 {
-    piece.drain(..count);
+    let rest = piece.len() - count;
+    let (front, left) = piece.as_mut_slice().split_at_mut(count);
+    front[..rest].copy_from_slice(left);
+    piece.truncate(rest);
 }
 
 /// Ends a line in a piece, and gives as much as fills whole pieces.
