@@ -2,11 +2,12 @@
 use Rattle.std.proofs.Common.{ℕ, zero, suc, ◌≡◌, ◌+◌, ◌-◌, ◌<◌, ◌≤◌, ◌^◌, ◌∙◌, refl, sym, ap, subst, true, List, [], ◌∷◌, ◌++◌, append_assoc, length, min, map, take, drop, get_or, All, slice_range, arith, inl, inr}
 use Rattle.std.specs.List.{AllPairs}
 use Rattle.std.proofs.lemmas.Bool.{cases_lt}
-use Rattle.std.proofs.lemmas.List.{append-nil, take_all, take_more, length-take-le, map_more, length-map, nil_from_length}
+use Rattle.std.proofs.lemmas.List.{append-nil, drop_all, drop_more, map-append, take-append-drop, take_all, take_more, length-take-le, map_more, length-map, nil_from_length}
 use Rattle.std.proofs.lemmas.List.Elements.{All-nil, All-head, All-append, All-push, All-weaker}
 use Rattle.std.proofs.lemmas.Option.{slice_get_within}
 use Rattle.mm_types.specs.declared.call.Entry.{Entry}
 use Rattle.mm_types.specs.declared.call.Seen.{Seen}
+use Rattle.area_rules.specs.Journals.{version_of}
 use Rattle.history.specs.declared.items.Item.{Item}
 use Rattle.history.specs.Histories.{goes_first, gather}
 use Rattle.history.specs.Runs.{entry_items, read_item, log_items, logs_items, history_of}
@@ -267,3 +268,60 @@ logs_pushed {V} f logs place v log old new pushed so_far is here within =
     pushed ∙ ap (λ (l : List Item). l ++ log_items place log) so_far
     ∙ ap (λ (l : List Seen). logs_items 0 (map f (take place logs)) ++ log_items place l) (is ∙ ap f here)
     ∙ logs_more f logs place v within
+
+-- the steps of a merge with one log, whose reads are in order
+log_parted : (log : List Seen) (place : ℕ) → log_items 0 (take place log) ++ log_items 0 (drop place log) ≡ log_items 0 log
+unfolding log_items
+log_parted log place =
+    sym (map-append (read_item 0) (take place log) (drop place log)) ∙ ap (λ (l : List Seen). map (read_item 0) l) (take-append-drop place log)
+
+log_next : (log : List Seen) (place : ℕ) (read : Seen) → read ≡ get_or log place read → place < length log
+    → log_items 0 (drop place log) ≡ read_item 0 read ∷ log_items 0 (drop (place + 1) log)
+unfolding log_items
+log_next log place read here within =
+    ap (λ (l : List Seen). map (read_item 0) l) (drop_more log place read within)
+    ∙ ap (λ (r : Seen). read_item 0 r ∷ map (read_item 0) (drop (place + 1) log)) (sym here)
+
+pub merge_log_start : (journal : List Entry) (log : List Seen) (items : List Item) → items ≡ []
+    → Merged journal (log_items 0 (take 0 log)) (log_items 0 (drop 0 log)) items 0
+unfolding log_items
+merge_log_start journal log items none =
+    subst (λ (l : List Item). Merged journal [] (map (read_item 0) log) l 0) (sym none) (merge_start journal (map (read_item 0) log))
+
+-- the next read of a log is no lower than the entries so far
+pub merge_log_above : (journal : List Entry) (log : List Seen) (place : ℕ) (read : Seen) (items : List Item) (next : ℕ)
+    → Merged journal (log_items 0 (take place log)) (log_items 0 (drop place log)) items next → read ≡ get_or log place read → place < length log
+    → next ≤ version_of read
+merge_log_above journal log place read items next merged here within =
+    merge_above journal (log_items 0 (take place log)) (read_item 0 read) (log_items 0 (drop (place + 1) log)) items next
+    (subst (λ (l : List Item). Merged journal (log_items 0 (take place log)) l items next) (log_next log place read here within) merged)
+
+pub merge_log_more : (journal : List Entry) (log : List Seen) (place : ℕ) (read : Seen) (item : Item) (items pushed new : List Item) (next upto : ℕ)
+    → AllPairs (λ a b. goes_first a b ≡ true) (log_items 0 log)
+    → Merged journal (log_items 0 (take place log)) (log_items 0 (drop place log)) items next → read ≡ get_or log place read
+    → item ≡ read_item 0 read → upto ≡ min (version_of read) (length journal)
+    → pushed ≡ items ++ entry_items next (slice_range journal next upto) → new ≡ pushed ++ item ∷ [] → place < length log
+    → Merged journal (log_items 0 (take (place + 1) log)) (log_items 0 (drop (place + 1) log)) new upto
+merge_log_more journal log place read item items pushed new next upto pairs merged here is level entries push within =
+    let yielded : List Item = log_items 0 (take place log) in
+    let rest : List Item = log_items 0 (drop (place + 1) log) in
+    let more : yielded ++ read_item 0 read ∷ [] ≡ log_items 0 (take (place + 1) log) =
+    ap (λ (r : Seen). yielded ++ read_item 0 r ∷ []) here ∙ log_more 0 log place read within in
+    subst (λ (l : List Item). Merged journal l rest new upto) more
+    (merge_more journal yielded (log_items 0 (drop place log)) rest (log_items 0 log) items pushed new (read_item 0 read) next upto pairs
+    (log_parted log place) (log_next log place read here within) merged level entries
+    (push ∙ ap (λ (x : Item). pushed ++ x ∷ []) is))
+
+no_items : log_items 0 [] ≡ []
+unfolding log_items
+no_items = refl
+
+pub merge_log_done : (journal : List Entry) (log : List Seen) (place : ℕ) (items new : List Item) (next : ℕ)
+    → Merged journal (log_items 0 (take place log)) (log_items 0 (drop place log)) items next → length log ≤ place
+    → new ≡ items ++ entry_items next (slice_range journal next (length journal)) → new ≡ history_of journal (log ∷ [])
+unfolding history_of logs_items
+merge_log_done journal log place items new next merged past pushed =
+    let none : log_items 0 (drop place log) ≡ [] = ap (λ (l : List Seen). log_items 0 l) (drop_all place log past) ∙ no_items in
+    merge_done journal (log_items 0 (take place log)) (log_items 0 (drop place log)) (log_items 0 log) items new next (log_parted log place)
+    (ap (λ (l : List Item). length l) none) merged pushed
+    ∙ ap (λ (l : List Item). gather (entry_items 0 journal ++ l)) (sym (append-nil (log_items 0 log)))

@@ -1,5 +1,5 @@
 -- For gathering and labelling: lists of items that are in order, and what comes of putting them so.
-use Rattle.std.proofs.Common.{ℕ, suc, ◌≡◌, ◌+◌, ◌*◌, ◌<◌, ◌≤◌, ◌∙◌, refl, sym, ap, subst, cond, Bool, true, false, not, ◌&&◌, ◌||◌, nat_eq, nat_lt, nat_le, List, [], ◌∷◌, ◌++◌, length, length-append, take, get_or, All, arith, inl, inr}
+use Rattle.std.proofs.Common.{ℕ, suc, ◌≡◌, ◌+◌, ◌*◌, ◌^◌, ◌<◌, ◌≤◌, ◌∙◌, refl, sym, ap, subst, cond, Bool, true, false, not, ◌&&◌, ◌||◌, nat_eq, nat_lt, nat_le, List, [], ◌∷◌, ◌++◌, length, length-append, take, get_or, All, arith, inl, inr}
 use Rattle.std.specs.List.{AllPairs}
 use Rattle.std.proofs.lemmas.Bool.{cases_Bool, cases_lt, cond_both, cond-true, le-leb, leb-true}
 use Rattle.std.proofs.lemmas.Bool.Decides.{nat_tests}
@@ -9,11 +9,15 @@ use Rattle.std.proofs.lemmas.List.Kept.{AllPairs-cons}
 use Rattle.trace_reader.specs.declared.trace.TraceLine.{TraceLine}
 use Rattle.mm_types.proofs.Sorting.{Rises, Rises-sort_by, All-sort_by}
 use Rattle.mm_types.specs.Sorts.{sort_by}
+use Rattle.mm_types.specs.declared.call.Seen.{Seen}
+use Rattle.mm_types.specs.declared.call.Seen.TheVariants as reads
+use Rattle.area_rules.specs.Journals.{version_of}
 use Rattle.history.specs.declared.items.Item.{Item}
 use Rattle.history.specs.Histories.{is_call, goes_first, gather}
-use Rattle.history.specs.Runs.{place_key, time_key}
+use Rattle.history.specs.Runs.{place_key, time_key, log_items}
 use Rattle.history.specs.Labels.{labelled}
 use Rattle.history.proofs.SerialOrder.{insert_item}
+use Rattle.history.proofs.Legal.{all_log}
 use Rattle.history.proofs.Sorts.{Small, goes_alike, gather_is_sort, sorted_rises}
 use Rattle.history.proofs.Gathers.{Before, lower_before, higher_after, call_before}
 
@@ -209,22 +213,33 @@ pub labelled_in_time : (trace lines : List TraceLine) (xs : List Item) → AllPa
 labelled_in_time trace lines xs =
     rises_pairs time_key 0 (labelled trace lines (gather xs)) (labelled_rises trace lines 0 (gather xs) (gather_in_time xs))
 
--- one item more whose place is no lower
-pub places_more : (items : List Item) (place : ℕ) (item : Item) (last now : ℕ) → Rises place_key 0 (take place items)
-    → All (λ y. place_key y ≤ last) (take place items)
-    → item ≡ get_or items place item → now ≡ place_key item → last ≤ now → place < length items
-    → Rises place_key 0 (take (place + 1) items) × All (λ y. place_key y ≤ now) (take (place + 1) items)
-places_more items place item last now rises low here is up within =
-    let more : take place items ++ item ∷ [] ≡ take (place + 1) items =
-    ap (λ (x : Item). take place items ++ x ∷ []) here ∙ sym (take_more items place item within) in
-    let below : All (λ y. place_key y ≤ now) (take place items) =
-    All-weaker (λ (y : Item). place_key y ≤ last) (λ (y : Item). place_key y ≤ now) (λ y h. omega arith) (take place items) low in (
-      subst (λ (l : List Item). Rises place_key 0 l) more
-          (rises_push place_key 0 (take place items) item rises (subst (λ (n : ℕ). All (λ y. place_key y ≤ n) (take place items)) is below)
+-- one element more whose number is no lower
+pub rises_more : {X : Type 0} (key : X → ℕ) (xs : List X) (place : ℕ) (x : X) (last now : ℕ) → Rises key 0 (take place xs)
+    → All (λ y. key y ≤ last) (take place xs) → x ≡ get_or xs place x → now ≡ key x → last ≤ now → place < length xs
+    → Rises key 0 (take (place + 1) xs) × All (λ y. key y ≤ now) (take (place + 1) xs)
+rises_more {X} key xs place x last now rises low here is up within =
+    let more : take place xs ++ x ∷ [] ≡ take (place + 1) xs =
+    ap (λ (y : X). take place xs ++ y ∷ []) here ∙ sym (take_more xs place x within) in
+    let below : All (λ y. key y ≤ now) (take place xs) =
+    All-weaker (λ (y : X). key y ≤ last) (λ (y : X). key y ≤ now) (λ y h. omega arith) (take place xs) low in (
+      subst (λ (l : List X). Rises key 0 l) more
+          (rises_push key 0 (take place xs) x rises (subst (λ (n : ℕ). All (λ y. key y ≤ n) (take place xs)) is below)
           (omega arith)),
-      subst (λ (l : List Item). All (λ y. place_key y ≤ now) l) more
-          (All-push (λ (y : Item). place_key y ≤ now) (take place items) item below (omega arith)),
+      subst (λ (l : List X). All (λ y. key y ≤ now) l) more
+          (All-push (λ (y : X). key y ≤ now) (take place xs) x below (omega arith)),
     )
+
+-- reads whose versions do not fall have items whose places do not
+log_places : (low : ℕ) (log : List Seen) → Rises version_of low log → Rises place_key (low * 2 ^ 33 + 1) (log_items 0 log)
+unfolding log_items
+log_places low [] rises = tt
+log_places low (reads.Fault version page access verdict ∷ log) rises = (omega (arith, rises.0), log_places version log rises.1)
+log_places low (reads.Maps version list ∷ log) rises = (omega (arith, rises.0), log_places version log rises.1)
+
+-- such reads are in the order of a history
+pub log_in_order : (log : List Seen) → Rises version_of 0 log → AllPairs (λ a b. goes_first a b ≡ true) (log_items 0 log)
+log_in_order log rises =
+    places_in_order (0 * 2 ^ 33 + 1) (log_items 0 log) (log_places 0 log rises) (all_log Small 0 log (λ k d below. omega arith))
 
 pub all_places : (items : List Item) (place : ℕ) → Rises place_key 0 (take place items) → length items ≤ place → Rises place_key 0 items
 all_places items place rises past = subst (λ (l : List Item). Rises place_key 0 l) (take_all place items past) rises

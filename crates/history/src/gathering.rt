@@ -1,5 +1,7 @@
 //! The history of a journal and of the logs of its callers.
 ghost use Rattle.std.specs.Prelude.{◌≡◌, ◌+◌, ◌<◌, ◌^◌, ◌++◌, ◌∷◌, [], IfOk, OnOk, AllPairs, length, map, true};
+ghost use Rattle.std.specs.Bool.{OnTrue};
+ghost use Rattle.area_rules.specs.Journals.{version_of};
 ghost use Rattle.history.specs.Histories.{goes_first, gather};
 ghost use Rattle.history.specs.Runs.{entry_items, read_item, log_items, logs_items, history_of};
 
@@ -20,7 +22,7 @@ pub fn gather(alloc: Global, journal: &[Entry], logs: &[Vec<Seen>]) -> Result<Hi
     Ok(History::of(items))
 }
 
-/// The items of the history of a journal and one log.
+/// The items of the history of a journal and one log. Reads that are in order are copied once; others are put in order first.
 pub(crate) fn gather_one(
     alloc: Global,
     journal: &[Entry],
@@ -28,10 +30,54 @@ pub(crate) fn gather_one(
 ) -> Result<Vec<Item>, NoMemory>
     ensures { IfOk result (λ items. items.items ≡ history_of journal.now (log.now ∷ [])) }
 {
+    if is_in_order(log) {
+        return merged_log(alloc, journal, log);
+    }
     let mut reads = Vec::new(alloc);
     push_log(alloc, &mut reads, 0, log)?;
     put_in_order(&mut reads)?;
     let items = merged(alloc, journal, reads)?;
+    Ok(items)
+}
+
+/// Whether the reads of one log are in the order of a history: their versions do not fall.
+fn is_in_order(log: &[Seen]) -> bool
+    ensures { OnTrue result (AllPairs (λ a b. goes_first a b ≡ true) (log_items 0 log.now)) }
+{
+    let mut last = 0;
+    for read in log {
+        let now = version_of(read);
+        if now < last {
+            return false;
+        }
+        last = now;
+    }
+    true
+}
+
+/// The version of a read.
+fn version_of(read: &Seen) -> u64
+    ensures { result ≡ version_of read.now }
+{
+    match read {
+        Seen::Fault { version, .. } | Seen::Maps { version, .. } => *version,
+    }
+}
+
+/// The items of a journal and of one log whose reads are in order, in the order of a history.
+fn merged_log(alloc: Global, journal: &[Entry], log: &[Seen]) -> Result<Vec<Item>, NoMemory>
+    requires { AllPairs (λ a b. goes_first a b ≡ true) (log_items 0 log.now) }
+    ensures { IfOk result (λ items. items.items ≡ history_of journal.now (log.now ∷ [])) }
+{
+    let mut items = Vec::with_capacity(alloc, journal.len().saturating_add(log.len()))?;
+    let mut next = 0;
+    for read in log {
+        let upto = (version_of(read) as usize).min(journal.len());
+        push_entries(&mut items, next as u64, &journal[next..upto])?;
+        next = upto;
+        items.push(item_of(alloc, 0, read)?)?;
+    }
+    push_entries(&mut items, next as u64, &journal[next..])?;
     Ok(items)
 }
 

@@ -1,11 +1,12 @@
 -- For `are_in_order`: its goals.
 use Rattle.std.proofs.Common.{refl}
-use Rattle.history.proofs.Orders.{places_more, place_reached, place_falls, all_places, in_order_gathered, places_in_order}
+use Rattle.history.specs.Runs.{place_key}
+use Rattle.history.proofs.Orders.{rises_more, place_reached, place_falls, all_places, in_order_gathered, places_in_order}
 use Rattle.history.proofs.ordering.are_in_order.Goals as goal
 
 pub loop-item-preserved : goal.loop-item-preserved
 loop-item-preserved c =
-    let more = places_more c.args.items.now c.loop-item.item-index c.item-item.result c.loop-item.last c.place-now.result c.loop-item.invariant.rises
+    let more = rises_more place_key c.args.items.now c.loop-item.item-index c.item-item.result c.loop-item.last c.place-now.result c.loop-item.invariant.rises
     c.loop-item.invariant.low c.item-item.is c.place-now.ensures c.if-now-last.false c.loop-item-test.true in
     record {
       rises = more.0;
