@@ -31,7 +31,7 @@ pub(crate) enum Reach {
 }
 
 /// What is to be done.
-#[derive(Clone, Copy, Debug)]
+#[derive(Clone, Copy, Debug, PartialEq, Eq)]
 pub(crate) struct Plan {
     /// The faults of each thread.
     count: u64,
@@ -88,7 +88,7 @@ impl Plan {
     }
 
     /// The first area that a thread faults at. Threads count from 1.
-    fn first_area(&self, thread: u64) -> u64 {
+    pub(crate) fn first_area(&self, thread: u64) -> u64 {
         match self.reach {
             Reach::Shared => 0,
             Reach::Own => self.areas.saturating_mul(thread.saturating_sub(1)),
