@@ -2,7 +2,8 @@
 //! stand two apart, makes COUNT faults at them without the lock in each of THREADS threads, and writes how many were answered and
 //! how many missed. `vma_bench COUNT THREADS AREAS CALLS` has another thread map and unmap a page elsewhere meanwhile, so many times.
 //! With the word `own` at the end each thread faults at AREAS areas of its own. There are 1 to 62 threads and 1 to 65,000 areas in
-//! all, and at most 8,000,000 calls. No contract says anything of what it writes.
+//! all, and at most 8,000,000 calls. Other words are refused by a line on standard error, and the exit status is 2 then. No contract says
+//! anything of what it writes.
 #![tactic(auto)]
 
 mod faults;
@@ -15,6 +16,9 @@ use std::sync::Wait;
 use std::thread::Threads;
 use std::{env, io};
 use trace_reader::decimal_of;
+
+/// What is told where the words are others.
+const USAGE: &str = "usage: vma_bench COUNT THREADS AREAS [CALLS] [own]";
 
 /// The words after the program's name.
 fn words<R: Env + AllocGlobal>(rt: &R) -> io::Result<Vec<String>> {
@@ -50,11 +54,19 @@ fn plan_of(words: &[String]) -> Option<Plan> {
     )
 }
 
-fn run<R: Threads + Wait + Sync + Env + AllocGlobal>(rt: &R, alloc: Global) -> Option<Told> {
-    let Ok(words) = words(rt) else {
+/// The plan that the program's words ask for.
+fn asked<R: Env + AllocGlobal>(rt: &R) -> Option<Plan> {
+    plan_of(words(rt).ok()?.as_slice())
+}
+
+fn run<R: Threads + Wait + Sync + Env + Eprint + AllocGlobal>(
+    rt: &R,
+    alloc: Global,
+) -> Option<Told> {
+    let Some(plan) = asked(rt) else {
+        let _ = eprintln!(rt; "{}", USAGE);
         return None;
     };
-    let plan = plan_of(words.as_slice())?;
     measure(rt, alloc, &plan)
 }
 
