@@ -8,7 +8,7 @@ use Rattle.flag_table.specs.Tables.{bar, words_of, text_of}
 use Rattle.flag_table.specs.Laws.{has_bar}
 
 -- no byte of a text without a bar is a bar
-All-no_bar : (text : List ℕ) → has_bar text ≡ false → All (λ c. (c == bar) ≡ false) text
+pub All-no_bar : (text : List ℕ) → has_bar text ≡ false → All (λ c. (c == bar) ≡ false) text
 All-no_bar [] none = All-nil (λ (c : ℕ). (c == bar) ≡ false)
 All-no_bar (c ∷ text) none = let parts = or_parts (c == bar) (has_bar text) none in
     All-cons (λ (c : ℕ). (c == bar) ≡ false) c text parts.0 (All-no_bar text parts.1)

@@ -3,6 +3,7 @@ pub mod Bits
 pub mod Joins
 pub mod Names
 pub mod Words
+pub mod Ahead
 pub mod Prints
 pub mod Texts
 pub mod Refusals

@@ -1,6 +1,6 @@
 -- What a text of flags reads as.
-use Rattle.std.specs.Prelude.{ℕ, ◌≡◌, Bool, ◌||◌, List, [], ◌∷◌, ◌++◌, Option, Some, None, is_none, Result, Ok, Err, IsErr, if◌then◌else◌, codes, bytes_eq, filter_map}
-use Rattle.std.specs.List.{list_any}
+use Rattle.std.specs.Prelude.{ℕ, ◌≡◌, Bool, ◌||◌, List, [], ◌∷◌, ◌++◌, Option, Some, None, is_none, Result, Ok, Err, IsErr, if◌then◌else◌, codes, bytes_eq, nat_eq, filter_map, drop, length}
+use Rattle.std.specs.List.{list_any, starts_with}
 use Rattle.std.specs.Option.{option_or}
 use Rattle.flag_table.specs.Tables.{Row, Table, bits_of, row_named, words_of}
 use Rattle.flag_table.specs.declared.error.NameError.{NameError}
@@ -37,6 +37,12 @@ is_zero table text = bytes_eq text (codes "0") || bytes_eq text table.zero
 -- what a text reads as: no flag, or the words between its bars
 unfoldable pub reading : Table → List ℕ → Result ℕ NameError
 reading table text = if is_zero table text then Ok 0 else read_words table.rows (words_of text)
+
+-- the bit of the first of some rows with whose name a text begins, and what follows the name
+unfoldable pub bit_ahead : List Row → List ℕ → Option (ℕ × List ℕ)
+bit_ahead [] text = None
+bit_ahead (row ∷ rows) text = if starts_with nat_eq text row.name
+    then Some (row.bit, drop (length row.name) text) else bit_ahead rows text
 
 -- An answer gives what was to be read, except that it may be out of memory in place of an error.
 abbrev pub Gives : Result ℕ NameError → Result ℕ NameError → Type 0

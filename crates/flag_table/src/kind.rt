@@ -49,6 +49,16 @@ macro_rules! bit_named {
     };
 }
 
+/// The bit of a row with whose name a text begins, and what follows the name.
+macro_rules! bit_ahead {
+    ($text:ident, $($name:literal = $bit:ident),*) => {{
+        $(if let Some(rest) = $text.strip_prefix($name) {
+            return Some(($bit, rest));
+        })*
+        None
+    }};
+}
+
 /// The name of the row with this bit, or the empty text.
 macro_rules! name_with {
     ($wanted:ident, $($name:literal = $bit:ident),*) => {
@@ -76,12 +86,12 @@ pub const MAP_BITS: [u32; 11] = rows!(Map, bits, ());
 /// The bits of the flags of mremap(2), in the order of their table.
 pub const MREMAP_BITS: [u32; 3] = rows!(Mremap, bits, ());
 
-#[tactic(auto, unfolding(crate::specs::Tables::prot_flags, crate::specs::Tables::map_flags, crate::specs::Tables::mremap_flags, crate::specs::Tables::bit_with_name, crate::specs::Tables::name_with_bit))]
+#[tactic(auto, unfolding(crate::specs::Tables::prot_flags, crate::specs::Tables::map_flags, crate::specs::Tables::mremap_flags, crate::specs::Tables::bit_with_name, crate::specs::Reading::bit_ahead, crate::specs::Tables::name_with_bit))]
 impl Kind {
-    ghost use Rattle.std.specs.Prelude.{◌≡◌, option_map};
+    ghost use Rattle.std.specs.Prelude.{◌≡◌, IfSome, Some};
     ghost use Rattle.flag_table.specs.Tables.{bit_with_name, name_with_bit};
     ghost use Rattle.flag_table.specs.Kinds.{table_of};
-    ghost use Rattle.flag_table.specs.Reading.{is_zero};
+    ghost use Rattle.flag_table.specs.Reading.{bit_ahead, is_zero};
 
     /// The bit of the flag with this name.
     pub fn bit_named(self, word: &str) -> Option<u32>
@@ -91,6 +101,18 @@ impl Kind {
             Kind::Prot => rows!(Prot, bit_named, word),
             Kind::Map => rows!(Map, bit_named, word),
             Kind::Mremap => rows!(Mremap, bit_named, word),
+        }
+    }
+
+    /// The bit of the first flag with whose name a text begins, and what follows the name. The text is compared in place, with no
+    /// search for the end of a word.
+    pub fn bit_ahead(self, text: &str) -> Option<(u32, &str)>
+        ensures { IfSome result (λ found. bit_ahead (table_of self).rows text.now ≡ Some (found.0, found.1.now)) }
+    {
+        match self {
+            Kind::Prot => rows!(Prot, bit_ahead, text),
+            Kind::Map => rows!(Map, bit_ahead, text),
+            Kind::Mremap => rows!(Mremap, bit_ahead, text),
         }
     }
 

@@ -1,4 +1,4 @@
-ghost use Rattle.std.specs.Prelude.{◌≡◌, IfOk, OnOk, map, string_bytes};
+ghost use Rattle.std.specs.Prelude.{◌≡◌, IfOk, IfSome, Ok, OnOk, map, string_bytes};
 ghost use Rattle.flag_table.specs.Tables.{prot_flags, map_flags, mremap_flags, words_of};
 ghost use Rattle.flag_table.specs.Kinds.{table_of};
 ghost use Rattle.flag_table.specs.Reading.{read_words, Gives};
@@ -82,7 +82,7 @@ impl<const N: usize> FlagTable<N> {
         if self.kind.is_zero(text) {
             return Ok(0);
         }
-        read_words(alloc, self.kind, text)
+        read_names(alloc, self.kind, text)
     }
 
     /// Prints the names of the flags whose bits are there, in the order of the table and joined by `|`,
@@ -96,7 +96,37 @@ impl<const N: usize> FlagTable<N> {
     }
 }
 
-/// Reads the names between the bars.
+/// Reads the names between the bars: in one pass where each is there and stands once, and else word by word, for the first bad one.
+fn read_names(alloc: Global, kind: Kind, text: &str) -> Result<u32, NameError>
+    ensures { Gives result (read_words (table_of kind).rows (words_of text.now)) }
+{
+    match bits_of_names(kind, text) {
+        Some(bits) => Ok(bits),
+        None => read_words(alloc, kind, text),
+    }
+}
+
+/// The bits of names between bars together, read in one pass. There are none where a name is not a row's, goes on past a row's,
+/// or stands twice.
+fn bits_of_names(kind: Kind, text: &str) -> Option<u32>
+    ensures { IfSome result (λ bits. read_words (table_of kind).rows (words_of text.now) ≡ Ok bits) }
+{
+    let mut bits = 0;
+    let mut rest = text;
+    while let Some((bit, after)) = kind.bit_ahead(rest) {
+        if has_flag(bits, bit) {
+            return None;
+        }
+        bits |= bit;
+        if after.is_empty() {
+            return Some(bits);
+        }
+        rest = after.strip_prefix('|')?;
+    }
+    None
+}
+
+/// Reads the names between the bars, one word after the other.
 fn read_words(alloc: Global, kind: Kind, text: &str) -> Result<u32, NameError>
     ensures { Gives result (read_words (table_of kind).rows (words_of text.now)) }
 {

@@ -9,6 +9,6 @@ use Rattle.flag_table.proofs.table.FlagTable.read.Goals as goal
 pub returns-clause-rows : goal.returns-clause-rows
 returns-clause-rows g c =
     let kind = c.self.inside.kind in
-    let P : Table → Type 0 = λ table. IfOk c.read_words.result (HasRows table) in
-    subst P c.self.view_is (HasRows-words (table_of kind) c.args.text.now c.read_words.result (table_of-sound kind)
-    (sym c.is_zero.ensures ∙ c.if-is_zero.false) c.read_words.ensures)
+    let P : Table → Type 0 = λ table. IfOk c.read_names.result (HasRows table) in
+    subst P c.self.view_is (HasRows-words (table_of kind) c.args.text.now c.read_names.result (table_of-sound kind)
+    (sym c.is_zero.ensures ∙ c.if-is_zero.false) c.read_names.ensures)
