@@ -56,6 +56,8 @@ struct Worker<N: SpaceName> {
     pass: Pass,
     told: Told,
     of: PhantomData<N>,
+    /// Keeps what the next worker writes off the cache lines of this one.
+    apart: [u64; 16],
     ghost mine: { IsPassOf N.name pass },
 }
 
@@ -191,6 +193,7 @@ fn workers_of<N: SpaceName>(alloc: Global, passes: Vec<Pass>) -> Option<Vec<Work
             pass,
             told,
             of: PhantomData,
+            apart: [0; 16],
         };
         workers.push(worker).ok()?;
     }
