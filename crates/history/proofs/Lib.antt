@@ -17,6 +17,7 @@ pub mod Labels
 pub mod Orders
 pub mod Merging
 pub mod Regrouping
+pub mod Turning
 pub mod Placing
 pub mod Advances
 pub mod Told

@@ -1,5 +1,6 @@
 pub mod Histories
 pub mod Runs
+pub mod Turns
 pub mod Labels
 pub mod Threads
 pub mod CallerPlaces

@@ -41,7 +41,7 @@ pub(crate) fn gather_one(
 }
 
 /// Whether the reads of one log are in the order of a history: their versions do not fall.
-fn is_in_order(log: &[Seen]) -> bool
+pub(crate) fn is_in_order(log: &[Seen]) -> bool
     ensures { OnTrue result (AllPairs (λ a b. goes_first a b ≡ true) (log_items 0 log.now)) }
 {
     let mut last = 0;
@@ -56,7 +56,7 @@ fn is_in_order(log: &[Seen]) -> bool
 }
 
 /// The version of a read.
-fn version_of(read: &Seen) -> u64
+pub(crate) fn version_of(read: &Seen) -> u64
     ensures { result ≡ version_of read.now }
 {
     match read {

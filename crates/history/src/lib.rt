@@ -16,6 +16,7 @@ mod run_laws;
 mod same;
 #[cfg(test)]
 mod tests;
+mod turns;
 
 pub use answers::{Answer, BadEntry, CheckError};
 pub use callers::{Callers, MOST_THREADS};
@@ -33,3 +34,4 @@ pub use run_laws::{
     callers_share_the_lines, labels_make_the_serial_history, no_lines_past_the_callers,
     one_operation_more, run_makes_a_legal_history, touches_that_grew_are_made,
 };
+pub use turns::{Turn, Turns, in_turn};

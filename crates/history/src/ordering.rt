@@ -9,7 +9,7 @@ use crate::items::Item;
 use mm_types::NoMemory;
 
 /// What a version counts for in a place: more than any caller does.
-const VERSION_STEP: u128 = 1 << 33;
+pub(crate) const VERSION_STEP: u128 = 1 << 33;
 
 /// Puts items in the order of a history, those that tie in the order that they had; where they are so already, in linear time and without
 /// memory.
