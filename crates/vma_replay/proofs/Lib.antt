@@ -6,10 +6,12 @@ pub mod Taken
 pub mod CheckTaken
 pub mod CommandLine
 pub mod Telling
+pub mod InTurn
 pub mod RunTexts
 pub mod Parents
 pub mod ChildSpaces
 pub mod FamilyTexts
+pub mod Alone
 pub mod Fronts
 pub mod SerialRuns
 pub mod Alike

@@ -50,7 +50,7 @@ use Rattle.vma_replay.proofs.Telling.{there, none_at}
 
 -- ---- where no line forks
 
-no_children : (lines : List TraceLine) → list_any (λ line. is_some (child_of line.op)) lines ≡ false → children_of lines ≡ []
+pub no_children : (lines : List TraceLine) → list_any (λ line. is_some (child_of line.op)) lines ≡ false → children_of lines ≡ []
 no_children [] none = refl
 no_children (line ∷ lines) none = by_child (child_of line.op) none (λ rest. no_children lines rest)
   where

@@ -5,6 +5,7 @@ ghost use Rattle.mm_fork.specs.Children.{parent_trace};
 ghost use Rattle.vma_replay.specs.Internal.Giving.{GivesAnOutput, GivesThis, IsDoing, IsDone, IsGivingText, IsPrinting};
 
 use crate::families::{closed_family, has_forks, parent_of};
+use crate::in_turn::alone_given;
 use crate::printing::give_family;
 use crate::replayed::{Replayed, Runs};
 use crate::status::Status;
@@ -34,7 +35,7 @@ pub(crate) fn give_run<R: Threads + Wait + Sync, K: Sink, G: Gate>(
     Replayed::of(alloc, run_given(rt, alloc, mode, sink, trace, gate))
 }
 
-/// The closed runs of a trace, once their output was given to a sink. The lines of the parent are copied only where some are not its own.
+/// The closed runs of a trace, once their output was given to a sink. Only where lines fork are those of the parent copied.
 fn run_given<R: Threads + Wait + Sync, K: Sink, G: Gate>(
     rt: &R,
     alloc: Global,
@@ -51,7 +52,7 @@ fn run_given<R: Threads + Wait + Sync, K: Sink, G: Gate>(
         let parent = parent_of(alloc, trace)?;
         family_given(rt, alloc, mode, sink, trace, &parent, gate)
     } else {
-        family_given(rt, alloc, mode, sink, trace, trace, gate)
+        alone_given(rt, alloc, mode, sink, trace, gate)
     }
 }
 

@@ -12,6 +12,7 @@ mod forks;
 mod form_tests;
 mod generating;
 mod giving;
+mod in_turn;
 mod laws;
 #[cfg(test)]
 mod load_tests;

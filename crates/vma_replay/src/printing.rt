@@ -31,7 +31,7 @@ use std::io::Write;
 use trace_reader::{Op, Trace, TraceLine};
 
 /// Room for a piece of the output, and for a line of a usual length that goes past its end.
-const ROOM: usize = MOST_GIVEN + 8_192;
+pub(crate) const ROOM: usize = MOST_GIVEN + 8_192;
 
 /// Gives a sink the text of the closed runs of a trace: that of the parent's history, and then that of each child's.
 pub(crate) fn give_family<K: Sink>(
@@ -157,7 +157,7 @@ fn push_child_line(text: &mut Vec<u8>, fork: &Fork) -> Result<(), NoMemory>
 
 /// Prints a legal history of lines, each item with the line that it answers, and after it a list. Of the text no more than a piece and a
 /// line stand in memory.
-fn print_history<K: Sink>(
+pub(crate) fn print_history<K: Sink>(
     alloc: Global,
     sink: &mut K,
     piece: &mut Vec<u8>,
@@ -266,7 +266,7 @@ fn print_content<K: Sink>(
 }
 
 /// Prints how many areas there are, and their lines.
-fn print_maps<K: Sink>(
+pub(crate) fn print_maps<K: Sink>(
     sink: &mut K,
     piece: &mut Vec<u8>,
     files: &Files,

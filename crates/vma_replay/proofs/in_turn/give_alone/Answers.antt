@@ -1,0 +1,16 @@
+-- The proof of `give_alone`: the text is printed into an empty piece, and then the rest is given.
+use Rattle.std.proofs.Common.{refl}
+use Rattle.vma_replay.proofs.Alone.{cut_empty, prints_empty}
+use Rattle.vma_replay.proofs.Pieces.{at_error, cut_none, giving_last}
+use Rattle.vma_replay.proofs.in_turn.give_alone.Goals as goal
+
+pub returns-in_err-piece : goal.returns-in_err-piece
+returns-in_err-piece g c = at_error _ _ _ _ c.from_residual.ensures.1 (cut_none _ _ _ _ refl)
+
+pub returns-in_err-print_alone : goal.returns-in_err-print_alone
+returns-in_err-print_alone g c = at_error _ _ _ _ c.from_residual-in_err-print_alone.ensures.1
+    (cut_empty _ _ _ _ _ c.in_ok-piece.ensures.items c.in_err-print_alone.ensures)
+
+pub returns : goal.returns
+returns g c = giving_last _ _ _ _ _ _ _ (prints_empty _ _ _ _ _ c.in_ok-piece.ensures.items c.in_ok-print_alone.ensures) c.deref.ensures.value
+    c.give_all.ensures

@@ -1,0 +1,199 @@
+//! The output of a run that has no children. In `serial` it is printed line by line from what was done, without a list of it, where the order
+//! of the lines is that of the history.
+ghost use Rattle.std.specs.Prelude.{◌≡◌, ◌<◌, ◌^◌, ◌-◌, ◌∷◌, [], IfOk, IfSome, false, is_some};
+ghost use Rattle.std.specs.List.{list_any};
+ghost use Rattle.history.specs.Labels.{labelled};
+ghost use Rattle.history.specs.Runs.{content_of};
+ghost use Rattle.history.specs.Turns.{turn_item};
+ghost use Rattle.history.specs.declared.items.Content.TheVariants as contents;
+ghost use Rattle.output_text.specs.Output.{item_text, listed_text, result_text};
+ghost use Rattle.trace_reader.specs.Values.{IsTraceValue, child_of};
+ghost use Rattle.vma_replay.specs.Internal.Giving.{GivesAnOutput, IsDoing, IsGivingText, IsPrinting};
+ghost use Rattle.vma_replay.specs.Internal.Telling.{told_in_turn};
+ghost use Rattle.vma_replay.specs.Replaying.{IsRunOf, history_of_run};
+
+use crate::giving::{end_line, give_all, give_full};
+use crate::printing::{ROOM, print_history, print_maps, run_history};
+use crate::replayed::Runs;
+use crate::running::closed_run;
+use crate::status::Status;
+use crate::words::Mode;
+use history::{Turn, Turns, in_turn};
+use io_edge::{Gate, Sink};
+use mm_space::Closed;
+use mm_types::{Files, NoMemory, Record, Seen};
+use output_text::{push_forked, push_reply, push_start, push_verdict};
+use std::alloc::Global;
+use std::sync::Wait;
+use std::thread::Threads;
+use trace_reader::{Op, Trace, TraceLine};
+
+/// The closed run of a trace in which no line forks, once its output was given to a sink. It stands whole before the first byte is given.
+pub(crate) fn alone_given<R: Threads + Wait + Sync, K: Sink, G: Gate>(
+    rt: &R,
+    alloc: Global,
+    mode: Mode,
+    sink: &mut K,
+    trace: &Trace,
+    gate: &G,
+) -> Result<Runs, Status>
+    requires trace { IsTraceValue trace.now }
+    requires alone { list_any (λ line. is_some (child_of line.op)) trace.now.lines ≡ false }
+    requires sink { (K.seen sink.old).faults < 2 ^ 64 - 1 }
+    ensures { IsDoing (GivesAnOutput mode trace.now) (K.seen sink.old) (K.seen sink.new) result }
+{
+    let run = closed_run(rt, alloc, mode, trace, gate)?;
+    let runs = list_of(alloc, run)?;
+    give_alone(alloc, sink, mode, trace, &runs[0])?;
+    Ok(Runs::of(runs))
+}
+
+/// A list of one run.
+fn list_of(alloc: Global, run: Closed) -> Result<Vec<Closed>, NoMemory>
+    ensures { IfOk result (λ runs. runs.items ≡ run ∷ []) }
+{
+    let mut runs = Vec::with_capacity(alloc, 1)?;
+    runs.push(run)?;
+    Ok(runs)
+}
+
+/// Gives a sink the text of a closed run.
+fn give_alone<K: Sink>(
+    alloc: Global,
+    sink: &mut K,
+    mode: Mode,
+    trace: &Trace,
+    run: &Closed,
+) -> Result<(), Status>
+    requires trace { IsTraceValue trace.now }
+    requires run { IsRunOf mode trace.now run.now }
+    requires sink { (K.seen sink.old).faults < 2 ^ 64 - 1 }
+    ensures { IsGivingText (K.seen sink.old) (K.seen sink.new)
+        (listed_text trace.now.config.files trace.now.lines (history_of_run mode trace.now run.now) run.now.list) result }
+{
+    let mut piece = Vec::with_capacity(alloc, ROOM)?;
+    print_alone(alloc, sink, &mut piece, mode, trace, run)?;
+    give_all(sink, &piece)
+}
+
+/// Prints the text of a closed run.
+fn print_alone<K: Sink>(
+    alloc: Global,
+    sink: &mut K,
+    piece: &mut Vec<u8>,
+    mode: Mode,
+    trace: &Trace,
+    run: &Closed,
+) -> Result<(), Status>
+    requires trace { IsTraceValue trace.now }
+    requires run { IsRunOf mode trace.now run.now }
+    requires sink { (K.seen sink.old).faults < 2 ^ 64 - 1 }
+    ensures { IsPrinting (K.seen sink.old) (K.seen sink.new) piece.old.items piece.new.items
+        (listed_text trace.now.config.files trace.now.lines (history_of_run mode trace.now run.now) run.now.list) result }
+{
+    let (lines, files) = (trace.lines.items(), &trace.config.files);
+    let areas = run.list().items();
+    if let Some(turns) = turns_of(mode, trace, run) {
+        print_turns(sink, piece, lines, files, turns)?;
+        return print_maps(sink, piece, files, areas);
+    }
+    let history = run_history(alloc, mode, trace, run)?;
+    print_history(alloc, sink, piece, lines, files, history.items(), areas)
+}
+
+/// What was done in a closed run, where it can be told line by line: one caller ran all lines, and their order is that of the history.
+fn turns_of<'a>(mode: Mode, trace: &Trace, run: &'a Closed) -> Option<Turns<'a>>
+    requires trace { IsTraceValue trace.now }
+    requires run { IsRunOf mode trace.now run.now }
+    ensures { IfSome result (λ turns. labelled trace.now.lines trace.now.lines turns ≡ history_of_run mode trace.now run.now) }
+{
+    match mode {
+        Mode::Serial => in_turn(trace.lines.items(), run.journal(), run.logs()[0].as_slice()),
+        Mode::Threads => None,
+    }
+}
+
+/// Prints what was done, one thing with each line.
+fn print_turns<K: Sink>(
+    sink: &mut K,
+    piece: &mut Vec<u8>,
+    lines: &[TraceLine],
+    files: &Files,
+    mut turns: Turns<'_>,
+) -> Result<(), Status>
+    requires { (K.seen sink.old).faults < 2 ^ 64 - 1 }
+    ensures { IsPrinting (K.seen sink.old) (K.seen sink.new) piece.old.items piece.new.items
+        (told_in_turn (item_text files.now) lines.now turns.entry) result }
+{
+    for line in lines {
+        let Some(turn) = turns.next() else {
+            return Ok(());
+        };
+        print_turn(sink, piece, files, line, turn)?;
+    }
+    Ok(())
+}
+
+/// Prints one thing that was done, with its line.
+fn print_turn<K: Sink>(
+    sink: &mut K,
+    piece: &mut Vec<u8>,
+    files: &Files,
+    line: &TraceLine,
+    turn: Turn<'_>,
+) -> Result<(), Status>
+    requires { (K.seen sink.old).faults < 2 ^ 64 - 1 }
+    ensures { IsPrinting (K.seen sink.old) (K.seen sink.new) piece.old.items piece.new.items
+        (item_text files.now line.now (turn_item turn.entry)) result }
+{
+    push_start(piece, line, turn.version())?;
+    match turn {
+        Turn::Call(_, entry) => {
+            push_reply(piece, entry.reply)?;
+            end_line(sink, piece)
+        }
+        Turn::Read(read) => print_read(sink, piece, files, line.op, read),
+    }
+}
+
+/// Prints what an operation read.
+fn print_read<K: Sink>(
+    sink: &mut K,
+    piece: &mut Vec<u8>,
+    files: &Files,
+    op: Op,
+    read: &Seen,
+) -> Result<(), Status>
+    requires { (K.seen sink.old).faults < 2 ^ 64 - 1 }
+    ensures { IsPrinting (K.seen sink.old) (K.seen sink.new) piece.old.items piece.new.items
+        (result_text files.now (child_of op) (content_of read.now)) result }
+{
+    match read {
+        Seen::Fault { verdict, .. } => {
+            push_verdict(piece, *verdict)?;
+            end_line(sink, piece)
+        }
+        Seen::Maps { list, .. } => print_areas(sink, piece, files, op, list.items()),
+    }
+}
+
+/// Prints the list that an operation read: where it makes a child, the child and how many areas it begins with.
+fn print_areas<K: Sink>(
+    sink: &mut K,
+    piece: &mut Vec<u8>,
+    files: &Files,
+    op: Op,
+    areas: &[Record],
+) -> Result<(), Status>
+    requires { (K.seen sink.old).faults < 2 ^ 64 - 1 }
+    ensures { IsPrinting (K.seen sink.old) (K.seen sink.new) piece.old.items piece.new.items
+        (result_text files.now (child_of op) (contents.List areas.now)) result }
+{
+    match op {
+        Op::Fork { child } => {
+            push_forked(piece, child, areas.len())?;
+            give_full(sink, piece)
+        }
+        Op::Call(_) | Op::Fault { .. } | Op::Maps => print_maps(sink, piece, files, areas),
+    }
+}
