@@ -1,17 +1,18 @@
--- For `entry_at`: the entry that has a page is under the item that has it.
-use Rattle.std.proofs.Common.{ℕ, suc, ◌≡◌, ◌<◌, ◌≤◌, Bool, List, [], ◌∷◌, ◌++◌, Some, refl, sym, ap, subst, ◌∙◌, arith, inl, inr, append-nil}
+-- For `entry_at` and `leaf_at`: the entry that has a page is under the item that has it.
+use Rattle.std.proofs.Common.{ℕ, suc, ◌≡◌, ◌<◌, ◌≤◌, ◌-◌, Bool, false, List, [], ◌∷◌, ◌++◌, Some, refl, sym, ap, subst, ◌∙◌, arith, inl, inr, append-nil}
 use Rattle.std.proofs.lemmas.Bool.{cases_lt}
+use Rattle.std.proofs.lemmas.Bool.Decides.{nat_tests}
 use Rattle.std.proofs.lemmas.List.Elements.{filter-append}
 use Rattle.std.specs.Prelude.{nat_le}
 use Rattle.maple_node.specs.declared.item.Item.{Item}
 use Rattle.maple_node.specs.Nodes.{end_of, Ascends}
 use Rattle.maple_node.specs.Levels.{is_leaf, read, item_at, AllFrom, IsNode, level_of}
-use Rattle.maple_node.proofs.Lists.{end_of-append}
+use Rattle.maple_node.proofs.Lists.{end_of-append, ends_above}
 use Rattle.maple_items.specs.declared.place.Place.{Place}
 use Rattle.maple_items.specs.Splices.{upto}
-use Rattle.maple_items.proofs.Lists.{upto-first, upto-later, item_at-first, item_at-later, upto_all, upto_none, upto_first, item_at-left, item_at-right}
+use Rattle.maple_items.proofs.Lists.{upto-first, upto-later, item_at-first, item_at-later, upto_all, upto_none, upto_first, end_upto, item_at-left, item_at-right}
 use Rattle.maple_gap.specs.declared.branch.Branch.{Branch}
-use Rattle.maple_gap.specs.Internal.Searches.{IsUnder, IsBranch, entries_under}
+use Rattle.maple_gap.specs.Internal.Searches.{IsUnder, IsBranch, IsPartOf, entries_under}
 use Rattle.maple_gap.proofs.Rows.{node_under}
 use Rattle.maple_gap.proofs.Under.{spread, spread_items, under-ascends, level_of-append, entries-down}
 
@@ -157,3 +158,110 @@ reach_entry at page root branch reached low =
       start = sym (reached.begins ∙ ap (λ (xs : List Item). end_of branch.place.start (upto page xs)) one
           ∙ ap (end_of branch.place.start) (upto-later page item [] reached.within));
     }
+
+-- an item that has one page of a list is found by each of its pages
+pub record Found (start other : ℕ) (items : List Item) (place : Place) : Type 0 where
+  pub item : item_at other items ≡ Some place.item
+  pub begins : place.start ≡ end_of start (upto other items)
+
+found_by : (start page other : ℕ) (items : List Item) (place : Place) → Ascends start items → item_at page items ≡ Some place.item
+    → place.start ≡ end_of start (upto page items) → place.start ≤ other → other < place.item.end → Found start other items place
+found_by start page other [] place ascends is begins above within = absurd (cc)
+found_by start page other (x ∷ xs) place ascends is begins above within = elim (cases_lt page x.end) as (λ _. Found start other (x ∷ xs) place) [
+  | inl first ↦
+      let told : Some x ≡ Some place.item = sym (item_at-first page x xs first) ∙ is in
+      let same : x ≡ place.item = cc in
+      let end : x.end ≡ place.item.end = ap (λ (i : Item). i.end) same in
+      record {
+        item = item_at-first other x xs (omega arith) ∙ ap (λ (i : Item). Some i) same;
+        begins = begins ∙ ap (end_of start) (upto_first start page x xs ascends first ∙ sym (upto_first start other x xs ascends (omega arith)));
+      }
+  | inr past ↦
+      let begin : place.start ≡ end_of x.end (upto page xs) = begins ∙ ap (end_of start) (upto-first page x xs past) in
+      let least = end_upto x.end page xs ascends.1 in
+      let later = found_by x.end page other xs place ascends.1 (sym (item_at-later page x xs past) ∙ is) begin above within in
+      record {
+        item = item_at-later other x xs (omega arith) ∙ later.item;
+        begins = later.begins ∙ sym (ap (end_of start) (upto-first other x xs (omega arith)));
+      }
+]
+
+-- the branch that was reached has the page, and the other pages of it have their entries there too
+pub record Around (at : ℕ → List ℕ) (page : ℕ) (root branch : Branch) : Type 0 where
+  pub here : Reached at page root branch
+  pub others : (other : ℕ) → branch.place.start ≤ other → other < branch.place.item.end → Reached at other root branch
+
+pub around_root : (at : ℕ → List ℕ) (page : ℕ) (root : Branch) → IsBranch at root → root.place.start ≤ page → page < root.place.item.end
+    → Around at page root root
+around_root at page root is above within =
+    record { here = reach_root at page root is above within; others = λ other low high. reach_root at other root is low high }
+
+-- an item lies within the node that lists it
+pub record Within (start end : ℕ) (place : Place) : Type 0 where
+  pub low : start ≤ place.start
+  pub high : place.item.end ≤ end
+
+within_all : (start page : ℕ) (items : List Item) (place : Place) → Ascends start items → item_at page items ≡ Some place.item
+    → place.start ≡ end_of start (upto page items) → Within start (end_of start items) place
+within_all start page items place ascends is begins =
+    let least = end_upto start page items ascends in
+    record { low = omega arith; high = ends start items ascends is } where
+      ends : (start : ℕ) (items : List Item) → Ascends start items → item_at page items ≡ Some place.item → place.item.end ≤ end_of start items
+      ends start [] ascends is = absurd (cc)
+      ends start (x ∷ xs) ascends is = elim (cases_lt page x.end) as (λ _. place.item.end ≤ end_of x.end xs) [
+        | inl first ↦
+            let told : Some x ≡ Some place.item = sym (item_at-first page x xs first) ∙ is in
+            let same : x ≡ place.item = cc in
+            let end : x.end ≡ place.item.end = ap (λ (i : Item). i.end) same in
+            let later = ends_above x.end xs ascends.1 in
+            omega arith
+        | inr past ↦ ends x.end xs ascends.1 (sym (item_at-later page x xs past) ∙ is)
+      ]
+
+-- down to the item that has the page
+pub around_down : (at : ℕ → List ℕ) (page : ℕ) (root branch : Branch) (level : ℕ) (leaf : Bool) (items : List Item) (place : Place)
+    → Around at page root branch → branch.level ≡ suc level → leaf ≡ is_leaf level → items ≡ read at leaf branch.place.item.word
+    → item_at page items ≡ Some place.item → place.start ≡ end_of branch.place.start (upto page items)
+    → Around at page root (record { place = place; level = level })
+around_down at page root branch level leaf items place around e below are is begins =
+    let node = reach_node at page root branch level around.here e in
+    let until : end_of branch.place.start (read at (is_leaf level) branch.place.item.word) ≡ branch.place.item.end = node.until in
+    let same : items ≡ read at (is_leaf level) branch.place.item.word = are ∙ ap (λ (b : Bool). read at b branch.place.item.word) below in
+    let ending : end_of branch.place.start items ≡ branch.place.item.end = ap (end_of branch.place.start) same ∙ until in
+    let ascends = (inside at page root branch level leaf items around.here e below are).ascends in
+    let lies = within_all branch.place.start page items place ascends is begins in
+    let low = lies.low in
+    let high = lies.high in
+    record {
+      here = reach_down at page root branch level leaf items place around.here e below are is begins;
+      others = λ other above within.
+          let found = found_by branch.place.start page other items place ascends is begins above within in
+          reach_down at other root branch level leaf items place (around.others other (omega arith) (omega arith)) e below are found.item found.begins;
+    }
+
+-- what lies two levels above the entries or more lists no entries
+pub not_leaf : (level : ℕ) → 1 < level → false ≡ is_leaf (level - 1)
+not_leaf level above = grind (arith, nat_tests)
+
+-- so it is a part of the whole
+pub around_part : (at : ℕ → List ℕ) (page : ℕ) (root branch : Branch) → Around at page root branch → IsPartOf at root branch
+unfolding IsPartOf
+around_part at page root branch around = λ other above within. (around.others other above within).found
+
+-- and what the part says of a page of it holds of the whole
+pub whole_item : (at : ℕ → List ℕ) (root part : Branch) (page : ℕ) (item : Item) → IsPartOf at root part → part.place.start ≤ page
+    → page < part.place.item.end → item_at page (entries_under at part) ≡ Some item → item_at page (entries_under at root) ≡ Some item
+unfolding IsPartOf
+whole_item at root part page item same above within found = same page above within ∙ found
+
+-- an entry ends above each page that it has
+pub item_above : (page : ℕ) (items : List Item) (item : Item) → item_at page items ≡ Some item → page < item.end
+item_above page [] item found = absurd (cc)
+item_above page (x ∷ xs) item found = elim (cases_lt page x.end) as (λ _. page < item.end) [
+  | inl above ↦
+      let told : Some x ≡ Some item = sym (item_at-first page x xs above) ∙ found in
+      let same : x ≡ item = cc in
+      let end : x.end ≡ item.end = ap (λ (i : Item). i.end) same in
+      omega arith
+  | inr past ↦ item_above page xs item (sym (item_at-later page x xs past) ∙ found)
+]

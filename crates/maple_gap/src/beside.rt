@@ -6,7 +6,7 @@ ghost use Rattle.node_slots.specs.Seats.{Writes};
 ghost use Rattle.node_slots.specs.Built.{IsWriters, pairs_now};
 ghost use Rattle.maple_gap.specs.Gaps.{first_from, last_before, slot_in};
 
-use crate::branch::{entry_at, root_of};
+use crate::branch::{entry_at, entry_near, leaf_at, root_of};
 use mm_types::{Page, Slot, Steps};
 use node_slots::{NodeTable, NodeWriter, Tree};
 
@@ -34,14 +34,15 @@ pub fn next_slot(nodes: &NodeTable, writer: &NodeWriter, tree: &Tree, page: Page
     if page.0 >= limit {
         return None;
     }
-    let here = entry_at(nodes, writer, root, page.0, &mut steps);
+    let leaf = leaf_at(nodes, writer, root, page.0, &mut steps);
+    let here = entry_at(nodes, writer, leaf, page.0, &mut steps);
     if here.item.word != 0 {
         return slot_of(here.item.word);
     }
     if here.item.end >= limit {
         return None;
     }
-    let next = entry_at(nodes, writer, root, here.item.end, &mut steps);
+    let next = entry_near(nodes, writer, root, leaf, here.item.end, &mut steps);
     slot_of(next.item.word)
 }
 

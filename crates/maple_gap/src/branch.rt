@@ -7,7 +7,7 @@ ghost use Rattle.maple_node.specs.Levels.{is_leaf, item_at};
 ghost use Rattle.maple_items.specs.Splices.{upto};
 ghost use Rattle.node_slots.specs.Seats.{Writes, row_count};
 ghost use Rattle.node_slots.specs.Built.{words_at, IsWriters};
-ghost use Rattle.maple_gap.specs.Internal.Searches.{may_have, entries_under, best_under, best_of, spare_from, IsBranch, IsSpare, IsFar, IsRootOf};
+ghost use Rattle.maple_gap.specs.Internal.Searches.{may_have, entries_under, best_under, best_of, spare_from, IsBranch, IsSpare, IsFar, IsPartOf, IsRootOf};
 
 use crate::window::{Side, Window, choose};
 use maple_items::{Place, gap_in, item_in, lists_nothing};
@@ -163,4 +163,61 @@ pub(crate) fn entry_at<L>(
         };
     }
     branch.place
+}
+
+/// The leaf of a branch that has a page, or the branch where it is an entry. Other pages of the leaf have their entries there too.
+pub(crate) fn leaf_at<L>(
+    nodes: &NodeTable,
+    writer: &NodeWriter,
+    root: Branch,
+    page: u64,
+    steps: &mut Steps<L>,
+) -> Branch
+    requires table { Writes writer.now nodes.now }
+    requires branch { IsBranch (words_at writer.now) root }
+    requires above { root.place.start ≤ page }
+    requires within { page < root.place.item.end }
+    ensures branch { IsBranch (words_at writer.now) result }
+    ensures above { result.place.start ≤ page }
+    ensures within { page < result.place.item.end }
+    ensures same { IsPartOf (words_at writer.now) root result }
+{
+    let mut branch = root;
+    while branch.level > 1 {
+        let level = branch.level - 1;
+        let Place { start, item } = branch.place;
+        let words = words(nodes, writer, item.word, steps);
+        branch = Branch {
+            place: item_in(false, words, start, page),
+            level,
+        };
+    }
+    branch
+}
+
+/// The entry of a branch that has a page, where the pages before it were found in a part of the branch: most such pages lie in
+/// that part too, so there it is sought first.
+pub(crate) fn entry_near<L>(
+    nodes: &NodeTable,
+    writer: &NodeWriter,
+    root: Branch,
+    part: Branch,
+    page: u64,
+    steps: &mut Steps<L>,
+) -> Place
+    requires table { Writes writer.now nodes.now }
+    requires branch { IsBranch (words_at writer.now) root }
+    requires part { IsBranch (words_at writer.now) part }
+    requires same { IsPartOf (words_at writer.now) root part }
+    requires above { root.place.start ≤ page }
+    requires within { page < root.place.item.end }
+    requires beyond { part.place.start ≤ page }
+    ensures item { item_at page (entries_under (words_at writer.now) root) ≡ Some result.item }
+{
+    let near = if page < part.place.item.end {
+        part
+    } else {
+        root
+    };
+    entry_at(nodes, writer, near, page, steps)
 }

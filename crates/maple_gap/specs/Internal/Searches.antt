@@ -3,7 +3,7 @@ use Rattle.std.specs.Prelude.{ℕ, zero, suc, ◌≡◌, ◌<◌, ◌≤◌, ◌
 use Rattle.std.specs.Option.{option_or, option_and}
 use Rattle.maple_node.specs.declared.item.Item.{Item}
 use Rattle.maple_node.specs.Nodes.{item_gap}
-use Rattle.maple_node.specs.Levels.{is_leaf, read, AllFrom, IsNode, level_of}
+use Rattle.maple_node.specs.Levels.{is_leaf, read, AllFrom, IsNode, level_of, item_at}
 use Rattle.maple_node.specs.Trees.{pairs_from, ApartFrom}
 use Rattle.maple_items.specs.declared.place.Place.{Place}
 use Rattle.node_slots.specs.declared.tree.Tree.{Tree}
@@ -72,6 +72,11 @@ pub record IsBranch (at : ℕ → List ℕ) (branch : Branch) : Type 0 where
 -- the entries under a branch
 abbrev pub entries_under : (ℕ → List ℕ) → Branch → List Item
 entries_under at branch = level_of at 0 branch.level (branch.place.item ∷ [])
+
+-- a part of a branch: for each page of the part, the entry of the branch that has it is the one under the part
+unfoldable pub IsPartOf : (ℕ → List ℕ) → Branch → Branch → Type 0
+IsPartOf at branch part = (page : ℕ) → part.place.start ≤ page → page < part.place.item.end
+    → item_at page (entries_under at branch) ≡ item_at page (entries_under at part)
 
 -- the start that is sought under a branch
 abbrev pub best_under : Side → Window → (ℕ → List ℕ) → Branch → Option ℕ
