@@ -12,3 +12,4 @@ pub mod Gone
 pub mod Writers
 pub mod Leaves
 pub mod Seated
+pub mod Zeros

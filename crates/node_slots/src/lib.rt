@@ -3,6 +3,7 @@
 //! reader closes. One writer fills free rows, publishes trees, and scans the pins to find which rows are free again.
 #![tactic(auto)]
 
+mod first_words;
 mod left;
 mod opening;
 mod reading;
@@ -14,6 +15,7 @@ mod twins;
 mod view;
 mod writing;
 
+pub use first_words::FirstWords;
 pub use left::Left;
 pub use seats::{NodeSeat, NodeTable, NodeWriter, NodeWriterSeat};
 pub use tree::Tree;

@@ -1,17 +1,15 @@
-ghost use Rattle.std.specs.Prelude.{◌≡◌, ◌≤◌, ◌<◌, ◌+◌, ◌*◌, ℕ, [], IfOk, length, replicate, slice_get, slice_set, Some};
+ghost use Rattle.std.specs.Prelude.{◌≡◌, ◌≤◌, ◌<◌, ◌+◌, ◌*◌, ℕ, [], IfOk, length, slice_get, Some};
 ghost use Rattle.std.specs.Arc.{arc_value};
 ghost use Rattle.std.specs.VecDeque.{deque_capacity};
 ghost use Rattle.grace_core.specs.Core.{times};
 ghost use Rattle.grace_core.specs.Steps.{new_clearing};
-ghost use Rattle.maple_node.specs.Roots.{packed_root};
 ghost use Rattle.node_slots.specs.declared.seats.NodeSeat.{NodeSeat as Reader};
-ghost use Rattle.node_slots.specs.Trees.{first_root, empty_row};
-ghost use Rattle.node_slots.specs.Places.{word_count};
 ghost use Rattle.node_slots.specs.Views.{opened_view, reader_view, new_reader, after_reader};
 ghost use Rattle.node_slots.specs.Kept.{IsSize, free_numbers};
-ghost use Rattle.node_slots.specs.Opening.{IsFreeFrom};
+ghost use Rattle.node_slots.specs.Opening.{IsFreeFrom, line_rows};
 ghost use Rattle.node_slots.specs.Seats.{size_of, IsOf, Writes, view, sight, free_of, left_of};
 
+use crate::first_words::{FirstWords, ROW};
 use crate::rule::NewReader;
 use crate::seats::{Hint, NodeSeat, NodeTable, NodeWriter, NodeWriterSeat};
 use crate::view::Size;
@@ -25,9 +23,6 @@ use std::sync::Arc;
 
 /// The words of a cache line, which has 64 bytes.
 const LINE: usize = 8;
-
-/// The words of a row.
-const ROW: usize = 32;
 
 /// The root of tree 0, a leaf without entries in row 0.
 const FIRST_ROOT: Root = Root {
@@ -69,12 +64,35 @@ impl NodeTable {
         ensures fresh { IfOk result (λ made. (reader : ℕ) (seat : Reader) → slice_get made.2.items reader ≡ Some seat → IsOf seat made.0
             × (view seat ≡ reader_view (record { rows = rows; slots = slots; readers = readers }) reader)) }
     {
+        let words = FirstWords::new(alloc, rows)?;
+        NodeTable::of_words(alloc, words, rows, slots, readers)
+    }
+
+    /// The same, copied from words that are made already.
+    pub fn of_words(
+        alloc: Global,
+        words: FirstWords,
+        rows: u32,
+        slots: u32,
+        readers: u32,
+    ) -> Result<(NodeTable, NodeWriter, Vec<NodeSeat>), NoMemory>
+        requires size { IsSize (record { rows = rows; slots = slots; readers = readers }) }
+        requires words { rows + line_rows ≤ length words.rows.items }
+        ensures table { IfOk result (λ made. size_of made.0 ≡ record { rows = rows; slots = slots; readers = readers }) }
+        ensures writer { IfOk result (λ made. Writes made.1 made.0
+            × (sight made.1 ≡ opened_view (record { rows = rows; slots = slots; readers = readers }) readers)) }
+        ensures free { IfOk result (λ made. IsFreeFrom 1 rows (free_of made.1)) }
+        ensures left { IfOk result (λ made. left_of made.1 ≡ []) }
+        ensures seats { IfOk result (λ made. length made.2.items ≡ readers) }
+        ensures fresh { IfOk result (λ made. (reader : ℕ) (seat : Reader) → slice_get made.2.items reader ≡ Some seat → IsOf seat made.0
+            × (view seat ≡ reader_view (record { rows = rows; slots = slots; readers = readers }) reader)) }
+    {
         let size = Size {
             rows,
             slots,
             readers,
         };
-        let (table, mut writer) = open(alloc, size)?;
+        let (table, mut writer) = open(alloc, words, size)?;
         let mut seats = Vec::with_capacity(alloc, readers as usize)?;
         for reader in 0..readers {
             seats.push(table.new_reader(&mut writer, reader))?;
@@ -105,14 +123,15 @@ impl NodeTable {
 }
 
 /// A table with no reader.
-fn open(alloc: Global, size: Size) -> Result<(NodeTable, NodeWriter), NoMemory>
-    requires { IsSize size }
+fn open(alloc: Global, words: FirstWords, size: Size) -> Result<(NodeTable, NodeWriter), NoMemory>
+    requires size { IsSize size }
+    requires words { size.rows + line_rows ≤ length words.rows.items }
     ensures table { IfOk result (λ made. size_of made.0 ≡ size) }
     ensures writer { IfOk result (λ made. Writes made.1 made.0 × (sight made.1 ≡ opened_view size 0)) }
     ensures free { IfOk result (λ made. IsFreeFrom 1 size.rows (free_of made.1)) }
     ensures left { IfOk result (λ made. left_of made.1 ≡ []) }
 {
-    let (table, desk) = open_seat(alloc, size)?;
+    let (table, desk) = open_seat(alloc, words, size)?;
     let writer = NodeWriter {
         desk,
         free: first_free(alloc, size.rows)?,
@@ -125,16 +144,21 @@ fn open(alloc: Global, size: Size) -> Result<(NodeTable, NodeWriter), NoMemory>
 }
 
 /// A table with no reader, and the seat of its writer.
-fn open_seat(alloc: Global, size: Size) -> Result<(NodeTable, NodeWriterSeat), NoMemory>
-    requires { IsSize size }
+fn open_seat(
+    alloc: Global,
+    mut words: FirstWords,
+    size: Size,
+) -> Result<(NodeTable, NodeWriterSeat), NoMemory>
+    requires size { IsSize size }
+    requires words { size.rows + line_rows ≤ length words.rows.items }
     ensures table { IfOk result (λ made. size_of made.0 ≡ size) }
     ensures seat { IfOk result (λ made. (made.1.seat.table_id ≡ (arc_value made.0.table).shared.table_id) × (made.1.table.size ≡ size)
         × (made.1.seat.me.0 ≡ opened_view size 0)) }
 {
-    let words = first_words(alloc, size)?;
-    let rows = empty_rows(alloc, size.rows)?;
     let clearings = vec![in alloc; NEW_CLEARING; size.readers as usize]?;
-    let (table, seat) = Table::of_words(alloc, words.as_slice(), &size)?;
+    let count = (size.readers as usize + 1) * LINE + size.rows as usize * ROW;
+    words.set_first(pack_root(FIRST_ROOT));
+    let (table, seat) = Table::of_words(alloc, words.take(count), &size)?;
     let table = NodeTable {
         table: Arc::new(alloc, table)?,
         size,
@@ -146,32 +170,10 @@ fn open_seat(alloc: Global, size: Size) -> Result<(NodeTable, NodeWriterSeat), N
             size,
         },
         root: FIRST_ROOT,
-        words: rows,
+        words: words.into_rows(size.rows),
         clearings,
     };
     Ok((table, seat))
-}
-
-/// The words of a table before anything happened.
-fn first_words(alloc: Global, size: Size) -> Result<Vec<u64>, NoMemory>
-    requires { IsSize size }
-    ensures { IfOk result (λ words. words.items ≡ slice_set (replicate (word_count size) 0) 0 (packed_root first_root)) }
-{
-    let count = (size.readers as usize + 1) * LINE + size.rows as usize * ROW;
-    let mut words = vec![in alloc; 0; count]?;
-    words[0] = pack_root(FIRST_ROOT);
-    Ok(words)
-}
-
-/// So many rows of zeros.
-fn empty_rows(alloc: Global, count: u32) -> Result<Vec<[u64; 32]>, NoMemory>
-    ensures { IfOk result (λ rows. rows.items ≡ replicate count empty_row) }
-{
-    let mut rows = Vec::with_capacity(alloc, count as usize)?;
-    for _row in 0..count {
-        rows.push([0; ROW])?;
-    }
-    Ok(rows)
 }
 
 /// All rows but the first, in their order.

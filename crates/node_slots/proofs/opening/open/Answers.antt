@@ -8,7 +8,7 @@ invariant_of-writer c =
     let made = c.in_ok-table.ensures.seat in
     let size = ap (λ s. s.rows) made.1 in
     record {
-      rows = opening_rows _ _ _ _ _ _ c.requires c.in_ok-first_free.ensures.free (c.in_ok-vec.ensures.items_if_clones_equal (λ y e. e))
+      rows = opening_rows _ _ _ _ _ _ c.requires.size c.in_ok-first_free.ensures.free (c.in_ok-vec.ensures.items_if_clones_equal (λ y e. e))
           c.in_ok-with_capacity.ensures.items made.1 made.2;
       free_room = omega (arith, size, c.in_ok-first_free.ensures.room);
       left_room = omega (arith, size, c.in_ok-with_capacity.ensures.capacity);

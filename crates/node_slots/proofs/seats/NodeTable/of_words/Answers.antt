@@ -1,11 +1,11 @@
--- For `new`: one reader more.
+-- For `of_words`: one reader more.
 use Rattle.std.proofs.Common.{ℕ, ◌≡◌, ◌∙◌, List, slice_get, Some, sym, ap, subst, arith}
 use Rattle.node_slots.specs.declared.seats.NodeSeat.{NodeSeat as Reader}
 use Rattle.node_slots.specs.Opening.{IsFreeFrom}
 use Rattle.node_slots.specs.Views.{reader_view, after_reader, new_reader}
 use Rattle.node_slots.specs.Seats.{IsOf, view}
 use Rattle.node_slots.proofs.Elements.{each_found}
-use Rattle.node_slots.proofs.seats.NodeTable.new.Goals as goal
+use Rattle.node_slots.proofs.seats.NodeTable.of_words.Goals as goal
 
 pub loop-reader-preserved : goal.loop-reader-preserved
 loop-reader-preserved c =

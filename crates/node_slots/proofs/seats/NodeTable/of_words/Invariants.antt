@@ -1,10 +1,10 @@
--- For `new`: so many readers were made, and each is of the table and made no step.
+-- For `of_words`: so many readers were made, and each is of the table and made no step.
 use Rattle.std.proofs.Common.{◌≡◌, ℕ, length, slice_get, Some, []}
 use Rattle.node_slots.specs.declared.seats.NodeSeat.{NodeSeat as Reader}
 use Rattle.node_slots.specs.Opening.{IsFreeFrom}
 use Rattle.node_slots.specs.Views.{opened_view, reader_view}
 use Rattle.node_slots.specs.Seats.{size_of, IsOf, Writes, view, sight, free_of, left_of}
-use Rattle.node_slots.proofs.seats.NodeTable.new.Given as goal
+use Rattle.node_slots.proofs.seats.NodeTable.of_words.Given as goal
 
 abbrev pub invariant-loop-reader : goal.invariant-loop-reader
 invariant-loop-reader l = record {
