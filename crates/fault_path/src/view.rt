@@ -18,10 +18,10 @@ use crate::locking::lock_page;
 use crate::pass::{Pass, Rest};
 use area_rules::area_verdict;
 use mm_types::{Access, Config, NoMemory, Page, Seen, rows_for, slots_for};
-use node_slots::{NodeSeat, NodeTable, NodeWriter};
+use node_slots::{FirstWords, NodeSeat, NodeTable, NodeWriter};
 use std::alloc::Global;
 use std::marker::Model;
-use vma_lock::{ReaderSeat, VmaTable, WriterSeat};
+use vma_lock::{FIRST_SEQ, ReaderSeat, VmaTable, WriterSeat, word_count};
 
 /// The tables of an address space as callers see them: the areas with their locks, and the nodes of the tree of areas. Callers
 /// share it by reference.
@@ -72,12 +72,14 @@ impl FaultView {
         ensures passes { IfOk result (λ made. AreFresh made.2.seat.table_id made.3.desk.seat.table_id config.now operations.now made.1.items) }
     {
         let callers = operations.len() as u32;
-        let (table, writer, seats) = VmaTable::new(alloc, config, callers)?;
-        let (nodes, node_writer, walkers) = NodeTable::new(
-            alloc,
-            rows_for(config.areas),
-            slots_for(config.areas),
-            callers,
+        let (rows, slots) = (rows_for(config.areas), slots_for(config.areas));
+        // the areas' table is copied from words that the nodes' writer keeps
+        let mut words = FirstWords::new(alloc, rows)?;
+        words.set_first(FIRST_SEQ);
+        let first = words.take(word_count(config));
+        let (table, writer, seats) = VmaTable::of_words(alloc, first, config, callers)?;
+        let (nodes, node_writer, walkers) = NodeTable::of_words(
+            alloc, words, rows, slots, callers,
         )?;
         let passes = passes_of(alloc, &table, &nodes, config, seats, walkers, operations)?;
         let config = config.copy(alloc)?;

@@ -3,5 +3,6 @@ pub mod Words
 pub mod Rule
 pub mod Plays
 pub mod Kept
+pub mod Opening
 pub mod Seats
 pub mod Internal

@@ -12,6 +12,7 @@ mod turns;
 mod view;
 mod writing;
 
+pub use opening::{FIRST_SEQ, word_count};
 pub use seats::{NoteSeat, ReaderSeat, VmaTable, WriterSeat};
 pub use view::{Desk, LastWords, SeatKind, SeenAt, Trace, View};
 pub use writing::ReadersLeft;

@@ -1,6 +1,7 @@
-ghost use Rattle.std.specs.Prelude.{◌≡◌, ◌≤◌, ◌<◌, ◌+◌, ◌*◌, ℕ, IfOk, length, replicate, slice_get, slice_set, Some};
+ghost use Rattle.std.specs.Prelude.{◌≡◌, ◌≤◌, ◌<◌, ◌+◌, ◌*◌, ℕ, IfOk, length, slice_get, Some};
 ghost use Rattle.mm_types.specs.Config.{IsValidConfig};
 ghost use Rattle.vma_lock.specs.declared.seats.ReaderSeat.{ReaderSeat as Reader};
+ghost use Rattle.vma_lock.specs.Opening.{first_words};
 ghost use Rattle.vma_lock.specs.Views.{slot_count, opened_view, new_reader, after_reader};
 ghost use Rattle.vma_lock.specs.Seats.{table_of, config_of, IsOf, Writes, view, sight};
 
@@ -15,7 +16,7 @@ use std::sync::Arc;
 const LINE: usize = 8;
 
 /// The sequence of a new table.
-const FIRST_SEQ: u64 = 2;
+pub const FIRST_SEQ: u64 = 2;
 
 impl VmaTable {
     /// Makes a table with its writer and so many readers, the first of caller 0. No call was made, each row is
@@ -32,7 +33,27 @@ impl VmaTable {
         ensures seats { IfOk result (λ made. length made.2.items ≡ readers) }
         ensures fresh { IfOk result (λ made. (caller : ℕ) (seat : Reader) → slice_get made.2.items caller ≡ Some seat → IsOf seat made.0 × (view seat ≡ new_reader (opened_view config.now caller))) }
     {
-        let (table, mut writer) = open(alloc, config)?;
+        let mut words = vec![in alloc; 0; word_count(config)]?;
+        words[0] = FIRST_SEQ;
+        VmaTable::of_words(alloc, words.as_slice(), config, readers)
+    }
+
+    /// The same, copied from words that are made already.
+    pub fn of_words(
+        alloc: Global,
+        words: &[u64],
+        config: &Config,
+        readers: u32,
+    ) -> Result<(VmaTable, WriterSeat, Vec<ReaderSeat>), NoMemory>
+        requires config { IsValidConfig config.now }
+        requires readers { (1 ≤ readers) × (readers ≤ 64) }
+        requires words { words.now ≡ first_words config.now }
+        ensures table { IfOk result (λ made. config_of made.0 ≡ config.now) }
+        ensures writer { IfOk result (λ made. Writes made.1 made.0 × (sight made.1 ≡ opened_view config.now readers)) }
+        ensures seats { IfOk result (λ made. length made.2.items ≡ readers) }
+        ensures fresh { IfOk result (λ made. (caller : ℕ) (seat : Reader) → slice_get made.2.items caller ≡ Some seat → IsOf seat made.0 × (view seat ≡ new_reader (opened_view config.now caller))) }
+    {
+        let (table, mut writer) = open(alloc, words, config)?;
         let mut seats = Vec::with_capacity(alloc, readers as usize)?;
         for caller in 0..readers {
             seats.push(table.new_reader(&mut writer, caller))?;
@@ -61,14 +82,14 @@ impl VmaTable {
 }
 
 /// A table with no reader.
-fn open(alloc: Global, config: &Config) -> Result<(VmaTable, WriterSeat), NoMemory>
-    requires { IsValidConfig config.now }
+fn open(alloc: Global, words: &[u64], config: &Config) -> Result<(VmaTable, WriterSeat), NoMemory>
+    requires config { IsValidConfig config.now }
+    requires words { words.now ≡ first_words config.now }
     ensures table { IfOk result (λ made. config_of made.0 ≡ config.now) }
     ensures writer { IfOk result (λ made. Writes made.1 made.0 × (sight made.1 ≡ opened_view config.now 0)) }
 {
     let slots = slots_for(config.areas) as usize;
-    let words = opening_words(alloc, slots)?;
-    let (table, seat) = Table::of_words(alloc, words.as_slice(), config)?;
+    let (table, seat) = Table::of_words(alloc, words, config)?;
     let table = VmaTable {
         table: Arc::new(alloc, table)?,
     };
@@ -84,12 +105,10 @@ fn open(alloc: Global, config: &Config) -> Result<(VmaTable, WriterSeat), NoMemo
     Ok((table, writer))
 }
 
-/// The words of a table before anything happened.
-fn opening_words(alloc: Global, slots: usize) -> Result<Vec<u64>, NoMemory>
-    requires { slots < 200000 }
-    ensures { IfOk result (λ words. words.items ≡ slice_set (replicate ((slots + 1) * 8) 0) 0 2) }
+/// How many words a table has.
+pub fn word_count(config: &Config) -> usize
+    requires { IsValidConfig config.now }
+    ensures { result ≡ (slot_count config.now + 1) * 8 }
 {
-    let mut words = vec![in alloc; 0; (slots + 1) * LINE]?;
-    words[0] = FIRST_SEQ;
-    Ok(words)
+    (slots_for(config.areas) as usize + 1) * LINE
 }

@@ -1,9 +1,9 @@
--- For `new`: so many readers were made, and each is of the table and has its turn.
+-- For `of_words`: so many readers were made, and each is of the table and has its turn.
 use Rattle.std.proofs.Common.{◌≡◌, ℕ, length, slice_get, Some}
 use Rattle.vma_lock.specs.declared.seats.ReaderSeat.{ReaderSeat as Reader}
 use Rattle.vma_lock.specs.Views.{opened_view, new_reader}
 use Rattle.vma_lock.specs.Seats.{IsOf, Writes, view, sight}
-use Rattle.vma_lock.proofs.seats.VmaTable.new.Given as goal
+use Rattle.vma_lock.proofs.seats.VmaTable.of_words.Given as goal
 
 abbrev pub invariant-loop-caller : goal.invariant-loop-caller
 invariant-loop-caller l = record {

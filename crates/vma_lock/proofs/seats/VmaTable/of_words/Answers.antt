@@ -1,10 +1,10 @@
--- For `new`: one more reader was made.
+-- For `of_words`: one more reader was made.
 use Rattle.std.proofs.Common.{ℕ, zero, suc, ◌≡◌, ◌∙◌, List, [], ◌∷◌, ◌++◌, length, slice_get, Some, sym, ap, subst, rules}
 use Rattle.std.proofs.lemmas.Option.{same_Some, none-some}
 use Rattle.vma_lock.specs.declared.seats.ReaderSeat.{ReaderSeat as Reader}
 use Rattle.vma_lock.specs.Views.{opened_view, new_reader}
 use Rattle.vma_lock.specs.Seats.{IsOf, view}
-use Rattle.vma_lock.proofs.seats.VmaTable.new.Goals as goal
+use Rattle.vma_lock.proofs.seats.VmaTable.of_words.Goals as goal
 
 -- what is so of each element and of one that is pushed is so of each element then
 pushed_each : {A : Type 0} (P : ℕ → A → Type 0) (xs : List A) (y : A) → ((i : ℕ) (x : A) → slice_get xs i ≡ Some x → P i x)
