@@ -6,7 +6,7 @@ ghost use Rattle.trace_reader.specs.Reading.{Gives};
 
 use crate::error::{CallError, Cause};
 use crate::fields::{flags, mapped_descriptor, number, prot};
-use crate::words::words_of;
+use crate::words::{is_name, words_of};
 use flag_table::{map_table, mremap_table};
 use mm_types::{Call, MREMAP_FIXED, MmapArgs, has_flag};
 use std::alloc::Global;
@@ -192,12 +192,16 @@ pub(crate) fn mseal_of(words: &[&str]) -> Result<Call, CallError>
 pub(crate) fn call_named(alloc: Global, name: &str, words: &[&str]) -> Result<Call, CallError>
     ensures { Gives (λ call. call) result (call_named name.now (map (λ word. word.now) words.now)) }
 {
-    match name {
-        "mmap" => mmap_of(alloc, words),
-        "munmap" => munmap_of(words),
-        "mprotect" => mprotect_of(alloc, words),
-        "mremap" => mremap_of(alloc, words),
-        _ => Err(CallError::Bad(Cause::Word)),
+    if is_name(name, "mmap") {
+        mmap_of(alloc, words)
+    } else if is_name(name, "munmap") {
+        munmap_of(words)
+    } else if is_name(name, "mprotect") {
+        mprotect_of(alloc, words)
+    } else if is_name(name, "mremap") {
+        mremap_of(alloc, words)
+    } else {
+        Err(CallError::Bad(Cause::Word))
     }
 }
 

@@ -9,6 +9,7 @@ use crate::error::{CallError, Cause};
 use crate::fields::{access, number};
 use crate::numbers::{decimal_of, thread_of};
 use crate::trace::{Op, TraceLine};
+use crate::words::is_name;
 use mm_types::{PAGE_SIZE, Page};
 use std::alloc::Global;
 
@@ -105,13 +106,18 @@ fn op_of(alloc: Global, words: &[&str]) -> Result<Op, CallError>
 fn op_named(alloc: Global, name: &str, words: &[&str]) -> Result<Op, CallError>
     ensures { Gives (λ op. op) result (op_named name.now (map (λ word. word.now) words.now)) }
 {
-    match name {
-        "fault" => fault_of(words),
-        "maps" => maps_of(words),
-        "fork" => fork_of(words),
-        "brk" => Ok(Op::Call(brk_of(words)?)),
-        "mseal" => Ok(Op::Call(mseal_of(words)?)),
-        _ => Ok(Op::Call(call_named(alloc, name, words)?)),
+    if is_name(name, "fault") {
+        fault_of(words)
+    } else if is_name(name, "maps") {
+        maps_of(words)
+    } else if is_name(name, "fork") {
+        fork_of(words)
+    } else if is_name(name, "brk") {
+        Ok(Op::Call(brk_of(words)?))
+    } else if is_name(name, "mseal") {
+        Ok(Op::Call(mseal_of(words)?))
+    } else {
+        Ok(Op::Call(call_named(alloc, name, words)?))
     }
 }
 

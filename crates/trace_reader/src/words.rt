@@ -1,6 +1,6 @@
 //! The words of a line.
 
-ghost use Rattle.std.specs.Prelude.{◌≡◌, IfOk, OnOk, map, nat_le};
+ghost use Rattle.std.specs.Prelude.{◌≡◌, IfOk, OnOk, bytes_eq, map, nat_le};
 ghost use Rattle.std.specs.List.{position_or_len, before_first};
 ghost use Rattle.std.specs.Str.{byte};
 ghost use Rattle.trace_reader.specs.Words.{is_blank, is_part, words_of, after_blanks, after_word, text_after_words};
@@ -65,6 +65,13 @@ fn split_word(text: &str) -> (&str, &str)
     ensures rest { result.1.now ≡ after_word text.now }
 {
     text.split_at(first_blank(text.as_bytes()))
+}
+
+/// Whether a word is this name. Most other words differ in length, and a name of known length is compared in place.
+pub(crate) fn is_name(word: &str, name: &str) -> bool
+    ensures { result ≡ bytes_eq word.now name.now }
+{
+    word.len() == name.len() && word.starts_with(name)
 }
 
 /// The words of a text: what stands between blanks, which are spaces and tabs. It fails only where memory runs out.
