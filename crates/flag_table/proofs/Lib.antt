@@ -4,6 +4,7 @@ pub mod Joins
 pub mod Names
 pub mod Words
 pub mod Ahead
+pub mod Begins
 pub mod Prints
 pub mod Texts
 pub mod Refusals

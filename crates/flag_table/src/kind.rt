@@ -1,5 +1,8 @@
 //! The rows of the three tables.
 
+ghost use Rattle.std.specs.Prelude.{◌≡◌, ◌<◌, true, false, drop, length, nat_eq, MatchOption};
+ghost use Rattle.std.specs.List.{starts_with};
+
 use mm_types::{
     MAP_ANONYMOUS, MAP_DENYWRITE, MAP_EXECUTABLE, MAP_FIXED, MAP_FIXED_NOREPLACE, MAP_GROWSDOWN,
     MAP_NORESERVE, MAP_POPULATE, MAP_PRIVATE, MAP_SHARED, MAP_STACK, MREMAP_DONTUNMAP,
@@ -52,7 +55,7 @@ macro_rules! bit_named {
 /// The bit of a row with whose name a text begins, and what follows the name.
 macro_rules! bit_ahead {
     ($text:ident, $($name:literal = $bit:ident),*) => {{
-        $(if let Some(rest) = $text.strip_prefix($name) {
+        $(if let Some(rest) = after_name($text, $name) {
             return Some(($bit, rest));
         })*
         None
@@ -67,6 +70,22 @@ macro_rules! name_with {
             _ => "",
         }
     };
+}
+
+/// What follows a name with which a text begins. The last byte of the name is compared first, which tells most names apart.
+fn after_name<'a>(text: &'a str, name: &str) -> Option<&'a str>
+    requires { 0 < length name.now }
+    ensures { MatchOption result (starts_with nat_eq text.now name.now ≡ false)
+        (λ rest. (starts_with nat_eq text.now name.now ≡ true) × (rest.now ≡ drop (length name.now) text.now)) }
+{
+    if text.len() < name.len() {
+        return None;
+    }
+    let last = name.len() - 1;
+    if text.as_bytes()[last] != name.as_bytes()[last] {
+        return None;
+    }
+    text.strip_prefix(name)
 }
 
 /// Which table it is.
