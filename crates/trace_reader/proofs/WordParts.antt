@@ -1,5 +1,5 @@
 -- For `set_words` and the functions that it calls: words and the blanks between them.
-use Rattle.std.proofs.Common.{◌≡◌, ℕ, zero, suc, ◌+◌, ◌<◌, ◌≤◌, Bool, true, false, not, cond, nat_lt, nat_le, List, [], ◌∷◌, ◌++◌, length, get_or, take, drop, filter, Option, Some, None, unwrap_or, position, refl, sym, ap, ◌∙◌, subst, inl, inr, append_assoc, add-zero, arith}
+use Rattle.std.proofs.Common.{◌≡◌, ℕ, zero, suc, ◌+◌, ◌-◌, ◌<◌, ◌≤◌, Bool, true, false, not, cond, nat_lt, nat_le, List, [], ◌∷◌, ◌++◌, length, get_or, take, drop, filter, Option, Some, None, unwrap_or, position, refl, sym, ap, ◌∙◌, subst, inl, inr, append_assoc, add-zero, arith}
 use Rattle.std.specs.List.{slice_split, position_or_len, before_first}
 use Rattle.std.specs.Str.{byte, IsUtf8, IsCharBoundary}
 use Rattle.std.proofs.lemmas.Bool.{cond_both, cases_lt, ltb-false, not-false, cond-true, ne_eqb, not_from_false}
@@ -7,6 +7,7 @@ use Rattle.std.proofs.lemmas.Bool.Decides.{nat_tests}
 use Rattle.std.proofs.lemmas.List.{take_all, append-nil, drop_all, drop_more, length-drop, length-take-le, get_or-drop}
 use Rattle.std.proofs.lemmas.List.Sums.{prefix_len-le-length, fails_before_first, passes_at_first, position_or_len_is}
 use Rattle.std.proofs.lemmas.List.Splits.{slice_split-cons_yes, slice_split_first, slice_split_none}
+use Rattle.std.proofs.lemmas.Simd.{run_in_chunk_fails, run_in_chunk_stops}
 use Rattle.std.proofs.lemmas.Str.{IsCharBoundary-start, IsCharBoundary-end, IsCharBoundary-before_ascii, IsCharBoundary-after_ascii}
 use Rattle.trace_reader.specs.Words.{is_blank, is_part, has_bytes, words_of, after_blanks, after_word}
 
@@ -35,6 +36,47 @@ pub place_at_low : (text : List ℕ) (place : ℕ) → place ≡ position_or_len
 place_at_low text place e blank = sym (position_or_len_is is_blank text place 0
     (omega (arith, position_or_len-le is_low text))
     (λ k below. high_is_part (get_or text k 0) (fails_before_first is_low text k 0 (omega arith))) blank)
+
+-- the bytes before a place are all greater than a space
+abbrev pub AreHigh : List ℕ → ℕ → Type 0
+AreHigh text from = (k : ℕ) → k < from → is_low (get_or text k 0) ≡ false
+
+-- 16 bytes from there on, so many of which come before the first that is not
+module _ (text : List ℕ) (from before : ℕ) (room : from + 16 ≤ length text) (high : AreHigh text from)
+    (counted : before ≡ position_or_len is_low (take 16 (drop from text))) where
+  pub high_more : 16 ≤ before → AreHigh text (from + 16)
+  high_more whole k below = elim (cases_lt k from) [
+    | inl early ↦ high k early
+    | inr late ↦ run_in_chunk_fails is_low text from 16 before 0 room counted k (omega arith) (omega arith)
+  ]
+
+  pub low_in_lanes : before < 16 → from + before ≡ position_or_len is_low text
+  low_in_lanes short = sym (position_or_len_is is_low text (from + before) 0 (omega arith)
+      (λ k below. elim (cases_lt k from) [
+        | inl early ↦ high k early
+        | inr late ↦ run_in_chunk_fails is_low text from 16 before 0 room counted k (omega arith) (omega arith)
+      ])
+      (λ within. run_in_chunk_stops is_low text from 16 before 0 room counted short))
+
+-- all bytes from there on
+pub low_in_rest : (text : List ℕ) (from place : ℕ) → from ≤ length text → AreHigh text from
+    → place ≡ position_or_len is_low (drop from text) → from + place ≡ position_or_len is_low text
+low_in_rest text from place le high counted =
+    let left : length (drop from text) ≡ length text - from = length-drop from text in
+    let few : place ≤ length (drop from text) = omega (arith, counted, position_or_len-le is_low (drop from text)) in
+    sym (position_or_len_is is_low text (from + place) 0 (omega arith)
+    (λ k below. elim (cases_lt k from) [
+      | inl early ↦ high k early
+      | inr late ↦
+          let back : from + (k - from) ≡ k = omega arith in
+          subst (λ (c : ℕ). is_low c ≡ false) (get_or-drop from text (k - from) 0 ∙ ap (λ (j : ℕ). get_or text j 0) back)
+          (fails_before_first is_low (drop from text) (k - from) 0 (omega (arith, counted)))
+    ])
+    (λ within.
+    let stops : is_low (get_or (drop from text) (position_or_len is_low (drop from text)) 0) ≡ true =
+    passes_at_first is_low (drop from text) 0 (omega (arith, counted)) in
+    subst (λ (c : ℕ). is_low c ≡ true)
+    (ap (λ (j : ℕ). get_or (drop from text) j 0) (sym counted) ∙ get_or-drop from text place 0) stops))
 
 blank_is_ascii : (c : ℕ) → is_blank c ≡ true → c < 128
 blank_is_ascii c e = grind (arith, nat_tests)

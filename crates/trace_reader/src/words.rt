@@ -1,11 +1,15 @@
 //! The words of a line.
 
-ghost use Rattle.std.specs.Prelude.{◌≡◌, IfOk, OnOk, bytes_eq, map, nat_le};
+ghost use Rattle.std.specs.Prelude.{◌≡◌, ◌+◌, ◌≤◌, IfOk, OnOk, bytes_eq, drop, length, map, nat_le, take};
 ghost use Rattle.std.specs.List.{position_or_len, before_first};
 ghost use Rattle.std.specs.Str.{byte};
 ghost use Rattle.trace_reader.specs.Words.{is_blank, is_part, words_of, after_blanks, after_word, text_after_words};
 
 use std::alloc::{AllocError, Global};
+use std::simd::prelude::*;
+
+/// How many bytes are tested together.
+const LANES: usize = 16;
 
 /// Spaces and tabs stand between words.
 fn is_blank(byte: u8) -> bool
@@ -39,9 +43,38 @@ fn first_blank(text: &[u8]) -> usize
         .unwrap_or(text.len())
 }
 
-/// The place of the first byte that is no greater than a space, or the length. One test passes over nearly every byte of a word,
-/// and what it stops at is nearly always a blank.
+/// The place of the first byte that is no greater than a space, or the length. A test of many bytes together passes over nearly every
+/// word, and what it stops at is nearly always a blank.
 fn first_low(text: &[u8]) -> usize
+    ensures { result ≡ position_or_len (λ c. nat_le c (byte " ")) text.now }
+{
+    let mut from = 0;
+    while LANES <= text.len() - from {
+        let before = bytes_before_low(text, from);
+        if before < LANES {
+            return from + before;
+        }
+        from += LANES;
+    }
+    from + first_low_by_one(&text[from..])
+}
+
+/// How many of the `LANES` bytes from a place on come before the first that is no greater than a space.
+fn bytes_before_low(text: &[u8], from: usize) -> usize
+    requires { from + 16 ≤ length text.now }
+    ensures { result ≡ position_or_len (λ c. nat_le c (byte " ")) (take 16 (drop from text.now)) }
+{
+    let low = u8x16::from_slice(&text[from..])
+        .simd_le(u8x16::splat(b' '))
+        .to_bitmask();
+    if low == 0 {
+        return LANES;
+    }
+    low.trailing_zeros() as usize
+}
+
+/// The place of the first byte that is no greater than a space, or the length, where fewer than `LANES` bytes are left.
+fn first_low_by_one(text: &[u8]) -> usize
     ensures { result ≡ position_or_len (λ c. nat_le c (byte " ")) text.now }
 {
     text.iter()

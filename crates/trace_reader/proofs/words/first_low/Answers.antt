@@ -1,14 +1,39 @@
 -- For `first_low`: its goals.
-use Rattle.std.proofs.Common.{ℕ, nat_le, rules, tests}
-use Rattle.std.proofs.lemmas.Iterator.{YieldsList-from_slice}
-use Rattle.std.proofs.lemmas.Iterator.Search.{position_from_yields_List}
-use Rattle.trace_reader.proofs.WordParts.{is_low, place_is}
+use Rattle.std.proofs.Common.{◌≡◌, ◌∙◌, ap, drop, arith}
+use Rattle.std.specs.List.{position_or_len}
+use Rattle.std.proofs.lemmas.List.{take_rest}
+use Rattle.trace_reader.proofs.WordParts.{is_low, position_or_len-le, high_more, low_in_lanes, low_in_rest}
 use Rattle.trace_reader.proofs.words.first_low.Goals as goal
+
+pub loop-from-init : goal.loop-from-init
+loop-from-init c = record { within = omega arith; high = λ k below. absurd (omega arith) }
+
+pub loop-from-preserved : goal.loop-from-preserved
+loop-from-preserved c = record {
+  within = omega arith;
+  high = high_more c.args.text.now c.loop-from.from c.bytes_before_low-before.result (omega arith) c.loop-from.invariant.high
+      c.bytes_before_low-before.ensures (omega arith);
+}
+
+pub returns-then-before-lt-LANES : goal.returns-then-before-lt-LANES
+returns-then-before-lt-LANES c = low_in_lanes c.args.text.now c.loop-from.from c.bytes_before_low-before.result (omega arith)
+    c.loop-from.invariant.high c.bytes_before_low-before.ensures (omega arith)
+
+pub overflow_add-result-2 : goal.overflow_add-result-2
+overflow_add-result-2 c =
+    let text = c.args.text.now in
+    let from = c.loop-from.from in
+    let rest : c.first_low_by_one.result ≡ position_or_len is_low (drop from text) =
+    c.first_low_by_one.ensures ∙ ap (position_or_len is_low) (take_rest text from) in
+    omega (
+      arith,
+      low_in_rest text from c.first_low_by_one.result c.loop-from.invariant.within c.loop-from.invariant.high rest,
+      position_or_len-le is_low text,
+    )
 
 pub returns : goal.returns
 returns c =
     let text = c.args.text.now in
-    place_is is_low text c.position.result c.unwrap_or.result
-    (position_from_yields_List is_low _ _ c.position.result c.position.ensures.ran (YieldsList-from_slice text cc)
-    (λ x b q k. search (rules, tests)))
-    c.unwrap_or.ensures
+    let from = c.loop-from.from in
+    low_in_rest text from c.first_low_by_one.result c.loop-from.invariant.within c.loop-from.invariant.high
+    (c.first_low_by_one.ensures ∙ ap (position_or_len is_low) (take_rest text from))
