@@ -1,7 +1,7 @@
 //! The numbers of a trace.
 
-ghost use Rattle.std.specs.Prelude.{◌≡◌, ◌≤◌, length, Some, None, if◌then◌else◌};
-ghost use Rattle.std.specs.Char.{is_digit};
+ghost use Rattle.std.specs.Prelude.{◌≡◌, ◌≤◌, ◌<◌, length, Some, None, SomeIff, if◌then◌else◌};
+ghost use Rattle.std.specs.Char.{digit_value, is_digit};
 ghost use Rattle.std.specs.List.{list_all};
 ghost use Rattle.std.specs.Str.Parse.{digits_value};
 ghost use Rattle.trace_reader.specs.Numbers.{decimal_of, digits_of, is_lower_digit, lower_hexadecimal_of, number_of, thread_of};
@@ -87,7 +87,7 @@ pub fn digits_of(word: &str, base: u32, most: usize) -> Option<u64>
     }
     let mut value: u64 = 0;
     for byte in digits {
-        let Some(digit) = char::from(*byte).to_digit(base) else {
+        let Some(digit) = digit_of(*byte, base) else {
             return None;
         };
         let Some(shifted) = value.checked_mul(base as u64) else {
@@ -110,10 +110,39 @@ fn value_of_few(digits: &[u8], base: u32) -> Option<u64>
 {
     let mut value: u64 = 0;
     for byte in digits {
-        let Some(digit) = char::from(*byte).to_digit(base) else {
+        let Some(digit) = digit_of(*byte, base) else {
             return None;
         };
         value = value * base as u64 + digit as u64;
     }
     Some(value)
+}
+
+/// The value of a digit of a base, of either case. There is none where the byte is no digit of it.
+fn digit_of(byte: u8, base: u32) -> Option<u32>
+    requires { base ≤ 36 }
+    ensures { SomeIff result (digit_value byte < base) (digit_value byte) }
+{
+    let value = digit_value(byte);
+    if value < base { Some(value) } else { None }
+}
+
+/// The value of a digit or of a letter of either case, and 36 for any other byte. Small letters, of which addresses are made, are
+/// tried before capitals.
+fn digit_value(byte: u8) -> u32
+    ensures { result ≡ digit_value byte }
+{
+    let digit = byte.wrapping_sub(b'0');
+    if digit < 10 {
+        return digit as u32;
+    }
+    let small = byte.wrapping_sub(b'a');
+    if small < 26 {
+        return small as u32 + 10;
+    }
+    let capital = byte.wrapping_sub(b'A');
+    if capital < 26 {
+        return capital as u32 + 10;
+    }
+    36
 }

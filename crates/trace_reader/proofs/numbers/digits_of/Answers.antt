@@ -1,5 +1,5 @@
 -- For `digits_of`: its goals.
-use Rattle.std.proofs.Common.{◌≡◌, ℕ, ◌+◌, ◌*◌, ◌<◌, List, length, get_or, None, Some, ◌∙◌, ap, subst, arith}
+use Rattle.std.proofs.Common.{◌≡◌, ℕ, ◌+◌, ◌*◌, ◌<◌, List, length, get_or, None, Some, ◌∙◌, subst, arith}
 use Rattle.std.specs.Char.{digit_value}
 use Rattle.std.proofs.lemmas.Bool.Decides.{nat_tests}
 use Rattle.trace_reader.specs.Numbers.{digits_of}
@@ -18,8 +18,7 @@ pub returns-in_default-checked_mul : goal.returns-in_default-checked_mul
 returns-in_default-checked_mul c =
     let bytes = c.as_bytes-digits.result.now in
     let i = c.loop-byte.byte-index in
-    let digit : digit_value (get_or bytes i 0) < c.args.base = subst (λ (n : ℕ). digit_value n < c.args.base)
-    c.from.ensures c.in-Some.ensures.value.0 in
+    let digit : digit_value (get_or bytes i 0) < c.args.base = c.in-Some.ensures.0 in
     subst (λ (bs : List ℕ). None ≡ digits_of c.args.base c.args.most bs) c.as_bytes-digits.ensures.value
     (none_by_value c.args.base c.args.most bytes (i + 1) _ (omega arith)
     (AreRead-more c.args.base i c.loop-byte.value bytes c.loop-byte.invariant.read c.loop-byte-test.true digit)
@@ -29,9 +28,8 @@ pub returns-in_default-checked_add : goal.returns-in_default-checked_add
 returns-in_default-checked_add c =
     let bytes = c.as_bytes-digits.result.now in
     let i = c.loop-byte.byte-index in
-    let digit : digit_value (get_or bytes i 0) < c.args.base = subst (λ (n : ℕ). digit_value n < c.args.base)
-    c.from.ensures c.in-Some.ensures.value.0 in
-    let spelled : c.in-Some.digit ≡ digit_value (get_or bytes i 0) = c.in-Some.ensures.value.1 ∙ ap digit_value c.from.ensures in
+    let digit : digit_value (get_or bytes i 0) < c.args.base = c.in-Some.ensures.0 in
+    let spelled : c.in-Some.digit ≡ digit_value (get_or bytes i 0) = c.in-Some.ensures.1 in
     subst (λ (bs : List ℕ). None ≡ digits_of c.args.base c.args.most bs) c.as_bytes-digits.ensures.value
     (none_by_value c.args.base c.args.most bytes (i + 1) _ (omega arith)
     (AreRead-more c.args.base i c.loop-byte.value bytes c.loop-byte.invariant.read c.loop-byte-test.true digit)
@@ -41,9 +39,8 @@ pub loop-byte-preserved : goal.loop-byte-preserved
 loop-byte-preserved c =
     let bytes = c.as_bytes-digits.result.now in
     let i = c.loop-byte.byte-index in
-    let digit : digit_value (get_or bytes i 0) < c.args.base = subst (λ (n : ℕ). digit_value n < c.args.base)
-    c.from.ensures c.in-Some.ensures.value.0 in
-    let spelled : c.in-Some.digit ≡ digit_value (get_or bytes i 0) = c.in-Some.ensures.value.1 ∙ ap digit_value c.from.ensures in
+    let digit : digit_value (get_or bytes i 0) < c.args.base = c.in-Some.ensures.0 in
+    let spelled : c.in-Some.digit ≡ digit_value (get_or bytes i 0) = c.in-Some.ensures.1 in
     let next : c.loop-byte.value * c.args.base + digit_value (get_or bytes i 0) ≡ c.in-Some-checked_add.next =
     omega (arith, spelled, c.in-Some-checked_mul.ensures, c.in-Some-checked_add.ensures) in
     record {

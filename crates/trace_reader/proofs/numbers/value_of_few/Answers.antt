@@ -8,8 +8,7 @@ pub overflow_mul-value : goal.overflow_mul-value
 overflow_mul-value c =
     let bytes = c.args.digits.now in
     let i = c.loop-byte.byte-index in
-    let digit : digit_value (get_or bytes i 0) < c.args.base = subst (λ (n : ℕ). digit_value n < c.args.base)
-    c.from.ensures c.in-Some.ensures.value.0 in
+    let digit : digit_value (get_or bytes i 0) < c.args.base = c.in-Some.ensures.0 in
     omega (
       arith,
       next_fits c.args.base i c.loop-byte.value bytes c.requires.low c.requires.high c.requires.few
@@ -20,9 +19,8 @@ pub overflow_add-value : goal.overflow_add-value
 overflow_add-value c =
     let bytes = c.args.digits.now in
     let i = c.loop-byte.byte-index in
-    let digit : digit_value (get_or bytes i 0) < c.args.base = subst (λ (n : ℕ). digit_value n < c.args.base)
-    c.from.ensures c.in-Some.ensures.value.0 in
-    let spelled : c.in-Some.digit ≡ digit_value (get_or bytes i 0) = c.in-Some.ensures.value.1 ∙ ap digit_value c.from.ensures in
+    let digit : digit_value (get_or bytes i 0) < c.args.base = c.in-Some.ensures.0 in
+    let spelled : c.in-Some.digit ≡ digit_value (get_or bytes i 0) = c.in-Some.ensures.1 in
     omega (
       arith,
       spelled,
@@ -34,9 +32,8 @@ pub loop-byte-preserved : goal.loop-byte-preserved
 loop-byte-preserved c =
     let bytes = c.args.digits.now in
     let i = c.loop-byte.byte-index in
-    let digit : digit_value (get_or bytes i 0) < c.args.base = subst (λ (n : ℕ). digit_value n < c.args.base)
-    c.from.ensures c.in-Some.ensures.value.0 in
-    let spelled : digit_value (get_or bytes i 0) ≡ c.in-Some.digit = sym (c.in-Some.ensures.value.1 ∙ ap digit_value c.from.ensures) in
+    let digit : digit_value (get_or bytes i 0) < c.args.base = c.in-Some.ensures.0 in
+    let spelled : digit_value (get_or bytes i 0) ≡ c.in-Some.digit = sym (c.in-Some.ensures.1) in
     subst (AreRead c.args.base bytes (i + 1)) (ap (λ (d : ℕ). c.loop-byte.value * c.args.base + d) spelled)
     (AreRead-more c.args.base i c.loop-byte.value bytes c.loop-byte.invariant c.loop-byte-test.true digit)
 
