@@ -1,10 +1,8 @@
--- For `Planner::begin`, `Planner::come_to`, `Planner::come_to_all` and others: the planner's steps: what each plans.
-use Rattle.std.proofs.Common.{◌≡◌, ◌≤◌, ◌+◌, ◌<◌, ◌⊎◌, inl, inr, ℕ, Bool, true, false, ◌&&◌, if◌then◌else◌, nat_eq, nat_lt, List, [], ◌∷◌, ◌++◌, length, map, take, drop, get_or, Option, Some, None, refl, ap, sym, subst, ◌∙◌, arith}
-use Rattle.std.specs.List.{flat_map}
-use Rattle.std.specs.Option.{option_len, option_to_list}
+-- For `Planner::begin`, `Planner::come_to`, `Planner::come_to_outside` and others: the planner's steps: what each plans.
+use Rattle.std.proofs.Common.{◌≡◌, ◌≤◌, ◌+◌, ◌⊎◌, inl, inr, ℕ, Bool, true, false, ◌&&◌, if◌then◌else◌, nat_eq, nat_lt, List, [], ◌∷◌, ◌++◌, length, map, Option, Some, None, refl, ap, sym, subst, ◌∙◌, arith}
+use Rattle.std.specs.Option.{option_len}
 use Rattle.std.proofs.lemmas.Bool.{and_parts, eqb-true}
-use Rattle.std.proofs.lemmas.List.{append-nil, append_assoc, length-append, map-append, take_more, take-append-drop}
-use Rattle.std.proofs.lemmas.List.Concat.{flat_map-append}
+use Rattle.std.proofs.lemmas.List.{append_assoc, length-append, map-append}
 use Rattle.mm_types.specs.declared.area.Attr.{Attr}
 use Rattle.mm_types.specs.declared.area.Record.{Record}
 use Rattle.area_list.specs.Areas.{joins, same_attr}
@@ -324,26 +322,18 @@ same_room planner next old mid same is room = omega (
   room,
 )
 
--- the parts as far as one more
-pub parts_more : (parts : List (Option Record)) (i : ℕ) (part : Option Record) → i < length parts → get_or parts i None ≡ part
-    → map Event.Comes (flat_map option_to_list (take (i + 1) parts))
-    ≡ map Event.Comes (flat_map option_to_list (take i parts)) ++ map Event.Comes (option_to_list part)
-parts_more parts i part within is =
-    ap (λ front. map Event.Comes (flat_map option_to_list front)) (take_more parts i None within ∙ ap (λ last. take i parts ++ last ∷ []) is)
-    ∙ ap (map Event.Comes) (flat_map-append option_to_list (take i parts) (part ∷ []) ∙ ap (λ last. flat_map option_to_list (take i parts) ++ last) (append-nil (option_to_list part)))
-    ∙ map-append Event.Comes (flat_map option_to_list (take i parts)) (option_to_list part)
+-- along nothing
+pub goes_nowhere : (planner : Planner) (plan : PlanView) → GoesAlong [] planner planner plan plan
+goes_nowhere planner plan = record { planned = λ later. refl; within = omega arith; room = refl; coming = inr refl }
 
--- there are no more of them than of all
-pub parts_within : (parts : List (Option Record)) (i : ℕ) (part : Option Record) → i < length parts → get_or parts i None ≡ part
-    → weight (map Event.Comes (flat_map option_to_list (take i parts))) + length (option_to_list part) ≤ length (flat_map option_to_list parts)
-parts_within parts i part within is = omega (
-  arith,
-  weight-comes (flat_map option_to_list (take i parts)),
-  ap (λ front. length (flat_map option_to_list front)) (take_more parts i None within ∙ ap (λ last. take i parts ++ last ∷ []) is),
-  ap length (flat_map-append option_to_list (take i parts) (part ∷ [])),
-  length-append (flat_map option_to_list (take i parts)) (option_to_list part ++ []),
-  ap length (append-nil (option_to_list part)),
-  ap (λ whole. length (flat_map option_to_list whole)) (take-append-drop (i + 1) parts),
-  ap length (flat_map-append option_to_list (take (i + 1) parts) (drop (i + 1) parts)),
-  length-append (flat_map option_to_list (take (i + 1) parts)) (flat_map option_to_list (drop (i + 1) parts)),
-)
+-- along some parts and then along others is along all
+pub comes_on : (xs ys : List Record) {planner next last : Planner} {old new newest : PlanView} → GoesAlong (map Event.Comes xs) planner next old new
+    → GoesAlong (map Event.Comes ys) next last new newest → GoesAlong (map Event.Comes (xs ++ ys)) planner last old newest
+comes_on xs ys {planner = planner} {last = last} {old = old} {newest = newest} first second =
+    subst (λ events. GoesAlong events planner last old newest) (sym (map-append Event.Comes xs ys))
+    (goes_on (map Event.Comes xs) (map Event.Comes ys) first second)
+
+-- the room that is left for others where the planner came to some parts
+pub comes_room : (xs ys : List Record) {planner next : Planner} {old new : PlanView} → GoesAlong (map Event.Comes xs) planner next old new
+    → length old.changes + (held planner + length (xs ++ ys)) ≤ old.room → length new.changes + (held next + length ys) ≤ new.room
+comes_room xs ys g room = omega (arith, g.within, g.room, weight-comes xs, length-append xs ys, room)

@@ -1,9 +1,9 @@
-//! Parts of areas, and areas made of two.
+//! Parts of areas.
 ghost use Rattle.std.specs.Prelude.{◌≡◌, ◌≢◌, ◌<◌, ◌≤◌, ◌+◌, ◌-◌, ◌^◌, nat_eq};
 ghost use Rattle.std.specs.Option.{option_to_list};
 ghost use Rattle.mm_types.specs.Records.{IsValid};
 ghost use Rattle.area_list.specs.Areas.{index_of};
-ghost use Rattle.area_list.specs.Changes.{piece, joined_area};
+ghost use Rattle.area_list.specs.Changes.{piece};
 
 use area_list::index_of;
 use mm_types::{Record, Span};
@@ -23,18 +23,5 @@ pub(crate) fn piece(area: &Record, lo: u64, hi: u64) -> Option<Record>
         })
     } else {
         None
-    }
-}
-
-/// The two areas as one.
-pub(crate) fn joined(a: &Record, b: &Record) -> Record
-    ensures { result ≡ joined_area a.now b.now }
-{
-    Record {
-        span: Span {
-            lo: a.span.lo,
-            hi: b.span.hi,
-        },
-        ..*a
     }
 }

@@ -1,15 +1,17 @@
 //! The planner: what becomes of the areas of a list, joined as it goes, as changes of the list.
-ghost use Rattle.std.specs.Prelude.{◌≡◌, ◌<◌, ◌≤◌, ◌+◌, ◌++◌, [], ◌∷◌, None, Some, length, map};
-ghost use Rattle.std.specs.Option.{option_len};
+ghost use Rattle.std.specs.Prelude.{◌≡◌, ◌<◌, ◌≤◌, ◌+◌, ◌++◌, [], ◌∷◌, None, Some, length, map, min, max};
+ghost use Rattle.std.specs.Option.{option_len, option_or};
 ghost use Rattle.mm_types.specs.Records.{IsValid};
-ghost use Rattle.split_merge.specs.Internal.Becoming.{parts_left};
-ghost use Rattle.split_merge.specs.Internal.Planner.{Event, detaching, replacing, closing, taken, left, spare, covered, left_over, settled, unsettled, planned_with, laid, reached, reaching, planned, held, weight, GoesAlong};
+ghost use Rattle.area_list.specs.Attributes.{with_attr};
+ghost use Rattle.area_list.specs.Changes.{piece, parts_changed, joined_area};
+ghost use Rattle.split_merge.specs.Internal.Becoming.{parts_outside_both, parts_left};
+ghost use Rattle.split_merge.specs.Internal.Planner.{Event, detaching, replacing, closing, taken, left, spare, settled, unsettled, planned_with, laid, reached, reaching, planned, held, weight, GoesAlong};
 
 use crate::becoming::Becoming;
-use crate::parts::joined;
+use crate::parts::piece;
 use crate::plan::{Change, Plan};
-use area_list::joins;
-use mm_types::Record;
+use area_list::{AttrChange, joins, with_attr};
+use mm_types::{Record, Span};
 
 /// An area of the new list that is being made, and the old area that it takes the place of, if there is one.
 #[derive(Clone, Copy)]
@@ -32,83 +34,82 @@ pub(crate) struct Planner {
 }
 
 /// Plans that the old area goes, if there is one.
-fn detach(old: Option<Record>, plan: &mut Plan)
-    requires { length plan.old.changes + option_len old ≤ plan.old.room }
-    ensures { plan.new ≡ record plan.old { changes = plan.old.changes ++ detaching old } }
+fn detach(old: &Option<Record>, plan: &mut Plan)
+    requires { length plan.old.changes + option_len old.now ≤ plan.old.room }
+    ensures { plan.new ≡ record plan.old { changes = plan.old.changes ++ detaching old.now } }
 {
     if let Some(old) = old {
-        plan.push(Change::Detach(old));
+        plan.push(Change::Detach(*old));
     }
 }
 
 /// Plans that the new area takes the place of the old one, or is added where there is none.
-fn replace(old: Option<Record>, new: Record, plan: &mut Plan)
+fn replace(old: &Option<Record>, new: &Record, plan: &mut Plan)
     requires { length plan.old.changes < plan.old.room }
-    ensures { plan.new ≡ record plan.old { changes = plan.old.changes ++ replacing old new } }
+    ensures { plan.new ≡ record plan.old { changes = plan.old.changes ++ replacing old.now new.now } }
 {
     match old {
-        None => plan.push(Change::Add(new)),
+        None => plan.push(Change::Add(*new)),
         Some(old) => {
             if old != new {
-                plan.push(Change::Alter { old, new });
+                plan.push(Change::Alter {
+                    old: *old,
+                    new: *new,
+                });
             }
         }
     }
 }
 
 /// Plans the area that was made, if there is one.
-fn close(run: Option<Run>, plan: &mut Plan)
-    requires { length plan.old.changes + option_len run ≤ plan.old.room }
-    ensures { plan.new ≡ record plan.old { changes = plan.old.changes ++ closing run } }
+fn close(run: &Option<Run>, plan: &mut Plan)
+    requires { length plan.old.changes + option_len run.now ≤ plan.old.room }
+    ensures { plan.new ≡ record plan.old { changes = plan.old.changes ++ closing run.now } }
 {
     if let Some(run) = run {
-        replace(run.old, run.new, plan);
+        replace(&run.old, &run.new, plan);
     }
 }
 
-/// The pending old area, where the part begins below its end.
-fn taken(pending: Option<Record>, part: &Record) -> Option<Record>
-    ensures { result ≡ taken pending part.now }
+/// Takes the pending old area, where the part begins below its end.
+fn take_pending(pending: &mut Option<Record>, part: &Record) -> Option<Record>
+    ensures taken { result ≡ taken pending.old part.now }
+    ensures left { pending.new ≡ left pending.old part.now }
 {
-    pending.filter(|old| part.span.lo < old.span.hi)
+    match pending {
+        Some(old) if part.span.lo < old.span.hi => pending.take(),
+        _ => None,
+    }
 }
 
-/// The pending old area, where the part does not begin below its end.
-fn left(pending: Option<Record>, part: &Record) -> Option<Record>
-    ensures { result ≡ left pending part.now }
-{
-    pending.filter(|old| part.span.lo >= old.span.hi)
-}
+impl Run {
+    ghost use Rattle.std.specs.Prelude.{◌≡◌, ◌≤◌, ◌+◌, ◌++◌, length};
+    ghost use Rattle.std.specs.Option.{option_len, option_or};
+    ghost use Rattle.area_list.specs.Changes.{joined_area};
+    ghost use Rattle.split_merge.specs.Internal.Planner.{detaching, spare};
 
-/// The old area, where the run has another already.
-fn spare(partner: Option<Record>, old: Option<Record>) -> Option<Record>
-    ensures { result ≡ spare partner old }
-{
-    partner.and(old)
-}
-
-/// The pending old area, where it begins below the end of a new one.
-fn covered(pending: Option<Record>, new: &Record) -> Option<Record>
-    ensures { result ≡ covered pending new.now }
-{
-    pending.filter(|old| old.span.lo < new.span.hi)
-}
-
-/// The pending old area that a new one leaves over, which has an old area already or ends below it.
-fn left_over(partner: Option<Record>, pending: Option<Record>, new: &Record) -> Option<Record>
-    ensures { result ≡ left_over partner pending new.now }
-{
-    match partner {
-        Some(_) => pending,
-        None => pending.filter(|old| old.span.lo >= new.span.hi),
+    /// Goes on with a part that joins, and takes the place of the old area, if it has none yet.
+    fn go_on(&mut self, part: &Record, old: Option<Record>, plan: &mut Plan)
+        requires { length plan.old.changes + 1 ≤ plan.old.room }
+        ensures run { self.exit.now ≡ record { old = option_or self.entry.now.old old; new = joined_area self.entry.now.new part.now } }
+        ensures plan { plan.new ≡ record plan.old { changes = plan.old.changes ++ detaching (spare self.entry.now.old old) } }
+    {
+        self.new.span.hi = part.span.hi;
+        if self.old.is_some() {
+            detach(&old, plan);
+        } else {
+            self.old = old;
+        }
     }
 }
 
 impl Planner {
-    ghost use Rattle.std.specs.Prelude.{◌≡◌, ◌≤◌, ◌+◌, ◌++◌, [], ◌∷◌, None, length, map, flat_map};
-    ghost use Rattle.std.specs.Option.{option_len, option_to_list};
+    ghost use Rattle.std.specs.Prelude.{◌≡◌, ◌≤◌, ◌+◌, ◌++◌, [], ◌∷◌, None, length, map, min, max};
+    ghost use Rattle.std.specs.Option.{option_len};
     ghost use Rattle.mm_types.specs.Records.{IsValid};
-    ghost use Rattle.split_merge.specs.Internal.Becoming.{parts_left};
+    ghost use Rattle.area_list.specs.Attributes.{with_attr};
+    ghost use Rattle.area_list.specs.Changes.{piece, parts_changed};
+    ghost use Rattle.split_merge.specs.Internal.Becoming.{parts_outside_both, parts_left};
     ghost use Rattle.split_merge.specs.Internal.Planner.{Event, detaching, settled, unsettled, planned_with, laid, reached, reaching, planned, held, weight, GoesAlong};
 
     /// A planner at the begin of a list, with at most one new area to come.
@@ -124,29 +125,20 @@ impl Planner {
 
     /// Lays a part: the area that is being made goes on where the part joins it, and else another begins. Either takes the place of
     /// the pending old area, if it has none yet.
-    fn lay(&mut self, part: Record, plan: &mut Plan)
+    fn lay(&mut self, part: &Record, plan: &mut Plan)
         requires { length plan.old.changes + 1 ≤ plan.old.room }
-        ensures planner { self.new ≡ laid self.old part }
-        ensures plan { plan.new ≡ record plan.old { changes = plan.old.changes ++ planned_with self.old.pending self.old.run part } }
+        ensures planner { self.new ≡ laid self.old part.now }
+        ensures plan { plan.new ≡ record plan.old { changes = plan.old.changes ++ planned_with self.old.pending self.old.run part.now } }
     {
-        let old = taken(self.pending, &part);
-        self.pending = left(self.pending, &part);
-        let run = match self.run {
-            None => Run { old, new: part },
-            Some(run) => {
-                if joins(&run.new, &part) {
-                    detach(spare(run.old, old), plan);
-                    Run {
-                        old: run.old.or(old),
-                        new: joined(&run.new, &part),
-                    }
-                } else {
-                    replace(run.old, run.new, plan);
-                    Run { old, new: part }
-                }
+        let old = take_pending(&mut self.pending, part);
+        if let Some(run) = &mut self.run {
+            if joins(&run.new, part) {
+                run.go_on(part, old, plan);
+                return;
             }
-        };
-        self.run = Some(run);
+            replace(&run.old, &run.new, plan);
+        }
+        self.run = Some(Run { old, new: *part });
     }
 
     /// Settles what becomes of the pending old area, of which no more parts come: the area that is being made takes its place, if it
@@ -156,17 +148,15 @@ impl Planner {
         ensures planner { self.new ≡ record self.old { pending = None; run = settled self.old.pending self.old.run } }
         ensures plan { plan.new ≡ record plan.old { changes = plan.old.changes ++ detaching (unsettled self.old.pending self.old.run) } }
     {
-        let pending = self.pending;
-        self.pending = None;
-        match self.run {
-            None => detach(pending, plan),
-            Some(run) => {
-                self.run = Some(Run {
-                    old: run.old.or(covered(pending, &run.new)),
-                    new: run.new,
-                });
-                detach(left_over(run.old, pending, &run.new), plan);
+        if let Some(pending) = self.pending {
+            self.pending = None;
+            if let Some(run) = &mut self.run {
+                if run.old.is_none() && pending.span.lo < run.new.span.hi {
+                    run.old = Some(pending);
+                    return;
+                }
             }
+            plan.push(Change::Detach(pending));
         }
     }
 
@@ -179,75 +169,119 @@ impl Planner {
         if let Some(new) = self.coming {
             if new.span.lo < page {
                 self.coming = None;
-                self.lay(new, plan);
+                self.lay(&new, plan);
             }
         }
     }
 
     /// Comes to the first page of an old area.
-    fn begin(&mut self, area: Record, plan: &mut Plan)
+    fn begin(&mut self, area: &Record, plan: &mut Plan)
         requires { length plan.old.changes + (held self.old + 1) ≤ plan.old.room }
-        ensures { GoesAlong (Event.Begins area ∷ []) self.old self.new plan.old plan.new }
+        ensures { GoesAlong (Event.Begins area.now ∷ []) self.old self.new plan.old plan.new }
     {
         self.reach(area.span.lo, plan);
         self.settle(plan);
-        self.pending = Some(area);
+        self.pending = Some(*area);
     }
 
     /// Comes to a part.
-    fn come_to(&mut self, part: Record, plan: &mut Plan)
+    fn come_to(&mut self, part: &Record, plan: &mut Plan)
         requires { length plan.old.changes + (held self.old + 1) ≤ plan.old.room }
-        ensures { GoesAlong (Event.Comes part ∷ []) self.old self.new plan.old plan.new }
+        ensures { GoesAlong (Event.Comes part.now ∷ []) self.old self.new plan.old plan.new }
     {
         self.reach(part.span.lo, plan);
         self.lay(part, plan);
     }
 
-    /// Comes to these parts.
-    fn come_to_all(&mut self, parts: &[Option<Record>], plan: &mut Plan)
-        requires { length plan.old.changes + (held self.old + length (flat_map option_to_list parts.now)) ≤ plan.old.room }
-        ensures { GoesAlong (map Event.Comes (flat_map option_to_list parts.now)) self.old self.new plan.old plan.new }
+    /// Comes to the part of an area from `lo` up to `hi`, if it has a page.
+    fn come_to_piece(&mut self, area: &Record, lo: u64, hi: u64, plan: &mut Plan)
+        requires valid { IsValid area.now }
+        requires within { hi ≤ area.now.span.hi }
+        requires room { length plan.old.changes + (held self.old + length (piece area.now lo hi)) ≤ plan.old.room }
+        ensures { GoesAlong (map Event.Comes (piece area.now lo hi)) self.old self.new plan.old plan.new }
     {
-        for part in parts {
-            if let Some(part) = *part {
-                self.come_to(part, plan);
-            }
+        if let Some(part) = piece(area, lo, hi) {
+            self.come_to(&part, plan);
         }
     }
 
+    /// Comes to the parts of an area outside both spans: below the lower, between the two, and above the upper.
+    fn come_to_outside(&mut self, low: &Span, high: &Span, area: &Record, plan: &mut Plan)
+        requires valid { IsValid area.now }
+        requires room { length plan.old.changes + (held self.old + length (parts_outside_both low.now high.now area.now))
+            ≤ plan.old.room }
+        ensures { GoesAlong (map Event.Comes (parts_outside_both low.now high.now area.now)) self.old self.new plan.old plan.new }
+    {
+        let whole = area.span;
+        self.come_to_piece(area, whole.lo, whole.hi.min(low.lo), plan);
+        self.come_to_piece(area, whole.lo.max(low.hi), whole.hi.min(high.lo), plan);
+        self.come_to_piece(area, whole.lo.max(high.hi), whole.hi, plan);
+    }
+
+    /// Comes to the part of an area within the span, with its attributes changed, if it has a page.
+    fn come_to_within(&mut self, span: &Span, change: AttrChange, area: &Record, plan: &mut Plan)
+        requires valid { IsValid area.now }
+        requires room { length plan.old.changes
+            + (held self.old + length (piece area.now (max area.now.span.lo span.now.lo) (min area.now.span.hi span.now.hi))) ≤ plan.old.room }
+        ensures { GoesAlong
+            (map Event.Comes (map (with_attr change) (piece area.now (max area.now.span.lo span.now.lo) (min area.now.span.hi span.now.hi))))
+            self.old self.new plan.old plan.new }
+    {
+        let lo = area.span.lo.max(span.lo);
+        let hi = area.span.hi.min(span.hi);
+        if let Some(part) = piece(area, lo, hi) {
+            self.come_to(&with_attr(change, &part), plan);
+        }
+    }
+
+    /// Comes to the parts of an area: below the span, within it with its attributes changed, and above it.
+    fn come_to_changed(&mut self, span: &Span, change: AttrChange, area: &Record, plan: &mut Plan)
+        requires valid { IsValid area.now }
+        requires room { length plan.old.changes + (held self.old + length (parts_changed change span.now area.now)) ≤ plan.old.room }
+        ensures { GoesAlong (map Event.Comes (parts_changed change span.now area.now)) self.old self.new plan.old plan.new }
+    {
+        let whole = area.span;
+        self.come_to_piece(area, whole.lo, whole.hi.min(span.lo), plan);
+        self.come_to_within(span, change, area, plan);
+        self.come_to_piece(area, whole.lo.max(span.hi), whole.hi, plan);
+    }
+
     /// Comes to an area that parts take the place of.
-    pub(crate) fn take(&mut self, becoming: &Becoming, area: Record, plan: &mut Plan)
-        requires valid { IsValid area }
-        requires room { length plan.old.changes + (held self.old + (1 + length (parts_left becoming.now area))) ≤ plan.old.room }
-        ensures { GoesAlong (Event.Begins area ∷ map Event.Comes (parts_left becoming.now area)) self.old self.new plan.old plan.new }
+    pub(crate) fn take(&mut self, becoming: &Becoming, area: &Record, plan: &mut Plan)
+        requires valid { IsValid area.now }
+        requires room { length plan.old.changes + (held self.old + (1 + length (parts_left becoming.now area.now))) ≤ plan.old.room }
+        ensures { GoesAlong (Event.Begins area.now ∷ map Event.Comes (parts_left becoming.now area.now)) self.old self.new plan.old plan.new }
     {
         self.begin(area, plan);
-        self.come_to_all(&becoming.parts(&area), plan);
+        match becoming {
+            Becoming::Outside { low, high } => self.come_to_outside(low, high, area, plan),
+            Becoming::Changed { span, change } => self.come_to_changed(span, *change, area, plan),
+        }
     }
 
     /// Passes over an area, which joins nothing.
-    pub(crate) fn pass(&mut self, area: Record, plan: &mut Plan)
+    pub(crate) fn pass(&mut self, area: &Record, plan: &mut Plan)
         requires { length plan.old.changes + held self.old ≤ plan.old.room }
-        ensures along { GoesAlong (Event.Passed area ∷ []) self.old self.new plan.old plan.new }
+        ensures along { GoesAlong (Event.Passed area.now ∷ []) self.old self.new plan.old plan.new }
         ensures pending { self.new.pending ≡ None }
         ensures run { self.new.run ≡ None }
-        ensures coming { self.new.coming ≡ (reached self.old area.span.lo).coming }
+        ensures coming { self.new.coming ≡ (reached self.old area.now.span.lo).coming }
     {
         self.reach(area.span.lo, plan);
         self.settle(plan);
-        close(self.run, plan);
+        close(&self.run, plan);
         self.run = None;
     }
 
     /// Comes to the end of the list.
-    pub(crate) fn finish(mut self, plan: &mut Plan)
-        requires { length plan.old.changes + held self ≤ plan.old.room }
-        ensures { plan.new ≡ record plan.old { changes = plan.old.changes ++ planned self [] } }
+    pub(crate) fn finish(&mut self, plan: &mut Plan)
+        requires { length plan.old.changes + held self.old ≤ plan.old.room }
+        ensures { plan.new ≡ record plan.old { changes = plan.old.changes ++ planned self.old [] } }
     {
         if let Some(new) = self.coming {
-            self.lay(new, plan);
+            self.lay(&new, plan);
         }
         self.settle(plan);
-        close(self.run, plan);
+        close(&self.run, plan);
     }
 }

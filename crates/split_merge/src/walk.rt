@@ -34,10 +34,10 @@ pub(crate) fn plan_changes<A: Areas>(
             break;
         }
         if low.hi < area.span.lo && area.span.hi < high.lo {
-            planner.pass(area, plan);
+            planner.pass(&area, plan);
             page = high.lo - 1;
         } else {
-            planner.take(becoming, area, plan);
+            planner.take(becoming, &area, plan);
             page = area.span.hi;
         }
     }

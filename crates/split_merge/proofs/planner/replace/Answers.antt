@@ -7,5 +7,5 @@ use Rattle.split_merge.proofs.Steps.{replaced_same}
 use Rattle.split_merge.proofs.planner.replace.Goals as goal
 
 pub returns-else-ne : goal.returns-else-ne
-returns-else-ne c = plan_unchanged c.args.plan.now (replacing c.args.old c.args.new)
-    (replaced_same c.args.old c.in-Some.old c.args.new c.in-Some.is (not-false (same_area c.in-Some.old c.args.new) (sym c.if-ne.ensures)))
+returns-else-ne c = plan_unchanged c.args.plan.now (replacing c.args.old.now c.args.new.now)
+    (replaced_same c.args.old.now c.in-Some.old c.args.new.now c.in-Some.is (not-false (same_area c.in-Some.old c.args.new.now) (sym c.if-ne.ensures)))
