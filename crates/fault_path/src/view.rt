@@ -73,7 +73,7 @@ impl FaultView {
     {
         let callers = operations.len() as u32;
         let (rows, slots) = (rows_for(config.areas), slots_for(config.areas));
-        // the areas' table is copied from words that the nodes' writer keeps
+        // both tables are copied from the same words, which are dropped then
         let mut words = FirstWords::new(alloc, rows)?;
         words.set_first(FIRST_SEQ);
         let first = words.take(word_count(config));

@@ -28,9 +28,9 @@ none_if other row differ = elim (eqb_tells other row) [
 ]
 
 -- the rows from one number on have the next one too
-pub free_more : (start end : ℕ) (rows : List ℕ) → start ≤ end → IsFreeFrom start end rows → IsFreeFrom start (end + 1) (rows ++ end ∷ [])
+pub free_more : (start end : ℕ) (rows : List ℕ) → start ≤ end → IsFreeFrom start end rows → IsFreeFrom start (end + 1) (end ∷ rows)
 free_more start end rows order free =
-    let count : (row : ℕ) → times row (rows ++ end ∷ []) ≡ times row rows + cond (nat_eq end row) 1 0 = λ row. times_last row end rows in
+    let count : (row : ℕ) → times row (end ∷ rows) ≡ cond (nat_eq end row) 1 0 + times row rows = λ row. times_first row end rows in
     record {
       once = λ row. elim (eqb_tells end row) [
         | inl here ↦

@@ -4,7 +4,7 @@ use Rattle.std.proofs.lemmas.Bool.{cases_Bool, cases_lt, cond-true, cond-false, 
 use Rattle.std.proofs.lemmas.Bool.Decides.{eqb_tells}
 use Rattle.std.proofs.lemmas.List.{length-set, length-map, length-append, map-append, get_or-set_same, get_or-set_other, get_or_append_left, get_or_push}
 use Rattle.std.proofs.lemmas.List.Sums.{sum_by-append}
-use Rattle.std.proofs.lemmas.List.Sorted.{sum_by-IsPermutation, IsPermutation-map, IsPermutation-trans, IsPermutation-to_front, IsPermutation-sym, length_permutation}
+use Rattle.std.proofs.lemmas.List.Sorted.{sum_by-IsPermutation, IsPermutation-map, IsPermutation-trans, IsPermutation-to_front, length_permutation}
 use Rattle.std.specs.List.Sorted.{IsPermutation}
 use Rattle.mm_types.specs.declared.slot.Row.{Row}
 use Rattle.grace_core.specs.Core.{Desk, times, has_row, since_at, is_free}
@@ -82,12 +82,6 @@ moved_lists rows free moved left firsts desk permuted kept =
       queue = kept.queue;
       order = kept.order;
     }
-
-pub first_moved : (xs ys rest : List Row) (one : Row) → xs ≡ one ∷ rest → ys ≡ rest ++ one ∷ [] → IsPermutation xs ys
-first_moved xs ys rest one first last =
-    subst (λ (l : List Row). IsPermutation l ys) (sym first)
-    (subst (λ (l : List Row). IsPermutation (one ∷ rest) l) (sym last)
-    (IsPermutation-sym (rest ++ one ∷ []) (one ∷ rest) (IsPermutation-to_front rest one)))
 
 -- and the last of it, before the others
 pub empty_moved : (xs ys : List ℕ) → IsPermutation xs ys → ys ≡ [] → xs ≡ []

@@ -1,6 +1,6 @@
 -- For `NodeTable::open`, `NodeTable::root` and others: what the structs of seats keep, after each step.
-use Rattle.std.proofs.Common.{ℕ, zero, suc, ◌≡◌, ◌<◌, ◌+◌, ◌-◌, ◌^◌, ◌∙◌, min, refl, sym, ap, subst, List, [], ◌∷◌, length, get_or, set, Some, arith}
-use Rattle.std.proofs.lemmas.List.{length-set}
+use Rattle.std.proofs.Common.{ℕ, zero, suc, ◌≡◌, ◌<◌, ◌≤◌, ◌+◌, ◌-◌, ◌^◌, ◌∙◌, min, refl, sym, ap, subst, List, [], ◌∷◌, ◌++◌, length, get_or, set, replicate, append_assoc, Some, arith}
+use Rattle.std.proofs.lemmas.List.{length-set, length-append, length-replicate, replicate-append-replicate, get_or_append_left, set-append_left}
 use Rattle.grace_core.specs.declared.clearing.Clearing.{Clearing}
 use Rattle.grace_core.specs.Core.{row_at, clearing_at, no_clearing}
 use Rattle.grace_core.specs.Steps.{least, looked, next_tree}
@@ -9,13 +9,37 @@ use Rattle.grace_core.proofs.Leaving.{length-since_from}
 use Rattle.maple_node.specs.declared.root.Root.{Root}
 use Rattle.maple_node.specs.Roots.{FitsRoot}
 use Rattle.node_slots.specs.declared.view.Size.{Size}
-use Rattle.node_slots.specs.Trees.{shown_rows}
+use Rattle.node_slots.specs.Trees.{shown_rows, empty_row}
 use Rattle.atomic_table.specs.Table.{Me}
 use Rattle.node_slots.specs.declared.view.ShownTree.{ShownTree}
 use Rattle.node_slots.specs.declared.view.NodeView.{NodeView}
 use Rattle.node_slots.specs.Views.{root_at, store_at, named_tree, publish_at, scan_at}
 use Rattle.node_slots.specs.Plays.{RowsExist}
-use Rattle.node_slots.specs.Kept.{ReaderKept, WriterKept}
+use Rattle.node_slots.specs.Kept.{ReaderKept, WriterKept, with_empty}
+
+-- a row that was filled, among those of the table
+row_filled : (rows row : ℕ) (words : List (List ℕ)) → row < length words → row_at (with_empty rows words) row ≡ row_at words row
+row_filled rows row words there = get_or_append_left words (replicate (rows - length words) empty_row) [] row there
+
+-- a row that was filled has other words
+filled_set : (rows row : ℕ) (words : List (List ℕ)) (new : List ℕ) → row < length words
+    → set (with_empty rows words) row new ≡ with_empty rows (set words row new)
+filled_set rows row words new there =
+    set-append_left words (replicate (rows - length words) empty_row) row new there
+    ∙ ap (λ n. set words row new ++ replicate (rows - n) empty_row) (sym (length-set words row new))
+
+-- rows of zeros that are added are those that the table has there
+grown_same : (rows count : ℕ) (words : List (List ℕ)) → count ≤ rows
+    → with_empty rows (words ++ replicate (count - length words) empty_row) ≡ with_empty rows words
+grown_same rows count words few =
+    let more : List (List ℕ) = replicate (count - length words) empty_row in
+    let rest : ℕ = rows - length (words ++ more) in
+    let long = length-append words more in
+    let many = length-replicate (count - length words) empty_row in
+    let e : count - length words + rest ≡ rows - length words = omega arith in
+    append_assoc words more (replicate rest empty_row)
+    ∙ ap (λ (l : List (List ℕ)). words ++ l) (replicate-append-replicate (count - length words) rest empty_row
+    ∙ ap (λ n. replicate n empty_row) e)
 
 -- a value that is read there, whatever stands for none
 pub read_any : {A : Type 0} (xs : List A) (i : ℕ) (d e : A) → i < length xs → get_or xs i d ≡ get_or xs i e
@@ -53,32 +77,43 @@ root_kept reader walks count words more me new shown kept same is exist counted 
       exist = λ other some. subst (RowsExist me.0.size.rows) (let e : shown ≡ other = cc in e) exist;
     })
 
--- the writer's seat after it stored a word
+-- the writer's seat after it stored a word of a row that was filled
 pub store_kept : (size : Size) (root : Root) (words : List (List ℕ)) (clearings : List Clearing) (row place word : ℕ) (old : List ℕ)
     (me new : Me (Unit {0}) NodeView)
-    → WriterKept size root words clearings me → row < size.rows → old ≡ get_or words row old → new ≡ (store_at me.0 row place word, me.1)
-    → WriterKept size root (set words row (set old place word)) clearings new
+    → WriterKept size root (with_empty size.rows words) clearings me → row < length words → old ≡ get_or words row old
+    → new ≡ (store_at me.0 row place word, me.1)
+    → WriterKept size root (with_empty size.rows (set words row (set old place word))) clearings new
 store_kept size root words clearings row place word old me new kept there was is =
-    let within : row < length words = omega (arith, there, kept.rows) in
-    let old_is : old ≡ row_at words row = was ∙ read_any words row old [] within in
-    subst (WriterKept size root (set words row (set old place word)) clearings) (sym is) (record {
+    let all : List (List ℕ) = with_empty size.rows words in
+    let within : row < length all = omega (arith, there, length-append words (replicate (size.rows - length words) empty_row)) in
+    let old_is : old ≡ row_at all row = was ∙ read_any words row old [] there ∙ sym (row_filled size.rows row words there) in
+    subst (λ (l : List (List ℕ)). WriterKept size root l clearings new) (filled_set size.rows row words (set old place word) there)
+    (subst (WriterKept size root (set all row (set old place word)) clearings) (sym is) (record {
       kind = kept.kind;
       empty = kept.empty;
       size_is = kept.size_is;
       root_is = kept.root_is;
       number_is = kept.number_is;
       words_are = ap (λ (l : List (List ℕ)). set l row (set (row_at l row) place word)) kept.words_are
-          ∙ ap (λ (l : List ℕ). set words row (set l place word)) (sym old_is);
+          ∙ ap (λ (l : List ℕ). set all row (set l place word)) (sym old_is);
       clearings_are = kept.clearings_are;
       fits = kept.fits;
-      rows = length-set words row (set old place word) ∙ kept.rows;
-      wide = λ other inside. one_set (λ (l : List ℕ). length l ≡ 32) words row other (set old place word) []
-          (kept.wide other (omega (arith, inside, length-set words row (set old place word))))
+      rows = length-set all row (set old place word) ∙ kept.rows;
+      wide = λ other inside. one_set (λ (l : List ℕ). length l ≡ 32) all row other (set old place word) []
+          (kept.wide other (omega (arith, inside, length-set all row (set old place word))))
           (λ _. length-set old place word ∙ ap (λ (l : List ℕ). length l) old_is ∙ kept.wide row within);
       readers = kept.readers;
       since = kept.since;
       reached = kept.reached;
-    })
+    }))
+
+-- and after rows of zeros were added
+pub grown_kept : (size : Size) (root : Root) (words more : List (List ℕ)) (clearings : List Clearing) (count : ℕ) (me : Me (Unit {0}) NodeView)
+    → WriterKept size root (with_empty size.rows words) clearings me → count ≤ size.rows
+    → more ≡ words ++ replicate (count - length words) empty_row
+    → WriterKept size root (with_empty size.rows more) clearings me
+grown_kept size root words more clearings count me kept few is =
+    subst (λ (l : List (List ℕ)). WriterKept size root l clearings me) (sym (ap (with_empty size.rows) is ∙ grown_same size.rows count words few)) kept
 
 -- the writer's seat after a publish
 pub publish_kept : (size : Size) (root next : Root) (words : List (List ℕ)) (clearings : List Clearing) (me new : Me (Unit {0}) NodeView)

@@ -1,5 +1,5 @@
 -- For `open` and `open_seat`: a new table keeps its rule, and its writer what it knows.
-use Rattle.std.proofs.Common.{ℕ, zero, suc, ◌≡◌, ◌<◌, ◌≤◌, ◌∙◌, true, false, refl, sym, ap, subst, nat_lt, List, [], ◌∷◌, length, get_or, set, replicate, arith, inl, inr}
+use Rattle.std.proofs.Common.{ℕ, zero, suc, ◌≡◌, ◌<◌, ◌≤◌, ◌-◌, ◌∙◌, true, false, refl, sym, ap, subst, nat_lt, List, [], ◌∷◌, length, get_or, set, replicate, arith, inl, inr}
 use Rattle.std.proofs.lemmas.Bool.{cases_lt, lt-ltb, le-ltb}
 use Rattle.std.proofs.lemmas.List.{length-replicate, get_or-replicate, length-set, get_or-set_same, get_or-set_other, get_or_past}
 use Rattle.mm_types.specs.declared.slot.Row.{Row}
@@ -22,7 +22,7 @@ use Rattle.node_slots.specs.Places.{pin_place, word_place, word_count}
 use Rattle.node_slots.specs.Views.{first_desk, first_known, opened_view, view_at}
 use Rattle.node_slots.specs.Rule.{Fits, Shows}
 use Rattle.node_slots.specs.Opening.{IsFreeFrom}
-use Rattle.node_slots.specs.Kept.{IsSize, WriterKept, RowsKept, free_numbers}
+use Rattle.node_slots.specs.Kept.{IsSize, WriterKept, RowsKept, free_numbers, with_empty}
 use Rattle.node_slots.proofs.Counting.{times_first, one_if, none_if}
 
 -- tree 0 is first
@@ -154,10 +154,13 @@ opening_shows size words is are =
 
 -- the seat of a new table's writer
 pub opening_kept : (size : Size) (words : List (List ℕ)) (clearings : List Clearing) (me : Me (Unit {0}) NodeView) → IsSize size
-    → me ≡ (opened_view size 0, []) → words ≡ replicate size.rows empty_row → clearings ≡ replicate size.readers new_clearing
-    → WriterKept size first_root words clearings me
-opening_kept size words clearings me is same words_are clearings_are =
-    subst (WriterKept size first_root words clearings) (sym same) (record {
+    → me ≡ (opened_view size 0, []) → words ≡ [] → clearings ≡ replicate size.readers new_clearing
+    → WriterKept size first_root (with_empty size.rows words) clearings me
+opening_kept size words clearings me is same none clearings_are =
+    let e : size.rows - 0 ≡ size.rows = omega arith in
+    let words_are : with_empty size.rows words ≡ replicate size.rows empty_row =
+    ap (with_empty size.rows) none ∙ ap (λ n. replicate n empty_row) e in
+    subst (WriterKept size first_root (with_empty size.rows words) clearings) (sym same) (record {
       kind = refl;
       empty = refl;
       size_is = refl;

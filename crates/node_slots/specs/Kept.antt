@@ -1,5 +1,5 @@
 -- What the structs of a table and of its seats keep.
-use Rattle.std.specs.Prelude.{ℕ, ◌≡◌, ◌<◌, ◌≤◌, ◌+◌, ◌-◌, ◌*◌, ◌^◌, min, List, [], length, map, slice_index_or, true, false, Some}
+use Rattle.std.specs.Prelude.{ℕ, ◌≡◌, ◌<◌, ◌≤◌, ◌+◌, ◌-◌, ◌*◌, ◌^◌, min, List, [], ◌++◌, length, map, replicate, slice_index_or, true, false, Some}
 use Rattle.mm_types.specs.declared.slot.Row.{Row}
 use Rattle.grace_core.specs.declared.clearing.Clearing.{Clearing}
 use Rattle.grace_core.specs.Core.{Desk, times, has_row, row_at, since_at, is_free}
@@ -12,6 +12,7 @@ use Rattle.node_slots.specs.declared.view.NodeSeatKind.TheVariants.{Reads, Write
 use Rattle.node_slots.specs.declared.view.ShownTree.{ShownTree}
 use Rattle.node_slots.specs.declared.view.NodeView.{NodeView}
 use Rattle.node_slots.specs.declared.left.Left.{Left}
+use Rattle.node_slots.specs.Trees.{empty_row}
 use Rattle.node_slots.specs.Places.{word_count}
 use Rattle.node_slots.specs.Plays.{RowsExist}
 
@@ -37,6 +38,10 @@ pub record ReaderKept (reader walks words : ℕ) (me : Me (Unit {0}) NodeView) :
   pub within : (reader + 2) * 8 ≤ words
   pub walks_are : walks ≡ min me.0.walks (2 ^ 64 - 1)
   pub exist : (shown : ShownTree) → me.0.snapshot ≡ Some shown → RowsExist me.0.size.rows shown
+
+-- the words of so many rows, of which the first were filled, with these words, and the others are rows of zeros
+abbrev pub with_empty : ℕ → List (List ℕ) → List (List ℕ)
+with_empty rows words = words ++ replicate (rows - length words) empty_row
 
 -- what the writer's seat knows beside its view
 pub record WriterKept (size : Size) (root : Root) (words : List (List ℕ)) (clearings : List Clearing) (me : Me (Unit {0}) NodeView) : Type 0 where

@@ -1,7 +1,7 @@
 -- The rows of a new table.
-use Rattle.std.specs.Prelude.{ℕ, ◌≡◌, ◌≤◌, ◌<◌, List, length, replicate, slice_set}
+use Rattle.std.specs.Prelude.{ℕ, ◌≡◌, ◌≤◌, ◌<◌, List, length, replicate, slice_index, slice_set}
 use Rattle.grace_core.specs.Core.{times}
-use Rattle.node_slots.specs.Trees.{empty_row}
+use Rattle.node_slots.specs.Places.{word_count}
 
 -- the list has the rows from one number up to another, each once, and no other
 pub record IsFreeFrom (start end : ℕ) (free : List ℕ) : Type 0 where
@@ -10,11 +10,16 @@ pub record IsFreeFrom (start end : ℕ) (free : List ℕ) : Type 0 where
   pub below : (row : ℕ) → 1 ≤ times row free → row < end
   pub all : (row : ℕ) → start ≤ row → row < end → 1 ≤ times row free
 
--- the rows that are as large as a root word and 64 pins, each with a line of its own
-abbrev pub line_rows : ℕ
-line_rows = 17
+-- how many words a table of so many rows and 64 readers has, the most that a table has
+abbrev pub most_words : ℕ → ℕ
+most_words rows = word_count (record { rows = rows; slots = 0; readers = 64 })
 
--- there are rows, and all their words are zeros but for the first, which is this one
-pub record HasZeros (rows : List (List ℕ)) (first : ℕ) : Type 0 where
-  pub some : 1 ≤ length rows
-  pub zeros : rows ≡ slice_set (replicate (length rows) empty_row) 0 (slice_set empty_row 0 first)
+-- words from which tables are copied, as contracts see them: how many they are, and the first, after which all are zeros
+pub record FirstView : Type 0 where
+  pub count : ℕ
+  pub first : ℕ
+
+-- there are words, and they are zeros but for the first
+pub record HasZeros (words : List ℕ) : Type 0 where
+  pub some : 1 ≤ length words
+  pub zeros : words ≡ slice_set (replicate (length words) 0) 0 (slice_index words 0)

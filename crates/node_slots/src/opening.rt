@@ -4,12 +4,13 @@ ghost use Rattle.std.specs.VecDeque.{deque_capacity};
 ghost use Rattle.grace_core.specs.Core.{times};
 ghost use Rattle.grace_core.specs.Steps.{new_clearing};
 ghost use Rattle.node_slots.specs.declared.seats.NodeSeat.{NodeSeat as Reader};
+ghost use Rattle.node_slots.specs.Places.{word_count};
 ghost use Rattle.node_slots.specs.Views.{opened_view, reader_view, new_reader, after_reader};
 ghost use Rattle.node_slots.specs.Kept.{IsSize, free_numbers};
-ghost use Rattle.node_slots.specs.Opening.{IsFreeFrom, line_rows};
+ghost use Rattle.node_slots.specs.Opening.{IsFreeFrom};
 ghost use Rattle.node_slots.specs.Seats.{size_of, IsOf, Writes, view, sight, free_of, left_of};
 
-use crate::first_words::{FirstWords, ROW};
+use crate::first_words::{FirstWords, word_count};
 use crate::rule::NewReader;
 use crate::seats::{Hint, NodeSeat, NodeTable, NodeWriter, NodeWriterSeat};
 use crate::view::Size;
@@ -20,9 +21,6 @@ use mm_types::{NoMemory, Row};
 use std::alloc::Global;
 use std::collections::VecDeque;
 use std::sync::Arc;
-
-/// The words of a cache line, which has 64 bytes.
-const LINE: usize = 8;
 
 /// The root of tree 0, a leaf without entries in row 0.
 const FIRST_ROOT: Root = Root {
@@ -77,7 +75,7 @@ impl NodeTable {
         readers: u32,
     ) -> Result<(NodeTable, NodeWriter, Vec<NodeSeat>), NoMemory>
         requires size { IsSize (record { rows = rows; slots = slots; readers = readers }) }
-        requires words { rows + line_rows ≤ length words.rows.items }
+        requires words { word_count (record { rows = rows; slots = slots; readers = readers }) ≤ words.count }
         ensures table { IfOk result (λ made. size_of made.0 ≡ record { rows = rows; slots = slots; readers = readers }) }
         ensures writer { IfOk result (λ made. Writes made.1 made.0
             × (sight made.1 ≡ opened_view (record { rows = rows; slots = slots; readers = readers }) readers)) }
@@ -125,7 +123,7 @@ impl NodeTable {
 /// A table with no reader.
 fn open(alloc: Global, words: FirstWords, size: Size) -> Result<(NodeTable, NodeWriter), NoMemory>
     requires size { IsSize size }
-    requires words { size.rows + line_rows ≤ length words.rows.items }
+    requires words { word_count size ≤ words.count }
     ensures table { IfOk result (λ made. size_of made.0 ≡ size) }
     ensures writer { IfOk result (λ made. Writes made.1 made.0 × (sight made.1 ≡ opened_view size 0)) }
     ensures free { IfOk result (λ made. IsFreeFrom 1 size.rows (free_of made.1)) }
@@ -138,7 +136,8 @@ fn open(alloc: Global, words: FirstWords, size: Size) -> Result<(NodeTable, Node
         left: VecDeque::with_capacity(alloc, size.rows as usize)?,
         firsts: vec![in alloc; 0; size.rows as usize]?,
         hints: vec![in alloc; NO_HINT; size.rows as usize]?,
-        turned: 0,
+        fresh: (size.rows - 1) as usize,
+        spares: 0,
     };
     Ok((table, writer))
 }
@@ -150,15 +149,15 @@ fn open_seat(
     size: Size,
 ) -> Result<(NodeTable, NodeWriterSeat), NoMemory>
     requires size { IsSize size }
-    requires words { size.rows + line_rows ≤ length words.rows.items }
+    requires words { word_count size ≤ words.count }
     ensures table { IfOk result (λ made. size_of made.0 ≡ size) }
     ensures seat { IfOk result (λ made. (made.1.seat.table_id ≡ (arc_value made.0.table).shared.table_id) × (made.1.table.size ≡ size)
         × (made.1.seat.me.0 ≡ opened_view size 0)) }
 {
     let clearings = vec![in alloc; NEW_CLEARING; size.readers as usize]?;
-    let count = (size.readers as usize + 1) * LINE + size.rows as usize * ROW;
     words.set_first(pack_root(FIRST_ROOT));
-    let (table, seat) = Table::of_words(alloc, words.take(count), &size)?;
+    let first = words.take(word_count(size.rows, size.readers));
+    let (table, seat) = Table::of_words(alloc, first, &size)?;
     let table = NodeTable {
         table: Arc::new(alloc, table)?,
         size,
@@ -170,13 +169,13 @@ fn open_seat(
             size,
         },
         root: FIRST_ROOT,
-        words: words.into_rows(size.rows),
+        words: Vec::with_capacity(alloc, size.rows as usize)?,
         clearings,
     };
     Ok((table, seat))
 }
 
-/// All rows but the first, in their order.
+/// All rows but the first, the lowest last.
 fn first_free(alloc: Global, count: u32) -> Result<VecDeque<Row>, NoMemory>
     requires { 1 ≤ count }
     ensures room { IfOk result (λ free. count ≤ deque_capacity free) }
@@ -184,7 +183,7 @@ fn first_free(alloc: Global, count: u32) -> Result<VecDeque<Row>, NoMemory>
 {
     let mut free = VecDeque::with_capacity(alloc, count as usize)?;
     for row in 1..count {
-        free.push_back(Row(row))?;
+        free.push_front(Row(row))?;
     }
     Ok(free)
 }

@@ -9,6 +9,7 @@ ghost use Rattle.node_slots.specs.Views.{fill_at, publish_at, scan_from};
 ghost use Rattle.node_slots.specs.Kept.{left_at};
 ghost use Rattle.node_slots.specs.Seats.{size_of, Writes, sight, desk, row_count, free_of, left_of, is_present, is_waiting, is_kept, is_taken, count_of, next_root, next_shown, pins_of, AreOut, ReachesNewRows};
 
+use crate::first_words::ROW;
 use crate::left::Left;
 use crate::seats::{NodeTable, NodeWriter};
 use crate::twins::{note_spot, note_twin};
@@ -16,6 +17,9 @@ use grace_core::least;
 use maple_node::Root;
 use mm_types::{NoMemory, Row, Steps};
 use std::sync::Arc;
+
+/// The words of a row that was never filled.
+static EMPTY_ROW: [u64; ROW] = [0; ROW];
 
 impl NodeTable {
     /// Takes the row that came last into the writer's free list, whose words are likely in the caches. None exactly where the list
@@ -35,7 +39,7 @@ impl NodeTable {
     }
 
     /// Takes a row for the next version of the node in a row: that row itself, if it was left and is free, or the row that held the
-    /// version before it, if that is free, whose words are nearly the same, and else the one that is free for the longest. None
+    /// version before it, if that is free, whose words are nearly the same, and else a fresh one or one that is free for long. None
     /// exactly where no row is free.
     pub fn take_row_for(&self, writer: &mut NodeWriter, old: Row) -> Option<Row>
         requires table { Writes writer.old self.now }
@@ -81,7 +85,7 @@ impl NodeTable {
         if writer.firsts[row.0 as usize] < next {
             writer.left.push_back_reserved(Left { row, since: next });
         } else {
-            let spot = writer.free.len().wrapping_add(writer.turned);
+            let spot = writer.free.len();
             note_spot(&mut writer.hints, row, spot);
             writer.free.push_back_reserved(row);
         }
@@ -149,7 +153,10 @@ impl NodeTable {
         ensures steps { steps.new ≡ steps.old + 1 }
     {
         steps.tick();
-        &writer.desk.words[row.0 as usize]
+        match writer.desk.words.get(row.0 as usize) {
+            Some(words) => words,
+            None => &EMPTY_ROW,
+        }
     }
 
     /// The greatest tree, at most the present one, such that no row waits that left at its publish or before.
@@ -207,7 +214,7 @@ impl NodeWriter {
             return false;
         }
         let first = self.left.pop_front().unwrap();
-        let spot = self.free.len().wrapping_add(self.turned);
+        let spot = self.free.len();
         note_spot(&mut self.hints, first.row, spot);
         self.free.push_back_reserved(first.row);
         true

@@ -1,7 +1,7 @@
 ghost use Rattle.std.specs.Arc.{arc_value};
-ghost use Rattle.std.specs.Prelude.{◌≡◌, ◌≤◌};
+ghost use Rattle.std.specs.Prelude.{◌≡◌, ◌≤◌, length, vec_capacity};
 ghost use Rattle.std.specs.VecDeque.{deque_capacity};
-ghost use Rattle.node_slots.specs.Kept.{IsSized, ReaderKept, WriterKept, RowsKept};
+ghost use Rattle.node_slots.specs.Kept.{IsSized, ReaderKept, WriterKept, RowsKept, with_empty};
 
 use crate::left::Left;
 use crate::rule::GraceRule;
@@ -39,11 +39,13 @@ pub struct NodeWriterSeat {
     pub(crate) table: NodeTable,
     /// The root of the present tree.
     pub(crate) root: Root,
-    /// The words of each row.
+    /// The words of each row up to the last that was filled. There is room for all rows, and it is touched as they are filled.
     pub(crate) words: Vec<[u64; 32]>,
     /// What the scans of each reader found.
     pub(crate) clearings: Vec<Clearing>,
-    pub ghost kept: { WriterKept table.size root words.items clearings.items seat.me },
+    pub ghost kept: { WriterKept table.size root (with_empty table.size.rows words.items) clearings.items seat.me },
+    pub ghost filled: { length words.items ≤ table.size.rows },
+    pub ghost room: { table.size.rows ≤ vec_capacity words },
     pub ghost table_is: { seat.table_id ≡ (arc_value table.table).shared.table_id },
 }
 
@@ -53,7 +55,7 @@ pub struct NodeWriterSeat {
 pub(crate) struct Hint {
     /// The row that it was taken for.
     pub(crate) twin: Row,
-    /// Where it came to stand in the free list last: its place, and how many rows had gone from the front to the end.
+    /// Where it came to stand in the free list last.
     pub(crate) spot: usize,
 }
 
@@ -68,8 +70,10 @@ pub struct NodeWriter {
     pub(crate) firsts: Vec<u64>,
     /// For each row what is remembered of it.
     pub(crate) hints: Vec<Hint>,
-    /// How often the first row of the free list went to its end.
-    pub(crate) turned: usize,
+    /// How many rows at the front of the free list are fresh: they were never taken. No clause rests on it.
+    pub(crate) fresh: usize,
+    /// How often another row than a fresh one was taken for a node that had none.
+    pub(crate) spares: usize,
     pub ghost rows: { RowsKept desk.table.size.rows free.items left.items firsts.items desk.seat.me.0.known.desk },
     pub ghost free_room: { desk.table.size.rows ≤ deque_capacity free },
     pub ghost left_room: { desk.table.size.rows ≤ deque_capacity left },

@@ -1,7 +1,7 @@
 //! Which free row is taken for the next version of a node. Nothing rests on what is remembered for it: a place of the free list is
 //! used only where the row that is looked for stands there.
 
-ghost use Rattle.std.specs.Prelude.{◌≡◌, ◌<◌, IfSome};
+ghost use Rattle.std.specs.Prelude.{◌≡◌, ◌<◌, true, IfSome};
 ghost use Rattle.std.specs.List.Sorted.{IsPermutation};
 ghost use Rattle.std.specs.VecDeque.{deque_len};
 ghost use Rattle.node_slots.specs.Seats.{free_of, left_of};
@@ -33,13 +33,15 @@ pub(crate) fn note_twin(hints: &mut Vec<Hint>, row: Row, twin: Row) {
     }
 }
 
+/// Among how many rows that are free for long one is taken in turn, and how many more there are of them than nodes wait for.
+const SPARES: usize = 32;
+
 impl NodeWriter {
     /// The place of a row in the free list, if it is free.
     fn spot_of(&self, row: Row) -> Option<usize>
         ensures { IfSome result (λ spot. spot < deque_len self.now.free) }
     {
-        let spot = self.hints.get(row.0 as usize)?.spot;
-        let place = spot.wrapping_sub(self.turned);
+        let place = self.hints.get(row.0 as usize)?.spot;
         let found = *self.free.get(place)?;
         if found == row { Some(place) } else { None }
     }
@@ -71,20 +73,43 @@ impl NodeWriter {
         ensures free { IsPermutation (free_of self.old) (free_of self.new) }
     {
         let last = self.free.len() - 1;
-        let spot = place.wrapping_add(self.turned);
-        note_moved(&mut self.hints, self.free.back(), spot);
+        note_moved(&mut self.hints, self.free.back(), place);
         self.free.swap(place, last);
     }
 
-    /// Puts the row that is free for the longest last. A row that was freed lately is left for the node that it was taken for.
-    fn bring_oldest(&mut self)
+    /// Whether so few rows are free that were taken before that a fresh one is taken for a node that has none of its own: each node of
+    /// the tree finds the row of its version before, and a run that has few nodes touches few rows.
+    fn wants_fresh(&self) -> bool
+        ensures { result ≡ true → 0 < self.now.fresh }
+    {
+        let free = self.free.len();
+        let used = self.firsts.len().saturating_sub(free);
+        let taken_before = free.saturating_sub(self.fresh);
+        0 < self.fresh && taken_before / 2 < used.saturating_add(SPARES)
+    }
+
+    /// Where a row stands in the free list for a node that has none of its own: the last of the fresh rows, or else one of those that
+    /// stand behind them, which are free for long.
+    fn spare_spot(&mut self) -> usize
+        ensures same { (self.new.desk ≡ self.old.desk) × (self.new.free ≡ self.old.free) × (self.new.left ≡ self.old.left) }
+    {
+        if self.wants_fresh() {
+            self.fresh -= 1;
+            return self.fresh;
+        }
+        self.spares = self.spares.wrapping_add(1);
+        self.fresh.wrapping_add(self.spares % SPARES)
+    }
+
+    /// Puts a row last that no node of the tree waits for, most likely.
+    fn bring_spare(&mut self)
         ensures desk { self.new.desk ≡ self.old.desk }
         ensures left { left_of self.new ≡ left_of self.old }
         ensures free { IsPermutation (free_of self.old) (free_of self.new) }
     {
-        if let Some(oldest) = self.free.pop_front() {
-            self.turned = self.turned.wrapping_add(1);
-            self.free.push_back_reserved(oldest);
+        let spot = self.spare_spot();
+        if let Some(last) = self.free.len().checked_sub(1) {
+            self.bring(spot.min(last));
         }
     }
 
@@ -107,7 +132,7 @@ impl NodeWriter {
         }
         match self.nearest_spot(row) {
             Some(place) => self.bring(place),
-            None => self.bring_oldest(),
+            None => self.bring_spare(),
         }
     }
 }

@@ -1,27 +1,40 @@
-ghost use Rattle.std.specs.Prelude.{◌≡◌, ◌<◌, ◌≤◌, ◌+◌, true, ℕ, List, length};
+ghost use Rattle.std.specs.Prelude.{◌≡◌, ◌<◌, ◌≤◌, ◌+◌, ◌-◌, ◌++◌, true, ℕ, List, length, replicate, vec_capacity};
 ghost use Rattle.grace_core.specs.Core.{is_free};
 ghost use Rattle.maple_node.specs.Roots.{FitsRoot};
-ghost use Rattle.node_slots.specs.Trees.{IsShown};
+ghost use Rattle.node_slots.specs.Trees.{IsShown, empty_row};
 ghost use Rattle.node_slots.specs.Plays.{RowsExist};
 ghost use Rattle.node_slots.specs.Views.{store_at, fill_at, named_tree, publish_at, scan_at, scan_from};
 ghost use Rattle.node_slots.specs.Seats.{SitsAt, seat_sight};
 ghost use Rattle.node_slots.specs.Internal.Stores.{store_four_at};
 
+use crate::first_words::ROW;
 use crate::rule::{Published, Scanned, Stored};
 use crate::seats::{NodeTable, NodeWriterSeat};
 use maple_node::{Root, pack_root};
 use mm_types::Row;
 
+/// Adds rows of zeros until there are so many rows.
+fn add_empty(words: &mut Vec<[u64; 32]>, count: usize)
+    requires room { count ≤ vec_capacity words.old }
+    ensures items { words.new.items ≡ words.old.items ++ replicate (count - length words.old.items) empty_row }
+    ensures room { vec_capacity words.new ≡ vec_capacity words.old }
+{
+    for _row in words.len()..count {
+        words.push_reserved([0; ROW]);
+    }
+}
+
 impl NodeTable {
     /// Stores a word of a free row, where the table does not have it there already.
     fn store_word(&self, seat: &mut NodeWriterSeat, row: Row, place: usize, word: u64)
         requires table { SitsAt seat.old self.now }
-        requires row { row.0 < seat.old.table.size.rows }
+        requires row { row.0 < length seat.old.words.items }
         requires place { place < 32 }
         requires free { is_free (seat_sight seat.old).known.desk row.0 ≡ true }
         ensures table { SitsAt seat.new self.now }
         ensures view { seat_sight seat.new ≡ store_at (seat_sight seat.old) row.0 place word }
         ensures same { seat.new.table ≡ seat.old.table }
+        ensures count { length seat.new.words.items ≡ length seat.old.words.items }
     {
         let words = &mut seat.words[row.0 as usize];
         if words[place] == word {
@@ -35,12 +48,13 @@ impl NodeTable {
     /// Stores four words of a free row from a place on. Most often the table has all of them there already.
     fn store_four(&self, seat: &mut NodeWriterSeat, row: Row, place: usize, words: &[u64; 32])
         requires table { SitsAt seat.old self.now }
-        requires row { row.0 < seat.old.table.size.rows }
+        requires row { row.0 < length seat.old.words.items }
         requires place { place + 4 ≤ 32 }
         requires free { is_free (seat_sight seat.old).known.desk row.0 ≡ true }
         ensures table { SitsAt seat.new self.now }
         ensures view { seat_sight seat.new ≡ store_four_at (seat_sight seat.old) row.0 place words.now }
         ensures same { seat.new.table ≡ seat.old.table }
+        ensures count { length seat.new.words.items ≡ length seat.old.words.items }
     {
         let old = &seat.words[row.0 as usize];
         if old[place] == words[place]
@@ -65,6 +79,7 @@ impl NodeTable {
         ensures view { seat_sight seat.new ≡ fill_at (seat_sight seat.old) row.0 words.now }
         ensures same { seat.new.table ≡ seat.old.table }
     {
+        add_empty(&mut seat.words, row.0 as usize + 1);
         for part in 0..8 {
             self.store_four(seat, row, 4 * part, words);
         }

@@ -1,7 +1,5 @@
 -- For `first_free`: one row more, and at the end all.
-use Rattle.std.proofs.Common.{[], ◌∷◌, ◌≡◌, ◌+◌, ◌∙◌, sym, ap, subst, arith}
-use Rattle.std.proofs.lemmas.List.{map-append}
-use Rattle.mm_types.specs.declared.slot.Row.{Row}
+use Rattle.std.proofs.Common.{◌≡◌, ◌+◌, sym, ap, subst, arith}
 use Rattle.node_slots.specs.Opening.{IsFreeFrom}
 use Rattle.node_slots.specs.Kept.{free_numbers}
 use Rattle.node_slots.proofs.Counting.{free_more, free_none}
@@ -19,10 +17,10 @@ loop-row-preserved c =
     let free = c.loop-row.free.items in
     let row = c.loop-row.row in
     let kept = c.loop-row.invariant in
-    let pushed = c.in_ok-push_back.ensures in
+    let pushed = c.in_ok-push_front.ensures in
     record {
       room = omega (arith, kept.room, pushed.capacity);
-      rows = subst (IsFreeFrom 1 (row + 1)) (sym (ap free_numbers pushed.items ∙ map-append (λ (r : Row). r.0) free (record { 0 = row } ∷ [])))
+      rows = subst (IsFreeFrom 1 (row + 1)) (sym (ap free_numbers pushed.items))
           (free_more 1 row (free_numbers free) kept.some kept.rows);
       some = omega (arith, kept.some);
     }

@@ -18,6 +18,8 @@ store-requires c =
 pub invariant_of-seat : goal.invariant_of-seat
 invariant_of-seat c = record {
   kept = publish_kept _ _ _ _ _ _ _ c.args.seat.now.kept c.requires.fits (c.store.ensures.2 c.args.root c.requires.fits c.pack_root-word.ensures);
+  filled = c.args.seat.now.filled;
+  room = c.args.seat.now.room;
   table_is = c.store.ensures.0 ∙ c.args.seat.now.table_is;
 }
 

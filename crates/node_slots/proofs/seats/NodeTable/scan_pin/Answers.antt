@@ -21,6 +21,8 @@ invariant_of-seat c =
     record {
       kept = scan_kept _ _ _ _ _ _ _ _ _ _ c.args.seat.now.kept (omega (arith, c.requires.reader, size)) c.index-clearing.ensures c.looked.ensures
           (c.load-found.ensures.2 c.args.reader refl);
+      filled = c.args.seat.now.filled;
+      room = c.args.seat.now.room;
       table_is = c.load-found.ensures.0 ∙ c.args.seat.now.table_is;
     }
 

@@ -1,6 +1,8 @@
 -- For `store_word`: the step keeps the rule.
-use Rattle.std.proofs.Common.{ap, arith}
+use Rattle.std.proofs.Common.{ℕ, ◌∙◌, List, ap, arith}
+use Rattle.std.proofs.lemmas.List.{length-set}
 use Rattle.node_slots.proofs.Storing.{store_owes}
+use Rattle.node_slots.proofs.Seating.{store_kept}
 use Rattle.node_slots.proofs.seats.NodeTable.store_word.Goals as goal
 
 pub store-requires : goal.store-requires
@@ -14,3 +16,15 @@ store-requires c =
       omega (arith, sized.words_are, c.requires.row, rows, c.requires.place),
       store_owes _ _ _ _ _ _ _ _ sized.size_is kept.kind (omega (arith, c.requires.row, rows)) c.requires.place c.requires.free,
     )
+
+pub invariant_of-seat-2 : goal.invariant_of-seat-2
+invariant_of-seat-2 c =
+    let seat = c.args.seat.now in
+    let readers = ap (λ s. s.readers) (seat.kept.size_is ∙ c.requires.table.size_is) in
+    record {
+      kept = store_kept _ _ _ _ _ _ _ _ _ _ seat.kept c.requires.row c.index_mut-words.ensures.value
+          (c.store.ensures.2 c.args.row.0 c.args.place c.requires.place (omega (arith, readers)));
+      filled = omega (arith, seat.filled, length-set {A = List ℕ});
+      room = seat.room;
+      table_is = c.store.ensures.0 ∙ seat.table_is;
+    }
