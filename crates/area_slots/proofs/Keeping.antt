@@ -1,12 +1,11 @@
 -- For `AreaSlots::new`, `take`, `retire` and `seen`: what the calls of a set of slots keep.
-use Rattle.std.proofs.Common.{◌≡◌, ◌≢◌, ◌≤◌, ◌<◌, ◌+◌, ℕ, true, false, nat_le, nat_lt, subst, List, [], ◌∷◌, ◌++◌, length, map, get_or, refl, sym, ap, ◌∙◌, arith, if◌then◌else◌, Result, Ok, Err, OnOk, OnErr, ◌⊎◌, inl, inr, suc, zero, append_assoc, length-append}
+use Rattle.std.proofs.Common.{◌≡◌, ◌≢◌, ◌≤◌, ◌<◌, ◌+◌, ◌-◌, ℕ, true, false, nat_le, nat_lt, subst, List, [], ◌∷◌, ◌++◌, reverse, length, get_or, refl, sym, ap, ◌∙◌, arith, if◌then◌else◌, Result, Ok, Err, OnOk, OnErr, ◌⊎◌, inl, inr, suc, zero, add-one, append_assoc, length-append}
 use Rattle.std.specs.List.{insert, range_with_len}
-use Rattle.std.proofs.lemmas.List.{append-nil}
-use Rattle.std.proofs.lemmas.List.FromFn.{map-range_with_len_more}
+use Rattle.std.proofs.lemmas.List.{append-nil, reverse-append}
 use Rattle.std.proofs.lemmas.Bool.{cases_eq, cases_lt, leb-true, leb-false, le-leb, lt-leb}
 use Rattle.std.proofs.lemmas.Bool.Decides.{nat_tests}
 use Rattle.std.proofs.lemmas.List.Sums.{sum_by-append, sum_by-cons, sum_by_push, sum_by-insert}
-use Rattle.std.proofs.lemmas.List.Sorted.{IsNonDecreasingBy-insert}
+use Rattle.std.proofs.lemmas.List.Sorted.{IsNonDecreasingBy-insert, sum_by-IsPermutation, IsPermutation-reverse}
 use Rattle.std.specs.List.Sorted.{IsNonDecreasingBy, IsPartitionPoint}
 use Rattle.area_slots.specs.declared.leaving.Leaving.{Leaving}
 use Rattle.area_slots.specs.Slots.{SlotSet, IsTaken, one_at, times, times_left, left_by, gone_by, gone_after, slots_of}
@@ -131,25 +130,30 @@ once_range low (suc count) slot = rw (times-cons slot low (range_with_len (low +
         → one_at slot low + times slot (range_with_len (low + 1) count) ≤ (if nat_lt slot low then 0 else if nat_lt slot (low + suc count) then 1 else 0)
     by below same later = grind (arith, nat_tests)
 
-pub once_new : (count slot : ℕ) → times slot (range_with_len 0 count) + 0 ≤ (if nat_lt slot count then 1 else 0)
-once_new count slot = let range = once_range 0 count slot in grind (arith, nat_tests, range)
+pub once_new : (count slot : ℕ) → times slot (reverse (range_with_len 0 count)) + 0 ≤ (if nat_lt slot count then 1 else 0)
+once_new count slot =
+    let range = once_range 0 count slot in
+    let same = sum_by-IsPermutation (one_at slot) (range_with_len 0 count) (reverse (range_with_len 0 count)) (IsPermutation-reverse (range_with_len 0 count)) in
+    rw same (grind (arith, nat_tests, range))
 
--- the numbers up to the next
-pub range_push : (low count : ℕ) → range_with_len low count ++ (low + count) ∷ [] ≡ range_with_len low (count + 1)
-range_push low count = sym (map_self (range_with_len low (count + 1)) ∙ map-range_with_len_more (λ slot. slot) low count (low + count) refl
-    ∙ ap (λ slots. slots ++ (low + count) ∷ []) (sym (map_self (range_with_len low count))))
-  where
-    map_self : (xs : List ℕ) → xs ≡ map (λ x. x) xs
-    map_self [] = refl
-    map_self (x ∷ xs) = ap (λ rest. x ∷ rest) (map_self xs)
+-- one number below a range comes last where the range is turned round
+pub one_below : (high item low count : ℕ) → item ≡ low → high ≡ low + 1 → reverse (range_with_len high count) ++ item ∷ [] ≡ reverse (range_with_len low (count + 1))
+one_below high item low count here next =
+    ap (λ n. reverse (range_with_len high count) ++ n ∷ []) here
+    ∙ ap (λ n. reverse (range_with_len n count) ++ low ∷ []) next
+    ∙ sym (reverse-append (low ∷ []) (range_with_len (low + 1) count))
+    ∙ ap (λ n. reverse (range_with_len low n)) (sym (add-one count))
 
 -- a result is Ok where it cannot be an error
 pub on_ok : {T E : Type 0} (r : Result T E) (P Q : Type 0) → OnOk r P → OnErr r Q → (Q → ⊥) → P
 on_ok (Ok x) P Q holds fails never = holds
 on_ok (Err e) P Q holds fails never = absurd (never fails)
 
-pub kept_new : (count : ℕ) (free : List ℕ) (left : List Leaving) (slots : ℕ) → free ≡ range_with_len 0 slots → slots ≡ count → left ≡ [] → Once free left count
-kept_new count free left slots is same none slot = rw is (rw same (rw none (once_new count slot)))
+pub kept_new : (count : ℕ) (free : List ℕ) (left : List Leaving) (pushed : ℕ) → free ≡ reverse (range_with_len (count - pushed) pushed)
+    → pushed ≡ count → left ≡ [] → Once free left count
+kept_new count free left pushed is same none slot =
+    let all : count - count ≡ 0 = omega arith in
+    rw is (rw same (rw all (rw none (once_new count slot))))
 
 -- the trees of the others rise
 pub rises_tail : (leaving : Leaving) (left : List Leaving) → IsNonDecreasingBy (λ leaving. leaving.tree) (leaving ∷ left) → IsNonDecreasingBy (λ leaving. leaving.tree) left

@@ -1,5 +1,5 @@
 //! The free slots of a table, and those that left.
-ghost use Rattle.std.specs.Prelude.{◌≡◌, ◌↔◌, ◌++◌, ◌∷◌, ◌≤◌, [], true, false, length, drop, slice_index_or, IfOk, IfSome, IfNone, IsNone, ◌<◌};
+ghost use Rattle.std.specs.Prelude.{◌≡◌, ◌↔◌, ◌++◌, ◌∷◌, ◌≤◌, [], true, false, reverse, length, drop, slice_index_or, IfOk, IfSome, IfNone, IsNone, ◌<◌};
 ghost use Rattle.std.specs.List.{range_with_len};
 ghost use Rattle.std.specs.List.Sorted.{IsPartitionPoint};
 ghost use Rattle.area_slots.specs.declared.leaving.Leaving.{Leaving};
@@ -33,13 +33,14 @@ impl Model for AreaSlots {
 }
 
 impl AreaSlots {
-    /// A set of so many slots, all of them free.
+    /// A set of so many slots, all of them free. The lowest is taken first, so a table is touched only at its beginning where few of its
+    /// slots are used.
     pub fn new(alloc: Global, slots: u32) -> Result<AreaSlots, NoMemory>
-        ensures { IfOk result (λ set. set ≡ record { free = range_with_len 0 slots; left = []; count = slots }) }
+        ensures { IfOk result (λ set. set ≡ record { free = reverse (range_with_len 0 slots); left = []; count = slots }) }
     {
         let mut free = Vec::with_capacity(alloc, slots as usize)?;
-        for slot in 0..slots {
-            free.push_reserved(slot);
+        for pushed in 0..slots {
+            free.push_reserved(slots - 1 - pushed);
         }
         Ok(AreaSlots {
             free,

@@ -1,11 +1,16 @@
 //! One call of each kind and a refusal, with the rows that a reader finds.
 
-use super::bench::{Bench, SLOTS, config};
+use super::bench::{Bench, config};
 use mm_types::{
     Access, Attr, Call, Errno, MAP_ANONYMOUS, MAP_FIXED, MAP_PRIVATE, MmapArgs, Page, Prot, Reply,
     Verdict,
 };
 use std::test::Fail;
+
+/// The slot of the first area, and that of the next one.
+const FIRST: u32 = 0;
+
+const SECOND: u32 = 1;
 
 /// Read and write.
 const OPEN: Prot = Prot {
@@ -54,16 +59,15 @@ fn each_kind_of_call(rt: HostRuntime) -> Result<(), Fail> {
     let Some(mut bench) = Bench::open(alloc, config)? else {
         panic!(rt; "there is no reader")
     };
-    let last = SLOTS - 1;
-    assert_eq!(rt; bench.row(last), Some([0; 4]));
+    assert_eq!(rt; bench.row(FIRST), Some([0; 4]));
     assert_eq!(rt;
         bench.call(&rt, &mapping(0x2000, OPEN)),
         Some(Reply::Addr(0x2_0000))
     );
-    assert_eq!(rt; bench.row(last), Some([0x20_803b, 0x22, 0, 0]));
+    assert_eq!(rt; bench.row(FIRST), Some([0x20_803b, 0x22, 0, 0]));
     assert_eq!(rt; bench.call(&rt, &protecting()), Some(Reply::Zero));
-    assert_eq!(rt; bench.row(last), Some([0x20_803b, 0x21, 0, 0]));
-    assert_eq!(rt; bench.row(last - 1), Some([0x21_8039, 0x22, 0, 0]));
+    assert_eq!(rt; bench.row(FIRST), Some([0x20_803b, 0x21, 0, 0]));
+    assert_eq!(rt; bench.row(SECOND), Some([0x21_8039, 0x22, 0, 0]));
     let growing = Call::Mremap {
         old: 0x2_1000,
         old_len: 0x1000,
@@ -72,7 +76,7 @@ fn each_kind_of_call(rt: HostRuntime) -> Result<(), Fail> {
         new: 0,
     };
     assert_eq!(rt; bench.call(&rt, &growing), Some(Reply::Addr(0x2_1000)));
-    assert_eq!(rt; bench.row(last - 1), Some([0x21_8039, 0x23, 0, 0]));
+    assert_eq!(rt; bench.row(SECOND), Some([0x21_8039, 0x23, 0, 0]));
     assert_eq!(rt;
         bench.verdict(Page(0x22), Access::Write),
         Some(Verdict::AccErr)
@@ -82,7 +86,7 @@ fn each_kind_of_call(rt: HostRuntime) -> Result<(), Fail> {
         len: 0x1000,
     };
     assert_eq!(rt; bench.call(&rt, &unmapping), Some(Reply::Zero));
-    assert_eq!(rt; bench.row(last), Some([0; 4]));
+    assert_eq!(rt; bench.row(FIRST), Some([0; 4]));
     assert_eq!(rt;
         bench.verdict(Page(0x20), Access::Read),
         Some(Verdict::MapErr)
@@ -97,7 +101,7 @@ fn each_kind_of_call(rt: HostRuntime) -> Result<(), Fail> {
         bench.call(&rt, &mapping(0x1000, EVERY)),
         Some(Reply::Addr(0x2_0000))
     );
-    assert_eq!(rt; bench.row(last), Some([0x20_803f, 0x21, 0, 0]));
+    assert_eq!(rt; bench.row(FIRST), Some([0x20_803f, 0x21, 0, 0]));
     assert_eq!(rt; bench.meet(), 6);
     let (journal, list) = bench.finish();
     assert_eq!(rt; journal.len(), 6);

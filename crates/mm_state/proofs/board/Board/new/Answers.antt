@@ -1,5 +1,5 @@
 -- For `Board::new`: the board of a new table is at rest.
-use Rattle.std.proofs.Common.{ℕ, ◌≡◌, ◌+◌, ◌*◌, ◌%◌, ◌≤◌, List, [], All, length, subst, sym, ap, ◌∙◌, arith}
+use Rattle.std.proofs.Common.{ℕ, ◌≡◌, ◌+◌, ◌*◌, ◌%◌, ◌≤◌, List, [], All, reverse, length, subst, sym, ap, ◌∙◌, arith}
 use Rattle.mm_types.specs.Config.{slots_for}
 use Rattle.std.specs.List.{range_with_len}
 use Rattle.std.proofs.lemmas.List.Elements.{All-nil}
@@ -22,7 +22,7 @@ returns-clause-rest c =
     let config = table.1 ∙ ap (λ (v : View). v.config) opened in
     let areas : (config_of c.in_ok-table.table).areas ≡ c.args.config.now.areas = ap (λ config. config.areas) config in
     let tree = c.in_ok-new.ensures in
-    let set : ℕ → SlotSet = λ n. record { free = range_with_len 0 n; left = []; count = n } in
+    let set : ℕ → SlotSet = λ n. record { free = reverse (range_with_len 0 n); left = []; count = n } in
     let first = set (slots_for c.args.config.now.areas) in
     let made = c.in_ok-new-2.ensures ∙ ap set c.slots_for.ensures in
     let hangs = hangs_new (slots_for c.args.config.now.areas) in
