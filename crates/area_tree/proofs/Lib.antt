@@ -1,4 +1,5 @@
 pub mod Order
+pub mod Padding
 pub mod Storing
 pub mod Showing
 pub mod Finding
@@ -10,3 +11,6 @@ pub mod Unsealed
 pub mod Freeing
 pub mod Paging
 pub mod Reshaped
+pub mod Repeated
+pub mod Ceding
+pub mod Taking

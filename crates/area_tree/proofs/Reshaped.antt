@@ -1,5 +1,5 @@
 -- For `AreaTree::shrink` and `AreaTree::grow`: what contracts see of a tree of which an area gets other pages.
-use Rattle.std.proofs.Common.{ℕ, suc, ◌≡◌, ◌<◌, ◌≤◌, ◌+◌, ◌-◌, ◌*◌, ◌∙◌, true, List, ◌∷◌, length, get_or, set, take, drop, All, refl, sym, ap, subst, arith, inl, inr, get_or-set_same}
+use Rattle.std.proofs.Common.{ℕ, suc, ◌≡◌, ◌<◌, ◌≤◌, ◌+◌, ◌*◌, ◌∙◌, true, List, ◌∷◌, length, get_or, set, take, drop, All, refl, sym, ap, subst, arith, inl, inr, get_or-set_same}
 use Rattle.std.specs.Prelude.{Contains, IsPermutation, nat_eq}
 use Rattle.std.specs.List.{remove}
 use Rattle.std.proofs.lemmas.Bool.{cases_lt, eq-eqb, ne_eqb}
@@ -15,8 +15,7 @@ use Rattle.span_tree.specs.SpanTrees.{SpanView, ArePairs}
 use Rattle.area_tree.specs.declared.shown.ShownArea.{ShownArea}
 use Rattle.area_tree.specs.declared.tree.AreaTree.TheInside.{Inside}
 use Rattle.maple_gap.specs.Gaps.{span_of}
-use Rattle.area_tree.specs.AreaTrees.{AreaTreeView, area_in, no_area, shown_at, shown_of, areas_of, areas_shown, times_shown, AreRecords, IsEndOf, IsRoomFor}
-use Rattle.area_tree.specs.Internal.Ends.{beside}
+use Rattle.area_tree.specs.AreaTrees.{AreaTreeView, area_in, no_area, shown_at, shown_of, areas_of, areas_shown, times_shown, AreRecords, IsEndOf, IsRoomFor, beside}
 use Rattle.area_tree.specs.Kept.{view_of, IsAreaTree}
 use Rattle.area_tree.proofs.Order.{each_pair, contained}
 use Rattle.area_tree.proofs.Storing.{OneSide}
@@ -182,39 +181,39 @@ beside_within part whole limit (some, inr (more, ends)) upto =
 -- the same of a tree
 module _ (fields : Inside) (view : AreaTreeView) (old : Record) (shown : ShownArea) (kept : IsAreaTree fields) (is : view_of fields ≡ view) (order : InOrder fields)
     (member : Contains (shown_of view) (record { slot = shown.slot; area = old })) (once : times_shown shown.slot (shown_of view) ≤ 1) where
-  there : Contains (slots_of fields.records.items fields.tree.pairs) (record { slot = shown.slot; area = old })
+  there : Contains (slots_of fields.records fields.tree.pairs) (record { slot = shown.slot; area = old })
   there = subst (λ (v : AreaTreeView). Contains (shown_of v) (record { slot = shown.slot; area = old })) (sym is) member
 
-  one : times_shown shown.slot (slots_of fields.records.items fields.tree.pairs) ≤ 1
+  one : times_shown shown.slot (slots_of fields.records fields.tree.pairs) ≤ 1
   one = subst (λ (v : AreaTreeView). times_shown shown.slot (shown_of v) ≤ 1) (sym is) once
 
   pub slot_below : shown.slot < 2 * fields.tree.areas + 2
-  slot_below = slot_within fields.records.items (2 * fields.tree.areas + 2) fields.tree.limit 0 shown.slot old fields.tree.pairs order there
+  slot_below = slot_within fields.records (2 * fields.tree.areas + 2) fields.tree.limit 0 shown.slot old fields.tree.pairs order there
 
-  pub record_below : shown.slot < length fields.records.items
+  pub record_below : shown.slot < length fields.records
   record_below = omega (arith, slot_below, kept.slots)
 
-  pub shrunk_told : IsEndOf shown.area.span old.span → IsReshaped fields.records.items fields.tree.limit old shown fields.tree.pairs
+  pub shrunk_told : IsEndOf shown.area.span old.span → IsReshaped fields.records fields.tree.limit old shown fields.tree.pairs
       (overwritten (beside shown.area.span old.span).lo (beside shown.area.span old.span).hi 0 fields.tree.pairs)
-  shrunk_told part = shrunk fields.records.items (2 * fields.tree.areas + 2) fields.tree.limit old shown fields.tree.pairs order kept.spans there record_below one part
+  shrunk_told part = shrunk fields.records (2 * fields.tree.areas + 2) fields.tree.limit old shown fields.tree.pairs order kept.spans there record_below one part
 
   room_in : IsRoomFor view.tree.limit (areas_of view) old.span shown.area.span
-      → IsRoomFor fields.tree.limit (areas_shown (slots_of fields.records.items fields.tree.pairs)) old.span shown.area.span
+      → IsRoomFor fields.tree.limit (areas_shown (slots_of fields.records fields.tree.pairs)) old.span shown.area.span
   room_in room = subst (λ (v : AreaTreeView). IsRoomFor v.tree.limit (areas_of v) old.span shown.area.span) (sym is) room
 
   pub grown_told : IsRoomFor view.tree.limit (areas_of view) old.span shown.area.span
-      → IsReshaped fields.records.items fields.tree.limit old shown fields.tree.pairs (overwritten shown.area.span.lo shown.area.span.hi (shown.slot + 1) fields.tree.pairs)
-  grown_told room = extended fields.records.items (2 * fields.tree.areas + 2) fields.tree.limit old shown fields.tree.pairs order kept.spans there record_below one (room_in room)
+      → IsReshaped fields.records fields.tree.limit old shown fields.tree.pairs (overwritten shown.area.span.lo shown.area.span.hi (shown.slot + 1) fields.tree.pairs)
+  grown_told room = extended fields.records (2 * fields.tree.areas + 2) fields.tree.limit old shown fields.tree.pairs order kept.spans there record_below one (room_in room)
 
   pub upto_told : IsRoomFor view.tree.limit (areas_of view) old.span shown.area.span → shown.area.span.hi ≤ fields.tree.limit
-  upto_told room = grown_upto fields.records.items (2 * fields.tree.areas + 2) fields.tree.limit old shown fields.tree.pairs order kept.spans there record_below one (room_in room)
+  upto_told room = grown_upto fields.records (2 * fields.tree.areas + 2) fields.tree.limit old shown fields.tree.pairs order kept.spans there record_below one (room_in room)
 
   -- what a store makes of the areas
-  pub told_shown : (tree : SpanView) (others : List Pair) → tree.pairs ≡ others → IsReshaped fields.records.items fields.tree.limit old shown fields.tree.pairs others
+  pub told_shown : (tree : SpanView) (others : List Pair) → tree.pairs ≡ others → IsReshaped fields.records fields.tree.limit old shown fields.tree.pairs others
       → (rest : List ShownArea) × IsPermutation (record { slot = shown.slot; area = old } ∷ rest) (shown_of view)
-      × IsPermutation (shown ∷ rest) (shown_of (record { tree = tree; records = set fields.records.items shown.slot shown.area; bounds = fields.bounds }))
+      × IsPermutation (shown ∷ rest) (shown_of (record { tree = tree; records = set fields.records shown.slot shown.area; bounds = fields.bounds }))
   told_shown tree others stored told = (
     told.rest,
     subst (λ (v : AreaTreeView). IsPermutation (record { slot = shown.slot; area = old } ∷ told.rest) (shown_of v)) is told.before,
-    subst (λ (ps : List Pair). IsPermutation (shown ∷ told.rest) (slots_of (set fields.records.items shown.slot shown.area) ps)) (sym stored) told.after,
+    subst (λ (ps : List Pair). IsPermutation (shown ∷ told.rest) (slots_of (set fields.records shown.slot shown.area) ps)) (sym stored) told.after,
   )

@@ -109,7 +109,7 @@ changes_here records slot area pair pairs within once here =
     )
 
 -- the front of a list is passed over
-later_perm : {X : Type 0} (a b : X) (xs ys : List X) → IsPermutation (a ∷ xs) ys → IsPermutation (a ∷ (b ∷ xs)) (b ∷ ys)
+pub later_perm : {X : Type 0} (a b : X) (xs ys : List X) → IsPermutation (a ∷ xs) ys → IsPermutation (a ∷ (b ∷ xs)) (b ∷ ys)
 later_perm a b xs ys same =
     IsPermutation-trans (a ∷ (b ∷ xs)) (b ∷ (a ∷ xs)) (b ∷ ys) (IsPermutation-middle (a ∷ []) b xs) (IsPermutation-cons b (a ∷ xs) ys same)
 
@@ -248,12 +248,13 @@ pub record IsOneMore (records : List Record) (shown : ShownArea) (pairs more : L
   pub count_is : length more ≡ length pairs + 1
   pub spans : AreRecords (set records shown.slot shown.area) more
 
-pub put : (records : List Record) (slots limit : ℕ) (shown : ShownArea) (pairs : List Pair) → ArePairs slots limit 0 pairs → AreRecords records pairs
+-- for pages beside each pair
+pub put_aside : (records : List Record) (slots limit : ℕ) (shown : ShownArea) (pairs : List Pair) → ArePairs slots limit 0 pairs → AreRecords records pairs
     → shown.slot < length records → shown.area.span.lo < shown.area.span.hi
-    → is_free (areas_shown (slots_of records pairs)) (shown.area.span.hi - shown.area.span.lo) shown.area.span.lo ≡ true
+    → All (OneSide shown.area.span.lo shown.area.span.hi) pairs
     → times_shown shown.slot (slots_of records pairs) ≡ 0
     → IsOneMore records shown pairs (overwritten shown.area.span.lo shown.area.span.hi (shown.slot + 1) pairs)
-put records slots limit shown pairs are spans within pages free none = subst (IsOneMore records shown pairs) (sym place.2) (record {
+put_aside records slots limit shown pairs are spans within pages sides none = subst (IsOneMore records shown pairs) (sym place.2) (record {
   shown_is = subst (λ (ss : List ShownArea). IsPermutation ss (slots_of after (insert pairs place.0 pair))) listed
       (IsPermutation-map (shown_at after) (pair ∷ pairs) (insert pairs place.0 pair) moved);
   count_is = length-insert pairs place.0 pair place.1;
@@ -269,8 +270,7 @@ put records slots limit shown pairs are spans within pages free none = subst (Is
     pair = record { lo = shown.area.span.lo; hi = shown.area.span.hi; slot = shown.slot }
 
     place : (k : ℕ) × (k ≤ length pairs) × (overwritten shown.area.span.lo shown.area.span.hi (shown.slot + 1) pairs ≡ insert pairs k pair)
-    place = put_in slots limit 0 shown.area.span.lo shown.area.span.hi shown.slot pairs are
-        (free_sides records shown.area.span.lo shown.area.span.hi pairs pages spans free) pages
+    place = put_in slots limit 0 shown.area.span.lo shown.area.span.hi shown.slot pairs are sides pages
 
     new : area_in after shown.slot ≡ shown.area
     new = get_or-set_same records shown.slot shown.area no_area within
@@ -281,3 +281,12 @@ put records slots limit shown pairs are spans within pages free none = subst (Is
     listed : slots_of after (pair ∷ pairs) ≡ shown ∷ slots_of records pairs
     listed = ap (λ (a : Record). record { slot = shown.slot; area = a } ∷ slots_of after pairs) new
         ∙ ap (λ (ss : List ShownArea). shown ∷ ss) (unshown records shown.slot shown.area pairs none)
+
+-- and for pages that no area has
+pub put : (records : List Record) (slots limit : ℕ) (shown : ShownArea) (pairs : List Pair) → ArePairs slots limit 0 pairs → AreRecords records pairs
+    → shown.slot < length records → shown.area.span.lo < shown.area.span.hi
+    → is_free (areas_shown (slots_of records pairs)) (shown.area.span.hi - shown.area.span.lo) shown.area.span.lo ≡ true
+    → times_shown shown.slot (slots_of records pairs) ≡ 0
+    → IsOneMore records shown pairs (overwritten shown.area.span.lo shown.area.span.hi (shown.slot + 1) pairs)
+put records slots limit shown pairs are spans within pages free none =
+    put_aside records slots limit shown pairs are spans within pages (free_sides records shown.area.span.lo shown.area.span.hi pairs pages spans free) none

@@ -1,5 +1,5 @@
 -- What contracts see of a tree of areas.
-use Rattle.std.specs.Prelude.{ℕ, ◌≡◌, ◌≤◌, ◌<◌, ◌-◌, ◌⊎◌, true, false, List, [], ◌∷◌, All, map, sum_by, slice_index_or}
+use Rattle.std.specs.Prelude.{ℕ, ◌≡◌, ◌≤◌, ◌<◌, ◌-◌, ◌⊎◌, nat_eq, if◌then◌else◌, true, false, List, [], ◌∷◌, All, map, sum_by, slice_index_or}
 use Rattle.mm_types.specs.declared.area.Span.{Span}
 use Rattle.mm_types.specs.declared.area.Prot.{Prot}
 use Rattle.mm_types.specs.declared.area.Record.{Record}
@@ -66,6 +66,15 @@ AreRecords records pairs = All (λ pair. (area_in records pair.slot).span ≡ sp
 -- a part of a span, with a page, that has one of its ends and fewer pages
 abbrev pub IsEndOf : Span → Span → Type 0
 IsEndOf part whole = (part.lo < part.hi) × (((part.lo ≡ whole.lo) × (part.hi < whole.hi)) ⊎ ((whole.lo < part.lo) × (part.hi ≡ whole.hi)))
+
+-- what a span has beside a part of it that has one of its ends
+abbrev pub beside : Span → Span → Span
+beside part whole = if nat_eq part.lo whole.lo then (record { lo = part.hi; hi = whole.hi }) else (record { lo = whole.lo; hi = part.lo })
+
+-- areas have the pages from one on up to another, each from the end of the one before
+abbrev pub Adjoin : ℕ → ℕ → List Record → Type 0
+Adjoin lo hi [] = lo ≡ hi
+Adjoin lo hi (area ∷ areas) = (area.span.lo ≡ lo) × (area.span.lo < area.span.hi) × Adjoin area.span.hi hi areas
 
 -- a span has the pages of another, and those that it adds are below the limit, and no area has them
 pub record IsRoomFor (limit : ℕ) (areas : List Record) (old new : Span) : Type 0 where

@@ -8,15 +8,16 @@ use Rattle.area_tree.specs.AreaTrees.{AreaTreeView, AreRecords}
 
 -- the tree of areas that the fields are
 abbrev pub view_of : Inside → AreaTreeView
-view_of fields = record { tree = fields.tree; records = fields.records.items; bounds = fields.bounds }
+view_of fields = record { tree = fields.tree; records = fields.records; bounds = fields.bounds }
 
 -- Each slot of the tree shows an area with the pages of its pair. The count is theirs, there is a record for each slot, and none is
 -- sealed before one was; areas are placed up to the tree's limit, and there is room to hand them out.
 pub record IsAreaTree (fields : Inside) : Type 0 where
-  pub spans : AreRecords fields.records.items fields.tree.pairs
+  pub spans : AreRecords fields.records fields.tree.pairs
   pub counted : fields.count ≡ length fields.tree.pairs
-  pub slots : length fields.records.items ≡ slots_for fields.tree.areas
-  pub unsealed : fields.sealed ≡ false → All (λ area. area.attr.sealed ≡ false) fields.records.items
+  pub most_is : fields.most ≡ fields.tree.areas
+  pub slots : length fields.records ≡ slots_for fields.tree.areas
+  pub unsealed : fields.sealed ≡ false → All (λ area. area.attr.sealed ≡ false) fields.records
   pub limit : fields.bounds.limit ≡ fields.tree.limit
   pub top : fields.bounds.top ≤ fields.bounds.limit
   pub window : WINDOW_END ≤ fields.bounds.limit

@@ -1,3 +1,4 @@
 pub mod AreaTrees
+pub mod Records
 pub mod Kept
 pub mod Internal

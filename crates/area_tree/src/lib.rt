@@ -5,10 +5,12 @@
 
 mod listing;
 mod placing;
+mod records;
 mod resizing;
 mod shown;
 mod tree;
 
+pub use resizing::beside;
 pub use shown::ShownArea;
 pub use tree::AreaTree;
 

@@ -4,13 +4,14 @@ ghost use Rattle.std.specs.Vec.{vec_capacity};
 ghost use Rattle.area_tree.specs.AreaTrees.{AreRecords, areas_shown, shown_at, areas_of};
 
 use crate::placing::shown_by;
+use crate::records::Records;
 use crate::tree::AreaTree;
 use mm_types::{AreaList, NoMemory, Page, Record};
 use span_tree::SpanTree;
 use std::alloc::Global;
 
 /// Appends what the slots of a tree show, in order, within the room.
-fn append(tree: &SpanTree, records: &[Record], list: &mut Vec<Record>)
+fn append(tree: &SpanTree, records: &Records, list: &mut Vec<Record>)
     requires spans { AreRecords records.now tree.now.pairs }
     requires empty { list.old.items ≡ [] }
     requires room { length tree.now.pairs ≤ vec_capacity list.old }
@@ -30,7 +31,7 @@ impl AreaTree {
         ensures { IfOk result (λ list. list ≡ areas_of self.now) }
     {
         let mut list = Vec::with_capacity(alloc, self.count as usize)?;
-        append(&self.tree, self.records.as_slice(), &mut list);
+        append(&self.tree, &self.records, &mut list);
         Ok(AreaList::of(list))
     }
 
@@ -42,11 +43,12 @@ impl AreaTree {
             tree,
             records,
             bounds: _,
+            most: _,
             count: _,
             sealed: _,
             mut list,
         } = self;
-        append(&tree, records.as_slice(), &mut list);
+        append(&tree, &records, &mut list);
         AreaList::of(list)
     }
 }

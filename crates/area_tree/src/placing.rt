@@ -3,17 +3,17 @@ ghost use Rattle.std.specs.Prelude.{◌≡◌, Option};
 ghost use Rattle.std.specs.Option.{option_map};
 ghost use Rattle.area_tree.specs.AreaTrees.{area_in};
 
-use crate::shown::area_in;
+use crate::records::Records;
 use crate::tree::AreaTree;
 use area_rules::{FLOOR, WINDOW_END};
 use mm_types::{Page, Record, Slot};
 use split_merge::Areas;
 
 /// What a slot shows, if there is one.
-pub(crate) fn shown_by(records: &[Record], slot: Option<Slot>) -> Option<Record>
+pub(crate) fn shown_by(records: &Records, slot: Option<Slot>) -> Option<Record>
     ensures { result ≡ option_map (λ slot. area_in records.now slot.0) slot }
 {
-    slot.map(|slot| area_in(records, slot.0))
+    slot.map(|slot| records.area_in(slot.0))
 }
 
 impl Areas for AreaTree {
@@ -30,11 +30,11 @@ impl Areas for AreaTree {
     }
 
     fn from(&self, page: Page) -> Option<Record> {
-        shown_by(self.records.as_slice(), self.tree.next_slot(page))
+        shown_by(&self.records, self.tree.next_slot(page))
     }
 
     fn before(&self, page: Page) -> Option<Record> {
-        shown_by(self.records.as_slice(), self.tree.before_slot(page))
+        shown_by(&self.records, self.tree.before_slot(page))
     }
 
     fn place(&self, len: u64) -> Option<Page> {

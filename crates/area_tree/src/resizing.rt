@@ -1,9 +1,9 @@
 //! Areas that get fewer pages, or more, in one store.
-ghost use Rattle.std.specs.Prelude.{◌≡◌, ◌≤◌, ◌-◌, ◌∷◌, ◌&&◌, nat_le, true, List, slice_set, Contains, IsPermutation};
+ghost use Rattle.std.specs.Prelude.{◌≡◌, ◌≤◌, ◌<◌, ◌-◌, ◌∷◌, ◌++◌, ◌&&◌, nat_le, nat_lt, true, List, length, slice_set, All, Contains, IsPermutation};
+ghost use Rattle.mm_types.specs.Config.{slots_for};
 ghost use Rattle.area_rules.specs.Placement.{is_free};
 ghost use Rattle.area_tree.specs.declared.shown.ShownArea.{ShownArea};
-ghost use Rattle.area_tree.specs.AreaTrees.{shown_of, areas_of, times_shown, IsEndOf, IsRoomFor};
-ghost use Rattle.area_tree.specs.Internal.Ends.{beside};
+ghost use Rattle.area_tree.specs.AreaTrees.{shown_of, areas_of, areas_shown, times_shown, beside, Adjoin, IsEndOf, IsRoomFor};
 
 use crate::shown::ShownArea;
 use crate::tree::AreaTree;
@@ -11,7 +11,7 @@ use mm_types::{Page, Record, Slot, Span};
 use split_merge::Areas;
 
 /// What a span has beside a part of it, which begins or ends where the span does.
-fn beside(part: Span, whole: Span) -> Span
+pub fn beside(part: Span, whole: Span) -> Span
     ensures { result ≡ beside part whole }
 {
     if part.lo == whole.lo {
@@ -57,9 +57,56 @@ impl AreaTree {
         } }
     {
         self.tree.facts();
-        self.records[shown.slot as usize] = shown.area;
+        self.records.show(shown.slot, shown.area);
         self.sealed |= shown.area.attr.sealed;
         self.tree.store(beside(shown.area.span, old.span), None);
+    }
+
+    /// The same, where a slot that shows no area of the tree shows one at the pages that are lost: that one alone is stored.
+    pub fn cede(&mut self, old: &Record, shown: ShownArea, other: ShownArea)
+        requires roomy { self.old.tree.roomy ≡ true }
+        requires member { Contains (shown_of self.old) (record { slot = shown.slot; area = old.now }) }
+        requires part { IsEndOf shown.area.span old.now.span }
+        requires lost { other.area.span ≡ beside shown.area.span old.now.span }
+        requires once { times_shown shown.slot (shown_of self.old) ≤ 1 }
+        requires slot { other.slot < slots_for self.old.tree.areas }
+        requires free { times_shown other.slot (shown_of self.old) ≡ 0 }
+        requires few { length (areas_of self.old) < self.old.tree.areas }
+        ensures shown { (rest : List ShownArea) × IsPermutation (record { slot = shown.slot; area = old.now } ∷ rest) (shown_of self.old)
+            × IsPermutation (shown ∷ other ∷ rest) (shown_of self.new) }
+        ensures same { self.new ≡ record self.old {
+          tree = record self.old.tree { pairs = self.new.tree.pairs; changed = true };
+          records = slice_set (slice_set self.old.records shown.slot shown.area) other.slot other.area;
+        } }
+    {
+        self.tree.facts();
+        self.records.show(shown.slot, shown.area);
+        self.records.show(other.slot, other.area);
+        self.sealed |= shown.area.attr.sealed;
+        self.sealed |= other.area.attr.sealed;
+        self.tree.store(other.area.span, Some(Slot(other.slot)));
+        self.count += 1;
+    }
+
+    /// Takes areas out of the tree that adjoin each other, so many, which have the pages of a span: one span is stored for all.
+    pub fn remove_all(&mut self, span: Span, count: u64)
+        requires roomy { self.old.tree.roomy ≡ true }
+        requires areas { (taken : List ShownArea) × All (Contains (shown_of self.old)) taken × Adjoin span.lo span.hi (areas_shown taken)
+            × (length taken ≡ count) × (0 < count) }
+        ensures shown { (taken : List ShownArea) → All (Contains (shown_of self.old)) taken → Adjoin span.lo span.hi (areas_shown taken)
+            → IsPermutation (taken ++ shown_of self.new) (shown_of self.old) }
+        ensures same { self.new ≡ record self.old { tree = record self.old.tree { pairs = self.new.tree.pairs; changed = true } } }
+    {
+        self.tree.facts();
+        self.tree.store(span, None);
+        self.count -= count;
+    }
+
+    /// Whether the tree may have one area more.
+    pub fn has_place(&self) -> bool
+        ensures { result ≡ nat_lt (length (areas_of self.now)) self.now.tree.areas }
+    {
+        self.count < u64::from(self.most)
     }
 
     /// A slot of the tree shows an area with the pages of the one before and free ones beside them.
@@ -76,7 +123,7 @@ impl AreaTree {
         } }
     {
         self.tree.facts();
-        self.records[shown.slot as usize] = shown.area;
+        self.records.show(shown.slot, shown.area);
         self.sealed |= shown.area.attr.sealed;
         self.tree.store(shown.area.span, Some(Slot(shown.slot)));
     }

@@ -1,6 +1,4 @@
 //! What slots show.
-ghost use Rattle.std.specs.Prelude.{◌≡◌};
-ghost use Rattle.area_tree.specs.AreaTrees.{area_in};
 
 use mm_types::{Attr, Prot, Record, Span};
 
@@ -31,14 +29,4 @@ pub(crate) const NO_AREA: Record = Record {
 pub struct ShownArea {
     pub slot: u32,
     pub area: Record,
-}
-
-/// What a slot shows.
-pub(crate) fn area_in(records: &[Record], slot: u32) -> Record
-    ensures { result ≡ area_in records.now slot }
-{
-    match records.get(slot as usize) {
-        Some(area) => *area,
-        None => NO_AREA,
-    }
 }

@@ -10,7 +10,8 @@ ghost use Rattle.area_tree.specs.declared.shown.ShownArea.{ShownArea};
 ghost use Rattle.maple_gap.specs.Gaps.{span_of};
 ghost use Rattle.area_tree.specs.AreaTrees.{no_area, shown_of, areas_of, times_shown, AreasRise};
 
-use crate::shown::{NO_AREA, ShownArea};
+use crate::records::Records;
+use crate::shown::ShownArea;
 use area_list::page_of;
 use area_rules::{Bounds, bounds_of};
 use mm_types::{Config, NoMemory, Page, Record, Slot, slots_for};
@@ -26,8 +27,10 @@ use std::sync::Wait;
 pub struct AreaTree {
     pub(crate) tree: SpanTree,
     /// What each slot shows, or showed last.
-    pub(crate) records: Vec<Record>,
+    pub(crate) records: Records,
     pub(crate) bounds: Bounds,
+    /// The most areas that it may have.
+    pub(crate) most: u32,
     /// How many areas there are.
     pub(crate) count: u64,
     /// Whether a slot showed a sealed area.
@@ -73,11 +76,11 @@ impl AreaTree {
         }) }
     {
         let tree = SpanTree::new(config.areas, Page(page_of(config.limit)), nodes)?;
-        let slots = slots_for(config.areas) as usize;
         Ok(AreaTree {
             tree,
-            records: vec![in alloc; NO_AREA; slots]?,
+            records: Records::new(alloc, slots_for(config.areas))?,
             bounds: bounds_of(config),
+            most: config.areas,
             count: 0,
             sealed: false,
             list: Vec::with_capacity(alloc, config.areas as usize)?,
@@ -119,7 +122,7 @@ impl AreaTree {
         ensures same { self.new ≡ record self.old { records = slice_set self.old.records shown.slot shown.area } }
     {
         self.tree.facts();
-        self.records[shown.slot as usize] = shown.area;
+        self.records.show(shown.slot, shown.area);
         self.sealed |= shown.area.attr.sealed;
     }
 
@@ -138,7 +141,7 @@ impl AreaTree {
         } }
     {
         self.tree.facts();
-        self.records[shown.slot as usize] = shown.area;
+        self.records.show(shown.slot, shown.area);
         self.sealed |= shown.area.attr.sealed;
         self.tree.store(shown.area.span, Some(Slot(shown.slot)));
         self.count += 1;

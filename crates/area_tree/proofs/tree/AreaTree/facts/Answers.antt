@@ -10,10 +10,10 @@ pub returns-clause-rise : goal.returns-clause-rise
 returns-clause-rise c =
     let fields = c.self.inside in
     subst (λ (v : AreaTreeView). AreasRise v.tree.limit 0 (areas_of v)) c.self.view_is
-    (areas_rise fields.records.items (2 * fields.tree.areas + 2) fields.tree.limit 0 fields.tree.pairs c.facts.ensures.pairs c.self.invariant.spans)
+    (areas_rise fields.records (2 * fields.tree.areas + 2) fields.tree.limit 0 fields.tree.pairs c.facts.ensures.pairs c.self.invariant.spans)
 
 pub returns-clause-spans : goal.returns-clause-spans
 returns-clause-spans c =
     let fields = c.self.inside in
     subst (λ (v : AreaTreeView). map span_of v.tree.pairs ≡ map (λ (area : Record). area.span) (areas_of v)) c.self.view_is
-    (areas_spans fields.records.items fields.tree.pairs c.self.invariant.spans)
+    (areas_spans fields.records fields.tree.pairs c.self.invariant.spans)

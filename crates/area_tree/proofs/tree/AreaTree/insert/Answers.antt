@@ -1,6 +1,7 @@
 -- For `AreaTree::insert`: one more pair is stored.
-use Rattle.std.proofs.Common.{◌∙◌, length, set, sym, ap, subst, arith}
+use Rattle.std.proofs.Common.{◌∙◌, List, length, set, sym, ap, subst, arith}
 use Rattle.std.proofs.lemmas.List.{length-set}
+use Rattle.mm_types.specs.declared.area.Record.{Record}
 use Rattle.span_tree.specs.SpanTrees.{SpanView}
 use Rattle.area_tree.specs.AreaTrees.{AreaTreeView, AreRecords}
 use Rattle.area_tree.proofs.Unsealed.{set_open}
@@ -19,11 +20,12 @@ invariant_of-self c =
     let told = more fields c.args.self.now c.args.shown kept c.self.view_is c.facts.ensures.pairs c.requires.span.0 c.requires.pages c.requires.slot c.requires.free in
     let areas = ap (λ (t : SpanView). t.areas) c.store.ensures in
     record {
-      spans = subst (λ (t : SpanView). AreRecords (set fields.records.items c.args.shown.slot c.args.shown.area) t.pairs) (sym c.store.ensures) told.spans;
+      spans = rw c.show.ensures (subst (λ (t : SpanView). AreRecords (set fields.records c.args.shown.slot c.args.shown.area) t.pairs) (sym c.store.ensures) told.spans);
       counted = omega (arith, told.count_is, kept.counted, ap (λ (t : SpanView). length t.pairs) c.store.ensures);
-      slots = omega (arith, length-set fields.records.items c.args.shown.slot c.args.shown.area, kept.slots, areas);
+      most_is = kept.most_is ∙ sym areas;
+      slots = omega (arith, ap (λ (rs : List Record). length rs) c.show.ensures, length-set fields.records c.args.shown.slot c.args.shown.area, kept.slots, areas);
       limit = kept.limit ∙ sym (ap (λ (t : SpanView). t.limit) c.store.ensures);
-      unsealed = λ none. set_open fields.records.items c.args.shown.slot c.args.shown.area fields.sealed kept.unsealed none;
+      unsealed = λ none. rw c.show.ensures (set_open fields.records c.args.shown.slot c.args.shown.area fields.sealed kept.unsealed none);
       top = kept.top;
       window = kept.window;
       empty = kept.empty;
@@ -33,4 +35,4 @@ invariant_of-self c =
 pub returns-clause-shown : goal.returns-clause-shown
 returns-clause-shown c =
     let told = more c.self.inside c.args.self.now c.args.shown c.self.invariant c.self.view_is c.facts.ensures.pairs c.requires.span.0 c.requires.pages c.requires.slot c.requires.free in
-    more_shown c.self.inside c.args.self.now c.store.new.self c.args.shown c.self.view_is (ap (λ (t : SpanView). t.pairs) c.store.ensures) told
+    rw c.show.ensures (more_shown c.self.inside c.args.self.now c.store.new.self c.args.shown c.self.view_is (ap (λ (t : SpanView). t.pairs) c.store.ensures) told)

@@ -1,8 +1,7 @@
 -- For `AreaTree::new`: no area is there, and no record is sealed.
-use Rattle.std.proofs.Common.{◌≡◌, ◌∙◌, false, List, length, All, replicate, refl, sym, ap, subst, arith, rules}
+use Rattle.std.proofs.Common.{◌≡◌, ◌∙◌, List, length, All, refl, sym, ap, subst, arith}
 use Rattle.std.proofs.lemmas.List.{length-replicate}
 use Rattle.std.proofs.lemmas.List.Elements.{All-nil, All-replicate}
-use Rattle.mm_types.specs.Config.{slots_for}
 use Rattle.mm_types.specs.declared.area.Record.{Record}
 use Rattle.area_rules.specs.declared.placement.Bounds.{Bounds}
 use Rattle.area_rules.proofs.Limits.{limit_between}
@@ -16,17 +15,17 @@ use Rattle.area_tree.proofs.tree.AreaTree.new.Goals as goal
 pub invariant_of-result : goal.invariant_of-result
 invariant_of-result c =
     let tree = c.in_ok-tree.ensures in
-    let same : c.in_ok-vec.field-0.items ≡ replicate c.slots_for-slots.result no_area = search rules in
-    let records = same in
+    let records = c.in_ok-new.ensures in
     let bounds = c.bounds_of.ensures in
     let between = limit_between c.args.config.now c.requires.config in
     record {
-      spans = subst (λ (t : SpanView). AreRecords c.in_ok-vec.field-0.items t.pairs) (sym tree)
-          (All-nil (λ (pair : Pair). (area_in c.in_ok-vec.field-0.items pair.slot).span ≡ span_of pair));
+      spans = subst (λ (t : SpanView). AreRecords c.in_ok-new.field-0 t.pairs) (sym tree)
+          (All-nil (λ (pair : Pair). (area_in c.in_ok-new.field-0 pair.slot).span ≡ span_of pair));
       counted = sym (ap (λ (t : SpanView). length t.pairs) tree);
-      slots = omega (arith, ap length records, length-replicate c.slots_for-slots.result no_area, c.slots_for-slots.ensures, ap (λ (t : SpanView). t.areas) tree);
+      most_is = sym (ap (λ (t : SpanView). t.areas) tree);
+      slots = omega (arith, ap length records, length-replicate c.slots_for.result no_area, c.slots_for.ensures, ap (λ (t : SpanView). t.areas) tree);
       limit = ap (λ (b : Bounds). b.limit) bounds ∙ sym c.page_of.ensures ∙ sym (ap (λ (t : SpanView). t.limit) tree);
-      unsealed = λ none. subst (λ (l : List Record). All IsOpen l) (sym records) (All-replicate IsOpen c.slots_for-slots.result no_area refl);
+      unsealed = λ none. subst (λ (l : List Record). All IsOpen l) (sym records) (All-replicate IsOpen c.slots_for.result no_area refl);
       top = omega (arith, ap (λ (b : Bounds). b.top) bounds, ap (λ (b : Bounds). b.limit) bounds, c.requires.config.top.within, between.low);
       window = omega (arith, ap (λ (b : Bounds). b.limit) bounds, between.low);
       empty = c.in_ok-with_capacity.ensures.items;

@@ -22,8 +22,9 @@ invariant_of-self c =
     let told = (less_area fields c.args.self.now c.args.area.now kept c.self.view_is c.facts.ensures.pairs c.requires.member).1 in
     let areas = ap (λ (t : SpanView). t.areas) c.store.ensures in
     record {
-      spans = subst (λ (t : SpanView). AreRecords fields.records.items t.pairs) (sym c.store.ensures) told.spans;
+      spans = subst (λ (t : SpanView). AreRecords fields.records t.pairs) (sym c.store.ensures) told.spans;
       counted = omega (arith, told.count_is, kept.counted, ap (λ (t : SpanView). length t.pairs) c.store.ensures);
+      most_is = kept.most_is ∙ sym areas;
       slots = omega (arith, kept.slots, areas);
       limit = kept.limit ∙ sym (ap (λ (t : SpanView). t.limit) c.store.ensures);
       unsealed = kept.unsealed;

@@ -1,7 +1,8 @@
 -- For `AreaTree::shrink`: a gap for the pages that an area loses.
-use Rattle.std.proofs.Common.{◌∙◌, length, set, sym, ap, subst, arith, rules}
+use Rattle.std.proofs.Common.{◌∙◌, List, length, set, sym, ap, subst, arith}
 use Rattle.std.proofs.lemmas.List.{length-set}
 use Rattle.mm_types.specs.declared.area.Span.{Span}
+use Rattle.mm_types.specs.declared.area.Record.{Record}
 use Rattle.maple_items.specs.Pairs.{overwritten}
 use Rattle.span_tree.specs.SpanTrees.{SpanView}
 use Rattle.area_tree.specs.AreaTrees.{AreRecords}
@@ -9,10 +10,10 @@ use Rattle.area_tree.proofs.Unsealed.{set_open}
 use Rattle.area_tree.proofs.Reshaped.{IsReshaped, record_below, shrunk_told, beside_within, told_shown}
 use Rattle.area_tree.proofs.tree.AreaTree.shrink.Goals as goal
 
-pub index_mut-requires : goal.index_mut-requires
-index_mut-requires c =
+pub show-requires : goal.show-requires
+show-requires c =
     let below = record_below c.self.inside c.args.self.now c.args.old.now c.args.shown c.self.invariant c.self.view_is c.facts.ensures.pairs c.requires.member c.requires.once in
-    search rules
+    omega (arith, below)
 
 pub store-requires-clause-span : goal.store-requires-clause-span
 store-requires-clause-span c =
@@ -30,16 +31,17 @@ pub invariant_of-self : goal.invariant_of-self
 invariant_of-self c =
     let fields = c.self.inside in
     let kept = c.self.invariant in
-    let told = subst (λ (s : Span). IsReshaped fields.records.items fields.tree.limit c.args.old.now c.args.shown fields.tree.pairs (overwritten s.lo s.hi 0 fields.tree.pairs))
+    let told = subst (λ (s : Span). IsReshaped fields.records fields.tree.limit c.args.old.now c.args.shown fields.tree.pairs (overwritten s.lo s.hi 0 fields.tree.pairs))
     (sym c.beside.ensures)
     (shrunk_told fields c.args.self.now c.args.old.now c.args.shown kept c.self.view_is c.facts.ensures.pairs c.requires.member c.requires.once c.requires.part) in
     let areas = ap (λ (t : SpanView). t.areas) c.store.ensures in
     record {
-      spans = subst (λ (t : SpanView). AreRecords (set fields.records.items c.args.shown.slot c.args.shown.area) t.pairs) (sym c.store.ensures) told.spans;
+      spans = rw c.show.ensures (subst (λ (t : SpanView). AreRecords (set fields.records c.args.shown.slot c.args.shown.area) t.pairs) (sym c.store.ensures) told.spans);
       counted = omega (arith, told.count_is, kept.counted, ap (λ (t : SpanView). length t.pairs) c.store.ensures);
-      slots = omega (arith, length-set fields.records.items c.args.shown.slot c.args.shown.area, kept.slots, areas);
+      most_is = kept.most_is ∙ sym areas;
+      slots = omega (arith, ap (λ (rs : List Record). length rs) c.show.ensures, length-set fields.records c.args.shown.slot c.args.shown.area, kept.slots, areas);
       limit = kept.limit ∙ sym (ap (λ (t : SpanView). t.limit) c.store.ensures);
-      unsealed = λ none. set_open fields.records.items c.args.shown.slot c.args.shown.area fields.sealed kept.unsealed none;
+      unsealed = λ none. rw c.show.ensures (set_open fields.records c.args.shown.slot c.args.shown.area fields.sealed kept.unsealed none);
       top = kept.top;
       window = kept.window;
       empty = kept.empty;
@@ -50,5 +52,5 @@ pub returns-clause-shown : goal.returns-clause-shown
 returns-clause-shown c =
     let told = shrunk_told c.self.inside c.args.self.now c.args.old.now c.args.shown c.self.invariant c.self.view_is c.facts.ensures.pairs c.requires.member c.requires.once
     c.requires.part in
-    told_shown c.self.inside c.args.self.now c.args.old.now c.args.shown c.self.invariant c.self.view_is c.facts.ensures.pairs c.requires.member c.requires.once
-    c.store.new.self _ (ap (λ (t : SpanView). t.pairs) c.store.ensures ∙ ap (λ (s : Span). overwritten s.lo s.hi 0 c.self.inside.tree.pairs) c.beside.ensures) told
+    rw c.show.ensures (told_shown c.self.inside c.args.self.now c.args.old.now c.args.shown c.self.invariant c.self.view_is c.facts.ensures.pairs c.requires.member c.requires.once
+    c.store.new.self _ (ap (λ (t : SpanView). t.pairs) c.store.ensures ∙ ap (λ (s : Span). overwritten s.lo s.hi 0 c.self.inside.tree.pairs) c.beside.ensures) told)

@@ -1,0 +1,19 @@
+-- What each slot shows, by slot.
+use Rattle.std.specs.Prelude.{ℕ, ◌≤◌, ◌-◌, ◌++◌, List, length, replicate}
+use Rattle.std.specs.Vec.{vec_capacity}
+use Rattle.mm_types.specs.declared.area.Record.{Record}
+use Rattle.area_tree.specs.declared.records.Records.TheInside.{Inside}
+use Rattle.area_tree.specs.AreaTrees.{no_area}
+
+-- the records that were written, and no area for each slot after them
+abbrev pub padded : ℕ → List Record → List Record
+padded slots written = written ++ replicate (slots - length written) no_area
+
+-- the records that the fields are
+abbrev pub records_of : Inside → List Record
+records_of fields = padded fields.slots fields.shown.items
+
+-- There is room for a record for each slot, and no more are written.
+pub record AreRoomy (fields : Inside) : Type 0 where
+  pub few : length fields.shown.items ≤ fields.slots
+  pub room : fields.slots ≤ vec_capacity fields.shown
