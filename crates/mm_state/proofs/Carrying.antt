@@ -82,7 +82,7 @@ pub left_there : (start board : Board) (changes : List Change) (place left : ℕ
 left_there start board changes place left d tree changing plan within next =
     there_in (areas_of start.areas) (without (olds_of (drop left changes)) (areas_of start.areas)) changes place left d changing.ascend plan.members plan.distinct within next refl
 
-shown_contained : (tree : List ShownArea) (area : Record) → IsShown tree area → Contains (areas_shown tree) area
+pub shown_contained : (tree : List ShownArea) (area : Record) → IsShown tree area → Contains (areas_shown tree) area
 shown_contained tree area (slot, member) = (
   member.0,
   omega (arith, member.1, length-map tree (λ (s : ShownArea). s.area)),

@@ -5,9 +5,9 @@ use Rattle.std.specs.List.Sorted.{IsPermutation}
 use Rattle.std.proofs.lemmas.Bool.{cases_eq, cases_lt}
 use Rattle.std.proofs.lemmas.Bool.Decides.{nat_tests}
 use Rattle.std.proofs.lemmas.List.{length-append, get_or-set_same, get_or-set_other}
-use Rattle.std.proofs.lemmas.List.Elements.{All-cons, All-head, All-weaker, All-filter, All-contains, All-map, filter_passes, Contains-append_right, Contains-get_or}
+use Rattle.std.proofs.lemmas.List.Elements.{All-nil, All-cons, All-head, All-tail, All-weaker, All-filter, All-contains, All-map, filter_passes, Contains-append_right, Contains-get_or}
 use Rattle.std.proofs.lemmas.List.Sums.{sum_by-append, sum_by_push, sum_by-cons, get_or-le-sum_by}
-use Rattle.std.proofs.lemmas.List.Sorted.{sum_by_pushed, All-permutation, Contains-permutation, IsPermutation-sym, IsPermutation-trans, IsPermutation-to_front, IsPermutation-append_left}
+use Rattle.std.proofs.lemmas.List.Sorted.{sum_by_pushed, All-permutation, Contains-permutation, IsPermutation-sym, IsPermutation-trans, IsPermutation-to_front, IsPermutation-middle, IsPermutation-append_left}
 use Rattle.mm_types.specs.declared.area.Span.{Span}
 use Rattle.mm_types.specs.declared.area.Record.{Record}
 use Rattle.mm_types.specs.Packed.{packed}
@@ -33,12 +33,13 @@ use Rattle.mm_state.proofs.Rows.{packed_attached, packed_apart, not_packed}
 use Rattle.mm_state.proofs.Hanging.{hangs_permuted, alone, IsAlone, self, left_more, detached, altered, added, free_is_none}
 use Rattle.mm_state.proofs.Writing.{hangs_out}
 use Rattle.mm_state.proofs.InOrder.{weigh_map, rise_ascend}
+use Rattle.mm_state.proofs.Storing.{moved_in}
 
 -- the free slots are as they were
 abbrev pub Unused : List SlotState → List SlotState → List ℕ → Type 0
 Unused old new free = (slot : ℕ) → 0 < times slot free → slot_at new slot ≡ slot_at old slot
 
-beside_beside : {a b c : View} → IsBeside a b → IsBeside b c → IsBeside a c
+pub beside_beside : {a b c : View} → IsBeside a b → IsBeside b c → IsBeside a c
 beside_beside first second = record {
   config = second.config ∙ first.config;
   seen = second.seen ∙ first.seen;
@@ -142,7 +143,7 @@ left_then P Q olds areas area step all = subst (All Q) (without_swap (area ∷ [
     kept = filter passes (without olds areas)
 
 -- what holds of all areas holds of those that are left
-all_without : (P : Record → Type 0) (olds areas : List Record) → All P areas → All P (without olds areas)
+pub all_without : (P : Record → Type 0) (olds areas : List Record) → All P areas → All P (without olds areas)
 all_without P [] areas all = all
 all_without P (old ∷ olds) areas all = all_without P olds (filter (λ area. not (starts_alike area old)) areas) (All-filter (λ area. not (starts_alike area old)) P areas all)
 
@@ -325,28 +326,28 @@ old_pages limit start (first ∷ areas) area (begins, some, upto, rest) member =
   | inr later ↦ old_pages limit first.span.hi areas area rest later
 ]
 
--- what another area with a page of the one before makes of the tree
-altered_out : (tree after rest : List ShownArea) (slot : ℕ) (area changed : Record) → IsPermutation (record { slot = slot; area = area } ∷ rest) tree
-    → IsPermutation (record { slot = slot; area = changed } ∷ rest) after → HasPageOf area changed → IsOut tree after rest slot area
-altered_out tree after rest slot area changed out in_place meets = record {
+-- an area that stands beside another has no page of it
+no_page : (area : Record) (s t : ShownArea) → HasPageOf area s.area → Beside area t.area → s ≡ t → ⊥
+no_page area s t meets (inl under) same = omega (arith, under, ap (λ (u : ShownArea). u.area.span.hi) same, meets.0)
+no_page area s t meets (inr over) same = omega (arith, over, ap (λ (u : ShownArea). u.area.span.lo) same, meets.1)
+
+-- what stands beside an area is none of those with a page of it
+among_rest : (area : Record) (news rest : List ShownArea) → All (λ s. HasPageOf area s.area) news → (s : ShownArea) → Beside area s.area
+    → Contains (news ++ rest) s → Contains rest s
+among_rest area [] rest meet s apart member = member
+among_rest area (now ∷ news) rest meet s apart member = elim (contains_cases now (news ++ rest) s member) [
+  | inl same ↦ absurd (no_page area now s (All-head (λ t. HasPageOf area t.area) now news meet) apart same)
+  | inr later ↦ among_rest area news rest (All-tail (λ t. HasPageOf area t.area) now news meet) s apart later
+]
+
+-- what other areas with a page of the one before make of the tree
+altered_out : (tree after rest news : List ShownArea) (slot : ℕ) (area : Record) → IsPermutation (record { slot = slot; area = area } ∷ rest) tree
+    → IsPermutation (news ++ rest) after → All (λ s. HasPageOf area s.area) news → IsOut tree after rest slot area
+altered_out tree after rest news slot area out in_place meet = record {
   out = out;
-  stays = λ s member. Contains-permutation (now ∷ rest) after s in_place (Contains-append_right (now ∷ []) rest s member);
-  came = λ s member beside. by s beside (contains_cases now rest s (Contains-permutation after (now ∷ rest) s (IsPermutation-sym (now ∷ rest) after in_place) member));
+  stays = λ s member. Contains-permutation (news ++ rest) after s in_place (Contains-append_right news rest s member);
+  came = λ s member apart. among_rest area news rest meet s apart (Contains-permutation after (news ++ rest) s (IsPermutation-sym (news ++ rest) after in_place) member);
 }
-  where
-    now : ShownArea
-    now = record { slot = slot; area = changed }
-
-    lo : (s : ShownArea) → now ≡ s → changed.span.lo ≡ s.area.span.lo
-    lo s same = ap (λ (t : ShownArea). t.area.span.lo) same
-
-    hi : (s : ShownArea) → now ≡ s → changed.span.hi ≡ s.area.span.hi
-    hi s same = ap (λ (t : ShownArea). t.area.span.hi) same
-
-    by : (s : ShownArea) → Beside area s.area → (now ≡ s) ⊎ Contains rest s → Contains rest s
-    by s (inl under) (inl same) = absurd (omega (arith, under, hi s same, meets.0))
-    by s (inr over) (inl same) = absurd (omega (arith, over, lo s same, meets.1))
-    by s beside (inr later) = later
 
 -- a list with another element at its end
 at_end : (rest after moved : List ShownArea) (now : ShownArea) → IsPermutation rest after → IsPermutation (now ∷ (rest ++ moved)) (after ++ (moved ++ now ∷ []))
@@ -369,22 +370,28 @@ is_moved board after slot area changed moves = by moves.after
     now = record { slot = slot; area = changed }
 
     by : (IsPermutation (now ∷ moves.rest) (shown_of after.areas) × (after.moved.items ≡ board.moved.items) × HasPageOf area changed)
-        ⊎ (IsPermutation moves.rest (shown_of after.areas) × (after.moved.items ≡ board.moved.items ++ now ∷ [])) → IsMoved board after moves.rest slot area changed
+        ⊎ (IsPermutation moves.rest (shown_of after.areas) × (after.moved.items ≡ board.moved.items ++ now ∷ []))
+        ⊎ ((other : ShownArea) × IsPermutation (now ∷ other ∷ moves.rest) (shown_of after.areas) × (board.moved.items ≡ after.moved.items ++ other ∷ [])
+        × HasPageOf area changed × HasPageOf area other.area) → IsMoved board after moves.rest slot area changed
     by (inl (in_place, moved, meets)) = record {
-      is = altered_out (shown_of board.areas) (shown_of after.areas) moves.rest slot area changed moves.before in_place meets;
+      is = altered_out (shown_of board.areas) (shown_of after.areas) moves.rest (now ∷ []) slot area moves.before in_place
+          (All-cons (λ s. HasPageOf area s.area) now [] meets (All-nil (λ s. HasPageOf area s.area)));
       all = subst (λ (list : List ShownArea). IsPermutation (now ∷ (moves.rest ++ board.moved.items)) (shown_of after.areas ++ list)) (sym moved)
           (IsPermutation-append_left board.moved.items (now ∷ moves.rest) (shown_of after.areas) in_place);
       few = omega (arith, ap length moved);
     }
-    by (inr (out, moved)) = record {
-      is = record {
-        out = moves.before;
-        stays = λ s member. Contains-permutation moves.rest (shown_of after.areas) s out member;
-        came = λ s member apart. Contains-permutation (shown_of after.areas) moves.rest s (IsPermutation-sym moves.rest (shown_of after.areas) out) member;
-      };
+    by (inr (inl (out, moved))) = record {
+      is = altered_out (shown_of board.areas) (shown_of after.areas) moves.rest [] slot area moves.before out (All-nil (λ s. HasPageOf area s.area));
       all = subst (λ (list : List ShownArea). IsPermutation (now ∷ (moves.rest ++ board.moved.items)) (shown_of after.areas ++ list)) (sym moved)
           (at_end moves.rest (shown_of after.areas) board.moved.items now out);
       few = omega (arith, ap length moved, length-append board.moved.items (now ∷ []));
+    }
+    by (inr (inr (other, in_place, moved, meets, touches))) = record {
+      is = altered_out (shown_of board.areas) (shown_of after.areas) moves.rest (now ∷ other ∷ []) slot area moves.before in_place
+          (All-cons (λ s. HasPageOf area s.area) now (other ∷ []) meets (All-cons (λ s. HasPageOf area s.area) other [] touches (All-nil (λ s. HasPageOf area s.area))));
+      all = moved_in (now ∷ moves.rest) board.moved.items (shown_of after.areas) after.moved.items other moved
+          (IsPermutation-trans (other ∷ now ∷ moves.rest) (now ∷ other ∷ moves.rest) (shown_of after.areas) (IsPermutation-middle (other ∷ []) now moves.rest) in_place);
+      few = omega (arith, ap length moved, length-append after.moved.items (other ∷ []));
     }
 
 pub alter_step : (start board after : Board) (done : List Change) (tree : ℕ) (area changed : Record) → IsChanging start board done tree

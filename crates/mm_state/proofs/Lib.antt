@@ -5,6 +5,8 @@ pub mod InOrder
 pub mod Weights
 pub mod Changing
 pub mod Carrying
+pub mod Running
+pub mod LettingGo
 pub mod Readying
 pub mod Scanning
 pub mod Resting
@@ -15,3 +17,4 @@ pub mod Opening
 pub mod Entering
 pub mod Made
 pub mod Storing
+pub mod Ceding

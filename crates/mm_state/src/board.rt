@@ -11,14 +11,17 @@ ghost use Rattle.split_merge.specs.Plans.{olds_of, news_of, applied, IsPlanOf};
 ghost use Rattle.split_merge.specs.declared.plan.Change.TheVariants.{Detach, Alter, Add};
 ghost use Rattle.vma_lock.specs.Seats.{config_of, slots_of, IsOf, Writes, view, seen, stage, HasTurn, sight, journal, slots, IsOpen, MayEnter};
 ghost use Rattle.vma_lock.specs.Views.{opened_view, look_at};
+ghost use Rattle.area_slots.specs.Slots.{IsTaken};
 ghost use Rattle.area_tree.specs.AreaTrees.{areas_of};
 ghost use Rattle.mm_state.specs.Internal.Boards.{IsWritten, CanChange, Carries, IsSane, IsChanging, IsAtRest, IsReadied, IsEntered, IsCarriedOut, adds, adds_of, CanFree};
+ghost use Rattle.mm_state.specs.Internal.Runs.{IsRun, IsLetGo, CarriesAll};
 ghost use Rattle.span_tree.specs.SpanTrees.{IsFreshWriter};
 
-use crate::spans::{count_adds, has_room, is_end, store_moved, wait_for_slots};
+use crate::runs::run_before;
+use crate::spans::{count_adds, has_room, is_end, store_moved, taker, wait_for_slots};
 use area_slots::AreaSlots;
-use area_tree::{AreaTree, ShownArea};
-use mm_types::{Config, Entry, NoMemory, Record, Slot, pack, slots_for};
+use area_tree::{AreaTree, ShownArea, beside};
+use mm_types::{Config, Entry, NoMemory, Record, Slot, Span, pack, slots_for};
 use node_slots::NodeWriter;
 use span_tree::OpenCall;
 use split_merge::Change;
@@ -236,8 +239,14 @@ impl Board {
         self.areas.facts();
         let mut left = changes.len();
         while left > 0 {
-            left -= 1;
-            self.change(rt, &changes[left], tree);
+            let run = run_before(changes, left);
+            if left - run.first > 1 {
+                self.detach_all(rt, &changes[run.first..left], run.span, tree);
+                left = run.first;
+            } else {
+                left -= 1;
+                self.change(rt, &changes[left], tree);
+            }
         }
     }
 
@@ -265,6 +274,39 @@ impl Board {
     {
         let slot = self.areas.slot_of(old);
         self.areas.remove(old);
+        self.let_go(rt, slot, tree);
+    }
+
+    /// The slots of areas that adjoin each other, which have the pages of a span, are detached, and leave. The tree loses all of
+    /// them at once.
+    fn detach_all<R: Wait>(&mut self, rt: &R, changes: &[Change], span: Span, tree: u64)
+        requires can { CanChange self.old }
+        requires olds { All (Contains (areas_of self.old.areas)) (olds_of changes.now) }
+        requires run { IsRun span.lo span.hi changes.now }
+        requires some { 0 < length changes.now }
+        ensures { CarriesAll self.old self.new changes.now tree }
+    {
+        self.areas.facts();
+        let mut left = changes.len();
+        while left > 0 {
+            left -= 1;
+            let Change::Detach(old) = &changes[left] else {
+                unreachable!()
+            };
+            let slot = self.areas.slot_of(old);
+            self.let_go(rt, slot, tree);
+        }
+        self.areas.remove_all(span, changes.len() as u64);
+    }
+
+    /// A slot is detached, and leaves with a tree.
+    fn let_go<R: Wait>(&mut self, rt: &R, slot: Slot, tree: u64)
+        requires table { Writes self.old.writer self.old.table }
+        requires open_call { IsOpen self.old.writer }
+        requires slot { slot.0 < slots_of self.old.table }
+        requires taken { IsTaken self.old.slots slot.0 }
+        ensures { IsLetGo self.old self.new slot.0 tree }
+    {
         write_slot(rt, &self.table, &mut self.writer, slot, DETACHED);
         self.slots.retire(slot, tree);
     }
@@ -290,6 +332,11 @@ impl Board {
             return;
         }
         if is_end(new.span, old.span) {
+            let lost = beside(new.span, old.span);
+            if let Some(other) = taker(&self.areas, &mut self.moved, lost) {
+                self.areas.cede(old, shown, other);
+                return;
+            }
             self.areas.shrink(old, shown);
             return;
         }

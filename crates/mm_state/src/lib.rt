@@ -3,6 +3,7 @@
 #![tactic(auto)]
 
 mod board;
+mod runs;
 mod spans;
 mod state;
 

@@ -1,5 +1,5 @@
 //! Slots that are free again, and areas that moved, as a call needs them.
-ghost use Rattle.std.specs.Prelude.{◌≡◌, ◌≤◌, ◌<◌, ◌+◌, ◌++◌, [], true, false, length, vec_capacity, IsPermutation};
+ghost use Rattle.std.specs.Prelude.{◌≡◌, ◌≤◌, ◌<◌, ◌+◌, ◌++◌, [], true, false, length, vec_capacity, option_to_list, IfSome, IsPermutation};
 ghost use Rattle.node_slots.specs.Seats.{HasOpen};
 ghost use Rattle.area_slots.specs.Slots.{slots_of, gone_by, gone_after};
 ghost use Rattle.area_tree.specs.AreaTrees.{shown_of, areas_of, IsEndOf, IsRoomFor};
@@ -86,6 +86,21 @@ pub(crate) fn store_moved(areas: &mut AreaTree, moved: &mut Vec<ShownArea>)
 {
     while let Some(shown) = moved.pop() {
         areas.insert(shown);
+    }
+}
+
+/// The area that moved last, if it has these pages and the tree may have one area more: it goes out of those that moved.
+pub(crate) fn taker(areas: &AreaTree, moved: &mut Vec<ShownArea>, span: Span) -> Option<ShownArea>
+    ensures items { moved.old.items ≡ moved.new.items ++ option_to_list result }
+    ensures room { vec_capacity moved.new ≡ vec_capacity moved.old }
+    ensures pages { IfSome result (λ other. other.area.span ≡ span) }
+    ensures few { IfSome result (λ other. length (areas_of areas.now) < areas.now.tree.areas) }
+{
+    let last = *moved.as_slice().last()?;
+    if last.area.span == span && areas.has_place() {
+        moved.pop()
+    } else {
+        None
     }
 }
 

@@ -119,12 +119,15 @@ after_leaving set slot tree = record set { left = gone_by tree set.left ++ recor
 abbrev pub HasPageOf : Record → Record → Type 0
 HasPageOf area other = (area.span.lo < other.span.hi) × (other.span.lo < area.span.hi)
 
--- a slot of the tree shows another area: in the tree, where the two have a page in common, or it moved
+-- A slot of the tree shows another area: in the tree, where the two have a page in common, or it moved. Or it is in the tree beside the
+-- area that moved last, which came into the tree with it and has a page of the area before too.
 pub record Moves (old new : Board) (slot : ℕ) (area changed : Record) : Type 0 where
   pub rest : List ShownArea
   pub before : IsPermutation (record { slot = slot; area = area } ∷ rest) (shown_of old.areas)
   pub after : (IsPermutation (record { slot = slot; area = changed } ∷ rest) (shown_of new.areas) × (new.moved.items ≡ old.moved.items) × HasPageOf area changed)
       ⊎ (IsPermutation rest (shown_of new.areas) × (new.moved.items ≡ old.moved.items ++ record { slot = slot; area = changed } ∷ []))
+      ⊎ ((other : ShownArea) × IsPermutation (record { slot = slot; area = changed } ∷ other ∷ rest) (shown_of new.areas)
+      × (old.moved.items ≡ new.moved.items ++ other ∷ []) × HasPageOf area changed × HasPageOf area other.area)
 
 -- A change of a plan is carried out, but for areas that come to other pages, which moved: what it takes away left with this tree, or
 -- keeps its slot.

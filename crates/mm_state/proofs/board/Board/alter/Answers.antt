@@ -1,5 +1,5 @@
 -- For `Board::alter`: the slot of an area of the tree shows another.
-use Rattle.std.proofs.Common.{◌++◌, refl, sym, subst, inl, inr, arith}
+use Rattle.std.proofs.Common.{◌++◌, refl, sym, ◌∙◌, subst, append-nil, inl, inr, arith}
 use Rattle.std.proofs.lemmas.List.Sums.{sum_by-append}
 use Rattle.std.proofs.lemmas.List.Sorted.{IsPermutation-refl}
 use Rattle.area_slots.specs.Slots.{one_at}
@@ -7,6 +7,7 @@ use Rattle.vma_lock.specs.Seats.{sight, slots}
 use Rattle.area_tree.specs.declared.shown.ShownArea.{ShownArea}
 use Rattle.area_tree.specs.AreaTrees.{shown_of, areas_of}
 use Rattle.mm_state.specs.Internal.Boards.{IsSameTree, IsWritten}
+use Rattle.mm_state.proofs.Ceding.{lost_meets, last_alone}
 use Rattle.mm_state.proofs.Changing.{same_span, same_meets, end_meets, room_meets, old_pages}
 use Rattle.mm_state.proofs.Hanging.{taken_in, at_most_once}
 use Rattle.mm_state.proofs.board.Board.alter.Goals as goal
@@ -28,6 +29,29 @@ update-requires-clause-once g c =
       at_most_once (slots board.writer) (shown_of board.areas ++ board.moved.items) board.slots c.slot_of-slot.result.0 c.requires.can.hangs,
       sum_by-append (λ (s : ShownArea). one_at c.slot_of-slot.result.0 s.slot) (shown_of board.areas) board.moved.items,
     )
+
+pub cede-requires-clause-once : goal.cede-requires-clause-once
+cede-requires-clause-once g c =
+    let board = c.args.self.now in
+    omega (
+      arith,
+      at_most_once (slots board.writer) (shown_of board.areas ++ board.moved.items) board.slots c.slot_of-slot.result.0 c.requires.can.hangs,
+      sum_by-append (λ (s : ShownArea). one_at c.slot_of-slot.result.0 s.slot) (shown_of board.areas) board.moved.items,
+    )
+
+pub cede-requires-clause-slot : goal.cede-requires-clause-slot
+cede-requires-clause-slot g c =
+    let board = c.args.self.now in
+    omega (
+      arith,
+      (last_alone (slots board.writer) (shown_of board.areas) board.moved.items c.taker.new.moved.items board.slots c.in-Some.other c.requires.can.hangs c.in-Some.ensures.items).below,
+      c.requires.can.records,
+    )
+
+pub cede-requires-clause-free : goal.cede-requires-clause-free
+cede-requires-clause-free g c =
+    let board = c.args.self.now in
+    (last_alone (slots board.writer) (shown_of board.areas) board.moved.items c.taker.new.moved.items board.slots c.in-Some.other c.requires.can.hangs c.in-Some.ensures.items).free
 
 pub shrink-requires-clause-once : goal.shrink-requires-clause-once
 shrink-requires-clause-once g c =
@@ -64,6 +88,34 @@ returns-then-eq g c =
       refl,
     )
 
+pub returns-in-Some : goal.returns-in-Some
+returns-in-Some g c =
+    let board = c.args.self.now in
+    let part = c.is_end.ensures c.if-is_end.true in
+    let out = c.cede.ensures.shown in
+    λ tree. (
+      c.slot_of-slot.result.0,
+      record {
+        table = refl;
+        mine = c.write_slot.ensures.table;
+        written = subst (λ row. IsWritten (sight board.writer) c.slot_of-slot.result.0 row (sight c.write_slot.new.writer)) c.pack-row.ensures c.write_slot.ensures.written;
+        same = subst (IsSameTree board.areas) (sym c.cede.ensures.same) refl;
+        moved_room = c.in-Some.ensures.room;
+      },
+      record {
+        rest = out.0;
+        before = out.1;
+        after = inr (inr (
+          c.in-Some.other,
+          out.2,
+          c.in-Some.ensures.items,
+          end_meets c.args.old.now c.args.new.now part,
+          lost_meets c.args.old.now c.args.new.now c.in-Some.other.area part (c.in-Some.ensures.pages ∙ c.beside-lost.ensures),
+        ));
+      },
+      refl,
+    )
+
 pub returns-then-is_end : goal.returns-then-is_end
 returns-then-is_end g c =
     let board = c.args.self.now in
@@ -75,9 +127,9 @@ returns-then-is_end g c =
         mine = c.write_slot.ensures.table;
         written = subst (λ row. IsWritten (sight board.writer) c.slot_of-slot.result.0 row (sight c.write_slot.new.writer)) c.pack-row.ensures c.write_slot.ensures.written;
         same = subst (IsSameTree board.areas) (sym c.shrink.ensures.same) refl;
-        moved_room = refl;
+        moved_room = c.in_default.ensures.room;
       },
-      record { rest = out.0; before = out.1; after = inl (out.2, refl, end_meets c.args.old.now c.args.new.now (c.is_end.ensures c.if-is_end.true)) },
+      record { rest = out.0; before = out.1; after = inl (out.2, sym (c.in_default.ensures.items ∙ append-nil c.taker.new.moved.items), end_meets c.args.old.now c.args.new.now (c.is_end.ensures c.if-is_end.true)) },
       refl,
     )
 
@@ -122,7 +174,7 @@ returns g c =
       record {
         rest = shown_of c.remove.new.self;
         before = c.remove.ensures.shown c.slot_of-slot.result.0 c.slot_of-slot.ensures;
-        after = inr (IsPermutation-refl (shown_of c.remove.new.self), c.push_reserved.ensures.items);
+        after = inr (inl (IsPermutation-refl (shown_of c.remove.new.self), c.push_reserved.ensures.items));
       },
       refl,
     )

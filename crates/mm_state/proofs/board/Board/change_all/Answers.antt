@@ -1,10 +1,12 @@
--- For `Board::change_all`: one change more, from the last on.
+-- For `Board::change_all`: one change more, from the last on, or a run of them.
 use Rattle.std.proofs.Common.{◌-◌, ◌<◌, length, List, drop, subst, sym, arith}
 use Rattle.std.proofs.lemmas.List.{drop_all}
 use Rattle.split_merge.specs.declared.plan.Change.{Change}
 use Rattle.mm_state.specs.Internal.Boards.{IsChanging}
 use Rattle.mm_state.proofs.Carrying.{can_change, free_left, room_left, left_there, in_tree, drop_one}
 use Rattle.mm_state.proofs.Changing.{change_step, none_changed}
+use Rattle.mm_state.proofs.Running.{part_rest}
+use Rattle.mm_state.proofs.LettingGo.{part_in_tree, part_step}
 use Rattle.mm_state.proofs.board.Board.change_all.Goals as goal
 
 pub loop-left-init : goal.loop-left-init
@@ -29,6 +31,20 @@ change-requires-clause-free g c = free_left c.args.self.now c.loop-left.self c.a
 pub change-requires-clause-room : goal.change-requires-clause-room
 change-requires-clause-room g c = room_left c.args.self.now c.loop-left.self c.args.changes.now (c.loop-left.left - 1) c.loop-left.left _ c.args.tree
     c.loop-left.invariant.changing (omega (arith, c.loop-left.invariant.within)) (omega arith) c.requires.room
+
+pub detach_all-requires-clause-olds : goal.detach_all-requires-clause-olds
+detach_all-requires-clause-olds g c = part_in_tree c.args.self.now c.loop-left.self c.args.changes.now _ c.run_before-run.result.first c.loop-left.left c.args.tree
+    c.loop-left.invariant.changing c.requires.plan
+    (part_rest c.args.changes.now c.run_before-run.result.first c.loop-left.left c.run_before-run.ensures.first c.loop-left.invariant.within)
+
+pub loop-left-preserved-then-left-run-gt1 : goal.loop-left-preserved-then-left-run-gt1
+loop-left-preserved-then-left-run-gt1 g c = record {
+  within = omega (arith, c.run_before-run.ensures.first, c.loop-left.invariant.within);
+  changing = part_step c.args.self.now c.loop-left.self c.detach_all.new.self c.args.changes.now _ c.run_before-run.result.first c.loop-left.left c.args.tree
+      c.loop-left.invariant.changing c.requires.plan c.requires.sane
+      (part_rest c.args.changes.now c.run_before-run.result.first c.loop-left.left c.run_before-run.ensures.first c.loop-left.invariant.within)
+      c.detach_all.ensures;
+}
 
 pub loop-left-preserved : goal.loop-left-preserved
 loop-left-preserved g c =

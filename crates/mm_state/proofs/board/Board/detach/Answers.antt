@@ -1,13 +1,16 @@
 -- For `Board::detach`: the slot of an area of the tree is taken, and leaves.
-use Rattle.std.proofs.Common.{refl, sym, subst, arith}
+use Rattle.std.proofs.Common.{refl, sym, ap, subst, arith}
+use Rattle.split_merge.specs.declared.plan.Change.TheVariants.{Detach}
 use Rattle.vma_lock.specs.Seats.{slots}
 use Rattle.area_tree.specs.AreaTrees.{shown_of}
-use Rattle.mm_state.specs.Internal.Boards.{IsSameTree}
+use Rattle.mm_state.specs.declared.board.Board.{Board}
+use Rattle.mm_state.specs.Internal.Boards.{Carries, IsSameTree}
 use Rattle.mm_state.proofs.Hanging.{taken_in}
+use Rattle.mm_state.proofs.LettingGo.{carries}
 use Rattle.mm_state.proofs.board.Board.detach.Goals as goal
 
-pub write_slot-requires-clause-slot : goal.write_slot-requires-clause-slot
-write_slot-requires-clause-slot g c =
+pub let_go-requires-clause-slot : goal.let_go-requires-clause-slot
+let_go-requires-clause-slot g c =
     let board = c.args.self.now in
     omega (
       arith,
@@ -15,22 +18,15 @@ write_slot-requires-clause-slot g c =
       c.requires.can.count,
     )
 
-pub retire-requires : goal.retire-requires
-retire-requires g c =
+pub let_go-requires-clause-taken : goal.let_go-requires-clause-taken
+let_go-requires-clause-taken g c =
     let board = c.args.self.now in
     taken_in (slots board.writer) (shown_of board.areas) board.moved.items board.slots _ c.requires.can.hangs c.slot_of-slot.ensures
 
 pub returns : goal.returns
-returns g c = (
-  c.slot_of-slot.result.0,
-  record {
-    table = refl;
-    mine = c.write_slot.ensures.table;
-    written = c.write_slot.ensures.written;
-    same = subst (IsSameTree c.args.self.now.areas) (sym c.remove.ensures.same) refl;
-    moved_room = refl;
-  },
-  c.remove.ensures.shown c.slot_of-slot.result.0 c.slot_of-slot.ensures,
-  refl,
-  c.retire.ensures,
-)
+returns g c =
+    let board = c.let_go.new.self in
+    subst (λ (b : Board). Carries c.args.self.now b (Detach c.args.old.now) c.args.tree) (ap (λ (b : Board). record board { areas = b.areas }) (sym c.let_go.ensures.same))
+    (carries (record c.args.self.now { areas = c.remove.new.self }) board c.args.self.now.areas c.remove.new.self (record { slot = c.slot_of-slot.result.0; area = c.args.old.now }) c.args.tree
+    c.let_go.ensures
+    (subst (IsSameTree c.args.self.now.areas) (sym c.remove.ensures.same) refl) (c.remove.ensures.shown c.slot_of-slot.result.0 c.slot_of-slot.ensures))

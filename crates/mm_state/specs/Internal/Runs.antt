@@ -1,0 +1,27 @@
+-- Changes that are carried out together: those that take away areas which adjoin each other.
+use Rattle.std.specs.Prelude.{ℕ, ◌≡◌, List, [], ◌∷◌}
+use Rattle.lock_core.specs.Core.{detached_row}
+use Rattle.split_merge.specs.declared.plan.Change.{Change}
+use Rattle.split_merge.specs.declared.plan.Change.TheVariants.{Detach, Alter, Add}
+use Rattle.vma_lock.specs.Seats.{Writes, sight}
+use Rattle.mm_state.specs.declared.board.Board.{Board}
+use Rattle.mm_state.specs.Internal.Boards.{IsWritten, Carries, after_leaving}
+
+-- changes take away areas that have the pages from one on up to another, each from the end of the one before
+abbrev pub IsRun : ℕ → ℕ → List Change → Type 0
+IsRun lo hi [] = lo ≡ hi
+IsRun lo hi (Detach area ∷ changes) = (area.span.lo ≡ lo) × IsRun area.span.hi hi changes
+IsRun lo hi (Alter old new ∷ changes) = ⊥
+IsRun lo hi (Add new ∷ changes) = ⊥
+
+-- changes of a plan are carried out one after the other, from the last on
+abbrev pub CarriesAll : Board → Board → List Change → ℕ → Type 0
+CarriesAll old new [] tree = new ≡ old
+CarriesAll old new (change ∷ changes) tree = (between : Board) × CarriesAll old between changes tree × Carries between new change tree
+
+-- a slot was detached and left with a tree, and the tree of areas is as it was
+pub record IsLetGo (old new : Board) (slot tree : ℕ) : Type 0 where
+  pub mine : Writes new.writer new.table
+  pub written : IsWritten (sight old.writer) slot detached_row (sight new.writer)
+  pub slots : new.slots ≡ after_leaving old.slots slot tree
+  pub same : new ≡ record old { writer = new.writer; slots = new.slots }
