@@ -33,8 +33,8 @@ impl Model for AreaSlots {
 }
 
 impl AreaSlots {
-    /// A set of so many slots, all of them free. The lowest is taken first, so a table is touched only at its beginning where few of its
-    /// slots are used.
+    /// A set of so many slots, all of them free. The lowest is taken first, so what is kept of slots need be made only up to the highest
+    /// one that was used.
     pub fn new(alloc: Global, slots: u32) -> Result<AreaSlots, NoMemory>
         ensures { IfOk result (λ set. set ≡ record { free = reverse (range_with_len 0 slots); left = []; count = slots }) }
     {

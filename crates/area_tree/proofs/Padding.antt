@@ -3,7 +3,7 @@ use Rattle.std.proofs.Common.{ℕ, suc, ◌≡◌, ◌<◌, ◌≤◌, ◌-◌, 
 use Rattle.std.proofs.lemmas.List.{length-append, length-replicate, length-set, length_push, set-append_left}
 use Rattle.mm_types.specs.declared.area.Record.{Record}
 use Rattle.area_tree.specs.AreaTrees.{no_area}
-use Rattle.area_tree.specs.Records.{padded}
+use Rattle.area_tree.specs.Internal.Records.{padded}
 
 -- each slot has a record
 pub length-padded : (slots : ℕ) (written : List Record) → length written ≤ slots → length (padded slots written) ≡ slots

@@ -10,8 +10,8 @@ use Rattle.area_tree.specs.AreaTrees.{AreaTreeView, AreRecords}
 abbrev pub view_of : Inside → AreaTreeView
 view_of fields = record { tree = fields.tree; records = fields.records; bounds = fields.bounds }
 
--- Each slot of the tree shows an area with the pages of its pair. The count is theirs, there is a record for each slot, and none is
--- sealed before one was; areas are placed up to the tree's limit, and there is room to hand them out.
+-- Each slot of the tree shows an area with the pages of its pair. The count is theirs, the most areas are those of the tree,
+-- there is a record for each slot, and none is sealed before one was; areas are placed up to the tree's limit, and there is room to hand them out.
 pub record IsAreaTree (fields : Inside) : Type 0 where
   pub spans : AreRecords fields.records fields.tree.pairs
   pub counted : fields.count ≡ length fields.tree.pairs

@@ -1,4 +1,3 @@
 pub mod AreaTrees
-pub mod Records
 pub mod Kept
 pub mod Internal

@@ -24,7 +24,7 @@ impl Model for Records {
 
     ghost Value = { List Record };
 
-    ghost use Rattle.area_tree.specs.Records.{records_of, AreRoomy};
+    ghost use Rattle.area_tree.specs.Internal.Records.{records_of, AreRoomy};
 
     ghost view = { records_of };
 

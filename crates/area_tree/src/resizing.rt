@@ -1,4 +1,4 @@
-//! Areas that get fewer pages, or more, in one store.
+//! Areas that get fewer pages, or more, and areas that go together, in one store.
 ghost use Rattle.std.specs.Prelude.{◌≡◌, ◌≤◌, ◌<◌, ◌-◌, ◌∷◌, ◌++◌, ◌&&◌, nat_le, nat_lt, true, List, length, slice_set, All, Contains, IsPermutation};
 ghost use Rattle.mm_types.specs.Config.{slots_for};
 ghost use Rattle.area_rules.specs.Placement.{is_free};
@@ -62,7 +62,8 @@ impl AreaTree {
         self.tree.store(beside(shown.area.span, old.span), None);
     }
 
-    /// The same, where a slot that shows no area of the tree shows one at the pages that are lost: that one alone is stored.
+    /// A slot of the tree shows an area with fewer pages than the one before, and a slot that shows none gets the pages that it loses: only
+    /// these are stored.
     pub fn cede(&mut self, old: &Record, shown: ShownArea, other: ShownArea)
         requires roomy { self.old.tree.roomy ≡ true }
         requires member { Contains (shown_of self.old) (record { slot = shown.slot; area = old.now }) }

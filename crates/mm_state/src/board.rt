@@ -224,7 +224,7 @@ impl Board {
         });
     }
 
-    /// Carries out the changes of a plan, from the last on, but for the areas that come to other pages, which have moved. What
+    /// Carries out the changes of a plan, from the last on, but for the areas that come to other pages, most of which have moved. What
     /// it takes away leaves with this tree.
     fn change_all<R: Wait>(&mut self, rt: &R, changes: &[Change], tree: u64)
         requires can { CanChange self.old }

@@ -12,7 +12,7 @@ pub(crate) struct Run {
     pub(crate) span: Span,
 }
 
-/// The longest run that ends before a place. It has no change, where the last one there takes no area away.
+/// A run that ends before a place: the longest, as a test shows. It has no change, where the last one there takes no area away.
 pub(crate) fn run_before(changes: &[Change], end: usize) -> Run
     requires { end ≤ length changes.now }
     ensures first { result.first ≤ end }

@@ -4,3 +4,4 @@ mod bench;
 mod calls;
 mod generator;
 mod kinds;
+mod runs;

@@ -39,7 +39,7 @@ pub record ReaderKept (reader walks words : ℕ) (me : Me (Unit {0}) NodeView) :
   pub walks_are : walks ≡ min me.0.walks (2 ^ 64 - 1)
   pub exist : (shown : ShownTree) → me.0.snapshot ≡ Some shown → RowsExist me.0.size.rows shown
 
--- the words of so many rows, of which the first were filled, with these words, and the others are rows of zeros
+-- these rows, and rows of zeros after them up to so many
 abbrev pub with_empty : ℕ → List (List ℕ) → List (List ℕ)
 with_empty rows words = words ++ replicate (rows - length words) empty_row
 

@@ -1,4 +1,4 @@
--- The rows of a new table.
+-- The rows and the words of a new table.
 use Rattle.std.specs.Prelude.{ℕ, ◌≡◌, ◌≤◌, ◌<◌, List, length, replicate, slice_index, slice_set}
 use Rattle.grace_core.specs.Core.{times}
 use Rattle.node_slots.specs.Places.{word_count}
@@ -10,7 +10,7 @@ pub record IsFreeFrom (start end : ℕ) (free : List ℕ) : Type 0 where
   pub below : (row : ℕ) → 1 ≤ times row free → row < end
   pub all : (row : ℕ) → start ≤ row → row < end → 1 ≤ times row free
 
--- how many words a table of so many rows and 64 readers has, the most that a table has
+-- how many words a table of so many rows and 64 readers has, the most that a table of so many rows has
 abbrev pub most_words : ℕ → ℕ
 most_words rows = word_count (record { rows = rows; slots = 0; readers = 64 })
 

@@ -22,8 +22,7 @@ use std::sync::Arc;
 static EMPTY_ROW: [u64; ROW] = [0; ROW];
 
 impl NodeTable {
-    /// Takes the row that came last into the writer's free list, whose words are likely in the caches. None exactly where the list
-    /// is empty.
+    /// Takes the last row of the writer's free list. None exactly where the list is empty.
     pub fn take_row(&self, writer: &mut NodeWriter) -> Option<Row>
         requires table { Writes writer.old self.now }
         ensures table { Writes writer.new self.now }
@@ -34,13 +33,14 @@ impl NodeTable {
         ensures view { sight writer.new ≡ sight writer.old }
     {
         let row = writer.free.pop_back()?;
+        writer.fresh = writer.fresh.min(writer.free.len());
         writer.firsts[row.0 as usize] = writer.desk.root.tree + 1;
         Some(row)
     }
 
     /// Takes a row for the next version of the node in a row: that row itself, if it was left and is free, or the row that held the
-    /// version before it, if that is free, whose words are nearly the same, and else a fresh one or one that is free for long. None
-    /// exactly where no row is free.
+    /// version before it, if that is free, whose words are nearly the same, and else any free row. None exactly where no row is
+    /// free.
     pub fn take_row_for(&self, writer: &mut NodeWriter, old: Row) -> Option<Row>
         requires table { Writes writer.old self.now }
         ensures table { Writes writer.new self.now }

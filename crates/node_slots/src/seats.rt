@@ -39,7 +39,7 @@ pub struct NodeWriterSeat {
     pub(crate) table: NodeTable,
     /// The root of the present tree.
     pub(crate) root: Root,
-    /// The words of each row up to the last that was filled. There is room for all rows, and it is touched as they are filled.
+    /// The words of each row up to the highest that was filled. There is room for all rows, and it is touched as they are filled.
     pub(crate) words: Vec<[u64; 32]>,
     /// What the scans of each reader found.
     pub(crate) clearings: Vec<Clearing>,
@@ -70,7 +70,7 @@ pub struct NodeWriter {
     pub(crate) firsts: Vec<u64>,
     /// For each row what is remembered of it.
     pub(crate) hints: Vec<Hint>,
-    /// How many rows at the front of the free list are fresh: they were never taken. No clause rests on it.
+    /// How many rows at the front of the free list are fresh: they were not taken yet. No clause rests on it.
     pub(crate) fresh: usize,
     /// How often another row than a fresh one was taken for a node that had none.
     pub(crate) spares: usize,

@@ -1,5 +1,5 @@
 //! Which free row is taken for the next version of a node. Nothing rests on what is remembered for it: a place of the free list is
-//! used only where the row that is looked for stands there.
+//! used only where the row that is looked for stands there, or where any free row will do.
 
 ghost use Rattle.std.specs.Prelude.{◌≡◌, ◌<◌, true, IfSome};
 ghost use Rattle.std.specs.List.Sorted.{IsPermutation};
@@ -33,8 +33,11 @@ pub(crate) fn note_twin(hints: &mut Vec<Hint>, row: Row, twin: Row) {
     }
 }
 
-/// Among how many rows that are free for long one is taken in turn, and how many more there are of them than nodes wait for.
-const SPARES: usize = 32;
+/// Among how many rows, of those that were taken before, one is taken in turn.
+const TURNS: usize = 32;
+
+/// How many more rows are free that were taken before than twice the rows in use, by twos, before no fresh one is taken.
+const SPARE_PAIRS: usize = 32;
 
 impl NodeWriter {
     /// The place of a row in the free list, if it is free.
@@ -77,19 +80,19 @@ impl NodeWriter {
         self.free.swap(place, last);
     }
 
-    /// Whether so few rows are free that were taken before that a fresh one is taken for a node that has none of its own: each node of
-    /// the tree finds the row of its version before, and a run that has few nodes touches few rows.
+    /// Whether a node that has no row of its own takes a fresh one: the free rows that were taken before are fewer than twice the rows in
+    /// use, and some more. So most nodes find the row of their version before, and a run that has few nodes touches few rows.
     fn wants_fresh(&self) -> bool
         ensures { result ≡ true → 0 < self.now.fresh }
     {
         let free = self.free.len();
         let used = self.firsts.len().saturating_sub(free);
         let taken_before = free.saturating_sub(self.fresh);
-        0 < self.fresh && taken_before / 2 < used.saturating_add(SPARES)
+        0 < self.fresh && taken_before / 2 < used.saturating_add(SPARE_PAIRS)
     }
 
-    /// Where a row stands in the free list for a node that has none of its own: the last of the fresh rows, or else one of those that
-    /// stand behind them, which are free for long.
+    /// Where a row stands in the free list for a node that has none of its own: the last of the fresh rows, or else one of the first
+    /// that stand behind them, in turn.
     fn spare_spot(&mut self) -> usize
         ensures same { (self.new.desk ≡ self.old.desk) × (self.new.free ≡ self.old.free) × (self.new.left ≡ self.old.left) }
     {
@@ -98,7 +101,7 @@ impl NodeWriter {
             return self.fresh;
         }
         self.spares = self.spares.wrapping_add(1);
-        self.fresh.wrapping_add(self.spares % SPARES)
+        self.fresh.wrapping_add(self.spares % TURNS)
     }
 
     /// Puts a row last that no node of the tree waits for, most likely.

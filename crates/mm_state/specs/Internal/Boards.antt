@@ -119,8 +119,8 @@ after_leaving set slot tree = record set { left = gone_by tree set.left ++ recor
 abbrev pub HasPageOf : Record → Record → Type 0
 HasPageOf area other = (area.span.lo < other.span.hi) × (other.span.lo < area.span.hi)
 
--- A slot of the tree shows another area: in the tree, where the two have a page in common, or it moved. Or it is in the tree beside the
--- area that moved last, which came into the tree with it and has a page of the area before too.
+-- A slot of the tree shows another area. Either the tree has it there, and it has a page of the area before; or it moved; or the tree
+-- has it, and the area that had moved last came into the tree too, and each of them has a page of the area before.
 pub record Moves (old new : Board) (slot : ℕ) (area changed : Record) : Type 0 where
   pub rest : List ShownArea
   pub before : IsPermutation (record { slot = slot; area = area } ∷ rest) (shown_of old.areas)
@@ -129,8 +129,8 @@ pub record Moves (old new : Board) (slot : ℕ) (area changed : Record) : Type 0
       ⊎ ((other : ShownArea) × IsPermutation (record { slot = slot; area = changed } ∷ other ∷ rest) (shown_of new.areas)
       × (old.moved.items ≡ new.moved.items ++ other ∷ []) × HasPageOf area changed × HasPageOf area other.area)
 
--- A change of a plan is carried out, but for areas that come to other pages, which moved: what it takes away left with this tree, or
--- keeps its slot.
+-- A change of a plan is carried out, but for areas that come to other pages, most of which moved: what it takes away left with this
+-- tree, or keeps its slot.
 abbrev pub Carries : Board → Board → Change → ℕ → Type 0
 Carries old new (Detach area) tree = (slot : ℕ) × Changes old new slot detached_row × IsPermutation (record { slot = slot; area = area } ∷ shown_of new.areas) (shown_of old.areas)
     × (new.moved.items ≡ old.moved.items) × (new.slots ≡ after_leaving old.slots slot tree)

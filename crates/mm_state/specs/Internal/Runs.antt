@@ -7,19 +7,19 @@ use Rattle.vma_lock.specs.Seats.{Writes, sight}
 use Rattle.mm_state.specs.declared.board.Board.{Board}
 use Rattle.mm_state.specs.Internal.Boards.{IsWritten, Carries, after_leaving}
 
--- changes take away areas that have the pages from one on up to another, each from the end of the one before
+-- all of the changes take areas away, each of which begins where the one before ends, from a page on up to another
 abbrev pub IsRun : ℕ → ℕ → List Change → Type 0
 IsRun lo hi [] = lo ≡ hi
 IsRun lo hi (Detach area ∷ changes) = (area.span.lo ≡ lo) × IsRun area.span.hi hi changes
 IsRun lo hi (Alter old new ∷ changes) = ⊥
 IsRun lo hi (Add new ∷ changes) = ⊥
 
--- changes of a plan are carried out one after the other, from the last on
+-- what changes of a plan leave, as if they were carried out one after the other, from the last on
 abbrev pub CarriesAll : Board → Board → List Change → ℕ → Type 0
 CarriesAll old new [] tree = new ≡ old
 CarriesAll old new (change ∷ changes) tree = (between : Board) × CarriesAll old between changes tree × Carries between new change tree
 
--- a slot was detached and left with a tree, and the tree of areas is as it was
+-- a slot was detached and left with a tree, and all but the writer and the slots is as it was
 pub record IsLetGo (old new : Board) (slot tree : ℕ) : Type 0 where
   pub mine : Writes new.writer new.table
   pub written : IsWritten (sight old.writer) slot detached_row (sight new.writer)

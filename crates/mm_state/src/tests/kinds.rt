@@ -7,9 +7,10 @@ use mm_types::{
 };
 use std::test::Fail;
 
-/// The slot of the first area, and that of the next one.
+/// The slot of the first area.
 const FIRST: u32 = 0;
 
+/// The slot of the area that comes next.
 const SECOND: u32 = 1;
 
 /// Read and write.

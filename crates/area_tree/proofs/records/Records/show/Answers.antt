@@ -1,7 +1,7 @@
 -- For `Records::show`: more records of no area show the same, and then the slot's record is another.
 use Rattle.std.proofs.Common.{◌<◌, ◌∙◌, ℕ, List, length, set, ap, arith}
 use Rattle.mm_types.specs.declared.area.Record.{Record}
-use Rattle.area_tree.specs.Records.{padded}
+use Rattle.area_tree.specs.Internal.Records.{padded}
 use Rattle.area_tree.proofs.Padding.{length-padded, padded_push, padded_set}
 use Rattle.area_tree.proofs.records.Records.show.Goals as goal
 

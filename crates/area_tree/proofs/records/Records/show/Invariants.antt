@@ -1,7 +1,7 @@
 -- The proof of `show`: what its loop keeps, and that it ends.
 use Rattle.std.proofs.Common.{◌≡◌, ◌≤◌, ◌+◌, ◌-◌, length}
 use Rattle.std.specs.Vec.{vec_capacity}
-use Rattle.area_tree.specs.Records.{padded}
+use Rattle.area_tree.specs.Internal.Records.{padded}
 use Rattle.area_tree.proofs.records.Records.show.Given as goal
 
 abbrev pub invariant-loop-self : goal.invariant-loop-self
