@@ -345,7 +345,7 @@ root_told writer tree end word gap leaf words told here below ends gaps =
 -- a tree is no higher than there are free rows
 pub free_few : (writer : NodeWriter) → length (free_of writer) ≤ 2 ^ 20
 free_few writer =
-    let all = gone_few writer.desk.table.size.rows writer.free.items writer.left.items writer.firsts.items (desk writer) writer.rows in
+    let all = gone_few _ _ _ _ _ writer.rows in
     let few = writer.desk.table.sized.fits.few_rows in
     let long = length-map writer.free.items (λ r. r.0) in
     omega arith

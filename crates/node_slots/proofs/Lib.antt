@@ -8,6 +8,7 @@ pub mod Starting
 pub mod Storing
 pub mod Filling
 pub mod Listing
+pub mod Notes
 pub mod Gone
 pub mod Writers
 pub mod Leaves

@@ -1,19 +1,21 @@
 -- For `NodeTable::leave`, `NodeTable::publish` and others: what a writer's lists tell of a row.
 use Rattle.std.proofs.Common.{ℕ, ◌≡◌, ◌<◌, ◌≤◌, ◌+◌, ◌^◌, ◌∙◌, true, false, cond, nat_eq, List, [], ◌∷◌, get_or, refl, sym, ap, subst, arith, inl, inr}
 use Rattle.std.proofs.lemmas.Bool.{cases_Bool, cond-true, cond-false, ltb-true}
+use Rattle.std.proofs.lemmas.List.{length-map}
 use Rattle.grace_core.specs.Core.{times, has_row}
 use Rattle.maple_node.specs.Levels as levels
 use Rattle.maple_node.specs.Levels.{at_of}
 use Rattle.maple_node.specs.Trees.{tree_of, IsLayout}
 use Rattle.maple_node.proofs.Trees.{root-once}
 use Rattle.node_slots.specs.declared.view.ShownTree.{ShownTree}
+use Rattle.node_slots.specs.declared.note.Note.{Note}
 use Rattle.node_slots.specs.declared.seats.NodeWriter.{NodeWriter}
 use Rattle.node_slots.specs.Trees.{shown_rows}
 use Rattle.node_slots.specs.Plays.{RowsExist}
-use Rattle.node_slots.specs.Kept.{times_gone, first_at}
+use Rattle.node_slots.specs.Kept.{times_gone, firsts_of, first_at}
 use Rattle.node_slots.specs.Seats.{sight, desk, is_kept, is_taken, is_present, ReachesNewRows}
 use Rattle.node_slots.proofs.Counting.{times_first}
-use Rattle.node_slots.proofs.Seating.{read_any}
+use Rattle.node_slots.proofs.Notes.{read_first}
 use Rattle.node_slots.proofs.Listing.{kept_parts, kept_from, taken_parts}
 
 -- a row that is neither free nor left
@@ -24,11 +26,12 @@ writer_kept writer row is =
     (subst (λ s. row < s.rows) writer.desk.kept.size_is parts.0, parts.1)
 
 -- and the first tree that may have it, as it was read
-pub writer_first : (writer : NodeWriter) (row found : ℕ) → is_kept writer row ≡ true → found ≡ get_or writer.firsts.items row found
-    → first_at writer.firsts.items row ≡ found
+pub writer_first : (writer : NodeWriter) (row : ℕ) (found : Note) → is_kept writer row ≡ true → found ≡ get_or writer.notes.items row found
+    → first_at (firsts_of writer.notes.items) row ≡ found.first
 writer_first writer row found is read =
     let kept = writer_kept writer row is in
-    sym (read ∙ read_any writer.firsts.items row found 0 (omega (arith, kept.0, writer.rows.sized)))
+    let long = length-map writer.notes.items (λ (n : Note). n.first) in
+    read_first writer.notes.items row found (omega (arith, kept.0, writer.rows.sized, long)) read
 
 -- a row that was taken
 pub writer_taken : (writer : NodeWriter) (row : ℕ) → is_taken writer row ≡ true

@@ -12,6 +12,7 @@ use Rattle.node_slots.specs.declared.view.NodeSeatKind.TheVariants.{Reads, Write
 use Rattle.node_slots.specs.declared.view.ShownTree.{ShownTree}
 use Rattle.node_slots.specs.declared.view.NodeView.{NodeView}
 use Rattle.node_slots.specs.declared.left.Left.{Left}
+use Rattle.node_slots.specs.declared.note.Note.{Note}
 use Rattle.node_slots.specs.Trees.{empty_row}
 use Rattle.node_slots.specs.Places.{word_count}
 use Rattle.node_slots.specs.Plays.{RowsExist}
@@ -78,6 +79,10 @@ no_left = record { row = record { 0 = 0 }; since = 0 }
 -- the row that was left at a place of the queue
 abbrev pub left_at : List Left → ℕ → Left
 left_at left place = slice_index_or left place no_left
+
+-- the first trees that may have the rows, as the writer remembers them
+abbrev pub firsts_of : List Note → List ℕ
+firsts_of notes = map (λ note. note.first) notes
 
 -- the first tree that may have a row
 abbrev pub first_at : List ℕ → ℕ → ℕ

@@ -38,6 +38,10 @@ pub record SitsAt (seat : NodeWriterSeat) (table : NodeTable) : Type 0 where
 abbrev pub Writes : NodeWriter → NodeTable → Type 0
 Writes writer table = SitsAt writer.desk table
 
+-- a writer is still of the table that it was of
+abbrev pub StaysAt : NodeWriter → NodeWriter → Type 0
+StaysAt old new = (nodes : NodeTable) → Writes old nodes → Writes new nodes
+
 -- what a reader knows
 abbrev pub view : NodeSeat → NodeView
 view seat = seat.seat.me.0

@@ -5,6 +5,7 @@
 
 mod first_words;
 mod left;
+mod note;
 mod opening;
 mod reading;
 mod rows;

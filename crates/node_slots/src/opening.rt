@@ -11,8 +11,9 @@ ghost use Rattle.node_slots.specs.Opening.{IsFreeFrom};
 ghost use Rattle.node_slots.specs.Seats.{size_of, IsOf, Writes, view, sight, free_of, left_of};
 
 use crate::first_words::{FirstWords, word_count};
+use crate::note::Note;
 use crate::rule::NewReader;
-use crate::seats::{Hint, NodeSeat, NodeTable, NodeWriter, NodeWriterSeat};
+use crate::seats::{NodeSeat, NodeTable, NodeWriter, NodeWriterSeat};
 use crate::view::Size;
 use atomic_table::Table;
 use grace_core::Clearing;
@@ -38,7 +39,8 @@ const NEW_CLEARING: Clearing = Clearing {
 };
 
 /// What is remembered of a row that was never taken.
-const NO_HINT: Hint = Hint {
+const NO_NOTE: Note = Note {
+    first: 0,
     twin: Row(0),
     spot: 0,
 };
@@ -134,8 +136,7 @@ fn open(alloc: Global, words: FirstWords, size: Size) -> Result<(NodeTable, Node
         desk,
         free: first_free(alloc, size.rows)?,
         left: VecDeque::with_capacity(alloc, size.rows as usize)?,
-        firsts: vec![in alloc; 0; size.rows as usize]?,
-        hints: vec![in alloc; NO_HINT; size.rows as usize]?,
+        notes: vec![in alloc; NO_NOTE; size.rows as usize]?,
         fresh: (size.rows - 1) as usize,
         spares: 0,
     };

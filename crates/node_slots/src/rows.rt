@@ -7,7 +7,8 @@ ghost use Rattle.maple_node.specs.Trees.{tree_of, IsLayout};
 ghost use Rattle.node_slots.specs.Trees.{shown_rows};
 ghost use Rattle.node_slots.specs.Views.{fill_at, publish_at, scan_from};
 ghost use Rattle.node_slots.specs.Kept.{left_at};
-ghost use Rattle.node_slots.specs.Seats.{size_of, Writes, sight, desk, row_count, free_of, left_of, is_present, is_waiting, is_kept, is_taken, count_of, next_root, next_shown, pins_of, AreOut, ReachesNewRows};
+ghost use Rattle.node_slots.specs.Built.{words_at};
+ghost use Rattle.node_slots.specs.Seats.{size_of, Writes, StaysAt, sight, desk, row_count, free_of, left_of, is_present, is_waiting, is_kept, is_taken, count_of, next_root, next_shown, pins_of, AreOut, ReachesNewRows};
 
 use crate::first_words::ROW;
 use crate::left::Left;
@@ -32,10 +33,7 @@ impl NodeTable {
         ensures left { left_of writer.new ≡ left_of writer.old }
         ensures view { sight writer.new ≡ sight writer.old }
     {
-        let row = writer.free.pop_back()?;
-        writer.fresh = writer.fresh.min(writer.free.len());
-        writer.firsts[row.0 as usize] = writer.desk.root.tree + 1;
-        Some(row)
+        writer.take_last()
     }
 
     /// Takes a row for the next version of the node in a row: that row itself, if it was left and is free, or the row that held the
@@ -50,14 +48,7 @@ impl NodeTable {
         ensures left { left_of writer.new ≡ left_of writer.old }
         ensures view { sight writer.new ≡ sight writer.old }
     {
-        writer.choose_for(old);
-        match self.take_row(writer) {
-            None => None,
-            Some(row) => {
-                note_twin(&mut writer.hints, row, old);
-                Some(row)
-            }
-        }
+        writer.take_row_for(old)
     }
 
     /// Stores the words of a row that was taken and is not published.
@@ -68,7 +59,7 @@ impl NodeTable {
         ensures view { sight writer.new ≡ fill_at (sight writer.old) row.0 words.now }
         ensures lists { (free_of writer.new ≡ free_of writer.old) × (left_of writer.new ≡ left_of writer.old) }
     {
-        self.fill_row(&mut writer.desk, row, words);
+        writer.fill(row, words);
     }
 
     /// Leaves a row of the present tree, or one that was taken and is not published, and that was not left since. A row of the
@@ -81,14 +72,7 @@ impl NodeTable {
         ensures free { free_of writer.new ≡ (if is_present writer.old row.0 then free_of writer.old else free_of writer.old ++ row.0 ∷ []) }
         ensures left { left_of writer.new ≡ (if is_present writer.old row.0 then left_of writer.old ++ row.0 ∷ [] else left_of writer.old) }
     {
-        let next = writer.desk.root.tree + 1;
-        if writer.firsts[row.0 as usize] < next {
-            writer.left.push_back_reserved(Left { row, since: next });
-        } else {
-            let spot = writer.free.len();
-            note_spot(&mut writer.hints, row, spot);
-            writer.free.push_back_reserved(row);
-        }
+        writer.leave(row);
     }
 
     /// Publishes a tree by its root and height: it is the present one, with the next number. Its rows are those of the present
@@ -153,10 +137,7 @@ impl NodeTable {
         ensures steps { steps.new ≡ steps.old + 1 }
     {
         steps.tick();
-        match writer.desk.words.get(row.0 as usize) {
-            Some(words) => words,
-            None => &EMPTY_ROW,
-        }
+        writer.row_words(row)
     }
 
     /// The greatest tree, at most the present one, such that no row waits that left at its publish or before.
@@ -183,6 +164,79 @@ impl NodeWriter {
             table: Arc::try_clone(&self.desk.table.table)?,
             size: self.desk.table.size,
         })
+    }
+
+    /// The words that the writer's table has in a row.
+    pub fn row_words(&self, row: Row) -> &[u64; 32]
+        requires row { row.0 < row_count self.now }
+        ensures { result.now ≡ words_at self.now row.0 }
+    {
+        match self.desk.words.get(row.0 as usize) {
+            Some(words) => words,
+            None => &EMPTY_ROW,
+        }
+    }
+
+    /// Takes the last row of the free list. None exactly where the list is empty.
+    fn take_last(&mut self) -> Option<Row>
+        ensures table { StaysAt self.old self.new }
+        ensures free { MatchOption result ((free_of self.old ≡ []) × (free_of self.new ≡ []))
+            (λ row. free_of self.old ≡ free_of self.new ++ row.0 ∷ []) }
+        ensures taken { IfSome result (λ row. is_taken self.new row.0 ≡ true) }
+        ensures left { left_of self.new ≡ left_of self.old }
+        ensures view { sight self.new ≡ sight self.old }
+    {
+        let row = self.free.pop_back()?;
+        self.fresh = self.fresh.min(self.free.len());
+        self.notes[row.0 as usize].first = self.desk.root.tree + 1;
+        Some(row)
+    }
+
+    /// Takes a row for the next version of the node in a row, as `NodeTable::take_row_for` does.
+    pub fn take_row_for(&mut self, old: Row) -> Option<Row>
+        ensures table { StaysAt self.old self.new }
+        ensures free { MatchOption result ((free_of self.old ≡ []) × (free_of self.new ≡ []))
+            (λ row. IsPermutation (free_of self.old) (row.0 ∷ free_of self.new)) }
+        ensures taken { IfSome result (λ row. is_taken self.new row.0 ≡ true) }
+        ensures left { left_of self.new ≡ left_of self.old }
+        ensures view { sight self.new ≡ sight self.old }
+    {
+        self.choose_for(old);
+        match self.take_last() {
+            None => None,
+            Some(row) => {
+                note_twin(&mut self.notes, row, old);
+                Some(row)
+            }
+        }
+    }
+
+    /// Stores the words of a row that was taken and is not published.
+    pub fn fill(&mut self, row: Row, words: &[u64; 32])
+        requires taken { is_taken self.old row.0 ≡ true }
+        ensures table { StaysAt self.old self.new }
+        ensures view { sight self.new ≡ fill_at (sight self.old) row.0 words.now }
+        ensures lists { (free_of self.new ≡ free_of self.old) × (left_of self.new ≡ left_of self.old) }
+    {
+        self.desk.fill_row(row, words);
+    }
+
+    /// Leaves a row of the present tree, or one that was taken and is not published, as `NodeTable::leave` does.
+    pub fn leave(&mut self, row: Row)
+        requires kept { is_kept self.old row.0 ≡ true }
+        ensures table { StaysAt self.old self.new }
+        ensures view { sight self.new ≡ sight self.old }
+        ensures free { free_of self.new ≡ (if is_present self.old row.0 then free_of self.old else free_of self.old ++ row.0 ∷ []) }
+        ensures left { left_of self.new ≡ (if is_present self.old row.0 then left_of self.old ++ row.0 ∷ [] else left_of self.old) }
+    {
+        let next = self.desk.root.tree + 1;
+        if self.notes[row.0 as usize].first < next {
+            self.left.push_back_reserved(Left { row, since: next });
+        } else {
+            let spot = self.free.len();
+            note_spot(&mut self.notes, row, spot);
+            self.free.push_back_reserved(row);
+        }
     }
 
     /// Frees the rows that were left out by this tree or one before it, and answers how many.
@@ -215,7 +269,7 @@ impl NodeWriter {
         }
         let first = self.left.pop_front().unwrap();
         let spot = self.free.len();
-        note_spot(&mut self.hints, first.row, spot);
+        note_spot(&mut self.notes, first.row, spot);
         self.free.push_back_reserved(first.row);
         true
     }

@@ -1,9 +1,10 @@
 ghost use Rattle.std.specs.Arc.{arc_value};
 ghost use Rattle.std.specs.Prelude.{◌≡◌, ◌≤◌, length, vec_capacity};
 ghost use Rattle.std.specs.VecDeque.{deque_capacity};
-ghost use Rattle.node_slots.specs.Kept.{IsSized, ReaderKept, WriterKept, RowsKept, with_empty};
+ghost use Rattle.node_slots.specs.Kept.{IsSized, ReaderKept, WriterKept, RowsKept, firsts_of, with_empty};
 
 use crate::left::Left;
+use crate::note::Note;
 use crate::rule::GraceRule;
 use crate::view::{NodeView, Size};
 use atomic_table::{Seat, Table};
@@ -49,16 +50,6 @@ pub struct NodeWriterSeat {
     pub ghost table_is: { seat.table_id ≡ (arc_value table.table).shared.table_id },
 }
 
-/// What the writer remembers of a row, so that a node's next version goes to a row that holds nearly the same words. No clause
-/// rests on it.
-#[derive(Clone, Copy, Debug, PartialEq, Eq)]
-pub(crate) struct Hint {
-    /// The row that it was taken for.
-    pub(crate) twin: Row,
-    /// Where it came to stand in the free list last.
-    pub(crate) spot: usize,
-}
-
 /// The one writer of a table. It knows which rows are free, which were left, and which are of the present tree.
 #[derive(Drop)]
 pub struct NodeWriter {
@@ -66,15 +57,13 @@ pub struct NodeWriter {
     pub(crate) free: VecDeque<Row>,
     /// The rows that were left and are not free again, in the order of the trees that leave them out.
     pub(crate) left: VecDeque<Left>,
-    /// For each row the first tree that may have it.
-    pub(crate) firsts: Vec<u64>,
-    /// For each row what is remembered of it.
-    pub(crate) hints: Vec<Hint>,
+    /// For each row what is remembered of it, in one place, since each store touches all of it.
+    pub(crate) notes: Vec<Note>,
     /// How many rows at the front of the free list are fresh: they were not taken yet. No clause rests on it.
     pub(crate) fresh: usize,
     /// How often another row than a fresh one was taken for a node that had none.
     pub(crate) spares: usize,
-    pub ghost rows: { RowsKept desk.table.size.rows free.items left.items firsts.items desk.seat.me.0.known.desk },
+    pub ghost rows: { RowsKept desk.table.size.rows free.items left.items (firsts_of notes.items) desk.seat.me.0.known.desk },
     pub ghost free_room: { desk.table.size.rows ≤ deque_capacity free },
     pub ghost left_room: { desk.table.size.rows ≤ deque_capacity left },
 }

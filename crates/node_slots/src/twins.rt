@@ -1,35 +1,45 @@
 //! Which free row is taken for the next version of a node. Nothing rests on what is remembered for it: a place of the free list is
 //! used only where the row that is looked for stands there, or where any free row will do.
 
-ghost use Rattle.std.specs.Prelude.{◌≡◌, ◌<◌, true, IfSome};
+ghost use Rattle.std.specs.Prelude.{◌≡◌, ◌<◌, ◌^◌, true, IfSome};
 ghost use Rattle.std.specs.List.Sorted.{IsPermutation};
 ghost use Rattle.std.specs.VecDeque.{deque_len};
+ghost use Rattle.node_slots.specs.Kept.{firsts_of};
 ghost use Rattle.node_slots.specs.Seats.{free_of, left_of};
 
-use crate::seats::{Hint, NodeWriter};
+use crate::note::Note;
+use crate::seats::NodeWriter;
 use mm_types::Row;
 
 /// Remembers where a row comes into the free list.
-pub(crate) fn note_spot(hints: &mut Vec<Hint>, row: Row, spot: usize) {
-    if let Some(hint) = hints.get_mut(row.0 as usize) {
-        hint.spot = spot;
+pub(crate) fn note_spot(notes: &mut Vec<Note>, row: Row, spot: usize)
+    requires { spot < 2 ^ 32 }
+    ensures { firsts_of notes.new.items ≡ firsts_of notes.old.items }
+{
+    if let Some(note) = notes.get_mut(row.0 as usize) {
+        note.spot = spot as u32;
     }
 }
 
 /// Remembers where the row that is last in the free list comes to stand.
-fn note_moved(hints: &mut Vec<Hint>, last: Option<&Row>, spot: usize) {
+fn note_moved(notes: &mut Vec<Note>, last: Option<&Row>, spot: usize)
+    requires { spot < 2 ^ 32 }
+    ensures { firsts_of notes.new.items ≡ firsts_of notes.old.items }
+{
     if let Some(row) = last {
-        note_spot(hints, *row, spot);
+        note_spot(notes, *row, spot);
     }
 }
 
 /// Remembers which row a row was taken for, if it was another one.
-pub(crate) fn note_twin(hints: &mut Vec<Hint>, row: Row, twin: Row) {
+pub(crate) fn note_twin(notes: &mut Vec<Note>, row: Row, twin: Row)
+    ensures { firsts_of notes.new.items ≡ firsts_of notes.old.items }
+{
     if row == twin {
         return;
     }
-    if let Some(hint) = hints.get_mut(row.0 as usize) {
-        hint.twin = twin;
+    if let Some(note) = notes.get_mut(row.0 as usize) {
+        note.twin = twin;
     }
 }
 
@@ -44,7 +54,7 @@ impl NodeWriter {
     fn spot_of(&self, row: Row) -> Option<usize>
         ensures { IfSome result (λ spot. spot < deque_len self.now.free) }
     {
-        let place = self.hints.get(row.0 as usize)?.spot;
+        let place = self.notes.get(row.0 as usize)?.spot as usize;
         let found = *self.free.get(place)?;
         if found == row { Some(place) } else { None }
     }
@@ -53,7 +63,7 @@ impl NodeWriter {
     fn twin_spot(&self, row: Row) -> Option<usize>
         ensures { IfSome result (λ spot. spot < deque_len self.now.free) }
     {
-        let twin = self.hints.get(row.0 as usize)?.twin;
+        let twin = self.notes.get(row.0 as usize)?.twin;
         self.spot_of(twin)
     }
 
@@ -76,7 +86,7 @@ impl NodeWriter {
         ensures free { IsPermutation (free_of self.old) (free_of self.new) }
     {
         let last = self.free.len() - 1;
-        note_moved(&mut self.hints, self.free.back(), place);
+        note_moved(&mut self.notes, self.free.back(), place);
         self.free.swap(place, last);
     }
 
@@ -86,7 +96,7 @@ impl NodeWriter {
         ensures { result ≡ true → 0 < self.now.fresh }
     {
         let free = self.free.len();
-        let used = self.firsts.len().saturating_sub(free);
+        let used = self.notes.len().saturating_sub(free);
         let taken_before = free.saturating_sub(self.fresh);
         0 < self.fresh && taken_before / 2 < used.saturating_add(SPARE_PAIRS)
     }

@@ -24,39 +24,36 @@ fn add_empty(words: &mut Vec<[u64; 32]>, count: usize)
     }
 }
 
-impl NodeTable {
+impl NodeWriterSeat {
     /// Stores a word of a free row, where the table does not have it there already.
-    fn store_word(&self, seat: &mut NodeWriterSeat, row: Row, place: usize, word: u64)
-        requires table { SitsAt seat.old self.now }
-        requires row { row.0 < length seat.old.words.items }
+    fn store_word(&mut self, row: Row, place: usize, word: u64)
+        requires row { row.0 < length self.old.words.items }
         requires place { place < 32 }
-        requires free { is_free (seat_sight seat.old).known.desk row.0 ≡ true }
-        ensures table { SitsAt seat.new self.now }
-        ensures view { seat_sight seat.new ≡ store_at (seat_sight seat.old) row.0 place word }
-        ensures same { seat.new.table ≡ seat.old.table }
-        ensures count { length seat.new.words.items ≡ length seat.old.words.items }
+        requires free { is_free (seat_sight self.old).known.desk row.0 ≡ true }
+        ensures view { seat_sight self.new ≡ store_at (seat_sight self.old) row.0 place word }
+        ensures same { self.new.table ≡ self.old.table }
+        ensures count { length self.new.words.items ≡ length self.old.words.items }
     {
-        let words = &mut seat.words[row.0 as usize];
+        let words = &mut self.words[row.0 as usize];
         if words[place] == word {
             return;
         }
         words[place] = word;
-        let at = (self.size.readers as usize + 1) * 8 + row.0 as usize * 32 + place;
-        self.table.shared.store::<Stored>(&mut seat.seat, at, word);
+        let nodes = &self.table;
+        let at = (nodes.size.readers as usize + 1) * 8 + row.0 as usize * 32 + place;
+        nodes.table.shared.store::<Stored>(&mut self.seat, at, word);
     }
 
     /// Stores four words of a free row from a place on. Most often the table has all of them there already.
-    fn store_four(&self, seat: &mut NodeWriterSeat, row: Row, place: usize, words: &[u64; 32])
-        requires table { SitsAt seat.old self.now }
-        requires row { row.0 < length seat.old.words.items }
+    fn store_four(&mut self, row: Row, place: usize, words: &[u64; 32])
+        requires row { row.0 < length self.old.words.items }
         requires place { place + 4 ≤ 32 }
-        requires free { is_free (seat_sight seat.old).known.desk row.0 ≡ true }
-        ensures table { SitsAt seat.new self.now }
-        ensures view { seat_sight seat.new ≡ store_four_at (seat_sight seat.old) row.0 place words.now }
-        ensures same { seat.new.table ≡ seat.old.table }
-        ensures count { length seat.new.words.items ≡ length seat.old.words.items }
+        requires free { is_free (seat_sight self.old).known.desk row.0 ≡ true }
+        ensures view { seat_sight self.new ≡ store_four_at (seat_sight self.old) row.0 place words.now }
+        ensures same { self.new.table ≡ self.old.table }
+        ensures count { length self.new.words.items ≡ length self.old.words.items }
     {
-        let old = &seat.words[row.0 as usize];
+        let old = &self.words[row.0 as usize];
         if old[place] == words[place]
             && old[place + 1] == words[place + 1]
             && old[place + 2] == words[place + 2]
@@ -64,27 +61,27 @@ impl NodeTable {
         {
             return;
         }
-        self.store_word(seat, row, place, words[place]);
-        self.store_word(seat, row, place + 1, words[place + 1]);
-        self.store_word(seat, row, place + 2, words[place + 2]);
-        self.store_word(seat, row, place + 3, words[place + 3]);
+        self.store_word(row, place, words[place]);
+        self.store_word(row, place + 1, words[place + 1]);
+        self.store_word(row, place + 2, words[place + 2]);
+        self.store_word(row, place + 3, words[place + 3]);
     }
 
     /// Stores the words of a free row.
-    pub(crate) fn fill_row(&self, seat: &mut NodeWriterSeat, row: Row, words: &[u64; 32])
-        requires table { SitsAt seat.old self.now }
-        requires row { row.0 < seat.old.table.size.rows }
-        requires free { is_free (seat_sight seat.old).known.desk row.0 ≡ true }
-        ensures table { SitsAt seat.new self.now }
-        ensures view { seat_sight seat.new ≡ fill_at (seat_sight seat.old) row.0 words.now }
-        ensures same { seat.new.table ≡ seat.old.table }
+    pub(crate) fn fill_row(&mut self, row: Row, words: &[u64; 32])
+        requires row { row.0 < self.old.table.size.rows }
+        requires free { is_free (seat_sight self.old).known.desk row.0 ≡ true }
+        ensures view { seat_sight self.new ≡ fill_at (seat_sight self.old) row.0 words.now }
+        ensures same { self.new.table ≡ self.old.table }
     {
-        add_empty(&mut seat.words, row.0 as usize + 1);
+        add_empty(&mut self.words, row.0 as usize + 1);
         for part in 0..8 {
-            self.store_four(seat, row, 4 * part, words);
+            self.store_four(row, 4 * part, words);
         }
     }
+}
 
+impl NodeTable {
     /// Stores a root word: its tree is the present one.
     pub(crate) fn publish_root(&self, seat: &mut NodeWriterSeat, root: Root)
         requires table { SitsAt seat.old self.now }

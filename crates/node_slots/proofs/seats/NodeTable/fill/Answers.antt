@@ -1,28 +1,5 @@
--- For `fill`: the row is free by the grace protocol, and the lists keep what they keep.
-use Rattle.std.proofs.Common.{ap, arith}
-use Rattle.node_slots.specs.Seats.{sight, desk}
-use Rattle.node_slots.proofs.Listing.{taken_free, fill_lists}
-use Rattle.node_slots.proofs.Writers.{writer_taken}
+-- For `fill`: the writer is still of this table.
 use Rattle.node_slots.proofs.seats.NodeTable.fill.Goals as goal
 
-pub fill_row-requires-clause-row : goal.fill_row-requires-clause-row
-fill_row-requires-clause-row c = (writer_taken c.args.writer.now c.args.row.0 c.requires.taken).0
-
-pub fill_row-requires-clause-free : goal.fill_row-requires-clause-free
-fill_row-requires-clause-free c =
-    let writer = c.args.writer.now in
-    let taken = writer_taken writer c.args.row.0 c.requires.taken in
-    taken_free writer.desk.table.size.rows c.args.row.0 writer.free.items writer.left.items writer.firsts.items (desk writer) writer.rows taken.0
-    taken.1 taken.2
-
-pub invariant_of-writer : goal.invariant_of-writer
-invariant_of-writer c =
-    let writer = c.args.writer.now in
-    let size = ap (λ t. t.size.rows) c.fill_row.ensures.same in
-    record {
-      rows = rw c.fill_row.ensures.same (rw c.fill_row.ensures.view
-          (fill_lists writer.desk.table.size.rows c.args.row.0 c.args.words.now writer.free.items writer.left.items writer.firsts.items (sight writer)
-          writer.rows));
-      free_room = omega (arith, writer.free_room, size);
-      left_room = omega (arith, writer.left_room, size);
-    }
+pub returns-clause-table : goal.returns-clause-table
+returns-clause-table c = c.fill.ensures.table c.args.self.now c.requires.table

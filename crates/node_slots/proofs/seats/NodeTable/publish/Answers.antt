@@ -5,6 +5,7 @@ use Rattle.node_slots.specs.Trees.{shown_rows}
 use Rattle.node_slots.specs.Plays.{RowsExist}
 use Rattle.node_slots.specs.Views.{named_tree}
 use Rattle.node_slots.specs.Seats.{sight, desk, next_shown, ReachesNewRows}
+use Rattle.node_slots.specs.Kept.{firsts_of}
 use Rattle.node_slots.proofs.Listing.{publish_lists}
 use Rattle.node_slots.proofs.Writers.{new_not_gone, new_all, new_exist, root_within}
 use Rattle.node_slots.proofs.seats.NodeTable.publish.Goals as goal
@@ -37,7 +38,7 @@ invariant_of-writer c =
     record {
       rows = rw c.publish_root.ensures.same (rw c.publish_root.ensures.view
           (publish_lists writer.desk.table.size.rows (writer.desk.root.tree + 1) (shown_rows shown) writer.free.items writer.left.items
-          writer.firsts.items (desk writer)
+          (firsts_of writer.notes.items) (desk writer)
           writer.rows (ap (λ n. n + 1) (sym number)) writer.desk.kept.since (new_not_gone writer shown reaches) (new_all writer shown reaches)));
       free_room = omega (arith, writer.free_room, size);
       left_room = omega (arith, writer.left_room, size);

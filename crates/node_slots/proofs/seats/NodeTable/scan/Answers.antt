@@ -8,6 +8,7 @@ use Rattle.grace_core.proofs.Clearings.{least_number}
 use Rattle.node_slots.specs.declared.seats.NodeWriterSeat.{NodeWriterSeat}
 use Rattle.node_slots.specs.Seats.{seat_sight, sight, desk}
 use Rattle.node_slots.specs.Seats.{is_waiting, AreOut}
+use Rattle.node_slots.specs.Kept.{firsts_of}
 use Rattle.node_slots.proofs.Gone.{scanned_least}
 use Rattle.node_slots.proofs.Listing.{scans_lists, waiting_past}
 use Rattle.node_slots.proofs.seats.NodeTable.scan.Goals as goal
@@ -19,7 +20,7 @@ invariant_of-writer c =
     let size = ap (λ t. t.size.rows) c.scan_pins.ensures.same in
     record {
       rows = rw c.scan_pins.ensures.same (rw told.2
-          (scans_lists writer.desk.table.size.rows 0 told.0 writer.free.items writer.left.items writer.firsts.items (sight writer) writer.rows));
+          (scans_lists writer.desk.table.size.rows 0 told.0 writer.free.items writer.left.items (firsts_of writer.notes.items) (sight writer) writer.rows));
       free_room = omega (arith, writer.free_room, size);
       left_room = omega (arith, writer.left_room, size);
     }
@@ -73,7 +74,7 @@ returns-clause-gone c =
           (omega (arith, told.1, after, seat.kept.readers, size, old.desk.kept.readers, same))
           (subst (λ (s : NodeWriterSeat). AreOut (map (λ (found : Clearing). found.pin) (seat_sight s).known.desk.clearings)) c.free_passed.ensures.desk out) in
           let later = c.free_passed.ensures.rest row waits in
-          let past = waiting_past writer.desk.table.size.rows writer.free.items writer.left.items writer.firsts.items (desk writer) writer.rows row waits in
+          let past = waiting_past writer.desk.table.size.rows writer.free.items writer.left.items (firsts_of writer.notes.items) (desk writer) writer.rows row waits in
           absurd (omega (arith, all, later, past, is, known, number))
       | inr free ↦ free
     ]

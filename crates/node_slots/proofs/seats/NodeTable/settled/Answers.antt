@@ -1,7 +1,7 @@
 -- For `settled`: the first of the queue left first.
 use Rattle.std.proofs.Common.{◌≡◌, ◌<◌, ◌-◌, ◌∙◌, length, refl, ap, arith}
 use Rattle.node_slots.specs.declared.left.Left.{Left}
-use Rattle.node_slots.specs.Kept.{left_at, no_left}
+use Rattle.node_slots.specs.Kept.{left_at, no_left, firsts_of}
 use Rattle.node_slots.specs.Seats.{desk}
 use Rattle.node_slots.proofs.Seating.{read_any}
 use Rattle.node_slots.proofs.Listing.{waiting_after, settled_greatest}
@@ -21,7 +21,7 @@ returns-in-Some-clause-none c =
     let some : 0 < length writer.left.items = omega (arith, c.in-Some.ensures.variant.0 refl, writer.left.ok) in
     let first : c.in-Some.first.now ≡ left_at writer.left.items 0 = c.in-Some.ensures.lookup
     ∙ read_any writer.left.items 0 c.in-Some.first.now no_left some in
-    waiting_after writer.desk.table.size.rows (c.in-Some.first.now.since - 1) writer.free.items writer.left.items writer.firsts.items (desk writer)
+    waiting_after writer.desk.table.size.rows (c.in-Some.first.now.since - 1) writer.free.items writer.left.items (firsts_of writer.notes.items) (desk writer)
     writer.rows
     (λ _. omega (arith, ap (λ (l : Left). l.since) first, (writer.rows.queue 0 some).some))
 
@@ -32,6 +32,6 @@ returns-in-Some-clause-greatest c =
     let first : c.in-Some.first.now ≡ left_at writer.left.items 0 = c.in-Some.ensures.lookup
     ∙ read_any writer.left.items 0 c.in-Some.first.now no_left some in
     λ tree below each.
-    let less = settled_greatest writer.desk.table.size.rows tree writer.free.items writer.left.items writer.firsts.items (desk writer) writer.rows
+    let less = settled_greatest writer.desk.table.size.rows tree writer.free.items writer.left.items (firsts_of writer.notes.items) (desk writer) writer.rows
     some below each in
     omega (arith, less, ap (λ (l : Left). l.since) first)

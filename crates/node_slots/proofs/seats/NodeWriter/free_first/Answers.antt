@@ -4,7 +4,7 @@ use Rattle.std.specs.Option.{option_to_list}
 use Rattle.std.proofs.lemmas.List.{map-append}
 use Rattle.mm_types.specs.declared.slot.Row.{Row}
 use Rattle.node_slots.specs.declared.left.Left.{Left}
-use Rattle.node_slots.specs.Kept.{left_at, free_numbers, left_numbers, RowsKept}
+use Rattle.node_slots.specs.Kept.{left_at, free_numbers, left_numbers, RowsKept, firsts_of}
 use Rattle.node_slots.specs.Seats.{desk}
 use Rattle.node_slots.proofs.Listing.{waiting_after, passed_lists, gone_few}
 use Rattle.node_slots.proofs.seats.NodeWriter.free_first.Goals as goal
@@ -15,7 +15,7 @@ returns-then-not-has_passed-clause-rest c =
     λ _. (
       refl,
       refl,
-      waiting_after writer.desk.table.size.rows c.args.passed writer.free.items writer.left.items writer.firsts.items (desk writer) writer.rows
+      waiting_after writer.desk.table.size.rows c.args.passed writer.free.items writer.left.items (firsts_of writer.notes.items) (desk writer) writer.rows
           (c.has_passed.ensures.none c.if-not-has_passed.true),
     )
 
@@ -23,11 +23,17 @@ pub unwrap-first-requires : goal.unwrap-first-requires
 unwrap-first-requires c = c.pop_front.ensures.variant.1
     (omega (arith, (c.has_passed.ensures.some c.if-not-has_passed.false).0, c.args.self.now.left.ok))
 
+pub note_spot-requires : goal.note_spot-requires
+note_spot-requires c =
+    let writer = c.args.self.now in
+    let all = gone_few _ _ _ _ _ writer.rows in
+    omega (arith, all, c.len-spot.ensures, writer.free.ok, writer.desk.table.sized.fits.few_rows)
+
 pub push_back_reserved-requires : goal.push_back_reserved-requires
 push_back_reserved-requires c =
     let writer = c.args.self.now in
     let some = (c.has_passed.ensures.some c.if-not-has_passed.false).0 in
-    let all = gone_few writer.desk.table.size.rows writer.free.items writer.left.items writer.firsts.items (desk writer) writer.rows in
+    let all = gone_few writer.desk.table.size.rows writer.free.items writer.left.items (firsts_of writer.notes.items) (desk writer) writer.rows in
     omega (arith, all, some, writer.free_room, writer.free.ok)
 
 pub invariant_of-self : goal.invariant_of-self
@@ -39,10 +45,10 @@ invariant_of-self c =
     let some = c.has_passed.ensures.some c.if-not-has_passed.false in
     let first = ap (λ (l : List Left). (left_at l 0).since) items in
     record {
-      rows = rw c.push_back_reserved.ensures.items
-          (passed_lists writer.desk.table.size.rows one writer.free.items rest writer.firsts.items (desk writer)
-          (subst (λ (l : List Left). RowsKept writer.desk.table.size.rows writer.free.items l writer.firsts.items (desk writer)) items writer.rows)
-          (omega (arith, some.1, first, c.requires.passed.1)) (omega (arith, some.1, first, c.requires.passed.0)));
+      rows = rw c.note_spot.ensures (rw c.push_back_reserved.ensures.items
+          (passed_lists writer.desk.table.size.rows one writer.free.items rest (firsts_of writer.notes.items) (desk writer)
+          (subst (λ (l : List Left). RowsKept writer.desk.table.size.rows writer.free.items l (firsts_of writer.notes.items) (desk writer)) items writer.rows)
+          (omega (arith, some.1, first, c.requires.passed.1)) (omega (arith, some.1, first, c.requires.passed.0))));
       free_room = omega (arith, writer.free_room, c.push_back_reserved.ensures.capacity);
       left_room = omega (arith, writer.left_room, c.pop_front.ensures.capacity);
     }

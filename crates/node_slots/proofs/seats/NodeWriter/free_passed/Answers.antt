@@ -3,13 +3,14 @@ use Rattle.std.proofs.Common.{ℕ, ◌≡◌, ◌+◌, ◌∙◌, List, [], ◌�
 use Rattle.std.proofs.lemmas.List.{append_assoc, append-nil, length_push, length-append, length-map}
 use Rattle.node_slots.specs.declared.left.Left.{Left}
 use Rattle.node_slots.specs.Seats.{desk, free_of, left_of}
+use Rattle.node_slots.specs.Kept.{firsts_of}
 use Rattle.node_slots.proofs.Listing.{waiting_after, gone_few}
 use Rattle.node_slots.proofs.seats.NodeWriter.free_passed.Goals as goal
 
 pub overflow_cast-waiting : goal.overflow_cast-waiting
 overflow_cast-waiting c =
     let writer = c.args.self.now in
-    let all = gone_few writer.desk.table.size.rows writer.free.items writer.left.items writer.firsts.items (desk writer) writer.rows in
+    let all = gone_few writer.desk.table.size.rows writer.free.items writer.left.items (firsts_of writer.notes.items) (desk writer) writer.rows in
     omega (arith, all, c.len-waiting.ensures, writer.left.ok, writer.desk.table.sized.fits.few_rows)
 
 pub loop-count-init : goal.loop-count-init
@@ -55,7 +56,7 @@ returns-clause-rest c =
     ∙ length-append before.0 (left_of writer) in
     let old = length-map c.args.self.now.left.items (λ (l : Left). l.row.0) in
     let now = length-map writer.left.items (λ (l : Left). l.row.0) in
-    waiting_after writer.desk.table.size.rows c.args.passed writer.free.items writer.left.items writer.firsts.items (desk writer) writer.rows
+    waiting_after writer.desk.table.size.rows c.args.passed writer.free.items writer.left.items (firsts_of writer.notes.items) (desk writer) writer.rows
     (λ some. absurd (omega (
       arith,
       some,

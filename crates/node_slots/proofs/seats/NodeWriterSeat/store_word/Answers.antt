@@ -3,24 +3,23 @@ use Rattle.std.proofs.Common.{ℕ, ◌∙◌, List, ap, arith}
 use Rattle.std.proofs.lemmas.List.{length-set}
 use Rattle.node_slots.proofs.Storing.{store_owes}
 use Rattle.node_slots.proofs.Seating.{store_kept}
-use Rattle.node_slots.proofs.seats.NodeTable.store_word.Goals as goal
+use Rattle.node_slots.proofs.seats.NodeWriterSeat.store_word.Goals as goal
 
 pub store-requires : goal.store-requires
 store-requires c =
-    let kept = c.args.seat.now.kept in
-    let sized = c.args.self.now.sized in
-    let rows = ap (λ s. s.rows) c.requires.table.size_is in
-    let key = ap (λ s. s.rows) sized.size_is in
+    let kept = c.args.self.now.kept in
+    let sized = c.args.self.now.table.sized in
+    let rows = c.args.self.now.filled in
     rw c.deref.ensures (
-      c.requires.table.same,
+      c.args.self.now.table_is,
       omega (arith, sized.words_are, c.requires.row, rows, c.requires.place),
       store_owes _ _ _ _ _ _ _ _ sized.size_is kept.kind (omega (arith, c.requires.row, rows)) c.requires.place c.requires.free,
     )
 
-pub invariant_of-seat-2 : goal.invariant_of-seat-2
-invariant_of-seat-2 c =
-    let seat = c.args.seat.now in
-    let readers = ap (λ s. s.readers) (seat.kept.size_is ∙ c.requires.table.size_is) in
+pub invariant_of-self-2 : goal.invariant_of-self-2
+invariant_of-self-2 c =
+    let seat = c.args.self.now in
+    let readers = ap (λ s. s.readers) seat.kept.size_is in
     record {
       kept = store_kept _ _ _ _ _ _ _ _ _ _ seat.kept c.requires.row c.index_mut-words.ensures.value
           (c.store.ensures.2 c.args.row.0 c.args.place c.requires.place (omega (arith, readers)));

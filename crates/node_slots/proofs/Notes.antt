@@ -1,0 +1,23 @@
+-- For `note_spot`, `NodeTable::leave` and others: what the writer remembers of each row.
+use Rattle.std.proofs.Common.{ℕ, zero, suc, ◌≡◌, ◌<◌, ◌∙◌, refl, sym, ap, List, ◌∷◌, length, get_or, set, replicate}
+use Rattle.std.proofs.Math.Seq.{map-set_same}
+use Rattle.std.proofs.lemmas.List.{get_or-map}
+use Rattle.node_slots.specs.declared.note.Note.{Note}
+use Rattle.node_slots.specs.Kept.{firsts_of, first_at}
+
+-- a note with the same first tree in the place of another
+pub note_same : (notes : List Note) (row : ℕ) (old new : Note) → old ≡ get_or notes row old → new.first ≡ old.first
+    → firsts_of (set notes row new) ≡ firsts_of notes
+note_same notes row old new was same =
+    map-set_same (λ (n : Note). n.first) notes row new old (same ∙ ap (λ (n : Note). n.first) was)
+
+-- all notes are the same
+pub firsts_new : (count : ℕ) (note : Note) → firsts_of (replicate count note) ≡ replicate {A = ℕ} count note.first
+firsts_new zero note = refl
+firsts_new (suc count) note = ap (λ (l : List ℕ). note.first ∷ l) (firsts_new count note)
+
+-- the first tree of a note that was read
+pub read_first : (notes : List Note) (row : ℕ) (found : Note) → row < length notes → found ≡ get_or notes row found
+    → first_at (firsts_of notes) row ≡ found.first
+read_first notes row found within read =
+    get_or-map (λ (n : Note). n.first) notes row found 0 within ∙ ap (λ (n : Note). n.first) (sym read)
