@@ -12,7 +12,7 @@ use Rattle.maple_items.specs.declared.place.Place.{Place}
 use Rattle.maple_items.specs.Splices.{upto}
 use Rattle.maple_items.proofs.Lists.{upto-first, upto-later, item_at-first, item_at-later, upto_all, upto_none, upto_first, end_upto, item_at-left, item_at-right}
 use Rattle.maple_gap.specs.declared.branch.Branch.{Branch}
-use Rattle.maple_gap.specs.Internal.Searches.{IsUnder, IsBranch, IsPartOf, entries_under}
+use Rattle.maple_gap.specs.Internal.Searches.{IsUnder, with_gap, IsAnyBranch, IsPartOf, entries_under}
 use Rattle.maple_gap.proofs.Rows.{node_under}
 use Rattle.maple_gap.proofs.Under.{spread, spread_items, under-ascends, level_of-append, entries-down}
 
@@ -83,16 +83,17 @@ in_items at limit level start page (x ∷ xs) place all above is begins =
 -- the branch that was reached has the page
 pub record Reached (at : ℕ → List ℕ) (page : ℕ) (root branch : Branch) : Type 0 where
   pub limit : ℕ
-  pub under : IsUnder at limit branch.level branch.place.start branch.place.item
+  pub gap : ℕ
+  pub under : IsUnder at limit branch.level branch.place.start (with_gap gap branch.place.item)
   pub above : branch.place.start ≤ page
   pub within : page < branch.place.item.end
   pub found : item_at page (entries_under at root) ≡ item_at page (entries_under at branch)
   pub begins : end_of root.place.start (upto page (entries_under at root)) ≡ end_of branch.place.start (upto page (entries_under at branch))
 
-pub reach_root : (at : ℕ → List ℕ) (page : ℕ) (root : Branch) → IsBranch at root → root.place.start ≤ page → page < root.place.item.end
+pub reach_root : (at : ℕ → List ℕ) (page : ℕ) (root : Branch) → IsAnyBranch at root → root.place.start ≤ page → page < root.place.item.end
     → Reached at page root root
 reach_root at page root is above within =
-    record { limit = is.limit; under = is.under; above = above; within = within; found = refl; begins = refl }
+    record { limit = is.limit; gap = is.gap; under = is.under; above = above; within = within; found = refl; begins = refl }
 
 -- its items, which are those of a node
 pub record Inside (page start : ℕ) (items : List Item) : Type 0 where
@@ -100,17 +101,17 @@ pub record Inside (page start : ℕ) (items : List Item) : Type 0 where
   pub within : page < end_of start items
 
 pub reach_node : (at : ℕ → List ℕ) (page : ℕ) (root branch : Branch) (level : ℕ) → (reached : Reached at page root branch) → branch.level ≡ suc level
-    → IsNode at (is_leaf level) reached.limit branch.place.start branch.place.item
+    → IsNode at (is_leaf level) reached.limit branch.place.start (with_gap reached.gap branch.place.item)
 reach_node at page root branch level reached e =
-    node_under at reached.limit branch.level level branch.place.start branch.place.item e reached.under
+    node_under at reached.limit branch.level level branch.place.start (with_gap reached.gap branch.place.item) e reached.under
 
 pub inside : (at : ℕ → List ℕ) (page : ℕ) (root branch : Branch) (level : ℕ) (leaf : Bool) (items : List Item) → Reached at page root branch
     → branch.level ≡ suc level → leaf ≡ is_leaf level → items ≡ read at leaf branch.place.item.word → Inside page branch.place.start items
 inside at page root branch level leaf items reached e below are =
     let node = reach_node at page root branch level reached e in
-    let until = node.until in
-    let within = reached.within in
     let own = read at (is_leaf level) branch.place.item.word in
+    let until : end_of branch.place.start own ≡ branch.place.item.end = node.until in
+    let within = reached.within in
     let same : items ≡ own = are ∙ ap (λ (b : Bool). read at b branch.place.item.word) below in
     subst (λ (xs : List Item). Inside page branch.place.start xs) (sym same) (record { ascends = node.ascends; within = omega arith })
 
@@ -121,10 +122,13 @@ pub reach_down : (at : ℕ → List ℕ) (page : ℕ) (root branch : Branch) (le
     → Reached at page root (record { place = place; level = level })
 unfolding IsUnder
 reach_down at page root branch level leaf items place reached e below are is begins = from (opened reached.under) where
-  opened : IsUnder at reached.limit branch.level branch.place.start branch.place.item → IsUnder at reached.limit (suc level) branch.place.start branch.place.item
-  opened under = subst (λ (n : ℕ). IsUnder at reached.limit n branch.place.start branch.place.item) e under
+  item : Item
+  item = with_gap reached.gap branch.place.item
 
-  from : IsUnder at reached.limit (suc level) branch.place.start branch.place.item → Reached at page root (record { place = place; level = level })
+  opened : IsUnder at reached.limit branch.level branch.place.start item → IsUnder at reached.limit (suc level) branch.place.start item
+  opened under = subst (λ (n : ℕ). IsUnder at reached.limit n branch.place.start item) e under
+
+  from : IsUnder at reached.limit (suc level) branch.place.start item → Reached at page root (record { place = place; level = level })
   from under =
       let start = branch.place.start in
       let own = read at (is_leaf level) branch.place.item.word in
@@ -135,6 +139,7 @@ reach_down at page root branch level leaf items place reached e below are is beg
       (begins ∙ ap (λ (xs : List Item). end_of start (upto page xs)) same) in
       record {
         limit = reached.limit;
+        gap = place.item.gap;
         under = next.under;
         above = next.above;
         within = next.within;
@@ -191,7 +196,7 @@ pub record Around (at : ℕ → List ℕ) (page : ℕ) (root branch : Branch) : 
   pub here : Reached at page root branch
   pub others : (other : ℕ) → branch.place.start ≤ other → other < branch.place.item.end → Reached at other root branch
 
-pub around_root : (at : ℕ → List ℕ) (page : ℕ) (root : Branch) → IsBranch at root → root.place.start ≤ page → page < root.place.item.end
+pub around_root : (at : ℕ → List ℕ) (page : ℕ) (root : Branch) → IsAnyBranch at root → root.place.start ≤ page → page < root.place.item.end
     → Around at page root root
 around_root at page root is above within =
     record { here = reach_root at page root is above within; others = λ other low high. reach_root at other root is low high }

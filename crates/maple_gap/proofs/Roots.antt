@@ -1,4 +1,4 @@
--- For `root_of`: the whole tree as a branch.
+-- For `root_of` and `root_with_gap`: the whole tree as a branch.
 use Rattle.std.proofs.Common.{ℕ, zero, suc, ◌≡◌, ◌<◌, ◌≤◌, ◌+◌, ◌-◌, ◌^◌, Bool, true, false, List, [], ◌∷◌, ◌++◌, length, replicate, All, refl, sym, ap, subst, ◌∙◌, arith, inl, inr}
 use Rattle.std.specs.Prelude.{nat_eq}
 use Rattle.std.proofs.lemmas.Bool.{cases_lt}
@@ -7,7 +7,7 @@ use Rattle.std.proofs.lemmas.List.Elements.{All-weaker, All-cons, All-nil}
 use Rattle.maple_node.specs.declared.item.Item.{Item}
 use Rattle.maple_node.specs.Nodes.{leaf_items, Ascends, gap_of}
 use Rattle.maple_node.specs.Levels.{is_leaf, read, below, AllFrom, IsNode, level_of, IsTower}
-use Rattle.maple_node.specs.Trees.{pairs_from, entries_of}
+use Rattle.maple_node.specs.Trees.{pairs_from, entries_of, ApartFrom}
 use Rattle.maple_node.proofs.Trees.{limit_above}
 use Rattle.maple_node.proofs.Levels.{below-ascends}
 use Rattle.maple_items.proofs.Lists.{AllFrom-left, AllFrom-right}
@@ -16,8 +16,9 @@ use Rattle.node_slots.specs.declared.seats.NodeWriter.{NodeWriter}
 use Rattle.node_slots.specs.Seats.{sight, row_count}
 use Rattle.node_slots.specs.Built.{words_at, built, built_rows, IsBuilt, IsWriters}
 use Rattle.maple_gap.specs.declared.branch.Branch.{Branch}
-use Rattle.maple_gap.specs.Internal.Searches.{IsUnder, IsRootOf}
+use Rattle.maple_gap.specs.Internal.Searches.{IsUnder, IsBranch, with_gap, IsAnyBranch, IsRootOf}
 use Rattle.maple_gap.proofs.Rows.{node_there, node_under}
+use Rattle.maple_gap.proofs.Under.{entries_any}
 
 -- nodes, under each of which all is so
 split : (at : ℕ → List ℕ) (leaf : Bool) (limit : ℕ) (P : ℕ → Item → Type 0) (start : ℕ) (items : List Item) → AllFrom (IsNode at leaf limit) start items
@@ -53,22 +54,6 @@ few_words writer entries few =
     let bound = writer.desk.table.sized.few_slots in
     All-weaker (λ (entry : Item). entry.word ≤ (sight writer).size.slots) (λ (entry : Item). entry.word ≤ 2 ^ 32) (λ entry is. omega arith) entries few
 
--- the row of the root, as it is read
-pub record Root (writer : NodeWriter) (tree : View) : Type 0 where
-  pub leaf : nat_eq tree.height 1 ≡ is_leaf (tree.height - 1)
-  pub there : tree.root.0 < row_count writer
-  pub ascends : Ascends 0 (read (words_at writer) (is_leaf (tree.height - 1)) tree.root.0)
-
-one_less : (height : ℕ) → 1 ≤ height → nat_eq height 1 ≡ is_leaf (height - 1)
-one_less height tall = elim (cases_lt height 2) as (λ _. nat_eq height 1 ≡ nat_eq (height - 1) 0) [
-  | inl low ↦
-      let a : nat_eq height 1 ≡ true = grind (arith, nat_tests) in
-      let b : nat_eq (height - 1) 0 ≡ true = grind (arith, nat_tests) in a ∙ sym b
-  | inr high ↦
-      let a : nat_eq height 1 ≡ false = grind (arith, nat_tests) in
-      let b : nat_eq (height - 1) 0 ≡ false = grind (arith, nat_tests) in a ∙ sym b
-]
-
 -- the whole of a tree that was built is under its root
 top_under : (writer : NodeWriter) (tree : View) → IsBuilt writer tree
     → IsUnder (words_at writer) (built writer tree).top.end tree.height 0 (built writer tree).top
@@ -101,25 +86,14 @@ blank_entries at height top one none zeros =
     ∙ ap (λ (r : ℕ). read at true r ++ []) none
     ∙ ap (λ (xs : List Item). xs ++ []) (blank_at at zeros)
 
-pub root_is : (writer : NodeWriter) (tree : View) → IsWriters writer tree → Root writer tree
-root_is writer tree is = elim is as (λ _. Root writer tree) [
-  | inl made ↦
-      let node = top_node writer tree made in
-      record {
-        leaf = one_less tree.height made.layout.tall;
-        there = node_there writer (is_leaf (tree.height - 1)) (built writer tree).top.end 0 (built writer tree).top node;
-        ascends = node.ascends;
-      }
+-- the root lies in a row of the table
+pub root_there : (writer : NodeWriter) (tree : View) → IsWriters writer tree → tree.root.0 < row_count writer
+root_there writer tree is = elim is as (λ _. tree.root.0 < row_count writer) [
+  | inl made ↦ node_there writer (is_leaf (tree.height - 1)) (built writer tree).top.end 0 (built writer tree).top (top_node writer tree made)
   | inr blank ↦
-      let none = blank_tree (words_at writer) tree.height tree.root.0 blank.height blank.root blank.words in
-      let one = blank.height in
       let first = blank.root in
       let rows = blank.rows in
-      record {
-        leaf = one_less tree.height (omega arith);
-        there = omega arith;
-        ascends = subst (λ (xs : List Item). Ascends 0 xs) (sym none) tt;
-      }
+      omega arith
 ]
 
 -- a tree without entries is one gap
@@ -135,7 +109,7 @@ gap_root writer tree items is are none =
           let same = ap (λ (xs : List Item). length xs) are in
           absurd (omega arith)
       | inr blank ↦ record {
-        branch = record { limit = 0; under = blank.some };
+        branch = record { limit = 0; gap = 0; under = blank.some };
         begin = refl;
         limit = refl;
         low = omega arith;
@@ -146,33 +120,84 @@ gap_root writer tree items is are none =
     ]
 
 -- and another one is what its root lists
-pub whole_root : (writer : NodeWriter) (tree : View) (items : List Item) (row gap : ℕ) (leaf : Bool) → IsWriters writer tree
+pub whole_root : (writer : NodeWriter) (tree : View) (items : List Item) (row : ℕ) → IsWriters writer tree
     → items ≡ read (words_at writer) (is_leaf (tree.height - 1)) tree.root.0 → (length items ≡ 0 → ⊥) → row ≡ tree.root.0
-    → leaf ≡ is_leaf (tree.height - 1) → gap ≡ gap_of leaf 0 items
-    → IsRootOf writer tree (record { place = record { start = 0; item = record { end = tree.limit.0; word = row; gap = gap } }; level = tree.height })
-whole_root writer tree items row gap leaf is are some here below largest =
-    let Goal : Branch → Type 0 = λ b. IsRootOf writer tree b in
-    let own : Item = record { end = tree.limit.0; word = row; gap = gap } in
-    let top = (built writer tree).top in
-    elim is as (λ _. Goal (record { place = record { start = 0; item = own }; level = tree.height })) [
+    → IsRootOf writer tree (record { place = record { start = 0; item = record { end = tree.limit.0; word = row; gap = 0 } }; level = tree.height })
+whole_root writer tree items row is are some here =
+    let At : Item → Type 0 = λ x. IsRootOf writer tree (record { place = record { start = 0; item = x }; level = tree.height }) in
+    elim is as (λ _. At (record { end = tree.limit.0; word = row; gap = 0 })) [
       | inl made ↦
-          let end : tree.limit.0 ≡ top.end = sym made.limit in
-          let told : gap ≡ top.gap = largest ∙ ap (λ b. gap_of b 0 items) below ∙ ap (gap_of (is_leaf (tree.height - 1)) 0) are in
-          let From : ℕ → Item = λ e. record { end = e; word = top.word; gap = top.gap } in
-          let Told : ℕ → Item = λ w. record { end = tree.limit.0; word = w; gap = top.gap } in
-          let Of : ℕ → Item = λ g. record { end = tree.limit.0; word = row; gap = g } in
-          let same : top ≡ own = ap From (sym end) ∙ ap Told (sym here) ∙ ap Of (sym told) in
-          let At : Item → Type 0 = λ x. Goal (record { place = record { start = 0; item = x }; level = tree.height }) in
-          subst At same (record {
-            branch = record { limit = top.end; under = top_under writer tree made };
+          let at = words_at writer in
+          let top = (built writer tree).top in
+          let same = entries_any at tree.height 0 top made.layout.tall in
+          let From : ℕ → Item = λ e. record { end = e; word = top.word; gap = 0 } in
+          let Told : ℕ → Item = λ w. record { end = tree.limit.0; word = w; gap = 0 } in
+          subst At (ap From made.limit ∙ ap Told (sym here)) (record {
+            branch = record { limit = top.end; gap = top.gap; under = top_under writer tree made };
             begin = refl;
             limit = made.limit;
             low = omega arith;
-            apart = made.layout.apart;
-            numbered = few_words writer (entries_of (words_at writer) (built writer tree)) made.layout.numbered;
-            pairs = refl;
+            apart = subst (λ (es : List Item). ApartFrom 1 es) (sym same) made.layout.apart;
+            numbered = subst (λ (es : List Item). All (λ entry. entry.word ≤ 2 ^ 32) es) (sym same)
+                (few_words writer (entries_of at (built writer tree)) made.layout.numbered);
+            pairs = ap (pairs_from 0) same;
           })
       | inr blank ↦
           let none = blank_tree (words_at writer) tree.height tree.root.0 blank.height blank.root blank.words in
           absurd (some (ap (λ (xs : List Item). length xs) (are ∙ none)))
     ]
+
+-- a branch that is an entry may tell any gap
+pub any_entry : (at : ℕ → List ℕ) (branch : Branch) → IsAnyBranch at branch → branch.level ≡ 0 → IsBranch at branch
+unfolding IsUnder
+any_entry at branch is low =
+    let item = branch.place.item in
+    let start = branch.place.start in
+    let under : IsUnder at is.limit 0 start (with_gap is.gap item) = subst (λ (n : ℕ). IsUnder at is.limit n start (with_gap is.gap item)) low is.under in
+    record { limit = is.limit; under = subst (λ (n : ℕ). IsUnder at is.limit n start item) (sym low) under }
+
+-- whether a node is a leaf, as its level tells
+pub one_less : (level : ℕ) → 1 ≤ level → nat_eq level 1 ≡ is_leaf (level - 1)
+one_less level above = elim (cases_lt level 2) as (λ _. nat_eq level 1 ≡ nat_eq (level - 1) 0) [
+  | inl low ↦
+      let a : nat_eq level 1 ≡ true = grind (arith, nat_tests) in
+      let b : nat_eq (level - 1) 0 ≡ true = grind (arith, nat_tests) in a ∙ sym b
+  | inr high ↦
+      let a : nat_eq level 1 ≡ false = grind (arith, nat_tests) in
+      let b : nat_eq (level - 1) 0 ≡ false = grind (arith, nat_tests) in a ∙ sym b
+]
+
+-- the node of a branch above the entries
+pub any_node : (at : ℕ → List ℕ) (branch : Branch) → (is : IsAnyBranch at branch) → 1 ≤ branch.level
+    → IsNode at (is_leaf (branch.level - 1)) is.limit branch.place.start (with_gap is.gap branch.place.item)
+any_node at branch is above =
+    node_under at is.limit branch.level (branch.level - 1) branch.place.start (with_gap is.gap branch.place.item) (omega arith) is.under
+
+-- the root with the largest gap of its items
+pub record Gapped (writer : NodeWriter) (tree : View) (branch : Branch) : Type 0 where
+  pub root : IsRootOf writer tree branch
+  pub right : IsBranch (words_at writer) branch
+
+pub gapped : (writer : NodeWriter) (tree : View) (root : Branch) (leaf : Bool) (items : List Item) (gap : ℕ) → IsRootOf writer tree root → 1 ≤ root.level
+    → leaf ≡ is_leaf (root.level - 1) → items ≡ read (words_at writer) leaf root.place.item.word → gap ≡ gap_of leaf root.place.start items
+    → Gapped writer tree (record { place = record { start = root.place.start; item = with_gap gap root.place.item }; level = root.level })
+gapped writer tree root leaf items gap is above below are largest =
+    let at = words_at writer in
+    let item = root.place.item in
+    let start = root.place.start in
+    let told : gap ≡ is.branch.gap = largest ∙ ap (gap_of leaf start) are ∙ ap (λ (b : Bool). gap_of b start (read at b item.word)) below
+    ∙ (any_node at root is.branch above).gap in
+    let under = subst (λ (g : ℕ). IsUnder at is.branch.limit root.level start (with_gap g item)) (sym told) is.branch.under in
+    let same = entries_any at root.level gap item above in
+    record {
+      root = record {
+        branch = record { limit = is.branch.limit; gap = gap; under = under };
+        begin = is.begin;
+        limit = is.limit;
+        low = is.low;
+        apart = subst (λ (es : List Item). ApartFrom 1 es) (sym same) is.apart;
+        numbered = subst (λ (es : List Item). All (λ entry. entry.word ≤ 2 ^ 32) es) (sym same) is.numbered;
+        pairs = ap (pairs_from 0) same ∙ is.pairs;
+      };
+      right = record { limit = is.branch.limit; under = under };
+    }

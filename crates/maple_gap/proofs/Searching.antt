@@ -13,8 +13,8 @@ use Rattle.maple_gap.specs.declared.window.Side.{Side}
 use Rattle.maple_gap.specs.declared.window.Window.{Window}
 use Rattle.maple_gap.specs.declared.branch.Branch.{Branch}
 use Rattle.maple_gap.specs.Gaps.{fits}
-use Rattle.maple_gap.specs.Internal.Searches.{may_have, best, entries_under, best_under, IsSpare, IsRootOf, IsAnswer}
-use Rattle.maple_gap.proofs.Under.{spread, found_in, Known, known_under}
+use Rattle.maple_gap.specs.Internal.Searches.{may_have, best, entries_under, best_under, IsBranch, IsSpare, IsRootOf, IsAnswer}
+use Rattle.maple_gap.proofs.Under.{spread_any, found_in, Known, known_under}
 use Rattle.maple_gap.proofs.Free.{answer_of}
 
 -- the entries of the whole tree
@@ -26,7 +26,7 @@ pub entries_of_root : (writer : NodeWriter) (tree : Tree) (root : Branch) → Is
     → Entries tree.limit.0 (entries_under (words_at writer) root)
 entries_of_root writer tree root is =
     let at = words_at writer in
-    let all = spread at is.branch.limit root.level root.place.start root.place.item is.branch.under in
+    let all = spread_any at is.branch.limit root.level root.place.start is.branch.gap root.place.item is.branch.under in
     let entries = entries_under at root in
     record {
       ascends = subst (λ (p : ℕ). Ascends p entries) is.begin all.ascends;
@@ -47,13 +47,13 @@ answered side window writer tree root result is some limit told =
     subst Of is.pairs (subst (λ (o : Option ℕ). IsAnswer side (fits (pairs_from 0 entries) window.len window.lo window.hi) o) from here)
 
 -- nothing is under a root that may have no room
-pub no_room : (side : Side) (window : Window) (writer : NodeWriter) (tree : Tree) (root : Branch) → IsRootOf writer tree root → 1 ≤ window.len
-    → may_have window (is_leaf root.level) root.place.start root.place.item ≡ false → best_under side window (words_at writer) root ≡ None
-no_room side window writer tree root is some out = go (best_under side window (words_at writer) root) refl where
-  known : Known window (is_leaf root.level) (found_in side window (words_at writer) root.level) root.place.start root.place.item
-  known = known_under side window (words_at writer) is.branch.limit root.level root.place.start root.place.item some is.branch.under
+pub no_room : (side : Side) (window : Window) (at : ℕ → List ℕ) (root : Branch) → IsBranch at root → 1 ≤ window.len
+    → may_have window (is_leaf root.level) root.place.start root.place.item ≡ false → best_under side window at root ≡ None
+no_room side window at root is some out = go (best_under side window at root) refl where
+  known : Known window (is_leaf root.level) (found_in side window at root.level) root.place.start root.place.item
+  known = known_under side window at is.limit root.level root.place.start root.place.item some is.under
 
-  go : (o : Option ℕ) → best_under side window (words_at writer) root ≡ o → o ≡ None
+  go : (o : Option ℕ) → best_under side window at root ≡ o → o ≡ None
   go None told = refl
   go (Some s) told = let may = known.room s told in absurd (cc)
 

@@ -11,7 +11,7 @@ use Rattle.maple_node.proofs.Lists.{end_of-append, Ascends-append, ends_above}
 use Rattle.maple_node.proofs.Levels.{node_past}
 use Rattle.maple_gap.specs.declared.window.Side.{Side}
 use Rattle.maple_gap.specs.declared.window.Window.{Window}
-use Rattle.maple_gap.specs.Internal.Searches.{may_have, pick, best, spot, IsUnder}
+use Rattle.maple_gap.specs.Internal.Searches.{may_have, pick, best, spot, IsUnder, with_gap}
 use Rattle.maple_gap.proofs.Best.{pick_from, pick_both, best-append, best-one, room_of, of_room, Placed, spot_from, spot_some}
 
 -- the entries under joined items, under none, and under a node
@@ -80,6 +80,20 @@ spread at limit (suc level) start item under =
       ascends = is.ascends;
       ending = is.ending ∙ under.0.until;
     })
+
+-- and so they do where the item tells another gap
+pub spread_any : (at : ℕ → List ℕ) (limit level start gap : ℕ) (item : Item) → IsUnder at limit level start (with_gap gap item)
+    → Spread start item.end (level_of at 0 level (item ∷ []))
+unfolding IsUnder level_of
+spread_any at limit zero start gap item under = record { ascends = (under, tt); ending = refl }
+spread_any at limit (suc level) start gap item under = spread at limit (suc level) start (with_gap gap item) under
+
+-- the entries under a node are the same where its item tells another gap
+pub entries_any : (at : ℕ → List ℕ) (level gap : ℕ) (item : Item) → 1 ≤ level
+    → level_of at 0 level (with_gap gap item ∷ []) ≡ level_of at 0 level (item ∷ [])
+unfolding level_of
+entries_any at zero gap item above = absurd (omega arith)
+entries_any at (suc level) gap item above = refl
 
 pub spread_items : (at : ℕ → List ℕ) (limit level start : ℕ) (items : List Item) → AllFrom (IsUnder at limit level) start items
     → Spread start (end_of start items) (level_of at 0 level items)

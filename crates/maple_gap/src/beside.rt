@@ -7,20 +7,12 @@ ghost use Rattle.node_slots.specs.Built.{IsWriters, pairs_now};
 ghost use Rattle.maple_gap.specs.Gaps.{first_from, last_before, slot_in};
 
 use crate::branch::{entry_at, entry_near, leaf_at, root_of};
+use maple_node::slot_of;
 use mm_types::{Page, Slot, Steps};
 use node_slots::{NodeTable, NodeWriter, Tree};
 
 /// The nodes that are read, which nobody counts here.
 struct Reads;
-
-/// The slot that the word of an entry tells, or none for a gap.
-fn slot_of(word: u64) -> Option<Slot>
-    requires { word ≤ 2 ^ 32 }
-    ensures { result ≡ slot_of word }
-{
-    let number = word.checked_sub(1)?;
-    Some(Slot(number as u32))
-}
 
 /// The slot of the first pair of the writer's tree that ends above a page. None exactly where there is none.
 pub fn next_slot(nodes: &NodeTable, writer: &NodeWriter, tree: &Tree, page: Page) -> Option<Slot>
@@ -29,20 +21,20 @@ pub fn next_slot(nodes: &NodeTable, writer: &NodeWriter, tree: &Tree, page: Page
     ensures { result ≡ slot_in (first_from (pairs_now writer.now tree.now) page.0) }
 {
     let mut steps = Steps::<Reads>::new();
-    let root = root_of(nodes, writer, tree, &mut steps);
+    let root = root_of(writer, tree, &mut steps);
     let limit = root.place.item.end;
     if page.0 >= limit {
         return None;
     }
-    let leaf = leaf_at(nodes, writer, root, page.0, &mut steps);
-    let here = entry_at(nodes, writer, leaf, page.0, &mut steps);
+    let leaf = leaf_at(writer, root, page.0, &mut steps);
+    let here = entry_at(writer, leaf, page.0, &mut steps);
     if here.item.word != 0 {
         return slot_of(here.item.word);
     }
     if here.item.end >= limit {
         return None;
     }
-    let next = entry_near(nodes, writer, root, leaf, here.item.end, &mut steps);
+    let next = entry_near(writer, root, leaf, here.item.end, &mut steps);
     slot_of(next.item.word)
 }
 
@@ -53,18 +45,18 @@ pub fn before_slot(nodes: &NodeTable, writer: &NodeWriter, tree: &Tree, page: Pa
     ensures { result ≡ slot_in (last_before (pairs_now writer.now tree.now) page.0) }
 {
     let mut steps = Steps::<Reads>::new();
-    let root = root_of(nodes, writer, tree, &mut steps);
+    let root = root_of(writer, tree, &mut steps);
     let above = page.0.min(root.place.item.end);
     if above == 0 {
         return None;
     }
-    let here = entry_at(nodes, writer, root, above - 1, &mut steps);
+    let here = entry_at(writer, root, above - 1, &mut steps);
     if here.item.word != 0 {
         return slot_of(here.item.word);
     }
     if here.start == 0 {
         return None;
     }
-    let before = entry_at(nodes, writer, root, here.start - 1, &mut steps);
+    let before = entry_at(writer, root, here.start - 1, &mut steps);
     slot_of(before.item.word)
 }

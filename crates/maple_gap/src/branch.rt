@@ -5,15 +5,15 @@ ghost use Rattle.std.specs.Option.{option_or};
 ghost use Rattle.maple_node.specs.Nodes.{end_of};
 ghost use Rattle.maple_node.specs.Levels.{is_leaf, item_at};
 ghost use Rattle.maple_items.specs.Splices.{upto};
-ghost use Rattle.node_slots.specs.Seats.{Writes, row_count};
+ghost use Rattle.node_slots.specs.Seats.{row_count};
 ghost use Rattle.node_slots.specs.Built.{words_at, IsWriters};
-ghost use Rattle.maple_gap.specs.Internal.Searches.{may_have, entries_under, best_under, best_of, spare_from, IsBranch, IsSpare, IsFar, IsPartOf, IsRootOf};
+ghost use Rattle.maple_gap.specs.Internal.Searches.{may_have, entries_under, best_under, best_of, spare_from, IsBranch, IsAnyBranch, IsSpare, IsFar, IsPartOf, IsRootOf};
 
 use crate::window::{Side, Window, choose};
 use maple_items::{Place, gap_in, item_in, lists_nothing};
 use maple_node::Item;
 use mm_types::{Row, Steps};
-use node_slots::{NodeTable, NodeWriter, Tree};
+use node_slots::{NodeWriter, Tree};
 
 /// An item of the tree, and how many levels of nodes lie below it: none below an entry.
 #[derive(Clone, Copy)]
@@ -30,35 +30,23 @@ pub(crate) struct Descent {
 }
 
 /// The words of a row. Counts one step.
-fn words<'a, L>(
-    nodes: &NodeTable,
-    writer: &'a NodeWriter,
-    row: u64,
-    steps: &mut Steps<L>,
-) -> &'a [u64; 32]
-    requires table { Writes writer.now nodes.now }
-    requires row { row < row_count writer.now }
+fn words<'a, L>(writer: &'a NodeWriter, row: u64, steps: &mut Steps<L>) -> &'a [u64; 32]
+    requires { row < row_count writer.now }
     ensures words { result.now ≡ words_at writer.now row }
     ensures steps { steps.new ≡ steps.old + 1 }
 {
-    nodes.written(writer, Row(row as u32), steps)
+    steps.tick();
+    writer.row_words(Row(row as u32))
 }
 
-/// The whole tree as a branch. Tree 0, whose root lists nothing, is one gap.
-pub(crate) fn root_of<L>(
-    nodes: &NodeTable,
-    writer: &NodeWriter,
-    tree: &Tree,
-    steps: &mut Steps<L>,
-) -> Branch
-    requires table { Writes writer.now nodes.now }
+/// The whole tree as a branch, without the gap of its item. Tree 0, whose root lists nothing, is one gap. Counts one step.
+pub(crate) fn root_of<L>(writer: &NodeWriter, tree: &Tree, steps: &mut Steps<L>) -> Branch
     requires tree { IsWriters writer.now tree.now }
     ensures root { IsRootOf writer.now tree.now result }
     ensures steps { steps.new ≡ steps.old + 1 }
 {
-    let leaf = tree.height == 1;
     let row = u64::from(tree.root.0);
-    let words = words(nodes, writer, row, steps);
+    let words = words(writer, row, steps);
     let end = tree.limit.0;
     if lists_nothing(words) {
         return Branch {
@@ -73,17 +61,40 @@ pub(crate) fn root_of<L>(
             level: 0,
         };
     }
-    let gap = gap_in(leaf, 0, words);
     Branch {
         place: Place {
             start: 0,
             item: Item {
                 end,
                 word: row,
-                gap,
+                gap: 0,
             },
         },
         level: tree.height,
+    }
+}
+
+/// The whole tree as a branch whose item tells its largest gap. Only a search for room needs that gap, which takes all words of the
+/// root. Counts two steps at most.
+pub(crate) fn root_with_gap<L>(writer: &NodeWriter, tree: &Tree, steps: &mut Steps<L>) -> Branch
+    requires tree { IsWriters writer.now tree.now }
+    ensures root { IsRootOf writer.now tree.now result }
+    ensures branch { IsBranch (words_at writer.now) result }
+    ensures steps { steps.new ≤ steps.old + 2 }
+{
+    let root = root_of(writer, tree, steps);
+    if root.level == 0 {
+        return root;
+    }
+    let Place { start, item } = root.place;
+    let words = words(writer, item.word, steps);
+    let gap = gap_in(root.level == 1, start, words);
+    Branch {
+        place: Place {
+            start,
+            item: Item { gap, ..item },
+        },
+        level: root.level,
     }
 }
 
@@ -102,14 +113,12 @@ fn spare_from(second: Option<Place>, level: u32, spare: Option<Branch>) -> Optio
 /// of the window where the search begins, and an item inside the window that may have room has it, so from there one more way
 /// down tells. Counts one step for each level at most.
 pub(crate) fn descend<L>(
-    nodes: &NodeTable,
     writer: &NodeWriter,
     window: Window,
     side: Side,
     from: Branch,
     steps: &mut Steps<L>,
 ) -> Descent
-    requires table { Writes writer.now nodes.now }
     requires branch { IsBranch (words_at writer.now) from }
     requires room { may_have window (is_leaf from.level) from.place.start from.place.item ≡ true }
     requires some { 1 ≤ window.len }
@@ -123,7 +132,7 @@ pub(crate) fn descend<L>(
     while branch.level > 0 {
         let level = branch.level - 1;
         let Place { start, item } = branch.place;
-        let words = words(nodes, writer, item.word, steps);
+        let words = words(writer, item.word, steps);
         let choice = choose(window, side, level == 0, start, words);
         let Some(place) = choice.first else {
             return Descent { found: None, spare };
@@ -139,14 +148,12 @@ pub(crate) fn descend<L>(
 
 /// The entry of a branch that has a page, and the page where it begins.
 pub(crate) fn entry_at<L>(
-    nodes: &NodeTable,
     writer: &NodeWriter,
     root: Branch,
     page: u64,
     steps: &mut Steps<L>,
 ) -> Place
-    requires table { Writes writer.now nodes.now }
-    requires branch { IsBranch (words_at writer.now) root }
+    requires branch { IsAnyBranch (words_at writer.now) root }
     requires above { root.place.start ≤ page }
     requires within { page < root.place.item.end }
     ensures item { item_at page (entries_under (words_at writer.now) root) ≡ Some result.item }
@@ -156,7 +163,7 @@ pub(crate) fn entry_at<L>(
     while branch.level > 0 {
         let level = branch.level - 1;
         let Place { start, item } = branch.place;
-        let words = words(nodes, writer, item.word, steps);
+        let words = words(writer, item.word, steps);
         branch = Branch {
             place: item_in(level == 0, words, start, page),
             level,
@@ -167,17 +174,15 @@ pub(crate) fn entry_at<L>(
 
 /// The leaf of a branch that has a page, or the branch where it is an entry. Other pages of the leaf have their entries there too.
 pub(crate) fn leaf_at<L>(
-    nodes: &NodeTable,
     writer: &NodeWriter,
     root: Branch,
     page: u64,
     steps: &mut Steps<L>,
 ) -> Branch
-    requires table { Writes writer.now nodes.now }
-    requires branch { IsBranch (words_at writer.now) root }
+    requires branch { IsAnyBranch (words_at writer.now) root }
     requires above { root.place.start ≤ page }
     requires within { page < root.place.item.end }
-    ensures branch { IsBranch (words_at writer.now) result }
+    ensures branch { IsAnyBranch (words_at writer.now) result }
     ensures above { result.place.start ≤ page }
     ensures within { page < result.place.item.end }
     ensures same { IsPartOf (words_at writer.now) root result }
@@ -186,7 +191,7 @@ pub(crate) fn leaf_at<L>(
     while branch.level > 1 {
         let level = branch.level - 1;
         let Place { start, item } = branch.place;
-        let words = words(nodes, writer, item.word, steps);
+        let words = words(writer, item.word, steps);
         branch = Branch {
             place: item_in(false, words, start, page),
             level,
@@ -198,16 +203,14 @@ pub(crate) fn leaf_at<L>(
 /// The entry of a branch that has a page, where the pages before it were found in a part of the branch: most such pages lie in
 /// that part too, so there it is sought first.
 pub(crate) fn entry_near<L>(
-    nodes: &NodeTable,
     writer: &NodeWriter,
     root: Branch,
     part: Branch,
     page: u64,
     steps: &mut Steps<L>,
 ) -> Place
-    requires table { Writes writer.now nodes.now }
-    requires branch { IsBranch (words_at writer.now) root }
-    requires part { IsBranch (words_at writer.now) part }
+    requires branch { IsAnyBranch (words_at writer.now) root }
+    requires part { IsAnyBranch (words_at writer.now) part }
     requires same { IsPartOf (words_at writer.now) root part }
     requires above { root.place.start ≤ page }
     requires within { page < root.place.item.end }
@@ -219,5 +222,5 @@ pub(crate) fn entry_near<L>(
     } else {
         root
     };
-    entry_at(nodes, writer, near, page, steps)
+    entry_at(writer, near, page, steps)
 }

@@ -7,7 +7,7 @@ ghost use Rattle.mm_types.specs.Searches.{IsGreatest, IsLeast, NonePasses};
 ghost use Rattle.maple_gap.specs.Gaps.{fits};
 ghost use Rattle.maple_gap.specs.Internal.Searches.{IsAnswer};
 
-use crate::branch::{descend, root_of};
+use crate::branch::{descend, root_with_gap};
 use crate::window::{Side, Window};
 use mm_types::{Page, Steps};
 use node_slots::{NodeTable, NodeWriter, Tree};
@@ -32,7 +32,7 @@ pub fn highest<L>(
     ensures steps { steps.new ≤ steps.old + (3 * tree.now.height + 3) }
 {
     let window = Window { len, lo, hi };
-    let start = search(nodes, writer, tree, window, Side::High, steps)?;
+    let start = search(writer, tree, window, Side::High, steps)?;
     Some(Page(start))
 }
 
@@ -56,36 +56,34 @@ pub fn lowest<L>(
     ensures steps { steps.new ≤ steps.old + (3 * tree.now.height + 3) }
 {
     let window = Window { len, lo, hi };
-    let start = search(nodes, writer, tree, window, Side::Low, steps)?;
+    let start = search(writer, tree, window, Side::Low, steps)?;
     Some(Page(start))
 }
 
 /// The greatest or the least start in a window.
 fn search<L>(
-    nodes: &NodeTable,
     writer: &NodeWriter,
     tree: &Tree,
     window: Window,
     side: Side,
     steps: &mut Steps<L>,
 ) -> Option<u64>
-    requires table { Writes writer.now nodes.now }
     requires tree { IsWriters writer.now tree.now }
     requires some { 1 ≤ window.len }
     requires limit { window.hi ≤ tree.now.limit.0 }
     ensures start { IsAnswer side (fits (pairs_now writer.now tree.now) window.len window.lo window.hi) result }
-    ensures steps { steps.new ≤ steps.old + (2 * tree.now.height + 1) }
+    ensures steps { steps.new ≤ steps.old + (2 * tree.now.height + 2) }
 {
-    let root = root_of(nodes, writer, tree, steps);
+    let root = root_with_gap(writer, tree, steps);
     if !window.may_have(root.level == 0, root.place) {
         return None;
     }
-    let down = descend(nodes, writer, window, side, root, steps);
+    let down = descend(writer, window, side, root, steps);
     if down.found.is_some() {
         return down.found;
     }
     let Some(spare) = down.spare else {
         return None;
     };
-    descend(nodes, writer, window, side, spare, steps).found
+    descend(writer, window, side, spare, steps).found
 }

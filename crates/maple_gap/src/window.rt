@@ -5,10 +5,8 @@ ghost use Rattle.maple_node.specs.Nodes.{items_of, item_gap};
 ghost use Rattle.maple_gap.specs.Internal.Searches.{may_have, edge, chosen, nothing_chosen, chosen_from};
 ghost use Rattle.maple_gap.specs.Internal.Spots.{IsNextRoom, HasNoRoom};
 
-use maple_items::{Place, listed_at, width_of};
-
-/// The words of a node.
-const WORDS: usize = 32;
+use maple_items::Place;
+use maple_node::{NODE_WORDS, listed_at, width_of};
 
 /// Which start is sought: the least or the greatest.
 #[derive(Clone, Copy)]
@@ -108,7 +106,7 @@ fn next_room(window: Window, leaf: bool, words: &[u64; 32], from: Spot) -> Optio
 {
     let width = width_of(leaf);
     let mut spot = from;
-    while spot.place + width <= WORDS && words[spot.place] != 0 {
+    while spot.place + width <= NODE_WORDS && words[spot.place] != 0 {
         let item = listed_at(leaf, words, spot.place);
         let here = Place {
             start: spot.page,

@@ -2,8 +2,8 @@ pub mod Lists
 pub mod Listed
 pub mod Parts
 pub mod Words
-pub mod Padded
 pub mod Spliced
+pub mod Swapped
 pub mod Pairs
 pub mod Pages
 pub mod Entries

@@ -6,7 +6,7 @@ use Rattle.maple_node.specs.declared.item.Item.{Item}
 use Rattle.maple_node.specs.Nodes.{leaf_items, inner_items, items_of, end_of, Ascends}
 use Rattle.maple_node.specs.Levels.{item_at}
 use Rattle.maple_items.specs.Splices.{upto}
-use Rattle.maple_items.specs.Parts.{width_of, listed_at}
+use Rattle.maple_node.specs.Codec.{width_of, listed_at}
 use Rattle.maple_items.proofs.Lists.{upto-first, upto_first, item_at-first, item_at-later}
 use Rattle.maple_items.proofs.Words.{leaf_items-more, leaf_items-zero, inner_items-more, inner_items-zero}
 

@@ -7,7 +7,8 @@ use Rattle.maple_node.specs.declared.item.Item.{Item}
 use Rattle.maple_node.specs.Nodes.{leaf_items, inner_items, items_of, most}
 use Rattle.maple_items.specs.declared.part.Part.{Part}
 use Rattle.maple_items.specs.declared.part.Part.TheVariants.{Whole, Upto, Beyond}
-use Rattle.maple_items.specs.Parts.{keeps, part_of, width_of, listed_at}
+use Rattle.maple_node.specs.Codec.{width_of, listed_at}
+use Rattle.maple_items.specs.Parts.{keeps, part_of}
 use Rattle.maple_items.proofs.Words.{leaf_items-more, leaf_items-zero, inner_items-more, inner_items-zero}
 use Rattle.maple_items.proofs.Listed.{short_leaf, short_inner}
 

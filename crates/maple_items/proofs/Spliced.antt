@@ -6,12 +6,12 @@ use Rattle.std.specs.List.{flat_map}
 use Rattle.maple_node.specs.declared.item.Item.{Item}
 use Rattle.maple_node.specs.Nodes.{item_words, words_of, items_of, most, end_of, Ascends, item_gap, gap_of}
 use Rattle.maple_items.specs.Splices.{upto, beyond, spliced}
-use Rattle.maple_items.specs.Parts.{width_of, listed_at}
-use Rattle.maple_items.specs.Padding.{padded}
+use Rattle.maple_node.specs.Codec.{width_of, listed_at}
+use Rattle.maple_node.specs.Padding.{padded}
 use Rattle.maple_items.specs.Internal.Counts.{IsCounted}
 use Rattle.maple_items.proofs.Lists.{upto-first, upto_first, upto_all, upto-beyond, length-upto}
 use Rattle.maple_items.proofs.Parts.{listed_there}
-use Rattle.maple_items.proofs.Padded.{length-words}
+use Rattle.maple_node.proofs.Padded.{length-words}
 
 -- where an item ends is its first word
 pub ends_at : (leaf : Bool) (words : List ℕ) (place : ℕ) → (listed_at leaf words place).end ≡ get_or words place 0

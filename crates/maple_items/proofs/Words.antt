@@ -1,11 +1,10 @@
--- For `node_items`, `node_words` and the law `written_items_are_read`: the words of a node.
-use Rattle.std.proofs.Common.{ℕ, zero, suc, ◌≡◌, ◌≢◌, ◌<◌, ◌≤◌, ◌+◌, ◌-◌, ◌*◌, Bool, true, false, nat_eq, List, [], ◌∷◌, ◌++◌, length, drop, take, get_or, set, replicate, All, refl, sym, ap, arith}
-use Rattle.std.proofs.lemmas.List.{drop_more, take_all, length-take-le}
+-- For `push_part`, `lists_nothing` and the law `written_items_are_read`: the words of a node.
+use Rattle.std.proofs.Common.{ℕ, zero, suc, ◌≡◌, ◌≢◌, ◌<◌, ◌≤◌, ◌+◌, ◌-◌, Bool, true, false, nat_eq, List, [], ◌∷◌, ◌++◌, length, drop, get_or, replicate, All, refl, sym, ap, arith}
+use Rattle.std.proofs.lemmas.List.{drop_more}
 use Rattle.std.proofs.lemmas.Bool.Decides.{nat_tests}
 use Rattle.std.specs.List.{flat_map}
 use Rattle.maple_node.specs.declared.item.Item.{Item}
 use Rattle.maple_node.specs.Nodes.{item_words, words_of, leaf_items, inner_items, items_of, IsPlain}
-use Rattle.maple_node.proofs.Packing.{put_two, put_three, length-leaf_words, length-inner_words, words-more}
 
 -- an entry that the words of a leaf begin with
 pub leaf_items-more : (words : List ℕ) (place : ℕ) → place + 2 ≤ length words → get_or words place 0 ≢ 0
@@ -56,54 +55,6 @@ pub inner_items-zero : (words : List ℕ) (place : ℕ) → place < length words
 inner_items-zero words place room none =
     let first : drop place words ≡ get_or words place 0 ∷ drop (place + 1) words = drop_more words place 0 room in
     rw (first, none) (inner_zero (drop (place + 1) words))
-
--- the words of the first entries of a leaf, and then zeros
-abbrev pub leaf_front : List Item → ℕ → List ℕ
-leaf_front items i = flat_map (item_words true) (take i items) ++ replicate (32 - 2 * i) 0
-
--- one entry more
-pub leaf_step : (items : List Item) (words : List ℕ) (i : ℕ) (d : Item) → i < length items → length items ≤ 16 → words ≡ leaf_front items i
-    → set (set words (2 * i) (get_or items i d).end) (2 * i + 1) (get_or items i d).word ≡ leaf_front items (i + 1)
-leaf_step items words i d within few is =
-    let front = flat_map (item_words true) (take i items) in
-    let long : length (take i items) ≡ i = length-take-le i items (omega arith) in
-    let place : length front ≡ 2 * i = omega (arith, length-leaf_words (take i items)) in
-    let more = words-more true items i d within in
-    let rest : 32 - 2 * i - 2 ≡ 32 - 2 * (i + 1) = omega arith in
-    let item = get_or items i d in
-    rw (more, ← rest) (put_two front words (32 - 2 * i) (2 * i) item.end item.word is place (omega arith))
-
--- all entries are the words of the leaf
-pub leaf_full : (items : List Item) (i : ℕ) → i ≡ length items → leaf_front items i ≡ words_of true items
-unfolding words_of
-leaf_full items i all =
-    let whole : take i items ≡ items = take_all i items (omega arith) in
-    let long : 2 * i ≡ length (flat_map (item_words true) items) = omega (arith, length-leaf_words items) in
-    rw (whole, long)
-
--- the words of the first children of an inner node, and then zeros
-abbrev pub inner_front : List Item → ℕ → List ℕ
-inner_front items i = flat_map (item_words false) (take i items) ++ replicate (32 - 3 * i) 0
-
--- one child more
-pub inner_step : (items : List Item) (words : List ℕ) (i : ℕ) (d : Item) → i < length items → length items ≤ 10 → words ≡ inner_front items i
-    → set (set (set words (3 * i) (get_or items i d).end) (3 * i + 1) (get_or items i d).word) (3 * i + 2) (get_or items i d).gap ≡ inner_front items (i + 1)
-inner_step items words i d within few is =
-    let front = flat_map (item_words false) (take i items) in
-    let long : length (take i items) ≡ i = length-take-le i items (omega arith) in
-    let place : length front ≡ 3 * i = omega (arith, length-inner_words (take i items)) in
-    let more = words-more false items i d within in
-    let rest : 32 - 3 * i - 3 ≡ 32 - 3 * (i + 1) = omega arith in
-    let item = get_or items i d in
-    rw (more, ← rest) (put_three front words (32 - 3 * i) (3 * i) item.end item.word item.gap is place (omega arith))
-
--- all children are the words of the inner node
-pub inner_full : (items : List Item) (i : ℕ) → i ≡ length items → inner_front items i ≡ words_of false items
-unfolding words_of
-inner_full items i all =
-    let whole : take i items ≡ items = take_all i items (omega arith) in
-    let long : 3 * i ≡ length (flat_map (item_words false) items) = omega (arith, length-inner_words items) in
-    rw (whole, long)
 
 -- what holds of each of items holds of the first, and of each other
 all_first : (x : Item) (xs : List Item) → All (λ (item : Item). 0 < item.end) (x ∷ xs) → 0 < x.end

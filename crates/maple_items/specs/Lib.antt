@@ -1,5 +1,4 @@
 pub mod Splices
 pub mod Parts
-pub mod Padding
 pub mod Pairs
 pub mod Internal

@@ -1,5 +1,5 @@
--- Parts of the items of a node, and the item at a place of its words.
-use Rattle.std.specs.Prelude.{ℕ, ◌+◌, Bool, true, false, List, get_or, nat_lt, nat_le}
+-- Parts of the items of a node.
+use Rattle.std.specs.Prelude.{ℕ, Bool, true, List, nat_lt, nat_le}
 use Rattle.maple_node.specs.declared.item.Item.{Item}
 use Rattle.maple_items.specs.declared.part.Part.{Part}
 use Rattle.maple_items.specs.declared.part.Part.TheVariants.{Whole, Upto, Beyond}
@@ -16,13 +16,3 @@ abbrev pub part_of : Part → List Item → List Item
 part_of Whole items = items
 part_of (Upto page) items = upto page items
 part_of (Beyond page) items = beyond page items
-
--- how many words an item of a node has
-abbrev pub width_of : Bool → ℕ
-width_of true = 2
-width_of false = 3
-
--- the item that the words of a node list at a place
-abbrev pub listed_at : Bool → List ℕ → ℕ → Item
-listed_at true words place = record { end = get_or words place 0; word = get_or words (place + 1) 0; gap = 0 }
-listed_at false words place = record { end = get_or words place 0; word = get_or words (place + 1) 0; gap = get_or words (place + 2) 0 }

@@ -5,7 +5,6 @@
 mod laws;
 mod list;
 mod node;
-mod packed;
 mod part;
 mod place;
 mod splice;
@@ -13,9 +12,8 @@ mod splice;
 pub use laws::{
     gaps_stay_apart, overwriting_replaces_pairs, overwritten_pages, written_items_are_read,
 };
-pub use list::ItemList;
-pub use node::{least, lists_nothing, most, node_words, share};
-pub use packed::NodeWords;
-pub use part::{Part, listed_at, width_of};
+pub use list::{ItemList, push_all, push_beyond};
+pub use node::{lists_nothing, share};
+pub use part::{Part, push_part};
 pub use place::{Place, item_in};
-pub use splice::{gap_in, spliced_words};
+pub use splice::{gap_in, spliced_words, swap_child};

@@ -2,13 +2,10 @@
 
 ghost use Rattle.std.specs.Prelude.{◌≡◌, ◌≤◌, ◌+◌, ◌++◌, length};
 ghost use Rattle.maple_node.specs.Nodes.{items_of, most};
-ghost use Rattle.maple_items.specs.Parts.{keeps, part_of, width_of, listed_at};
+ghost use Rattle.maple_items.specs.Parts.{keeps, part_of};
 
 use crate::list::ItemList;
-use maple_node::Item;
-
-/// The words of a node.
-const WORDS: usize = 32;
+use maple_node::{NODE_WORDS, listed_at, width_of};
 
 /// A part of the items of a node.
 #[derive(Clone, Copy, Debug, PartialEq, Eq)]
@@ -34,50 +31,28 @@ impl Part {
     }
 }
 
-/// How many words an item of a node has.
-pub fn width_of(leaf: bool) -> usize
-    ensures { result ≡ width_of leaf }
+/// Adds a part of the items of a node, as its words list them. No other list of them is made.
+pub fn push_part(list: &mut ItemList, part: Part, leaf: bool, words: &[u64; 32])
+    requires { length list.old.items + most leaf ≤ 40 }
+    ensures items { list.new.items ≡ list.old.items ++ part_of part (items_of leaf words.now) }
+    ensures most { length list.new.items ≤ length list.old.items + most leaf }
 {
-    if leaf { 2 } else { 3 }
-}
-
-/// The item that the words of a node list at a place.
-pub fn listed_at(leaf: bool, words: &[u64; 32], place: usize) -> Item
-    requires { place + width_of leaf ≤ 32 }
-    ensures { result ≡ listed_at leaf words.now place }
-{
-    Item {
-        end: words[place],
-        word: words[place + 1],
-        gap: if leaf { 0 } else { words[place + 2] },
-    }
-}
-
-impl ItemList {
-    /// Adds a part of the items of a node, as its words list them. No other list of them is made.
-    pub fn push_part(&mut self, part: Part, leaf: bool, words: &[u64; 32])
-        requires { length self.old + most leaf ≤ 40 }
-        ensures items { self.new ≡ self.old ++ part_of part (items_of leaf words.now) }
-        ensures most { length self.new ≤ length self.old + most leaf }
-    {
-        let width = width_of(leaf);
-        let mut place = 0;
-        while place + width <= WORDS && words[place] != 0 {
-            let item = listed_at(leaf, words, place);
-            if part.keeps(item.end) {
-                self.push(item);
-            }
-            place += width;
+    let width = width_of(leaf);
+    let mut place = 0;
+    while place + width <= NODE_WORDS && words[place] != 0 {
+        let item = listed_at(leaf, words, place);
+        if part.keeps(item.end) {
+            list.push(item);
         }
+        place += width;
     }
 }
 
 #[cfg(test)]
 mod tests {
-    use super::Part;
+    use super::{Part, push_part};
     use crate::list::ItemList;
-    use crate::node::node_words;
-    use maple_node::Item;
+    use maple_node::{Item, node_words};
 
     const ITEMS: [Item; 3] = [
         Item {
@@ -107,9 +82,9 @@ mod tests {
         ];
         for (part, count, first) in parts {
             let mut list = ItemList::new();
-            list.push_part(part, true, &words);
+            push_part(&mut list, part, true, &words);
             assert_eq!(rt; list.len(), count);
-            assert_eq!(rt; list.items()[0].end, first);
+            assert_eq!(rt; list.as_slice()[0].end, first);
         }
     }
 }

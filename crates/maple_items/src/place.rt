@@ -5,7 +5,7 @@ ghost use Rattle.maple_node.specs.Nodes.{items_of, Ascends, end_of};
 ghost use Rattle.maple_node.specs.Levels.{item_at};
 ghost use Rattle.maple_items.specs.Splices.{upto};
 
-use maple_node::Item;
+use maple_node::{Item, listed_at, width_of};
 
 /// An item, and the page where it begins.
 #[derive(Clone, Copy, Debug, PartialEq, Eq)]
@@ -26,7 +26,7 @@ pub fn item_in(leaf: bool, words: &[u64; 32], start: u64, page: u64) -> Place
     ensures start { result.start ≡ end_of start (upto page (items_of leaf words.now)) }
     ensures above { result.start ≤ page }
 {
-    let width = if leaf { 2 } else { 3 };
+    let width = width_of(leaf);
     let mut start = start;
     let mut place = 0;
     while words[place] <= page {
@@ -35,10 +35,6 @@ pub fn item_in(leaf: bool, words: &[u64; 32], start: u64, page: u64) -> Place
     }
     Place {
         start,
-        item: Item {
-            end: words[place],
-            word: words[place + 1],
-            gap: if leaf { 0 } else { words[place + 2] },
-        },
+        item: listed_at(leaf, words, place),
     }
 }

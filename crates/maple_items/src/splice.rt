@@ -1,20 +1,17 @@
 //! Nodes with some of their items replaced, from words to words.
 
-ghost use Rattle.std.specs.Prelude.{◌≡◌, ◌<◌, ◌≤◌, ◌*◌, ◌⊎◌, ℕ, true, false, [], length, take, slice_range};
+ghost use Rattle.std.specs.Prelude.{◌≡◌, ◌≢◌, ◌<◌, ◌≤◌, ◌+◌, ◌*◌, ◌⊎◌, ℕ, max, true, false, [], ◌∷◌, length, take, slice_range, Some, IfSome, IfNone};
 ghost use Rattle.std.specs.List.{flat_map};
 ghost use Rattle.maple_node.specs.Nodes.{items_of, words_of, item_words, most, end_of, Ascends, gap_of};
+ghost use Rattle.maple_node.specs.declared.item.Item.{Item};
+ghost use Rattle.maple_node.specs.Levels.{item_at};
 ghost use Rattle.maple_items.specs.Splices.{upto, beyond, spliced};
-ghost use Rattle.maple_items.specs.Parts.{width_of};
-ghost use Rattle.maple_items.specs.Padding.{padded};
+ghost use Rattle.maple_node.specs.Codec.{width_of, listed_at};
+ghost use Rattle.maple_node.specs.Padding.{padded};
 ghost use Rattle.maple_items.specs.Internal.Counts.{IsCounted};
 
-use crate::node::{item_gap, most};
-use crate::packed::NodeWords;
-use crate::part::{listed_at, width_of};
-use maple_node::Item;
-
-/// The words of a node.
-const WORDS: usize = 32;
+use crate::node::item_gap;
+use maple_node::{Item, NODE_WORDS, NodeWords, listed_at, most, width_of};
 
 /// How many words the items of a node have that end up to a page, counted from a place up to which they do.
 fn words_upto(leaf: bool, words: &[u64; 32], from: usize, page: u64) -> usize
@@ -26,7 +23,7 @@ fn words_upto(leaf: bool, words: &[u64; 32], from: usize, page: u64) -> usize
 {
     let width = width_of(leaf);
     let mut place = from;
-    while place + width <= WORDS && words[place] != 0 && words[place] <= page {
+    while place + width <= NODE_WORDS && words[place] != 0 && words[place] <= page {
         place += width;
     }
     place
@@ -117,11 +114,65 @@ fn gap_by(leaf: bool, width: usize, start: u64, words: &[u64; 32]) -> u64
     let mut start = start;
     let mut largest = 0;
     let mut place = 0;
-    while place + width <= WORDS && words[place] != 0 {
+    while place + width <= NODE_WORDS && words[place] != 0 {
         let item = listed_at(leaf, words, place);
         largest = item_gap(leaf, start, item).max(largest);
         start = item.end;
         place += width;
     }
     largest
+}
+
+/// Puts a child of an inner node in the place of the one that has a page, if that one ends where it does, and answers the largest
+/// gap of the node then, where it was `gap`. None where it ends elsewhere: the words are then as they were.
+pub fn swap_child(words: &mut [u64; 32], page: u64, child: Item, gap: u64) -> Option<u64>
+    requires ascends { Ascends 0 (items_of false words.old) }
+    requires within { page < end_of 0 (items_of false words.old) }
+    requires whole { words.old ≡ words_of false (items_of false words.old) }
+    requires gap { gap_of false 0 (items_of false words.old) ≡ gap }
+    ensures words { IfSome result (λ gap. words.new ≡ words_of false (spliced page child.end (child ∷ []) (items_of false words.old))) }
+    ensures count { IfSome result (λ gap. length (spliced page child.end (child ∷ []) (items_of false words.old)) ≡ length (items_of false words.old)) }
+    ensures gap { IfSome result (λ gap. gap ≡ gap_of false 0 (spliced page child.end (child ∷ []) (items_of false words.old))) }
+    ensures none { IfNone result (words.new ≡ words.old) }
+    ensures elsewhere { IfNone result ((item : Item) → item_at page (items_of false words.old) ≡ Some item → item.end ≢ child.end) }
+{
+    let place = child_place(words, page);
+    if words[place] != child.end {
+        return None;
+    }
+    let before = words[place + 2];
+    words[place + 1] = child.word;
+    words[place + 2] = child.gap;
+    Some(gap_then(words, gap, before, child.gap))
+}
+
+/// The largest gap of an inner node whose largest gap was `gap`, once a child's gap is `after`, which was `before`.
+fn gap_then(words: &[u64; 32], gap: u64, before: u64, after: u64) -> u64
+    requires { Ascends 0 (items_of false words.now) }
+    ensures { (others : ℕ) → gap ≡ max before others → gap_of false 0 (items_of false words.now) ≡ max after others
+        → result ≡ max after others }
+{
+    if gap <= after {
+        after
+    } else if before < gap {
+        // another child has it
+        gap
+    } else {
+        gap_in(false, 0, words)
+    }
+}
+
+/// Where the words of the child of an inner node stand that has a page.
+fn child_place(words: &[u64; 32], page: u64) -> usize
+    requires ascends { Ascends 0 (items_of false words.now) }
+    requires within { page < end_of 0 (items_of false words.now) }
+    ensures room { result + 3 ≤ 32 }
+    ensures place { result ≡ 3 * length (upto page (items_of false words.now)) }
+    ensures item { item_at page (items_of false words.now) ≡ Some (listed_at false words.now result) }
+{
+    let mut place = 0;
+    while words[place] <= page {
+        place += 3;
+    }
+    place
 }

@@ -1,4 +1,5 @@
 pub mod Packing
+pub mod Padded
 pub mod Places
 pub mod Entries
 pub mod Children

@@ -1,5 +1,5 @@
 /// What a node lists, of either kind: an entry of a leaf, or a child of an inner node.
-#[derive(Clone, Copy, Debug, PartialEq, Eq)]
+#[derive(Clone, Copy, Debug, Default, PartialEq, Eq)]
 pub struct Item {
     /// The first page after it. It begins where the one before it ends.
     pub end: u64,

@@ -1,12 +1,10 @@
 //! Nodes as rows of 32 words.
 
-ghost use Rattle.std.specs.Prelude.{◌≡◌, ◌<◌, ◌≤◌, ◌^◌, ℕ, List, map, length, slice_get, true, false};
+ghost use Rattle.std.specs.Prelude.{◌≡◌, ◌≤◌, ℕ, List, map, length, slice_get, true, false};
 ghost use Rattle.maple_node.specs.Nodes.{words_of, items_of, Ascends};
 ghost use Rattle.maple_node.specs.Words.{
   Entry,
   Child,
-  slot_word,
-  slot_of,
   entry_item,
   child_item,
   leaf_entry,
@@ -17,10 +15,10 @@ ghost use Rattle.maple_node.specs.Words.{
   IsInnerOf,
 };
 
+use crate::codec::{listed_at, slot_of, slot_word};
+use crate::item::Item;
+use crate::packed::NodeWords;
 use mm_types::{Row, Slot};
-
-/// The words of a node.
-const WORDS: usize = 32;
 
 /// The layout of a node by its number of places: 16 in a leaf, and 10 in an inner node.
 pub struct Layout<const SLOTS: usize>;
@@ -35,8 +33,7 @@ impl Layout<16> {
         if place >= 16 {
             return None;
         }
-        let end = words[2 * place];
-        let word = words[2 * place + 1];
+        let Item { end, word, .. } = listed_at(true, words, 2 * place);
         if end == 0 || word > 1 << 32 {
             return None;
         }
@@ -49,12 +46,16 @@ impl Layout<16> {
         requires ascends { Ascends 0 (map entry_item entries.now) }
         ensures { result ≡ words_of true (map entry_item entries.now) }
     {
-        let mut words = [0; WORDS];
-        for (place, (end, slot)) in entries.iter().enumerate() {
-            words[2 * place] = *end;
-            words[2 * place + 1] = slot_word(*slot);
+        let mut words = NodeWords::new();
+        for entry in entries {
+            let item = Item {
+                end: entry.0,
+                word: slot_word(entry.1),
+                gap: 0,
+            };
+            words.push_item(true, item);
         }
-        words
+        words.into_words()
     }
 }
 
@@ -68,9 +69,9 @@ impl Layout<10> {
         if place >= 10 {
             return None;
         }
-        let end = words[3 * place];
-        let row = u32::try_from(words[3 * place + 1]).ok()?;
-        (end > 0).then_some((end, Row(row), words[3 * place + 2]))
+        let Item { end, word, gap } = listed_at(false, words, 3 * place);
+        let row = u32::try_from(word).ok()?;
+        (end > 0).then_some((end, Row(row), gap))
     }
 
     /// The words of an inner node: for each child the first page after it, its row, and its largest gap; then zeros.
@@ -79,32 +80,16 @@ impl Layout<10> {
         requires ascends { Ascends 0 (map child_item children.now) }
         ensures { result ≡ words_of false (map child_item children.now) }
     {
-        let mut words = [0; WORDS];
-        for (place, (end, row, gap)) in children.iter().enumerate() {
-            words[3 * place] = *end;
-            words[3 * place + 1] = u64::from(row.0);
-            words[3 * place + 2] = *gap;
+        let mut words = NodeWords::new();
+        for child in children {
+            let item = Item {
+                end: child.0,
+                word: u64::from(child.1.0),
+                gap: child.2,
+            };
+            words.push_item(false, item);
         }
-        words
-    }
-}
-
-/// The word of a slot.
-fn slot_word(slot: Option<Slot>) -> u64
-    ensures { result ≡ slot_word slot }
-{
-    slot.map_or(0, |slot| u64::from(slot.0) + 1)
-}
-
-/// The slot that a word tells.
-fn slot_of(word: u64) -> Option<Slot>
-    requires { word ≤ 2 ^ 32 }
-    ensures { result ≡ slot_of word }
-{
-    if word == 0 {
-        None
-    } else {
-        Some(Slot((word - 1) as u32))
+        words.into_words()
     }
 }
 

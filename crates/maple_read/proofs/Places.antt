@@ -6,7 +6,7 @@ use Rattle.std.specs.Option.{option_map}
 use Rattle.maple_node.specs.declared.item.Item.{Item}
 use Rattle.maple_node.specs.Nodes.{items_of, leaf_items, inner_items}
 use Rattle.maple_node.specs.Levels.{item_at}
-use Rattle.maple_read.specs.Walks.{width_of}
+use Rattle.maple_node.specs.Codec.{width_of}
 use Rattle.maple_read.proofs.Items.{item_at-first, item_at-later}
 
 -- the word of the item that has a page

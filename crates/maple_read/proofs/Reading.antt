@@ -5,7 +5,8 @@ use Rattle.maple_node.specs.Levels.{at_of}
 use Rattle.node_slots.specs.declared.view.ShownTree.{ShownTree}
 use Rattle.node_slots.specs.declared.view.NodeView.{NodeView}
 use Rattle.node_slots.specs.Views.{word_at}
-use Rattle.maple_read.specs.Walks.{HasNode, width_of}
+use Rattle.maple_node.specs.Codec.{width_of}
+use Rattle.maple_read.specs.Walks.{HasNode}
 use Rattle.maple_read.proofs.Places.{word_in, short, zeroed, found, later}
 
 -- so many words were read

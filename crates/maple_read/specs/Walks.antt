@@ -1,5 +1,5 @@
 -- Walks: the slot of a page, and what a walk needs of its reader.
-use Rattle.std.specs.Prelude.{ℕ, ◌≡◌, Bool, true, false, length, Option, Some}
+use Rattle.std.specs.Prelude.{ℕ, ◌≡◌, true, length, Option, Some}
 use Rattle.maple_node.specs.declared.root.Root.{Root}
 use Rattle.maple_node.specs.Levels.{at_of}
 use Rattle.maple_node.specs.Trees.{pairs_of, tree_of}
@@ -28,8 +28,3 @@ pub record HasNode (view : NodeView) (row : ℕ) : Type 0 where
   pub snapshot : view.snapshot ≡ Some shown
   pub has : has_row (grace_tree shown) row ≡ true
   pub long : length (at_of shown.words row) ≡ 32
-
--- how many words an item has in its node: an entry two, and a child three
-abbrev pub width_of : Bool → ℕ
-width_of true = 2
-width_of false = 3

@@ -1,11 +1,12 @@
 ghost use Rattle.std.specs.Prelude.{◌≡◌, ◌≢◌, ◌≤◌, ◌+◌, ◌*◌, ℕ, List, Some, true, false};
 ghost use Rattle.std.specs.Option.{option_map};
+ghost use Rattle.maple_node.specs.Codec.{width_of};
 ghost use Rattle.maple_node.specs.Levels.{at_of, read, item_at};
 ghost use Rattle.node_slots.specs.declared.view.ShownTree.{ShownTree};
 ghost use Rattle.node_slots.specs.Seats.{IsOf, IsOpen, view};
-ghost use Rattle.maple_read.specs.Walks.{HasLoaded, HasNode, slot_at, width_of};
+ghost use Rattle.maple_read.specs.Walks.{HasLoaded, HasNode, slot_at};
 
-use maple_node::Root;
+use maple_node::{Root, width_of};
 use mm_types::{Page, Row, Slot};
 use node_slots::{NodeSeat, NodeTable};
 
@@ -47,7 +48,7 @@ fn item_word(
         → option_map (λ item. item.word) (item_at page.0 (read (at_of shown.words) leaf row.0)) ≡ result }
     ensures view { (reads : ℕ) × (width_of leaf * reads ≤ 32 + width_of leaf) × (view seat.new ≡ record (view seat.old) { words = (view seat.old).words + reads }) }
 {
-    let width = item_width(leaf);
+    let width = width_of(leaf) as u32;
     let mut place = 0;
     while place + width <= ROW {
         let end = nodes.word(seat, row, place);
@@ -60,11 +61,4 @@ fn item_word(
         place += width;
     }
     None
-}
-
-/// How many words an item has in its node: an entry two, and a child three.
-fn item_width(leaf: bool) -> u32
-    ensures { result ≡ width_of leaf }
-{
-    if leaf { 2 } else { 3 }
 }

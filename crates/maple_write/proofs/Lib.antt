@@ -4,6 +4,7 @@ pub mod Blocks
 pub mod Steps
 pub mod Rising
 pub mod Renewing
+pub mod Swapping
 pub mod Writers
 pub mod Waiting
 pub mod Packing

@@ -14,7 +14,7 @@ use Rattle.maple_write.proofs.Steps.{there_at, item_at-same, cut_of}
 use Rattle.maple_write.proofs.Rising.{Rose, rose}
 
 -- some items end at the same page wherever they begin
-ends_same : (a b : ℕ) (items : List Item) → 1 ≤ length items → end_of a items ≡ end_of b items
+pub ends_same : (a b : ℕ) (items : List Item) → 1 ≤ length items → end_of a items ≡ end_of b items
 ends_same a b [] some = absurd (omega arith)
 ends_same a b (item ∷ items) some = refl
 
@@ -42,6 +42,31 @@ source_of table top height level lo hi page new item words partly less found is 
       ends = subst (λ (ws : List ℕ). end_of 0 (items_of leaf ws) ≤ item.end) (sym is) (omega arith);
     }
 
+-- its items with the new ones among them
+spliced_cut : (table : Table) (top : Item) (height level lo hi : ℕ) (new : List Item) (left : Place)
+    → Partly table top height level lo hi new → level < height → item_at lo (old_level table top height (level + 1)) ≡ Some left.item
+    → left.start ≡ end_of 0 (upto lo (old_level table top height (level + 1))) → hi ≤ left.item.end
+    → Cut table top height level lo hi new left.start left.item.end (spliced lo hi new (read (at_of table.rows) (is_leaf level) left.item.word))
+spliced_cut table top height level lo hi new left partly less found begins within =
+    let pages = partly.pages in
+    let e : hi - 1 + 1 ≡ hi = omega arith in
+    let last = item_at-same lo (hi - 1) (old_level table top height (level + 1)) left.item found (omega arith) (omega arith) in
+    cut_of table top height level lo hi (hi - 1) left.start new left.item left.item partly less found e last begins
+
+-- words that were made of them list them
+pub lists_spliced : (table : Table) (top : Item) (height level lo hi : ℕ) (new : List Item) (left : Place) (words made : List ℕ)
+    → Partly table top height level lo hi new → level < height → item_at lo (old_level table top height (level + 1)) ≡ Some left.item
+    → left.start ≡ end_of 0 (upto lo (old_level table top height (level + 1))) → hi ≤ left.item.end
+    → words ≡ at_of table.rows left.item.word
+    → made ≡ words_of (is_leaf level) (spliced lo hi new (items_of (is_leaf level) words))
+    → items_of (is_leaf level) made ≡ spliced lo hi new (items_of (is_leaf level) words)
+lists_spliced table top height level lo hi new left words made partly less found begins within is told =
+    let leaf = is_leaf level in
+    let items = spliced lo hi new (read (at_of table.rows) leaf left.item.word) in
+    let cut = spliced_cut table top height level lo hi new left partly less found begins within in
+    let same : spliced lo hi new (items_of leaf words) ≡ items = ap (λ (ws : List ℕ). spliced lo hi new (items_of leaf ws)) is in
+    ap (items_of leaf) (told ∙ ap (words_of leaf) same) ∙ items_of_words leaf left.start items cut.ascends cut.plain ∙ sym same
+
 -- the node anew
 pub renewed_is : (table : Table) (top : Item) (height level lo hi fewest : ℕ) (new : List Item) (left : Place) (words made : List ℕ)
     → Partly table top height level lo hi new → level < height → item_at lo (old_level table top height (level + 1)) ≡ Some left.item
@@ -56,17 +81,13 @@ renewed_is table top height level lo hi fewest new left words made partly less f
     let leaf = is_leaf level in
     let here = read (at_of table.rows) leaf left.item.word in
     let items = spliced lo hi new here in
-    let pages = partly.pages in
-    let e : hi - 1 + 1 ≡ hi = omega arith in
-    let last = item_at-same lo (hi - 1) (old_level table top height (level + 1)) left.item found (omega arith) (omega arith) in
-    let cut : Cut table top height level lo hi new left.start left.item.end items =
-    cut_of table top height level lo hi (hi - 1) left.start new left.item left.item partly less found e last begins in
+    let cut = spliced_cut table top height level lo hi new left partly less found begins within in
     let same : spliced lo hi new (items_of leaf words) ≡ items = ap (λ (ws : List ℕ). spliced lo hi new (items_of leaf ws)) is in
-    let made_is : made ≡ words_of leaf items = told ∙ ap (words_of leaf) same in
-    let back : items_of leaf made ≡ items = ap (items_of leaf) made_is ∙ items_of_words leaf left.start items cut.ascends cut.plain in
+    let back : items_of leaf made ≡ items =
+    lists_spliced table top height level lo hi new left words made partly less found begins within is told ∙ same in
     record {
       cut = subst (λ (xs : List Item). Cut table top height level lo hi new left.start left.item.end xs) (sym back) cut;
-      whole = made_is ∙ ap (words_of leaf) (sym back);
+      whole = told ∙ ap (words_of leaf) (same ∙ sym back);
       most = subst (λ (xs : List Item). length xs ≤ most leaf) (same ∙ sym back) fits;
       least = λ inner. let few = least_told inner in subst (λ (xs : List Item). least leaf ≤ length xs) (same ∙ sym back) (omega arith);
     }

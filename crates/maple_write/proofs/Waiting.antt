@@ -7,7 +7,7 @@ use Rattle.grace_core.specs.Core.{times, has_row}
 use Rattle.node_slots.specs.declared.view.NodeView.{NodeView}
 use Rattle.node_slots.specs.declared.seats.NodeWriter.{NodeWriter}
 use Rattle.node_slots.specs.Views.{fill_at}
-use Rattle.node_slots.specs.Seats.{sight, desk, left_of, is_present, is_waiting}
+use Rattle.node_slots.specs.Seats.{sight, desk, left_of, is_present, is_waiting, StaysAt}
 use Rattle.node_slots.proofs.Counting.{times_last, none_if}
 use Rattle.maple_write.specs.Tables.{FillsRows}
 use Rattle.maple_write.proofs.Writers.{with_words}
@@ -46,12 +46,13 @@ leave_waits old new row other view left =
 
 -- a row that was taken is filled
 pub fills_one : (old taken new : NodeWriter) (row : ℕ) (words : List ℕ) → sight taken ≡ sight old → sight new ≡ fill_at (sight taken) row words
-    → left_of taken ≡ left_of old → left_of new ≡ left_of taken → FillsRows old new
-fills_one old taken new row words first view before after =
+    → left_of taken ≡ left_of old → left_of new ≡ left_of taken → StaysAt old taken → StaysAt taken new → FillsRows old new
+fills_one old taken new row words first view before after takes fills =
     let all : sight new ≡ with_words (sight old) (set (desk old).words row words) = view ∙ ap (λ (v : NodeView). fill_at v row words) first in
     let same : (desk new).words ≡ set (desk old).words row words = ap (λ (v : NodeView). v.known.desk.words) all in
     record {
       seen = all ∙ ap (with_words (sight old)) (sym same);
       long = ap (λ (ws : List (List ℕ)). length ws) same ∙ length-set (desk old).words row words;
       waits = λ other. waits_same old new other (ap (λ (v : NodeView). v.known.desk.tree) all) (after ∙ before);
+      table = λ nodes here. fills nodes (takes nodes here);
     }

@@ -14,7 +14,7 @@ use Rattle.node_slots.specs.declared.view.NodeView.{NodeView}
 use Rattle.node_slots.specs.declared.seats.NodeWriter.{NodeWriter}
 use Rattle.node_slots.specs.Views.{fill_at}
 use Rattle.node_slots.specs.Kept.{times_gone}
-use Rattle.node_slots.specs.Seats.{sight, desk, row_count, free_of, left_of, is_present, is_waiting, is_kept, is_taken}
+use Rattle.node_slots.specs.Seats.{sight, desk, row_count, free_of, left_of, is_present, is_waiting, is_kept, is_taken, StaysAt}
 use Rattle.node_slots.proofs.Listing.{kept_from}
 use Rattle.node_slots.proofs.Writers.{writer_kept, writer_taken, times_same}
 use Rattle.maple_write.specs.Internal.Tables.{table_at, gone}
@@ -25,11 +25,13 @@ abbrev pub with_words : NodeView → List (List ℕ) → NodeView
 with_words view words = record view { known = record view.known { desk = record view.known.desk { words = words } } }
 
 -- a writer that nothing was changed of, or that was changed twice
-pub fills_none : (old new : NodeWriter) → sight new ≡ sight old → ((row : ℕ) → is_waiting new row ≡ is_waiting old row) → FillsRows old new
-fills_none old new same waits = record {
+pub fills_none : (old new : NodeWriter) → sight new ≡ sight old → ((row : ℕ) → is_waiting new row ≡ is_waiting old row) → StaysAt old new
+    → FillsRows old new
+fills_none old new same waits table = record {
   seen = ap (λ (v : NodeView). with_words v (desk new).words) same;
   long = ap (λ (v : NodeView). length v.known.desk.words) same;
   waits = waits;
+  table = table;
 }
 
 pub fills_both : (one two three : NodeWriter) → FillsRows one two → FillsRows two three → FillsRows one three
@@ -37,6 +39,7 @@ fills_both one two three first second = record {
   seen = second.seen ∙ ap (λ (v : NodeView). with_words v (desk three).words) first.seen;
   long = second.long ∙ first.long;
   waits = λ row. second.waits row ∙ first.waits row;
+  table = λ nodes here. second.table nodes (first.table nodes here);
 }
 
 -- the table has a row for each number below the count

@@ -2,7 +2,6 @@
 //! anew in free rows, level by level. The rows of the old tree keep their words until the tree is published.
 #![tactic(auto)]
 
-mod few;
 mod laws;
 mod level;
 mod path;

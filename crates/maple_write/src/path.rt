@@ -5,7 +5,6 @@ ghost use Rattle.maple_node.specs.Nodes.{end_of};
 ghost use Rattle.maple_node.specs.declared.item.Item.{Item};
 ghost use Rattle.maple_node.specs.Levels.{item_at, IsTower};
 ghost use Rattle.maple_items.specs.Splices.{upto};
-ghost use Rattle.node_slots.specs.Seats.{Writes};
 ghost use Rattle.node_slots.specs.Built.{words_at};
 ghost use Rattle.maple_write.specs.Internal.Tables.{table_at};
 ghost use Rattle.maple_write.specs.Internal.Stores.{old_level, Begins, IsPath};
@@ -13,7 +12,7 @@ ghost use Rattle.maple_write.specs.Internal.Stores.{old_level, Begins, IsPath};
 use crate::rows::{Rooted, words};
 use maple_items::{Place, item_in};
 use maple_node::Item;
-use node_slots::{NodeTable, NodeWriter};
+use node_slots::NodeWriter;
 
 /// How many levels a path keeps, from the entries up. A published tree has no more.
 pub(crate) const LEVELS: usize = 9;
@@ -43,15 +42,7 @@ pub(crate) struct Begin {
 }
 
 /// The item that has a page in the level below one, of which the item is given that has it.
-fn down(
-    nodes: &NodeTable,
-    writer: &NodeWriter,
-    tree: Rooted,
-    low: u32,
-    begin: Begin,
-    page: u64,
-) -> Begin
-    requires table { Writes writer.now nodes.now }
+fn down(writer: &NodeWriter, tree: Rooted, low: u32, begin: Begin, page: u64) -> Begin
     requires tower { IsTower (words_at writer.now) tree.top.end low (tree.height - low) (tree.top ∷ []) }
     requires order { low < begin.level }
     requires high { begin.level ≤ tree.height }
@@ -60,7 +51,7 @@ fn down(
     ensures begins { Begins (words_at writer.now) tree.top tree.height page result.level result.place.start result.place.item }
 {
     let level = begin.level - 1;
-    let words = words(nodes, writer, begin.place.item.word);
+    let words = words(writer, begin.place.item.word);
     Begin {
         level,
         place: item_in(level == 0, words, begin.place.start, page),
@@ -84,8 +75,7 @@ fn above(tree: Rooted) -> Begin
 
 impl Path {
     /// Keeps the way down a tree to the path's page. The path is filled where it stands, since it is long.
-    pub(crate) fn lead(&mut self, nodes: &NodeTable, writer: &NodeWriter, tree: Rooted)
-        requires table { Writes writer.now nodes.now }
+    pub(crate) fn lead(&mut self, writer: &NodeWriter, tree: Rooted)
         requires tower { IsTower (words_at writer.now) tree.top.end 0 tree.height (tree.top ∷ []) }
         requires within { self.old.page < tree.top.end }
         ensures { IsPath (words_at writer.now) tree.top tree.height 0 self.new }
@@ -93,7 +83,7 @@ impl Path {
         let page = self.page;
         let mut begin = above(tree);
         while begin.level > 0 {
-            begin = down(nodes, writer, tree, 0, begin, page);
+            begin = down(writer, tree, 0, begin, page);
             self.keep(begin);
         }
     }
@@ -133,15 +123,7 @@ impl Path {
 
 /// The item of a level that has a page, in the tree under a root, and the page where it begins. The search begins at the lowest
 /// item of a path that has the page.
-pub(crate) fn find(
-    nodes: &NodeTable,
-    writer: &NodeWriter,
-    tree: Rooted,
-    path: &Path,
-    low: u32,
-    page: u64,
-) -> Place
-    requires table { Writes writer.now nodes.now }
+pub(crate) fn find(writer: &NodeWriter, tree: Rooted, path: &Path, low: u32, page: u64) -> Place
     requires tower { IsTower (words_at writer.now) tree.top.end low (tree.height - low) (tree.top ∷ []) }
     requires path { IsPath (words_at writer.now) tree.top tree.height low path.now }
     requires order { low ≤ tree.height }
@@ -152,7 +134,7 @@ pub(crate) fn find(
 {
     let mut begin = path.nearest(tree, low, page);
     while begin.level > low {
-        begin = down(nodes, writer, tree, low, begin, page);
+        begin = down(writer, tree, low, begin, page);
     }
     begin.place
 }

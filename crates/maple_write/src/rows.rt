@@ -1,21 +1,18 @@
 //! Nodes in the rows of the writer's table: how one is read and made.
 
 ghost use Rattle.std.specs.Prelude.{◌≡◌, ◌<◌, ◌≤◌, ◌+◌, ◌*◌, ℕ, ◌∷◌, length, slice_set};
-ghost use Rattle.maple_node.specs.Nodes.{words_of, items_of, most, least, end_of, Ascends, IsPlain};
+ghost use Rattle.maple_node.specs.Nodes.{words_of, items_of, most, least, end_of, gap_of, Ascends, IsPlain};
 ghost use Rattle.maple_node.specs.Levels.{read, below, AllFrom, IsNode, times};
-ghost use Rattle.node_slots.specs.Seats.{Writes, desk, row_count, free_of, left_of};
+ghost use Rattle.node_slots.specs.Seats.{desk, row_count, free_of, left_of};
 ghost use Rattle.node_slots.specs.Built.{words_at};
 ghost use Rattle.maple_write.specs.Internal.Tables.{rows_in};
 ghost use Rattle.maple_write.specs.Tables.{FillsRows};
 
-use crate::few::FewItems;
-use maple_items::{gap_in, node_words, share};
-use maple_node::Item;
-use mm_types::{Row, Steps};
-use node_slots::{NodeTable, NodeWriter};
-
-/// The rows that are read, which nobody counts here.
-struct Reads;
+use arrayvec::ArrayVec;
+use maple_items::{gap_in, share};
+use maple_node::{Item, node_words};
+use mm_types::Row;
+use node_slots::NodeWriter;
 
 /// A tree as its root tells it: the root's item, and the tree's height. Height 1 is a single leaf.
 #[derive(Clone, Copy, Debug, PartialEq, Eq)]
@@ -24,34 +21,35 @@ pub(crate) struct Rooted {
     pub(crate) height: u32,
 }
 
+/// A few items, in an array of their own: short, since it is passed by value from level to level.
+pub(crate) type FewItems = ArrayVec<Item, 3>;
+
 /// The words of a row.
-pub(crate) fn words<'a>(nodes: &NodeTable, writer: &'a NodeWriter, row: u64) -> &'a [u64; 32]
-    requires table { Writes writer.now nodes.now }
+pub(crate) fn words(writer: &NodeWriter, row: u64) -> &[u64; 32]
     requires row { row < row_count writer.now }
     ensures { result.now ≡ words_at writer.now row }
 {
-    nodes.written(writer, Row(row as u32), &mut Steps::<Reads>::new())
+    writer.row_words(Row(row as u32))
 }
 
-/// Makes a node, which begins and ends at these pages, of its words in a free row: one that held nearly the same words as the row of
-/// the old node, if there is one.
+/// Makes a node, which begins and ends at these pages and has this largest gap, of its words in a free row: one that held nearly the
+/// same words as the row of the old node, if there is one.
 fn put_words(
-    nodes: &NodeTable,
     writer: &mut NodeWriter,
     old: Row,
     leaf: bool,
     start: u64,
     end: u64,
     words: &[u64; 32],
+    gap: u64,
 ) -> Item
-    requires table { Writes writer.old nodes.now }
     requires free { 0 < length (free_of writer.old) }
     requires some { 1 ≤ length (items_of leaf words.now) }
     requires most { length (items_of leaf words.now) ≤ most leaf }
     requires ascends { Ascends start (items_of leaf words.now) }
     requires end { end ≡ end_of start (items_of leaf words.now) }
+    requires gap { gap ≡ gap_of leaf start (items_of leaf words.now) }
     requires whole { words.now ≡ words_of leaf (items_of leaf words.now) }
-    ensures table { Writes writer.new nodes.now }
     ensures same { FillsRows writer.old writer.new }
     ensures node { (limit : ℕ) → (end_of start (items_of leaf words.now) < limit → least leaf ≤ length (items_of leaf words.now))
         → IsNode (words_at writer.new) leaf limit start result }
@@ -62,31 +60,22 @@ fn put_words(
     ensures taken { (row : ℕ) → times row (free_of writer.old) ≡ times row (result.word ∷ free_of writer.new) }
     ensures left { left_of writer.new ≡ left_of writer.old }
 {
-    let row = nodes.take_row_for(writer, old).unwrap();
-    nodes.fill(writer, row, words);
+    let row = writer.take_row_for(old).unwrap();
+    writer.fill(row, words);
     Item {
         end,
         word: u64::from(row.0),
-        gap: gap_in(leaf, start, words),
+        gap,
     }
 }
 
 /// Makes a node of items, of which the first begins at `start`, in a free row, in the place of an old one.
-pub(crate) fn put(
-    nodes: &NodeTable,
-    writer: &mut NodeWriter,
-    old: Row,
-    leaf: bool,
-    start: u64,
-    items: &[Item],
-) -> Item
-    requires table { Writes writer.old nodes.now }
+pub(crate) fn put(writer: &mut NodeWriter, old: Row, leaf: bool, start: u64, items: &[Item]) -> Item
     requires free { 0 < length (free_of writer.old) }
     requires some { 1 ≤ length items.now }
     requires most { length items.now ≤ most leaf }
     requires ascends { Ascends start items.now }
     requires plain { IsPlain leaf items.now }
-    ensures table { Writes writer.new nodes.now }
     ensures same { FillsRows writer.old writer.new }
     ensures node { (limit : ℕ) → (end_of start items.now < limit → least leaf ≤ length items.now)
         → IsNode (words_at writer.new) leaf limit start result }
@@ -99,39 +88,39 @@ pub(crate) fn put(
 {
     let words = node_words(leaf, items);
     let end = items[items.len() - 1].end;
-    put_words(nodes, writer, old, leaf, start, end, &words)
+    let gap = gap_in(leaf, start, &words);
+    put_words(writer, old, leaf, start, end, &words, gap)
 }
 
-/// Makes one node of its words in the place of an old one.
+/// Makes one node of its words in the place of an old one. The largest gap of the words is given.
 pub(crate) fn pack_words(
-    nodes: &NodeTable,
     writer: &mut NodeWriter,
     old: Row,
     leaf: bool,
     start: u64,
     end: u64,
     words: &[u64; 32],
+    gap: u64,
 ) -> FewItems
-    requires table { Writes writer.old nodes.now }
     requires free { 0 < length (free_of writer.old) }
     requires some { 1 ≤ length (items_of leaf words.now) }
     requires most { length (items_of leaf words.now) ≤ most leaf }
     requires ascends { Ascends start (items_of leaf words.now) }
     requires end { end ≡ end_of start (items_of leaf words.now) }
+    requires gap { gap ≡ gap_of leaf start (items_of leaf words.now) }
     requires whole { words.now ≡ words_of leaf (items_of leaf words.now) }
-    ensures table { Writes writer.new nodes.now }
     ensures same { FillsRows writer.old writer.new }
     ensures nodes { (limit : ℕ) → (end_of start (items_of leaf words.now) < limit → least leaf ≤ length (items_of leaf words.now))
-        → AllFrom (IsNode (words_at writer.new) leaf limit) start result }
-    ensures below { below (words_at writer.new) leaf result ≡ items_of leaf words.now }
-    ensures one { length result ≡ 1 }
+        → AllFrom (IsNode (words_at writer.new) leaf limit) start result.items }
+    ensures below { below (words_at writer.new) leaf result.items ≡ items_of leaf words.now }
+    ensures one { length result.items ≡ 1 }
     ensures kept { (row : ℕ) → times row (free_of writer.old) ≡ 0 → words_at writer.new row ≡ words_at writer.old row }
-    ensures taken { (row : ℕ) → times row (free_of writer.old) ≡ times row (free_of writer.new) + times row (rows_in result) }
-    ensures free { length (free_of writer.old) ≡ length (free_of writer.new) + length result }
+    ensures taken { (row : ℕ) → times row (free_of writer.old) ≡ times row (free_of writer.new) + times row (rows_in result.items) }
+    ensures free { length (free_of writer.old) ≡ length (free_of writer.new) + length result.items }
     ensures left { left_of writer.new ≡ left_of writer.old }
 {
     let mut packed = FewItems::new();
-    let node = put_words(nodes, writer, old, leaf, start, end, words);
+    let node = put_words(writer, old, leaf, start, end, words, gap);
     packed.push(node);
     packed
 }
@@ -139,29 +128,26 @@ pub(crate) fn pack_words(
 /// Packs items, of which the first begins at `start`, into nodes in the place of an old one: as many into each
 /// as `share` tells.
 pub(crate) fn pack(
-    nodes: &NodeTable,
     writer: &mut NodeWriter,
     old: Row,
     leaf: bool,
     start: u64,
     items: &[Item],
 ) -> FewItems
-    requires table { Writes writer.old nodes.now }
     requires free { 3 ≤ length (free_of writer.old) }
     requires some { 1 ≤ length items.now }
     requires few { length items.now ≤ 3 * most leaf }
     requires ascends { Ascends start items.now }
     requires plain { IsPlain leaf items.now }
-    ensures table { Writes writer.new nodes.now }
     ensures same { FillsRows writer.old writer.new }
     ensures nodes { (limit : ℕ) → (end_of start items.now < limit → least leaf ≤ length items.now)
-        → AllFrom (IsNode (words_at writer.new) leaf limit) start result }
-    ensures below { below (words_at writer.new) leaf result ≡ items.now }
-    ensures some { 1 ≤ length result }
-    ensures few { length result ≤ 3 }
+        → AllFrom (IsNode (words_at writer.new) leaf limit) start result.items }
+    ensures below { below (words_at writer.new) leaf result.items ≡ items.now }
+    ensures some { 1 ≤ length result.items }
+    ensures few { length result.items ≤ 3 }
     ensures kept { (row : ℕ) → times row (free_of writer.old) ≡ 0 → words_at writer.new row ≡ words_at writer.old row }
-    ensures taken { (row : ℕ) → times row (free_of writer.old) ≡ times row (free_of writer.new) + times row (rows_in result) }
-    ensures free { length (free_of writer.old) ≡ length (free_of writer.new) + length result }
+    ensures taken { (row : ℕ) → times row (free_of writer.old) ≡ times row (free_of writer.new) + times row (rows_in result.items) }
+    ensures free { length (free_of writer.old) ≡ length (free_of writer.new) + length result.items }
     ensures left { left_of writer.new ≡ left_of writer.old }
 {
     let mut packed = FewItems::new();
@@ -169,7 +155,7 @@ pub(crate) fn pack(
     let mut place = 0;
     while place < items.len() {
         let end = place + share(leaf, items.len() - place);
-        let node = put(nodes, writer, old, leaf, begin, &items[place..end]);
+        let node = put(writer, old, leaf, begin, &items[place..end]);
         begin = node.end;
         packed.push(node);
         place = end;

@@ -15,8 +15,8 @@ ghost use Rattle.maple_write.specs.Internal.Stores.{IsShaped, IsWhole, Finds, tr
 use crate::path::{LEVELS, NO_PLACE, Path, find};
 use crate::rows::{Rooted, put, words};
 use crate::tree::{first, replace};
-use maple_items::{ItemList, Place, gap_in, lists_nothing};
-use maple_node::Item;
+use maple_items::{ItemList, Place, gap_in, lists_nothing, push_all, push_beyond};
+use maple_node::{Item, slot_word};
 use mm_types::{Row, Slot, Span};
 use node_slots::{NodeTable, NodeWriter, Tree};
 
@@ -49,8 +49,8 @@ pub fn store(
     if span.lo >= span.hi {
         return;
     }
-    let old = rooted(nodes, writer, tree);
-    let new = stored(nodes, writer, old, tree.limit.0, span, word_of(slot));
+    let old = rooted(writer, tree);
+    let new = stored(writer, old, tree.limit.0, span, slot_word(slot));
     tree.root = Row(new.top.word as u32);
     tree.height = new.height;
 }
@@ -69,22 +69,14 @@ pub fn publish_tree(nodes: &NodeTable, writer: &mut NodeWriter, tree: &Tree)
     nodes.publish(writer, tree.root, tree.height);
 }
 
-/// The word of a slot in an entry: its number plus 1, or 0 for none.
-fn word_of(slot: Option<Slot>) -> u64
-    ensures { result ≡ slot_word slot }
-{
-    slot.map_or(0, |slot| u64::from(slot.0) + 1)
-}
-
 /// The tree of the writer's view, with what the row of its root tells of it.
-fn rooted(nodes: &NodeTable, writer: &NodeWriter, tree: &Tree) -> Rooted
-    requires table { Writes writer.now nodes.now }
+fn rooted(writer: &NodeWriter, tree: &Tree) -> Rooted
     requires tree { IsWriters writer.now tree.now }
     ensures { tree_under result ≡ built writer.now tree.now }
 {
     let leaf = tree.height == 1;
     let root = u64::from(tree.root.0);
-    let words = words(nodes, writer, root);
+    let words = words(writer, root);
     let end = if lists_nothing(words) {
         0
     } else {
@@ -101,8 +93,7 @@ fn rooted(nodes: &NodeTable, writer: &NodeWriter, tree: &Tree) -> Rooted
 }
 
 /// Where the gap begins that has the page before a page, or else the page.
-fn gap_begin(nodes: &NodeTable, writer: &NodeWriter, tree: Rooted, path: &Path, page: u64) -> u64
-    requires table { Writes writer.now nodes.now }
+fn gap_begin(writer: &NodeWriter, tree: Rooted, path: &Path, page: u64) -> u64
     requires shaped { IsShaped (table_at writer.now) (tree_under tree) }
     requires path { IsPath (words_at writer.now) tree.top tree.height 0 path.now }
     requires within { page ≤ tree.top.end }
@@ -111,7 +102,7 @@ fn gap_begin(nodes: &NodeTable, writer: &NodeWriter, tree: Rooted, path: &Path, 
     if page == 0 {
         return 0;
     }
-    let place = find(nodes, writer, tree, path, 0, page - 1);
+    let place = find(writer, tree, path, 0, page - 1);
     if place.item.word == 0 {
         place.start
     } else {
@@ -120,8 +111,7 @@ fn gap_begin(nodes: &NodeTable, writer: &NodeWriter, tree: Rooted, path: &Path, 
 }
 
 /// Where the gap ends that has a page, or else the page.
-fn gap_end(nodes: &NodeTable, writer: &NodeWriter, tree: Rooted, path: &Path, page: u64) -> u64
-    requires table { Writes writer.now nodes.now }
+fn gap_end(writer: &NodeWriter, tree: Rooted, path: &Path, page: u64) -> u64
     requires shaped { IsShaped (table_at writer.now) (tree_under tree) }
     requires path { IsPath (words_at writer.now) tree.top tree.height 0 path.now }
     requires within { page ≤ tree.top.end }
@@ -130,7 +120,7 @@ fn gap_end(nodes: &NodeTable, writer: &NodeWriter, tree: Rooted, path: &Path, pa
     if page == tree.top.end {
         return page;
     }
-    let place = find(nodes, writer, tree, path, 0, page);
+    let place = find(writer, tree, path, 0, page);
     if place.item.word == 0 {
         place.item.end
     } else {
@@ -139,21 +129,13 @@ fn gap_end(nodes: &NodeTable, writer: &NodeWriter, tree: Rooted, path: &Path, pa
 }
 
 /// A store into a tree with entries. A gap takes in the gaps beside it.
-fn overwrite(
-    nodes: &NodeTable,
-    writer: &mut NodeWriter,
-    old: Rooted,
-    span: Span,
-    word: u64,
-) -> Rooted
-    requires table { Writes writer.old nodes.now }
+fn overwrite(writer: &mut NodeWriter, old: Rooted, span: Span, word: u64) -> Rooted
     requires whole { IsWhole (table_at writer.old) (sight writer.old).size.slots (tree_under old) }
     requires free { 4 * old.height + 4 ≤ length (free_of writer.old) }
     requires some { span.lo < span.hi }
     requires limit { span.hi ≤ old.top.end }
     requires word { word ≤ (sight writer.old).size.slots }
     requires fits { old.height < 2 ^ 31 }
-    ensures table { Writes writer.new nodes.now }
     ensures same { FillsRows writer.old writer.new }
     ensures whole { IsWhole (table_at writer.new) (sight writer.old).size.slots (tree_under result) }
     ensures pairs { pairs_of (words_at writer.new) (tree_under result)
@@ -166,22 +148,22 @@ fn overwrite(
         page: span.lo,
         places: [NO_PLACE; LEVELS],
     };
-    path.lead(nodes, writer, old);
+    path.lead(writer, old);
     if word != 0 {
-        return replace(nodes, writer, old, &path, span.lo, span.hi, word);
+        return replace(writer, old, &path, span.lo, span.hi, word);
     }
-    let lo = gap_begin(nodes, writer, old, &path, span.lo);
-    let hi = gap_end(nodes, writer, old, &path, span.hi);
-    replace(nodes, writer, old, &path, lo, hi, 0)
+    let lo = gap_begin(writer, old, &path, span.lo);
+    let hi = gap_end(writer, old, &path, span.hi);
+    replace(writer, old, &path, lo, hi, 0)
 }
 
 /// The entries of a tree whose pages were one gap up to `limit`, with one entry from page `lo` up to page `hi`.
 fn first_entries(limit: u64, lo: u64, hi: u64, word: u64) -> ItemList
     requires some { lo < hi }
     requires limit { hi ≤ limit }
-    ensures entries { result ≡ overwrite lo hi word (all_gap limit) }
-    ensures some { 1 ≤ length result }
-    ensures few { length result ≤ 3 }
+    ensures entries { result.items ≡ overwrite lo hi word (all_gap limit) }
+    ensures some { 1 ≤ length result.items }
+    ensures few { length result.items ≤ 3 }
 {
     let gap = Item {
         end: limit,
@@ -194,20 +176,18 @@ fn first_entries(limit: u64, lo: u64, hi: u64, word: u64) -> ItemList
     };
     let stretch = first(place, lo, hi, word);
     let mut entries = ItemList::new();
-    entries.push_all(stretch.items.items());
-    entries.push_beyond(hi, &[gap]);
+    push_all(&mut entries, stretch.items.as_slice());
+    push_beyond(&mut entries, hi, &[gap]);
     entries
 }
 
 /// Makes the first leaf of a tree, in place of tree 0, whose row 0 is left.
-fn planted(nodes: &NodeTable, writer: &mut NodeWriter, limit: u64, span: Span, word: u64) -> Rooted
-    requires table { Writes writer.old nodes.now }
+fn planted(writer: &mut NodeWriter, limit: u64, span: Span, word: u64) -> Rooted
     requires kept { (row : ℕ) → is_kept writer.old row ≡ nat_eq row 0 }
     requires rows { 1 ≤ row_count writer.old }
     requires free { 1 ≤ length (free_of writer.old) }
     requires some { span.lo < span.hi }
     requires limit { span.hi ≤ limit }
-    ensures table { Writes writer.new nodes.now }
     ensures same { FillsRows writer.old writer.new }
     ensures shaped { IsShaped (table_at writer.new) (tree_under result) }
     ensures entries { entries_of (words_at writer.new) (tree_under result) ≡ overwrite span.lo span.hi word (all_gap limit) }
@@ -216,21 +196,19 @@ fn planted(nodes: &NodeTable, writer: &mut NodeWriter, limit: u64, span: Span, w
     ensures free { length (free_of writer.old) ≤ length (free_of writer.new) + 1 }
 {
     let entries = first_entries(limit, span.lo, span.hi, word);
-    let top = put(nodes, writer, Row(0), true, 0, entries.items());
-    nodes.leave(writer, Row(0));
+    let top = put(writer, Row(0), true, 0, entries.as_slice());
+    writer.leave(Row(0));
     Rooted { top, height: 1 }
 }
 
 /// A store into tree 0.
-fn plant(nodes: &NodeTable, writer: &mut NodeWriter, limit: u64, span: Span, word: u64) -> Rooted
-    requires table { Writes writer.old nodes.now }
+fn plant(writer: &mut NodeWriter, limit: u64, span: Span, word: u64) -> Rooted
     requires kept { (row : ℕ) → is_kept writer.old row ≡ nat_eq row 0 }
     requires rows { 1 ≤ row_count writer.old }
     requires free { 1 ≤ length (free_of writer.old) }
     requires some { span.lo < span.hi }
     requires limit { span.hi ≤ limit }
     requires word { word ≤ (sight writer.old).size.slots }
-    ensures table { Writes writer.new nodes.now }
     ensures same { FillsRows writer.old writer.new }
     ensures whole { IsWhole (table_at writer.new) (sight writer.old).size.slots (tree_under result) }
     ensures pairs { pairs_of (words_at writer.new) (tree_under result) ≡ overwritten span.lo span.hi word [] }
@@ -239,28 +217,19 @@ fn plant(nodes: &NodeTable, writer: &mut NodeWriter, limit: u64, span: Span, wor
     ensures free { length (free_of writer.old) ≤ length (free_of writer.new) + 1 }
 {
     if word != 0 {
-        return planted(nodes, writer, limit, span, word);
+        return planted(writer, limit, span, word);
     }
-    planted(nodes, writer, limit, Span { lo: 0, hi: limit }, 0)
+    planted(writer, limit, Span { lo: 0, hi: limit }, 0)
 }
 
 /// A store into the tree that the writer found: one with entries, or tree 0.
-fn stored(
-    nodes: &NodeTable,
-    writer: &mut NodeWriter,
-    old: Rooted,
-    limit: u64,
-    span: Span,
-    word: u64,
-) -> Rooted
-    requires table { Writes writer.old nodes.now }
+fn stored(writer: &mut NodeWriter, old: Rooted, limit: u64, span: Span, word: u64) -> Rooted
     requires finds { Finds writer.old old limit }
     requires free { 4 * old.height + 4 ≤ length (free_of writer.old) }
     requires some { span.lo < span.hi }
     requires limit { span.hi ≤ limit }
     requires word { word ≤ (sight writer.old).size.slots }
     requires fits { old.height < 2 ^ 31 }
-    ensures table { Writes writer.new nodes.now }
     ensures same { FillsRows writer.old writer.new }
     ensures whole { IsWhole (table_at writer.new) (sight writer.old).size.slots (tree_under result) }
     ensures pairs { pairs_of (words_at writer.new) (tree_under result)
@@ -270,7 +239,7 @@ fn stored(
     ensures free { length (free_of writer.old) ≤ length (free_of writer.new) + 3 * old.height + 1 }
 {
     if old.top.end == 0 {
-        return plant(nodes, writer, limit, span, word);
+        return plant(writer, limit, span, word);
     }
-    overwrite(nodes, writer, old, span, word)
+    overwrite(writer, old, span, word)
 }

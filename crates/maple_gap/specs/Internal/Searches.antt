@@ -69,6 +69,16 @@ pub record IsBranch (at : ℕ → List ℕ) (branch : Branch) : Type 0 where
   pub limit : ℕ
   pub under : IsUnder at limit branch.level branch.place.start branch.place.item
 
+-- an item that tells another gap
+abbrev pub with_gap : ℕ → Item → Item
+with_gap gap item = record { end = item.end; word = item.word; gap = gap }
+
+-- a branch of a tree but for the gap that its item tells, which may be any: the entry of a page is found without it
+pub record IsAnyBranch (at : ℕ → List ℕ) (branch : Branch) : Type 0 where
+  pub limit : ℕ
+  pub gap : ℕ
+  pub under : IsUnder at limit branch.level branch.place.start (with_gap gap branch.place.item)
+
 -- the entries under a branch
 abbrev pub entries_under : (ℕ → List ℕ) → Branch → List Item
 entries_under at branch = level_of at 0 branch.level (branch.place.item ∷ [])
@@ -103,9 +113,9 @@ pub record IsSpare (side : Side) (window : Window) (at : ℕ → List ℕ) (spar
   pub room : may_have window (is_leaf spare.level) spare.place.start spare.place.item ≡ true
   pub far : IsFar side window spare.place
 
--- the whole tree of the writer's view as a branch, where tree 0 is one gap
+-- the whole tree of the writer's view as a branch whose item may tell any gap, where tree 0 is one gap
 pub record IsRootOf (writer : NodeWriter) (tree : Tree) (root : Branch) : Type 0 where
-  pub branch : IsBranch (words_at writer) root
+  pub branch : IsAnyBranch (words_at writer) root
   pub begin : root.place.start ≡ 0
   pub limit : root.place.item.end ≡ tree.limit.0
   pub low : root.level ≤ tree.height

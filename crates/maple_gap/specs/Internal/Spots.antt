@@ -1,7 +1,7 @@
 -- Where the words of a node list the items that may have room.
 use Rattle.std.specs.Prelude.{ℕ, ◌≡◌, ◌≢◌, ◌≤◌, ◌+◌, Bool, true, List, drop, get_or, length}
 use Rattle.maple_node.specs.Nodes.{items_of}
-use Rattle.maple_items.specs.Parts.{width_of, listed_at}
+use Rattle.maple_node.specs.Codec.{width_of, listed_at}
 use Rattle.maple_gap.specs.declared.window.Side.{Side}
 use Rattle.maple_gap.specs.declared.window.Window.{Window}
 use Rattle.maple_gap.specs.declared.window.Choice.{Choice}

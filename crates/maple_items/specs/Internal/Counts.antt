@@ -2,7 +2,7 @@
 use Rattle.std.specs.Prelude.{ℕ, ◌≡◌, ◌+◌, ◌*◌, Bool, List, length, drop}
 use Rattle.maple_node.specs.Nodes.{items_of, Ascends}
 use Rattle.maple_items.specs.Splices.{upto}
-use Rattle.maple_items.specs.Parts.{width_of}
+use Rattle.maple_node.specs.Codec.{width_of}
 
 -- the words before a place are those of items that end up to a page
 pub record IsCounted (leaf : Bool) (page place : ℕ) (words : List ℕ) : Type 0 where

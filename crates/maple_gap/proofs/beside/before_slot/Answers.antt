@@ -7,7 +7,7 @@ use Rattle.maple_items.specs.Splices.{upto}
 use Rattle.maple_items.proofs.Lists.{upto_below}
 use Rattle.node_slots.specs.Built.{words_at}
 use Rattle.maple_gap.specs.Gaps.{last_before, slot_in}
-use Rattle.maple_gap.specs.Internal.Searches.{entries_under}
+use Rattle.maple_gap.specs.Internal.Searches.{entries_under, with_gap}
 use Rattle.maple_gap.proofs.Under.{under_past}
 use Rattle.maple_gap.proofs.Searching.{entries_of_root}
 use Rattle.maple_gap.proofs.Neighbours.{word_of_found, before_none, before_here, before_first, before_gap, edge_of}
@@ -20,7 +20,7 @@ returns-then-above-eq0 c =
     let page = c.args.page.0 in
     let entries = entries_under (words_at c.args.writer.now) root in
     let all = entries_of_root c.args.writer.now c.args.tree.now root is in
-    let past = under_past (words_at c.args.writer.now) is.branch.limit root.level root.place.start root.place.item is.branch.under in
+    let past = under_past (words_at c.args.writer.now) is.branch.limit root.level root.place.start (with_gap is.branch.gap root.place.item) is.branch.under in
     let test = c.if-above-eq0.true in
     let least = c.min-above.ensures in
     sym (ap (λ (ps : List Pair). slot_in (last_before ps page)) (sym is.pairs) ∙ ap slot_in (before_none page 0 None entries all.ascends (omega arith)))

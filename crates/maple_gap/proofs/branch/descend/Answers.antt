@@ -15,8 +15,8 @@ loop-branch-init g c = record {
   cost = omega arith;
 }
 
-pub words-words-requires-clause-row : goal.words-words-requires-clause-row
-words-words-requires-clause-row g c =
+pub words-words-requires : goal.words-words-requires
+words-words-requires g c =
     let branch = c.loop-branch.branch in
     let going = c.loop-branch.invariant.going in
     let level = branch.level - 1 in

@@ -3,6 +3,7 @@ use Rattle.std.proofs.Common.{◌-◌, refl, ap, arith}
 use Rattle.maple_node.specs.Nodes.{items_of}
 use Rattle.maple_node.specs.Levels.{is_leaf}
 use Rattle.node_slots.specs.Built.{words_at}
+use Rattle.maple_gap.specs.Internal.Searches.{with_gap}
 use Rattle.maple_gap.proofs.Rows.{node_there}
 use Rattle.maple_gap.proofs.Finding.{reach_root, reach_node, inside, reach_down, reach_entry}
 use Rattle.maple_gap.proofs.branch.entry_at.Goals as goal
@@ -11,13 +12,13 @@ pub loop-branch-init : goal.loop-branch-init
 loop-branch-init g c =
     reach_root (words_at c.args.writer.now) c.args.page c.args.root c.requires.branch c.requires.above c.requires.within
 
-pub words-words-requires-clause-row : goal.words-words-requires-clause-row
-words-words-requires-clause-row g c =
+pub words-words-requires : goal.words-words-requires
+words-words-requires g c =
     let branch = c.loop-branch.branch in
     let is = c.loop-branch.invariant in
     let level = branch.level - 1 in
     let test = c.loop-branch-test.true in
-    node_there c.args.writer.now (is_leaf level) is.limit branch.place.start branch.place.item
+    node_there c.args.writer.now (is_leaf level) is.limit branch.place.start (with_gap is.gap branch.place.item)
     (reach_node (words_at c.args.writer.now) c.args.page c.args.root branch level is (omega arith))
 
 pub item_in-requires-clause-ascends : goal.item_in-requires-clause-ascends

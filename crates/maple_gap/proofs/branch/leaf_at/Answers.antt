@@ -3,6 +3,7 @@ use Rattle.std.proofs.Common.{◌-◌, false, ap, arith}
 use Rattle.maple_node.specs.Nodes.{items_of}
 use Rattle.maple_node.specs.Levels.{is_leaf}
 use Rattle.node_slots.specs.Built.{words_at}
+use Rattle.maple_gap.specs.Internal.Searches.{with_gap}
 use Rattle.maple_gap.proofs.Rows.{node_there}
 use Rattle.maple_gap.proofs.Finding.{around_root, reach_node, inside, around_down, around_part, not_leaf}
 use Rattle.maple_gap.proofs.branch.leaf_at.Goals as goal
@@ -11,13 +12,13 @@ pub loop-branch-init : goal.loop-branch-init
 loop-branch-init g c =
     around_root (words_at c.args.writer.now) c.args.page c.args.root c.requires.branch c.requires.above c.requires.within
 
-pub words-words-requires-clause-row : goal.words-words-requires-clause-row
-words-words-requires-clause-row g c =
+pub words-words-requires : goal.words-words-requires
+words-words-requires g c =
     let branch = c.loop-branch.branch in
     let reached = c.loop-branch.invariant.here in
     let level = branch.level - 1 in
     let test = c.loop-branch-test.true in
-    node_there c.args.writer.now (is_leaf level) reached.limit branch.place.start branch.place.item
+    node_there c.args.writer.now (is_leaf level) reached.limit branch.place.start (with_gap reached.gap branch.place.item)
     (reach_node (words_at c.args.writer.now) c.args.page c.args.root branch level reached (omega arith))
 
 pub item_in-requires-clause-ascends : goal.item_in-requires-clause-ascends
@@ -45,7 +46,7 @@ loop-branch-preserved g c =
     (omega arith) (not_leaf branch.level test) (ap (items_of false) c.words-words.ensures.words) c.item_in.ensures.item c.item_in.ensures.start
 
 pub returns-clause-branch : goal.returns-clause-branch
-returns-clause-branch g c = let reached = c.loop-branch.invariant.here in record { limit = reached.limit; under = reached.under }
+returns-clause-branch g c = let reached = c.loop-branch.invariant.here in record { limit = reached.limit; gap = reached.gap; under = reached.under }
 
 pub returns-clause-above : goal.returns-clause-above
 returns-clause-above g c = c.loop-branch.invariant.here.above

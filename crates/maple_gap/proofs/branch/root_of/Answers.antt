@@ -1,15 +1,15 @@
--- For `root_of`: the root's row is one of the table, and its items ascend; and the whole tree is under it.
-use Rattle.std.proofs.Common.{◌∙◌, ◌-◌, nat_eq, ℕ, List, length, ap, sym, subst, arith}
+-- For `root_of`: the root's row is one of the table, and the whole tree is under it.
+use Rattle.std.proofs.Common.{◌∙◌, ◌-◌, List, length, ap, arith}
 use Rattle.maple_node.specs.declared.item.Item.{Item}
-use Rattle.maple_node.specs.Nodes.{Ascends, items_of}
+use Rattle.maple_node.specs.Nodes.{items_of}
 use Rattle.maple_node.specs.Levels.{is_leaf, read}
 use Rattle.node_slots.specs.Built.{words_at}
-use Rattle.maple_gap.proofs.Roots.{root_is, gap_root, whole_root}
+use Rattle.maple_gap.proofs.Roots.{root_there, gap_root, whole_root}
 use Rattle.maple_gap.proofs.branch.root_of.Goals as goal
 
-pub words-words-requires-clause-row : goal.words-words-requires-clause-row
-words-words-requires-clause-row g c =
-    let there = (root_is c.args.writer.now c.args.tree.now c.requires.tree).there in
+pub words-words-requires : goal.words-words-requires
+words-words-requires g c =
+    let there = root_there c.args.writer.now c.args.tree.now c.requires.tree in
     let same = c.from-row.ensures in
     omega arith
 
@@ -17,32 +17,17 @@ pub returns-then-lists_nothing-clause-root : goal.returns-then-lists_nothing-cla
 returns-then-lists_nothing-clause-root g c =
     let tree = c.args.tree.now in
     let writer = c.args.writer.now in
-    let is = root_is writer tree c.requires.tree in
-    let leaf = nat_eq tree.height 1 in
+    let leaf = is_leaf (tree.height - 1) in
     let items = items_of leaf c.words-words.result.now in
-    let are = ap (items_of leaf) c.words-words.ensures.words ∙ ap (λ b. read (words_at writer) b c.from-row.result) is.leaf
-    ∙ ap (λ (row : ℕ). read (words_at writer) (is_leaf (tree.height - 1)) row) c.from-row.ensures in
+    let are = ap (items_of leaf) c.words-words.ensures.words ∙ ap (read (words_at writer) leaf) c.from-row.ensures in
     gap_root writer tree items c.requires.tree are (ap (λ (xs : List Item). length xs) (c.lists_nothing.ensures.none leaf c.if-lists_nothing.true))
-
-pub gap_in-gap-requires : goal.gap_in-gap-requires
-gap_in-gap-requires g c =
-    let tree = c.args.tree.now in
-    let writer = c.args.writer.now in
-    let is = root_is writer tree c.requires.tree in
-    let leaf = nat_eq tree.height 1 in
-    let are = ap (items_of leaf) c.words-words.ensures.words ∙ ap (λ b. read (words_at writer) b c.from-row.result) is.leaf
-    ∙ ap (λ (row : ℕ). read (words_at writer) (is_leaf (tree.height - 1)) row) c.from-row.ensures in
-    subst (λ (xs : List Item). Ascends 0 xs) (sym are) is.ascends
 
 pub returns-clause-root : goal.returns-clause-root
 returns-clause-root g c =
     let tree = c.args.tree.now in
     let writer = c.args.writer.now in
-    let is = root_is writer tree c.requires.tree in
-    let leaf = nat_eq tree.height 1 in
+    let leaf = is_leaf (tree.height - 1) in
     let items = items_of leaf c.words-words.result.now in
-    let are = ap (items_of leaf) c.words-words.ensures.words ∙ ap (λ b. read (words_at writer) b c.from-row.result) is.leaf
-    ∙ ap (λ (row : ℕ). read (words_at writer) (is_leaf (tree.height - 1)) row) c.from-row.ensures in
+    let are = ap (items_of leaf) c.words-words.ensures.words ∙ ap (read (words_at writer) leaf) c.from-row.ensures in
     let some = c.lists_nothing.ensures.some leaf c.if-lists_nothing.false in
-    whole_root writer tree items c.from-row.result c.gap_in-gap.result leaf c.requires.tree are
-    (λ none. omega arith) c.from-row.ensures is.leaf c.gap_in-gap.ensures
+    whole_root writer tree items c.from-row.result c.requires.tree are (λ none. omega arith) c.from-row.ensures

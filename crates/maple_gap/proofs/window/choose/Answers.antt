@@ -2,7 +2,7 @@
 use Rattle.std.proofs.Common.{ℕ, ◌≡◌, ◌+◌, drop, true, sym, ap, ◌∙◌, arith}
 use Rattle.maple_node.specs.declared.item.Item.{Item}
 use Rattle.maple_node.specs.Nodes.{items_of}
-use Rattle.maple_items.specs.Parts.{width_of, listed_at}
+use Rattle.maple_node.specs.Codec.{width_of, listed_at}
 use Rattle.maple_gap.specs.declared.window.Choice.{Choice}
 use Rattle.maple_gap.specs.Internal.Searches.{chosen, chosen_from}
 use Rattle.maple_gap.proofs.Choices.{chosen_step}

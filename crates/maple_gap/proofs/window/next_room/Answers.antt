@@ -2,7 +2,7 @@
 use Rattle.std.proofs.Common.{ℕ, ◌≡◌, ◌+◌, drop, false, sym, ap, ◌∙◌, arith}
 use Rattle.maple_node.specs.declared.item.Item.{Item}
 use Rattle.maple_node.specs.Nodes.{items_of}
-use Rattle.maple_items.specs.Parts.{width_of, listed_at}
+use Rattle.maple_node.specs.Codec.{width_of, listed_at}
 use Rattle.maple_items.proofs.Parts.{listed_none, listed_past}
 use Rattle.maple_items.proofs.Spliced.{some_words}
 use Rattle.maple_gap.specs.Internal.Searches.{may_have, chosen_from}

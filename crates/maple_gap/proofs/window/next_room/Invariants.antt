@@ -1,6 +1,6 @@
 -- The loop of `next_room`: what is chosen from the first spot on is chosen from the spot that is reached.
 use Rattle.std.proofs.Common.{◌≡◌, ◌≤◌, ◌-◌}
-use Rattle.maple_items.specs.Parts.{width_of}
+use Rattle.maple_node.specs.Codec.{width_of}
 use Rattle.maple_gap.specs.declared.window.Side.{Side}
 use Rattle.maple_gap.specs.declared.window.Choice.{Choice}
 use Rattle.maple_gap.specs.Internal.Spots.{chosen_after}

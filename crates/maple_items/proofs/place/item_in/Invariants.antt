@@ -1,6 +1,6 @@
 -- The loop of `item_in`.
 use Rattle.std.proofs.Common.{◌-◌, ◌≡◌}
-use Rattle.maple_items.specs.Parts.{width_of}
+use Rattle.maple_node.specs.Codec.{width_of}
 use Rattle.maple_items.proofs.Listed.{Comes}
 use Rattle.maple_items.proofs.place.item_in.Given as goal
 

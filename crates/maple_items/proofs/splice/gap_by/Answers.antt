@@ -2,7 +2,7 @@
 use Rattle.std.proofs.Common.{ℕ, ◌+◌, max, sym, ap, subst, ◌∙◌, arith}
 use Rattle.maple_node.specs.declared.item.Item.{Item}
 use Rattle.maple_node.specs.Nodes.{item_gap}
-use Rattle.maple_items.specs.Parts.{width_of}
+use Rattle.maple_node.specs.Codec.{width_of}
 use Rattle.maple_items.proofs.Parts.{listed_none, listed_past}
 use Rattle.maple_items.proofs.Spliced.{Gapped, gapped_above, gapped_more, gapped_all, some_words}
 use Rattle.maple_items.proofs.splice.gap_by.Goals as goal

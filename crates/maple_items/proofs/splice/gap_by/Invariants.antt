@@ -1,6 +1,6 @@
 -- The loop of `gap_by`.
 use Rattle.std.proofs.Common.{◌-◌, ◌≡◌, ◌≤◌}
-use Rattle.maple_items.specs.Parts.{width_of}
+use Rattle.maple_node.specs.Codec.{width_of}
 use Rattle.maple_items.proofs.Spliced.{Gapped}
 use Rattle.maple_items.proofs.splice.gap_by.Given as goal
 

@@ -4,9 +4,9 @@ use Rattle.std.proofs.lemmas.List.{length-take-le, length-drop}
 use Rattle.std.specs.List.{flat_map}
 use Rattle.maple_node.specs.Nodes.{item_words, items_of, most}
 use Rattle.maple_items.specs.Splices.{upto, spliced}
-use Rattle.maple_items.specs.Parts.{width_of}
-use Rattle.maple_items.specs.Padding.{padded}
-use Rattle.maple_items.proofs.Padded.{length-words}
+use Rattle.maple_node.specs.Codec.{width_of}
+use Rattle.maple_node.specs.Padding.{padded}
+use Rattle.maple_node.proofs.Padded.{length-words}
 use Rattle.maple_items.proofs.Spliced.{count_is, spliced_is, fits_of, misfits_of, most_words}
 use Rattle.maple_items.proofs.splice.spliced_words.Goals as goal
 use Rattle.maple_items.proofs.splice.spliced_words.Goals.{then-count-width-via-then-count-width, then-count-width-via-else-count-width+then-width-most}

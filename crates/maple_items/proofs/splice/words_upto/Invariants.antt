@@ -1,6 +1,6 @@
 -- The loop of `words_upto`.
 use Rattle.std.proofs.Common.{ℕ, ◌-◌, ◌≡◌, ◌≤◌}
-use Rattle.maple_items.specs.Parts.{width_of}
+use Rattle.maple_node.specs.Codec.{width_of}
 use Rattle.maple_items.specs.Internal.Counts.{IsCounted}
 use Rattle.maple_items.proofs.splice.words_upto.Given as goal
 

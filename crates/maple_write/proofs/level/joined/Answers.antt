@@ -12,11 +12,11 @@ push_part-requires c =
 pub push_all-requires : goal.push_all-requires
 push_all-requires c =
     let none = ap (λ (xs : List Item). length xs) c.requires.none in
-    omega (arith, none, most_16 c.args.leaf, c.push_part.ensures.most, c.items.ensures.most)
+    omega (arith, none, most_16 c.args.leaf, c.push_part.ensures.most, c.as_slice.ensures.fits)
 
 pub push_part-requires-2 : goal.push_part-requires-2
 push_part-requires-2 c =
     let none = ap (λ (xs : List Item). length xs) c.requires.none in
     let second = ap (λ (xs : List Item). length xs) c.push_all.ensures in
-    let joined = length-append c.push_part.new.self c.items.result.now in
-    omega (arith, none, most_16 c.args.leaf, c.push_part.ensures.most, c.items.ensures.most, second, joined)
+    let joined = length-append c.push_part.new.list.items c.as_slice.result.now in
+    omega (arith, none, most_16 c.args.leaf, c.push_part.ensures.most, c.as_slice.ensures.fits, second, joined)

@@ -7,7 +7,7 @@ use Rattle.maple_write.proofs.level.last.Goals as goal
 
 pub find-requires-clause-tower : goal.find-requires-clause-tower
 find-requires-clause-tower c =
-    (upper_of (table_at c.args.writer.now) c.args.old.top c.args.old.height c.args.level c.args.lo c.args.new.now.end c.args.new.now.items
+    (upper_of (table_at c.args.writer.now) c.args.old.top c.args.old.height c.args.level c.args.lo c.args.new.now.end c.args.new.now.items.items
     c.requires.partly c.requires.below).above
 
 pub returns-then-new-left : goal.returns-then-new-left

@@ -38,12 +38,12 @@ overflow_cast-place c =
     let there = next.there in
     omega arith
 
-pub leave-requires-clause-kept : goal.leave-requires-clause-kept
-leave-requires-clause-kept c =
-    let next = next_node (goal.at.leave-requires-clause-kept c).After-find-place in
+pub leave-requires : goal.leave-requires
+leave-requires c =
+    let next = next_node (goal.at.leave-requires c).After-find-place in
     let same = ap (λ (v : NodeView). v.size.rows) c.loop-page.invariant.view in
     let there = next.there in
-    is_kept_from c.loop-page.writer c.find-place.result.item.word (omega arith) next.none
+    record { kept = is_kept_from c.loop-page.writer c.find-place.result.item.word (omega arith) next.none }
 
 pub loop-page-smaller : goal.loop-page-smaller
 loop-page-smaller c =
@@ -55,16 +55,16 @@ loop-page-smaller c =
 pub loop-page-preserved : goal.loop-page-preserved
 loop-page-preserved c =
     let next = next_node (goal.at.loop-page-preserved c).After-find-place in
-    let more = free_more c.loop-page.writer c.leave.new.writer c.find-place.result.item.word c.leave.ensures.free in
+    let more = free_more c.loop-page.writer c.leave.new.self c.find-place.result.item.word c.leave.ensures.free in
     let before = c.loop-page.invariant.free in
     record {
-      table = c.leave.ensures.table;
+      table = λ nodes here. c.leave.ensures.table nodes (c.loop-page.invariant.table nodes here);
       view = c.leave.ensures.view ∙ c.loop-page.invariant.view;
       free = omega arith;
-      waits = λ row. leave_waits c.loop-page.writer c.leave.new.writer c.find-place.result.item.word row c.leave.ensures.view c.leave.ensures.left
+      waits = λ row. leave_waits c.loop-page.writer c.leave.new.self c.find-place.result.item.word row c.leave.ensures.view c.leave.ensures.left
           ∙ c.loop-page.invariant.waits row;
       gone_are = λ row.
-          let a = left_more c.loop-page.writer c.leave.new.writer c.find-place.result.item.word row c.leave.ensures.free c.leave.ensures.left in
+          let a = left_more c.loop-page.writer c.leave.new.self c.find-place.result.item.word row c.leave.ensures.free c.leave.ensures.left in
           let b = c.loop-page.invariant.gone_are row in
           let d = next.rest row in
           omega arith;

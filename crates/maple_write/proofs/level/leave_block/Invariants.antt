@@ -2,14 +2,14 @@
 use Rattle.std.proofs.Common.{◌-◌, ◌≡◌, ◌≤◌, ◌+◌, ℕ, length}
 use Rattle.maple_node.specs.Levels.{times}
 use Rattle.maple_items.specs.Splices.{upto, beyond}
-use Rattle.node_slots.specs.Seats.{Writes, sight, free_of, is_waiting}
+use Rattle.node_slots.specs.Seats.{StaysAt, sight, free_of, is_waiting}
 use Rattle.maple_write.specs.Internal.Tables.{table_at, rows_in, gone}
 use Rattle.maple_write.specs.Internal.Stores.{old_level}
 use Rattle.maple_write.proofs.level.leave_block.Given as goal
 
 abbrev pub invariant-loop-page : goal.invariant-loop-page
 invariant-loop-page l = record {
-  table : Writes l.writer l.nodes;
+  table : StaysAt l.fn.writer l.writer;
   view : sight l.writer ≡ sight l.fn.writer;
   free : length (free_of l.fn.writer) ≤ length (free_of l.writer);
   waits : (row : ℕ) → is_waiting l.writer row ≡ is_waiting l.fn.writer row;

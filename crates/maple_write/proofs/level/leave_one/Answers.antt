@@ -10,8 +10,8 @@ use Rattle.maple_write.proofs.Finding.{leaves_one}
 use Rattle.maple_write.proofs.Crowns.{full}
 use Rattle.maple_write.proofs.level.leave_one.Goals as goal
 
-pub leave-requires-clause-kept : goal.leave-requires-clause-kept
-leave-requires-clause-kept c =
+pub leave-requires : goal.leave-requires
+leave-requires c =
     let writer = c.args.writer.now in
     let old = c.args.old in
     let level = c.args.level in
@@ -20,15 +20,15 @@ leave-requires-clause-kept c =
     is.ascends c.requires.left c.requires.apart in
     let row = c.requires.row in
     let there = one.there in
-    subst (λ (n : ℕ). is_kept writer n ≡ true) (sym row) (is_kept_from writer c.args.left.item.word (omega arith) one.none)
+    record { kept = subst (λ (n : ℕ). is_kept writer n ≡ true) (sym row) (is_kept_from writer c.args.left.item.word (omega arith) one.none) }
 
 pub returns-clause-free : goal.returns-clause-free
 returns-clause-free c =
-    let more = free_more c.args.writer.now c.leave.new.writer c.args.row.0 c.leave.ensures.free in
+    let more = free_more c.args.writer.now c.leave.new.self c.args.row.0 c.leave.ensures.free in
     omega arith
 
 pub returns-clause-waits : goal.returns-clause-waits
-returns-clause-waits c row = leave_waits c.args.writer.now c.leave.new.writer c.args.row.0 row c.leave.ensures.view c.leave.ensures.left
+returns-clause-waits c row = leave_waits c.args.writer.now c.leave.new.self c.args.row.0 row c.leave.ensures.view c.leave.ensures.left
 
 pub returns-clause-gone : goal.returns-clause-gone
 returns-clause-gone c row =
@@ -39,5 +39,5 @@ returns-clause-gone c row =
     let one = (leaves_one (old_level (table_at writer) old.top old.height level) c.args.lo c.args.left.item (gone (table_at writer)) (row_count writer)
     is.ascends c.requires.left c.requires.apart).one row in
     let same = ap (λ (n : ℕ). times row (n ∷ [])) c.requires.row in
-    let more = left_more writer c.leave.new.writer c.args.row.0 row c.leave.ensures.free c.leave.ensures.left in
+    let more = left_more writer c.leave.new.self c.args.row.0 row c.leave.ensures.free c.leave.ensures.left in
     omega arith

@@ -20,7 +20,7 @@ leave_block-requires-clause-tower c =
     let tree = c.args.old in
     let new = c.args.new.now in
     let stretch = c.stretched-edges.result in
-    let is = ready (table_at old) tree.top tree.height c.args.level c.args.lo new.end stretch.begin stretch.end new.items c.stretched-edges.new.items
+    let is = ready (table_at old) tree.top tree.height c.args.level c.args.lo new.end stretch.begin stretch.end new.items.items c.stretched-edges.new.items.items
     c.requires.partly c.requires.below c.stretched-edges.ensures.cut in
     is.tower
 
@@ -30,7 +30,7 @@ leave_block-requires-clause-apart c row =
     let tree = c.args.old in
     let new = c.args.new.now in
     let stretch = c.stretched-edges.result in
-    let is = ready (table_at old) tree.top tree.height c.args.level c.args.lo new.end stretch.begin stretch.end new.items c.stretched-edges.new.items
+    let is = ready (table_at old) tree.top tree.height c.args.level c.args.lo new.end stretch.begin stretch.end new.items.items c.stretched-edges.new.items.items
     c.requires.partly c.requires.below c.stretched-edges.ensures.cut in
     let few = is.apart row in
     let bound = ap (λ (n : ℕ). cond {A = ℕ} (nat_lt row n) 1 0) (rows_counted old) in
@@ -38,7 +38,7 @@ leave_block-requires-clause-apart c row =
 
 -- what is so of the level that was built
 rebuilt : (c : After-pack-items) → Rose (table_at c.args.writer.now) (table_at c.pack-items.new.writer) c.args.old.top c.args.old.height c.args.level
-    c.args.lo c.args.new.now.end c.args.new.now.items c.stretched-edges.result.begin c.stretched-edges.result.end c.pack-items.result
+    c.args.lo c.args.new.now.end c.args.new.now.items.items c.stretched-edges.result.begin c.stretched-edges.result.end c.pack-items.result.items
 rebuilt c =
     let old = c.args.writer.now in
     let mid = c.leave_block.new.writer in
@@ -46,14 +46,14 @@ rebuilt c =
     let tree = c.args.old in
     let new = c.args.new.now in
     let stretch = c.stretched-edges.result in
-    let same = c.items.ensures.items in
+    let same = c.as_slice.ensures.value in
     let cut = c.stretched-edges.ensures.cut in
-    let full : end_of stretch.begin c.items.result.now < tree.top.end → least (is_leaf c.args.level) ≤ length c.items.result.now = λ less.
+    let full : end_of stretch.begin c.as_slice.result.now < tree.top.end → least (is_leaf c.args.level) ≤ length c.as_slice.result.now = λ less.
     let ends = ap (end_of stretch.begin) same in
     let until = cut.ending in
     subst (λ (xs : List Item). least (is_leaf c.args.level) ≤ length xs) (sym same) (c.stretched-edges.ensures.least (omega arith)) in
-    rose (table_at old) (table_at mid) (table_at after) tree.top tree.height c.args.level c.args.lo new.end stretch.begin stretch.end new.items
-    c.stretched-edges.new.items c.pack-items.result c.requires.partly c.requires.below cut (c.pack-items.ensures.nodes tree.top.end full)
+    rose (table_at old) (table_at mid) (table_at after) tree.top tree.height c.args.level c.args.lo new.end stretch.begin stretch.end new.items.items
+    c.stretched-edges.new.items.items c.pack-items.result.items c.requires.partly c.requires.below cut (c.pack-items.ensures.nodes tree.top.end full)
     (c.pack-items.ensures.below ∙ same) c.pack-items.ensures.some c.pack-items.ensures.few
     (ap (λ (v : NodeView). v.known.desk.words) c.leave_block.ensures.view) c.leave_block.ensures.free c.leave_block.ensures.gone
     c.pack-items.ensures.kept c.pack-items.ensures.same.long c.pack-items.ensures.taken c.pack-items.ensures.free c.pack-items.ensures.left
@@ -73,7 +73,8 @@ returns-clause-under c = (rebuilt (goal.at.returns-clause-under c).After-pack-it
 pub returns-clause-same : goal.returns-clause-same
 returns-clause-same c =
     fills_both c.args.writer.now c.leave_block.new.writer c.pack-items.new.writer
-    (fills_none c.args.writer.now c.leave_block.new.writer c.leave_block.ensures.view c.leave_block.ensures.waits) c.pack-items.ensures.same
+    (fills_none c.args.writer.now c.leave_block.new.writer c.leave_block.ensures.view c.leave_block.ensures.waits c.leave_block.ensures.table)
+    c.pack-items.ensures.same
 
 pub returns-clause-free : goal.returns-clause-free
 returns-clause-free c =
@@ -89,7 +90,7 @@ returns-clause-path c =
     let new = c.args.new.now in
     let stretch = c.stretched-edges.result in
     let above = c.stretched-edges.ensures.cut.above in
-    path_rises old (words_at c.pack-items.new.writer) tree.top tree.height c.args.level c.args.lo new.end stretch.end new.items c.args.path.now
+    path_rises old (words_at c.pack-items.new.writer) tree.top tree.height c.args.level c.args.lo new.end stretch.end new.items.items c.args.path.now
     c.requires.partly c.requires.below (omega arith)
     (kept_after old (table_at c.leave_block.new.writer) (table_at c.pack-items.new.writer)
     (λ row. times row (rows_in (upto stretch.end (beyond c.args.lo (old_level old tree.top tree.height (c.args.level + 1))))))

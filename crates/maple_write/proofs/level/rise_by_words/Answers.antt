@@ -18,22 +18,22 @@ pub leave_one-requires-clause-tower : goal.leave_one-requires-clause-tower
 leave_one-requires-clause-tower c =
     let left = c.args.left in
     (ready (table_at c.args.writer.now) c.args.old.top c.args.old.height c.args.level c.args.lo c.args.new.now.end left.start left.item.end
-    c.args.new.now.items (items_of (is_leaf c.args.level) c.args.words.now) c.requires.partly c.requires.below c.requires.renewed.cut).tower
+    c.args.new.now.items.items (items_of (is_leaf c.args.level) c.args.words.now) c.requires.partly c.requires.below c.requires.renewed.cut).tower
 
 pub leave_one-requires-clause-apart : goal.leave_one-requires-clause-apart
 leave_one-requires-clause-apart c row =
     let left = c.args.left in
     let few = (ready (table_at c.args.writer.now) c.args.old.top c.args.old.height c.args.level c.args.lo c.args.new.now.end left.start left.item.end
-    c.args.new.now.items (items_of (is_leaf c.args.level) c.args.words.now) c.requires.partly c.requires.below c.requires.renewed.cut).apart row in
+    c.args.new.now.items.items (items_of (is_leaf c.args.level) c.args.words.now) c.requires.partly c.requires.below c.requires.renewed.cut).apart row in
     let bound = ap (λ (n : ℕ). cond {A = ℕ} (nat_lt row n) 1 0) (rows_counted c.args.writer.now) in
     omega arith
 
 -- what is so of the level that was built
 rebuilt : (c : After-pack_words-new) → Rose (table_at c.args.writer.now) (table_at c.pack_words-new.new.writer) c.args.old.top c.args.old.height
-    c.args.level c.args.lo c.args.new.now.end c.args.new.now.items c.args.left.start c.args.left.item.end c.pack_words-new.result
+    c.args.level c.args.lo c.args.new.now.end c.args.new.now.items.items c.args.left.start c.args.left.item.end c.pack_words-new.result.items
 rebuilt c =
     rose_anew (table_at c.args.writer.now) (table_at c.leave_one.new.writer) (table_at c.pack_words-new.new.writer) c.args.old.top c.args.old.height
-    c.args.level c.args.lo c.args.new.now.end c.args.new.now.items c.pack_words-new.result c.args.left c.args.words.now c.requires.partly
+    c.args.level c.args.lo c.args.new.now.end c.args.new.now.items.items c.pack_words-new.result.items c.args.left c.args.words.now c.requires.partly
     c.requires.below c.requires.renewed (ap (λ (v : NodeView). v.known.desk.words) c.leave_one.ensures.view) c.leave_one.ensures.free
     c.leave_one.ensures.gone c.pack_words-new.ensures.nodes c.pack_words-new.ensures.below c.pack_words-new.ensures.one
     c.pack_words-new.ensures.kept c.pack_words-new.ensures.same.long c.pack_words-new.ensures.taken c.pack_words-new.ensures.free
@@ -54,7 +54,8 @@ returns-clause-under c = (rebuilt (goal.at.returns-clause-under c).After-pack_wo
 pub returns-clause-same : goal.returns-clause-same
 returns-clause-same c =
     fills_both c.args.writer.now c.leave_one.new.writer c.pack_words-new.new.writer
-    (fills_none c.args.writer.now c.leave_one.new.writer c.leave_one.ensures.view c.leave_one.ensures.waits) c.pack_words-new.ensures.same
+    (fills_none c.args.writer.now c.leave_one.new.writer c.leave_one.ensures.view c.leave_one.ensures.waits c.leave_one.ensures.table)
+    c.pack_words-new.ensures.same
 
 pub returns-clause-path : goal.returns-clause-path
 returns-clause-path c =
@@ -62,7 +63,7 @@ returns-clause-path c =
     let tree = c.args.old in
     let end = c.args.left.item.end in
     let above = c.requires.renewed.cut.above in
-    path_rises old (words_at c.pack_words-new.new.writer) tree.top tree.height c.args.level c.args.lo c.args.new.now.end end c.args.new.now.items
+    path_rises old (words_at c.pack_words-new.new.writer) tree.top tree.height c.args.level c.args.lo c.args.new.now.end end c.args.new.now.items.items
     c.args.path.now c.requires.partly c.requires.below (omega arith)
     (kept_after old (table_at c.leave_one.new.writer) (table_at c.pack_words-new.new.writer)
     (λ row. times row (rows_in (upto end (beyond c.args.lo (old_level old tree.top tree.height (c.args.level + 1))))))

@@ -7,8 +7,8 @@ use Rattle.maple_write.proofs.Writers.{rows_counted}
 use Rattle.maple_write.proofs.Finding.{down_from, inside_at}
 use Rattle.maple_write.proofs.path.down.Goals as goal
 
-pub words-words-requires-clause-row : goal.words-words-requires-clause-row
-words-words-requires-clause-row c =
+pub words-words-requires : goal.words-words-requires
+words-words-requires c =
     let writer = c.args.writer.now in
     let tree = c.args.tree in
     let begin = c.args.begin in

@@ -37,10 +37,9 @@ loop-place-preserved c =
     let place = c.loop-place.place in
     let part : List Item = take (place + c.share.result - place) (drop place items) in
     record {
-      table = c.put-node.ensures.table;
       same = fills_both old before after is.same c.put-node.ensures.same;
       packs = pack_more (desk old).words (desk before).words (desk after).words (free_of old) (free_of before) (free_of after) leaf c.args.start
-          c.loop-place.begin place (place + c.share.result) c.share.result items c.loop-place.packed c.push.new.self c.put-node.result (words_of leaf part)
+          c.loop-place.begin place (place + c.share.result) c.share.result items c.loop-place.packed.items c.push.new.self.items c.put-node.result (words_of leaf part)
           is.packs c.loop-place-test.true refl (record {
             some = c.share.ensures.some;
             within = c.share.ensures.within;
@@ -50,6 +49,6 @@ loop-place-preserved c =
             two = c.share.ensures.two;
             three = c.share.ensures.three;
           }) c.requires.ascends c.requires.plain (once_free old) c.put-node.ensures.node c.put-node.ensures.items c.put-node.ensures.until
-          c.put-node.ensures.words c.put-node.ensures.free c.put-node.ensures.taken c.push.ensures;
+          c.put-node.ensures.words c.put-node.ensures.free c.put-node.ensures.taken c.push.ensures.items;
       left = c.put-node.ensures.left ∙ is.left;
     }

@@ -1,15 +1,14 @@
 -- For `pack`: the items up to a place are packed.
 use Rattle.std.proofs.Common.{length, ◌-◌, ◌≡◌}
-use Rattle.node_slots.specs.Seats.{Writes, desk, free_of, left_of}
+use Rattle.node_slots.specs.Seats.{desk, free_of, left_of}
 use Rattle.maple_write.specs.Tables.{FillsRows}
 use Rattle.maple_write.proofs.Packing.{Packed}
 use Rattle.maple_write.proofs.rows.pack.Given as goal
 
 abbrev pub invariant-loop-place : goal.invariant-loop-place
 invariant-loop-place l = record {
-  table : Writes l.writer l.nodes;
   same : FillsRows l.fn.writer l.writer;
-  packs : Packed (desk l.fn.writer).words (desk l.writer).words (free_of l.fn.writer) (free_of l.writer) l.leaf l.start l.begin l.place l.items l.packed;
+  packs : Packed (desk l.fn.writer).words (desk l.writer).words (free_of l.fn.writer) (free_of l.writer) l.leaf l.start l.begin l.place l.items l.packed.items;
   left : left_of l.writer ≡ left_of l.fn.writer;
 }
 

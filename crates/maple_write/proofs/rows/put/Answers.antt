@@ -6,6 +6,11 @@ use Rattle.maple_node.proofs.Places.{items_of_words}
 use Rattle.maple_write.proofs.Packing.{last_end}
 use Rattle.maple_write.proofs.rows.put.Goals as goal
 
+pub gap_in-gap-requires : goal.gap_in-gap-requires
+gap_in-gap-requires c =
+    let back = ap (items_of c.args.leaf) c.node_words-words.ensures ∙ items_of_words c.args.leaf c.args.start c.args.items.now c.requires.ascends c.requires.plain in
+    subst (λ (xs : List Item). Ascends c.args.start xs) (sym back) c.requires.ascends
+
 pub put_words-requires-clause-some : goal.put_words-requires-clause-some
 put_words-requires-clause-some c =
     let back = ap (items_of c.args.leaf) c.node_words-words.ensures ∙ items_of_words c.args.leaf c.args.start c.args.items.now c.requires.ascends c.requires.plain in

@@ -18,7 +18,7 @@ put-top-requires-clause-ascends c =
     let some = c.requires.some in
     let within = c.requires.limit in
     let gap = gap_is c.args.limit (omega arith) in
-    let are = c.items.ensures.items ∙ c.first_entries-entries.ensures.entries in
+    let are = c.as_slice.ensures.value ∙ c.first_entries-entries.ensures.entries in
     subst (λ (xs : List Item). Ascends 0 xs) (sym are) (overwrite-ascends lo hi c.args.word (all_gap c.args.limit) gap.ascends some within)
 
 pub put-top-requires-clause-plain : goal.put-top-requires-clause-plain
@@ -28,13 +28,14 @@ put-top-requires-clause-plain c =
     let some = c.requires.some in
     let within = c.requires.limit in
     let gap = gap_is c.args.limit (omega arith) in
-    let are = c.items.ensures.items ∙ c.first_entries-entries.ensures.entries in
+    let are = c.as_slice.ensures.value ∙ c.first_entries-entries.ensures.entries in
     subst (λ (xs : List Item). IsPlain true xs) (sym are) (overwrite-plain lo hi c.args.word (all_gap c.args.limit) gap.plain)
 
-pub leave-requires-clause-kept : goal.leave-requires-clause-kept
-leave-requires-clause-kept c =
-    kept_after_put c.args.writer.now c.put-top.new.writer c.put-top.result.word c.requires.kept c.requires.rows c.put-top.ensures.same c.put-top.ensures.taken
-    c.put-top.ensures.left
+pub leave-requires : goal.leave-requires
+leave-requires c = record {
+  kept = kept_after_put c.args.writer.now c.put-top.new.writer c.put-top.result.word c.requires.kept c.requires.rows c.put-top.ensures.same c.put-top.ensures.taken
+      c.put-top.ensures.left;
+}
 
 pub returns-clause-shaped : goal.returns-clause-shaped
 returns-clause-shaped c =
@@ -43,13 +44,13 @@ returns-clause-shaped c =
     let some = c.requires.some in
     let within = c.requires.limit in
     let gap = gap_is c.args.limit (omega arith) in
-    let are = c.items.ensures.items ∙ c.first_entries-entries.ensures.entries in
-    let ends : end_of 0 c.items.result.now ≡ c.args.limit =
+    let are = c.as_slice.ensures.value ∙ c.first_entries-entries.ensures.entries in
+    let ends : end_of 0 c.as_slice.result.now ≡ c.args.limit =
     ap (end_of 0) are ∙ overwrite-ends lo hi c.args.word (all_gap c.args.limit) gap.ascends some within in
     let old = c.args.writer.now in
     let made = c.put-top.new.writer in
-    let after = c.leave.new.writer in
-    let is = leaf_planted (table_at old) (table_at made) (table_at after) c.args.limit c.items.result.now c.put-top.result (words_of true c.items.result.now)
+    let after = c.leave.new.self in
+    let is = leaf_planted (table_at old) (table_at made) (table_at after) c.args.limit c.as_slice.result.now c.put-top.result (words_of true c.as_slice.result.now)
     (kept_zero old c.requires.kept) (omega arith) ends c.put-top.ensures.node c.put-top.ensures.items c.put-top.ensures.until c.put-top.ensures.words
     c.put-top.ensures.taken c.put-top.ensures.left (ap (λ (v : NodeView). v.known.desk.words) c.leave.ensures.view)
     (λ row. left_more made after 0 row c.leave.ensures.free c.leave.ensures.left) in
@@ -62,13 +63,13 @@ returns-clause-entries c =
     let some = c.requires.some in
     let within = c.requires.limit in
     let gap = gap_is c.args.limit (omega arith) in
-    let are = c.items.ensures.items ∙ c.first_entries-entries.ensures.entries in
-    let ends : end_of 0 c.items.result.now ≡ c.args.limit =
+    let are = c.as_slice.ensures.value ∙ c.first_entries-entries.ensures.entries in
+    let ends : end_of 0 c.as_slice.result.now ≡ c.args.limit =
     ap (end_of 0) are ∙ overwrite-ends lo hi c.args.word (all_gap c.args.limit) gap.ascends some within in
     let old = c.args.writer.now in
     let made = c.put-top.new.writer in
-    let after = c.leave.new.writer in
-    let is = leaf_planted (table_at old) (table_at made) (table_at after) c.args.limit c.items.result.now c.put-top.result (words_of true c.items.result.now)
+    let after = c.leave.new.self in
+    let is = leaf_planted (table_at old) (table_at made) (table_at after) c.args.limit c.as_slice.result.now c.put-top.result (words_of true c.as_slice.result.now)
     (kept_zero old c.requires.kept) (omega arith) ends c.put-top.ensures.node c.put-top.ensures.items c.put-top.ensures.until c.put-top.ensures.words
     c.put-top.ensures.taken c.put-top.ensures.left (ap (λ (v : NodeView). v.known.desk.words) c.leave.ensures.view)
     (λ row. left_more made after 0 row c.leave.ensures.free c.leave.ensures.left) in
@@ -81,18 +82,19 @@ returns-clause-limit c =
     let some = c.requires.some in
     let within = c.requires.limit in
     let gap = gap_is c.args.limit (omega arith) in
-    let are = c.items.ensures.items ∙ c.first_entries-entries.ensures.entries in
+    let are = c.as_slice.ensures.value ∙ c.first_entries-entries.ensures.entries in
     c.put-top.ensures.until ∙ ap (end_of 0) are ∙ overwrite-ends lo hi c.args.word (all_gap c.args.limit) gap.ascends some within
 
 pub returns-clause-free : goal.returns-clause-free
 returns-clause-free c =
     let taken = c.put-top.ensures.free in
-    let back = free_more c.put-top.new.writer c.leave.new.writer 0 c.leave.ensures.free in
+    let back = free_more c.put-top.new.writer c.leave.new.self 0 c.leave.ensures.free in
     omega arith
 
 pub returns-clause-same : goal.returns-clause-same
 returns-clause-same c =
     let put = c.put-top.new.writer in
-    let left = c.leave.new.writer in
+    let left = c.leave.new.self in
     fills_both c.args.writer.now put left c.put-top.ensures.same
-    (fills_none put left c.leave.ensures.view (λ row. leave_waits put left 0 row c.leave.ensures.view c.leave.ensures.left))
+    (fills_none put left c.leave.ensures.view (λ row. leave_waits put left 0 row c.leave.ensures.view c.leave.ensures.left)
+    c.leave.ensures.table)

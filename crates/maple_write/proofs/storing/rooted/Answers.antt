@@ -8,8 +8,8 @@ use Rattle.maple_write.proofs.Stores.{root_of_view, root_told}
 use Rattle.maple_write.proofs.storing.rooted.Goals as goal
 use Rattle.maple_write.proofs.storing.rooted.Goals.{then-lists_nothing, else-lists_nothing}
 
-pub words-words-requires-clause-row : goal.words-words-requires-clause-row
-words-words-requires-clause-row c =
+pub words-words-requires : goal.words-words-requires
+words-words-requires c =
     let is = root_of_view c.args.writer.now c.args.tree.now c.requires.tree in
     let there = is.there in
     let same = c.from-root.ensures in

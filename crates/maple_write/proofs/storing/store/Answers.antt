@@ -28,6 +28,9 @@ overflow_cast-tree c =
     let few = few_rows c.stored-new.new.writer in
     omega arith
 
+pub returns-clause-table : goal.returns-clause-table
+returns-clause-table c = c.stored-new.ensures.same.table c.args.nodes.now c.requires.table
+
 pub returns-clause-tree : goal.returns-clause-tree
 returns-clause-tree c =
     let new = c.stored-new.result in
@@ -53,7 +56,7 @@ returns-clause-pairs c some =
     let lo = c.args.span.lo in
     let hi = c.args.span.hi in
     let words = words_at c.args.writer.now in
-    is.pairs ∙ c.stored-new.ensures.pairs ∙ ap (λ (n : ℕ). overwritten lo hi n (pairs_of words (tree_under c.rooted-old.result))) c.word_of.ensures
+    is.pairs ∙ c.stored-new.ensures.pairs ∙ ap (λ (n : ℕ). overwritten lo hi n (pairs_of words (tree_under c.rooted-old.result))) c.slot_word.ensures
     ∙ ap (λ (t : Tree). overwritten lo hi (slot_word c.args.slot) (pairs_of words t)) c.rooted-old.ensures
 
 pub returns-clause-rows : goal.returns-clause-rows

@@ -6,19 +6,19 @@ use Rattle.maple_write.proofs.Crowns.{root_made}
 use Rattle.maple_write.proofs.tree.crown.Goals as goal
 
 pub put-requires-clause-plain : goal.put-requires-clause-plain
-put-requires-clause-plain c = inner-plain c.items-2.result.now
+put-requires-clause-plain c = inner-plain c.as_slice-2.result.now
 
 pub returns-clause-shaped : goal.returns-clause-shaped
 returns-clause-shaped c =
-    (root_made (table_at c.args.writer.now) (table_at c.put.new.writer) c.args.level c.args.items.now c.items-2.result.now c.put.result
-    c.requires.tall c.requires.tower c.requires.ascends c.requires.some (λ one. c.if-len-eq1.false (c.len.ensures.count ∙ one)) c.requires.stand
-    c.items-2.ensures.items c.put.ensures.node c.put.ensures.items c.put.ensures.until c.put.ensures.words c.put.ensures.taken c.put.ensures.left).shaped
+    (root_made (table_at c.args.writer.now) (table_at c.put.new.writer) c.args.level c.args.items.now.items c.as_slice-2.result.now c.put.result
+    c.requires.tall c.requires.tower c.requires.ascends c.requires.some (λ one. c.if-len-eq1.false (c.len.ensures.value ∙ one)) c.requires.stand
+    c.as_slice-2.ensures.value c.put.ensures.node c.put.ensures.items c.put.ensures.until c.put.ensures.words c.put.ensures.taken c.put.ensures.left).shaped
 
 pub returns-clause-entries : goal.returns-clause-entries
 returns-clause-entries c =
-    (root_made (table_at c.args.writer.now) (table_at c.put.new.writer) c.args.level c.args.items.now c.items-2.result.now c.put.result
-    c.requires.tall c.requires.tower c.requires.ascends c.requires.some (λ one. c.if-len-eq1.false (c.len.ensures.count ∙ one)) c.requires.stand
-    c.items-2.ensures.items c.put.ensures.node c.put.ensures.items c.put.ensures.until c.put.ensures.words c.put.ensures.taken c.put.ensures.left).entries
+    (root_made (table_at c.args.writer.now) (table_at c.put.new.writer) c.args.level c.args.items.now.items c.as_slice-2.result.now c.put.result
+    c.requires.tall c.requires.tower c.requires.ascends c.requires.some (λ one. c.if-len-eq1.false (c.len.ensures.value ∙ one)) c.requires.stand
+    c.as_slice-2.ensures.value c.put.ensures.node c.put.ensures.items c.put.ensures.until c.put.ensures.words c.put.ensures.taken c.put.ensures.left).entries
 
 pub returns-clause-free : goal.returns-clause-free
 returns-clause-free c = let taken = c.put.ensures.free in omega arith

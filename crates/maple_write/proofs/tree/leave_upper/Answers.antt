@@ -62,7 +62,7 @@ loop-next-preserved c =
     record {
       order = omega arith;
       high = omega arith;
-      table = c.leave_block.ensures.table;
+      table = λ nodes here. c.leave_block.ensures.table nodes (is.table nodes here);
       view = c.leave_block.ensures.view ∙ is.view;
       free = omega arith;
       waits = λ row. c.leave_block.ensures.waits row ∙ is.waits row;

@@ -1,7 +1,7 @@
 -- For `leave_upper`: the nodes of the levels up to one were left.
 use Rattle.std.proofs.Common.{◌-◌, ◌≡◌, ◌≤◌, ◌+◌, ℕ, [], ◌∷◌, length}
 use Rattle.maple_node.specs.Levels.{rows_of, times}
-use Rattle.node_slots.specs.Seats.{Writes, sight, free_of, is_waiting}
+use Rattle.node_slots.specs.Seats.{StaysAt, sight, free_of, is_waiting}
 use Rattle.node_slots.specs.Built.{words_at}
 use Rattle.maple_write.specs.Internal.Tables.{table_at, gone}
 use Rattle.maple_write.proofs.tree.leave_upper.Given as goal
@@ -10,7 +10,7 @@ abbrev pub invariant-loop-next : goal.invariant-loop-next
 invariant-loop-next l = record {
   order : l.level ≤ l.next;
   high : l.next ≤ l.old.height;
-  table : Writes l.writer l.nodes;
+  table : StaysAt l.fn.writer l.writer;
   view : sight l.writer ≡ sight l.fn.writer;
   free : length (free_of l.fn.writer) ≤ length (free_of l.writer);
   waits : (row : ℕ) → is_waiting l.writer row ≡ is_waiting l.fn.writer row;
