@@ -1,5 +1,5 @@
 -- What the fields of a tree of areas keep.
-use Rattle.std.specs.Prelude.{◌≡◌, ◌≤◌, false, [], length, All}
+use Rattle.std.specs.Prelude.{◌≡◌, ◌≤◌, [], length}
 use Rattle.std.specs.Vec.{vec_capacity}
 use Rattle.mm_types.specs.Config.{slots_for}
 use Rattle.area_rules.specs.declared.placement.TheConstants.{WINDOW_END}
@@ -11,13 +11,12 @@ abbrev pub view_of : Inside → AreaTreeView
 view_of fields = record { tree = fields.tree; records = fields.records; bounds = fields.bounds }
 
 -- Each slot of the tree shows an area with the pages of its pair. The count is theirs, the most areas are those of the tree,
--- there is a record for each slot, and none is sealed before one was; areas are placed up to the tree's limit, and there is room to hand them out.
+-- and there is a record for each slot. Areas are placed up to the tree's limit, and there is room to hand them out.
 pub record IsAreaTree (fields : Inside) : Type 0 where
   pub spans : AreRecords fields.records fields.tree.pairs
   pub counted : fields.count ≡ length fields.tree.pairs
   pub most_is : fields.most ≡ fields.tree.areas
   pub slots : length fields.records ≡ slots_for fields.tree.areas
-  pub unsealed : fields.sealed ≡ false → All (λ area. area.attr.sealed ≡ false) fields.records
   pub limit : fields.bounds.limit ≡ fields.tree.limit
   pub top : fields.bounds.top ≤ fields.bounds.limit
   pub window : WINDOW_END ≤ fields.bounds.limit

@@ -45,7 +45,6 @@ impl AreaTree {
             bounds: _,
             most: _,
             count: _,
-            sealed: _,
             mut list,
         } = self;
         append(&tree, &records, &mut list);

@@ -51,6 +51,6 @@ impl Areas for AreaTree {
     }
 
     fn may_be_sealed(&self) -> bool {
-        self.sealed
+        self.records.may_be_sealed()
     }
 }

@@ -1,9 +1,9 @@
-//! Areas that get fewer pages, or more, and areas that go together, in one store.
-ghost use Rattle.std.specs.Prelude.{◌≡◌, ◌≤◌, ◌<◌, ◌-◌, ◌∷◌, ◌++◌, ◌&&◌, nat_le, nat_lt, true, List, length, slice_set, All, Contains, IsPermutation};
+//! Areas that get fewer pages, or more, in one store.
+ghost use Rattle.std.specs.Prelude.{◌≡◌, ◌≤◌, ◌<◌, ◌-◌, ◌∷◌, ◌&&◌, nat_le, true, List, length, slice_set, Contains, IsPermutation};
 ghost use Rattle.mm_types.specs.Config.{slots_for};
 ghost use Rattle.area_rules.specs.Placement.{is_free};
 ghost use Rattle.area_tree.specs.declared.shown.ShownArea.{ShownArea};
-ghost use Rattle.area_tree.specs.AreaTrees.{shown_of, areas_of, areas_shown, times_shown, beside, Adjoin, IsEndOf, IsRoomFor};
+ghost use Rattle.area_tree.specs.AreaTrees.{shown_of, areas_of, times_shown, beside, IsEndOf, IsRoomFor};
 
 use crate::shown::ShownArea;
 use crate::tree::AreaTree;
@@ -58,7 +58,6 @@ impl AreaTree {
     {
         self.tree.facts();
         self.records.show(shown.slot, shown.area);
-        self.sealed |= shown.area.attr.sealed;
         self.tree.store(beside(shown.area.span, old.span), None);
     }
 
@@ -83,31 +82,8 @@ impl AreaTree {
         self.tree.facts();
         self.records.show(shown.slot, shown.area);
         self.records.show(other.slot, other.area);
-        self.sealed |= shown.area.attr.sealed;
-        self.sealed |= other.area.attr.sealed;
         self.tree.store(other.area.span, Some(Slot(other.slot)));
         self.count += 1;
-    }
-
-    /// Takes areas out of the tree that adjoin each other, so many, which have the pages of a span: one span is stored for all.
-    pub fn remove_all(&mut self, span: Span, count: u64)
-        requires roomy { self.old.tree.roomy ≡ true }
-        requires areas { (taken : List ShownArea) × All (Contains (shown_of self.old)) taken × Adjoin span.lo span.hi (areas_shown taken)
-            × (length taken ≡ count) × (0 < count) }
-        ensures shown { (taken : List ShownArea) → All (Contains (shown_of self.old)) taken → Adjoin span.lo span.hi (areas_shown taken)
-            → IsPermutation (taken ++ shown_of self.new) (shown_of self.old) }
-        ensures same { self.new ≡ record self.old { tree = record self.old.tree { pairs = self.new.tree.pairs; changed = true } } }
-    {
-        self.tree.facts();
-        self.tree.store(span, None);
-        self.count -= count;
-    }
-
-    /// Whether the tree may have one area more.
-    pub fn has_place(&self) -> bool
-        ensures { result ≡ nat_lt (length (areas_of self.now)) self.now.tree.areas }
-    {
-        self.count < u64::from(self.most)
     }
 
     /// A slot of the tree shows an area with the pages of the one before and free ones beside them.
@@ -125,7 +101,6 @@ impl AreaTree {
     {
         self.tree.facts();
         self.records.show(shown.slot, shown.area);
-        self.sealed |= shown.area.attr.sealed;
         self.tree.store(shown.area.span, Some(Slot(shown.slot)));
     }
 }

@@ -1,20 +1,20 @@
 //! The tree of areas.
-ghost use Rattle.std.specs.Prelude.{◌≡◌, ◌≤◌, ◌<◌, ◌+◌, ◌^◌, ◌-◌, ◌∷◌, ℕ, true, false, nat_eq, List, [], length, map, replicate, slice_set, Contains, IsPermutation, IfOk};
+ghost use Rattle.std.specs.Prelude.{◌≡◌, ◌≤◌, ◌<◌, ◌+◌, ◌^◌, ◌-◌, ◌∷◌, ◌++◌, ℕ, true, false, nat_eq, nat_le, List, [], length, map, replicate, slice_set, All, Contains, IsPermutation, IfOk};
 ghost use Rattle.mm_types.specs.declared.area.Record.{Record};
 ghost use Rattle.mm_types.specs.Config.{IsValidConfig, slots_for};
 ghost use Rattle.area_list.specs.Areas.{page_of};
 ghost use Rattle.area_rules.specs.Placement.{bounds_of, is_free};
 ghost use Rattle.node_slots.specs.Seats.{pins_of, AreOut};
-ghost use Rattle.span_tree.specs.SpanTrees.{IsFreshWriter, ArePairs};
+ghost use Rattle.span_tree.specs.SpanTrees.{IsFreshWriter};
 ghost use Rattle.area_tree.specs.declared.shown.ShownArea.{ShownArea};
 ghost use Rattle.maple_gap.specs.Gaps.{span_of};
-ghost use Rattle.area_tree.specs.AreaTrees.{no_area, shown_of, areas_of, times_shown, AreasRise};
+ghost use Rattle.area_tree.specs.AreaTrees.{no_area, shown_of, areas_of, areas_shown, times_shown, Adjoin, AreasRise};
 
 use crate::records::Records;
 use crate::shown::ShownArea;
 use area_list::page_of;
 use area_rules::{Bounds, bounds_of};
-use mm_types::{Config, NoMemory, Page, Record, Slot, slots_for};
+use mm_types::{Config, NoMemory, Page, Record, Slot, Span, slots_for};
 use node_slots::NodeWriter;
 use span_tree::{OpenCall, SpanTree};
 use std::alloc::Global;
@@ -33,8 +33,6 @@ pub struct AreaTree {
     pub(crate) most: u32,
     /// How many areas there are.
     pub(crate) count: u64,
-    /// Whether a slot showed a sealed area.
-    pub(crate) sealed: bool,
     /// Where the areas are handed out in order: empty until then.
     pub(crate) list: Vec<Record>,
 }
@@ -82,7 +80,6 @@ impl AreaTree {
             bounds: bounds_of(config),
             most: config.areas,
             count: 0,
-            sealed: false,
             list: Vec::with_capacity(alloc, config.areas as usize)?,
         })
     }
@@ -112,6 +109,27 @@ impl AreaTree {
         self.count -= 1;
     }
 
+    /// Takes areas out of the tree that adjoin each other, so many, which have the pages of a span: one span is stored for all.
+    pub fn remove_all(&mut self, span: Span, count: u64)
+        requires roomy { self.old.tree.roomy ≡ true }
+        requires areas { (taken : List ShownArea) × All (Contains (shown_of self.old)) taken × Adjoin span.lo span.hi (areas_shown taken)
+            × (length taken ≡ count) × (0 < count) }
+        ensures shown { (taken : List ShownArea) → All (Contains (shown_of self.old)) taken → Adjoin span.lo span.hi (areas_shown taken)
+            → IsPermutation (taken ++ shown_of self.new) (shown_of self.old) }
+        ensures same { self.new ≡ record self.old { tree = record self.old.tree { pairs = self.new.tree.pairs; changed = true } } }
+    {
+        self.tree.facts();
+        self.tree.store(span, None);
+        self.count -= count;
+    }
+
+    /// Whether the tree has as many areas as it may have.
+    pub fn is_full(&self) -> bool
+        ensures { result ≡ nat_le self.now.tree.areas (length (areas_of self.now)) }
+    {
+        self.count >= u64::from(self.most)
+    }
+
     /// A slot of the tree shows another area, with the pages of the one before.
     pub fn update(&mut self, shown: ShownArea)
         requires member { (old : Record) × Contains (shown_of self.old) (record { slot = shown.slot; area = old }) × (old.span ≡ shown.area.span) }
@@ -123,7 +141,6 @@ impl AreaTree {
     {
         self.tree.facts();
         self.records.show(shown.slot, shown.area);
-        self.sealed |= shown.area.attr.sealed;
     }
 
     /// A slot that shows no area of the tree shows one at free pages.
@@ -142,7 +159,6 @@ impl AreaTree {
     {
         self.tree.facts();
         self.records.show(shown.slot, shown.area);
-        self.sealed |= shown.area.attr.sealed;
         self.tree.store(shown.area.span, Some(Slot(shown.slot)));
         self.count += 1;
     }

@@ -1,10 +1,8 @@
 -- For the tests: a pass of new tables, and a call on slot 0.
 use Rattle.std.proofs.Common.{ℕ, ◌≡◌, ◌<◌, ◌∙◌, List, [], ◌∷◌, ◌++◌, length, slice_get, Some, refl, sym, ap, subst}
 use Rattle.mm_types.specs.declared.call.Entry.{Entry}
-use Rattle.mm_types.specs.declared.config.Config.{Config}
 use Rattle.lock_core.specs.Facts.{list_after}
 use Rattle.lock_core.specs.Rows.{Exactly}
-use Rattle.atomic_table.specs.Seated.{TableId}
 use Rattle.vma_lock.specs.declared.view.View.{View}
 use Rattle.vma_lock.specs.Views.{begin_at, mark_at, write_at}
 use Rattle.vma_lock.specs.Internal.Small.{AreFree, ShowsOne}
@@ -17,13 +15,11 @@ there_last [] last = refl
 there_last (y ∷ xs) last = there_last xs last
 
 -- it sits at the tables of all of them
-pub last_sits : (name walked : TableId) (settings : Config) (most : List ℕ) (all fewer : List PassView) (pass : PassView) (viewed : ViewedTable)
-    → all ≡ fewer ++ pass ∷ [] → ArePasses name walked settings most all
-    → viewed ≡ record { table = name; nodes = walked; config = settings; callers = length most } → SitsAt viewed pass
-last_sits name walked settings most all fewer pass viewed same passes is =
+pub last_sits : (viewed : ViewedTable) (most : List ℕ) (all fewer : List PassView) (pass : PassView) → all ≡ fewer ++ pass ∷ []
+    → ArePasses viewed most all → SitsAt viewed pass
+last_sits viewed most all fewer pass same passes =
     let there = ap (λ (xs : List PassView). slice_get xs (length fewer)) same ∙ there_last fewer pass in
-    let one = (passes.each (length fewer) pass there).0 in
-    subst (λ (v : ViewedTable). SitsAt v pass) (sym is) (record { table = one.table; nodes = one.nodes; size = one.size; config_is = one.config_is })
+    (passes.each (length fewer) pass there).0.sits
 
 -- what a call on slot 0 owes at its end
 pub entered_exactly : (first begun marked written : View) (entry : Entry) (row : List ℕ) (found : ℕ) → begun ≡ begin_at first

@@ -11,7 +11,6 @@ use Rattle.mm_types.specs.declared.config.Config.{Config}
 use Rattle.area_rules.specs.Journals.{calls_by, version_of, IsReadAfter, IsReadRight}
 use Rattle.lock_core.specs.declared.stage.Stage.TheVariants.{Out}
 use Rattle.lock_core.specs.Core.{StartsWith}
-use Rattle.atomic_table.specs.Seated.{TableId}
 use Rattle.vma_lock.specs.declared.seats.ReaderSeat.{ReaderSeat}
 use Rattle.vma_lock.specs.Seats.{view, stage}
 use Rattle.vma_lock.specs.declared.view.View.{View}
@@ -20,9 +19,8 @@ use Rattle.area_rules.specs.Steps.{IsLegalJournal}
 use Rattle.node_slots.specs.declared.seats.NodeSeat.{NodeSeat}
 use Rattle.node_slots.specs.Views.{reader_view}
 use Rattle.node_slots.specs.Seats as node_seats
-use Rattle.fault_path.specs.Passes.{PassView, ViewedTable, SitsAt, IsPass, IsPassOf, IsFresh, caller, config, seen_by, made_by, node_size}
+use Rattle.fault_path.specs.Passes.{PassView, ViewedTable, SitsAt, KeepsPass, IsPass, IsPassOf, IsFresh, caller, config, seen_by, made_by, node_size}
 use Rattle.fault_path.specs.Locking.{GoesOn}
-use Rattle.fault_path.specs.Holding.{KeepsPass}
 
 -- a pass after a read, for which an operation was taken
 pub noted : (pass : PassView) (reserved : ℕ) (read : Seen) → IsPass pass reserved
@@ -30,31 +28,35 @@ pub noted : (pass : PassView) (reserved : ℕ) (read : Seen) → IsPass pass res
     → IsReadRight (config pass) (seen_by pass) read → All (λ earlier. version_of earlier ≤ version_of read) pass.log
     → IsPass (record { reader = pass.reader; nodes = pass.nodes; log = pass.log ++ read ∷ []; left = pass.left; operations = pass.operations }) reserved
 noted pass reserved read kept room right rises = record {
-  legal = kept.legal;
-  turn = kept.turn;
+  keeps = record {
+    legal = kept.keeps.legal;
+    turn = kept.keeps.turn;
+    closed = kept.keeps.closed;
+    right = All-push (IsReadRight (config pass) (seen_by pass)) pass.log read kept.keeps.right right;
+    rises = all_pairs_push (λ earlier later. version_of earlier ≤ version_of later) pass.log read kept.keeps.rises rises;
+    few = let more = length-append pass.log (read ∷ []) in omega (arith, room, more);
+    room = kept.keeps.room;
+  };
   free = kept.free;
-  closed = kept.closed;
-  right = All-push (IsReadRight (config pass) (seen_by pass)) pass.log read kept.right right;
-  rises = all_pairs_push (λ earlier later. version_of earlier ≤ version_of later) pass.log read kept.rises rises;
-  few = let more = length-append pass.log (read ∷ []) in omega (arith, room, more);
-  room = kept.room;
 }
 
 -- a pass that new seats begin
-pub fresh_pass : (name walked : TableId) (settings : Config) (most : List ℕ) (place count : ℕ) (seat : ReaderSeat) (walker : NodeSeat) (pass : PassView)
+pub fresh_pass : (viewed : ViewedTable) (most : List ℕ) (place count : ℕ) (seat : ReaderSeat) (walker : NodeSeat) (pass : PassView)
     → pass ≡ record { reader = seat; nodes = walker; log = []; left = count; operations = count }
-    → seat.seat.table_id ≡ name → view seat ≡ new_reader (opened_view settings place)
-    → walker.seat.table_id ≡ walked → node_seats.view walker ≡ reader_view (node_size settings (length most)) place
+    → seat.seat.table_id ≡ viewed.table → view seat ≡ new_reader (opened_view viewed.config place)
+    → walker.seat.table_id ≡ viewed.nodes → node_seats.view walker ≡ reader_view (node_size viewed.config viewed.callers) place
     → count ≡ get_or most place 0
-    → (IsPassOf name walked settings most pass × (caller pass ≡ place)) × IsFresh pass
-fresh_pass name walked settings most place count seat walker pass is table view_is walked_is walks_is count_is = subst
-    (λ (p : PassView). (IsPassOf name walked settings most p × (caller p ≡ place)) × IsFresh p) (sym is) (
+    → (IsPassOf viewed most pass × (caller pass ≡ place)) × IsFresh pass
+fresh_pass viewed most place count seat walker pass is table view_is walked_is walks_is count_is = subst
+    (λ (p : PassView). (IsPassOf viewed most p × (caller p ≡ place)) × IsFresh p) (sym is) (
       (
         record {
-          table = table;
-          nodes = walked_is;
-          size = ap (λ v. v.size) walks_is;
-          config_is = ap (λ v. v.config) view_is;
+          sits = record {
+            table = table;
+            nodes = walked_is;
+            size = ap (λ v. v.size) walks_is;
+            config_is = ap (λ v. v.config) view_is;
+          };
           operations = count_is ∙ ap (λ at. get_or most at 0) (sym (ap (λ v. v.caller) view_is));
         },
         ap (λ v. v.caller) view_is,
@@ -100,35 +102,11 @@ keeps_on old new reserved kept on closed log left operations =
       room = let some = kept.room in omega (arith, some, operations);
     }
 
--- what is kept of a pass that holds nothing, and a pass of which it is kept
-pub keeps_of : (pass : PassView) (reserved : ℕ) → IsPass pass reserved → KeepsPass pass reserved
-keeps_of pass reserved kept = record {
-  legal = kept.legal;
-  turn = kept.turn;
-  closed = kept.closed;
-  right = kept.right;
-  rises = kept.rises;
-  few = kept.few;
-  room = kept.room;
-}
-
-pub pass_of : (pass : PassView) (reserved : ℕ) → KeepsPass pass reserved → stage pass.reader ≡ Out → IsPass pass reserved
-pass_of pass reserved kept free = record {
-  legal = kept.legal;
-  turn = kept.turn;
-  free = free;
-  closed = kept.closed;
-  right = kept.right;
-  rises = kept.rises;
-  few = kept.few;
-  room = kept.room;
-}
-
 -- a pass whose seats went on, and came to hold nothing again
 pub gone_on : (old new : PassView) (reserved : ℕ) → IsPass old reserved → GoesOn (view old.reader) (view new.reader) → stage new.reader ≡ Out
     → node_seats.IsClosed new.nodes → new.log ≡ old.log → new.left ≡ old.left → new.operations ≡ old.operations → IsPass new reserved
 gone_on old new reserved kept on free closed log left operations =
-    pass_of new reserved (keeps_on old new reserved (keeps_of old reserved kept) on closed log left operations) free
+    record { keeps = keeps_on old new reserved kept.keeps on closed log left operations; free = free }
 
 -- where a pass sits, by equal things
 pub sits_in : (viewed shown : ViewedTable) (pass given : PassView) → shown ≡ viewed → given ≡ pass → SitsAt viewed pass → SitsAt shown given

@@ -1,14 +1,11 @@
 -- Areas that are held.
-use Rattle.std.specs.Prelude.{ℕ, ◌≡◌, ◌≤◌, ◌+◌, true, length, All, AllPairs}
+use Rattle.std.specs.Prelude.{ℕ, ◌≡◌, true}
 use Rattle.mm_types.specs.declared.area.Record.{Record}
 use Rattle.mm_types.specs.Config.{IsValidConfig}
 use Rattle.area_list.specs.Areas.{has_page}
-use Rattle.area_rules.specs.Journals.{version_of, IsReadRight}
-use Rattle.area_rules.specs.Steps.{IsLegalJournal}
 use Rattle.atomic_table.specs.Seated.{TableId}
-use Rattle.vma_lock.specs.Seats.{view, HasTurn}
-use Rattle.node_slots.specs.Seats as node_seats
-use Rattle.fault_path.specs.Passes.{PassView, IsLater, config, seen_by, made_by, walker}
+use Rattle.vma_lock.specs.Seats.{view}
+use Rattle.fault_path.specs.Passes.{PassView, KeepsPass, IsLater, config, made_by, walker}
 use Rattle.fault_path.specs.Faults.{WalksOnce, IsFound, IsMember}
 use Rattle.fault_path.specs.Locking.{IsLocked}
 
@@ -16,16 +13,6 @@ use Rattle.fault_path.specs.Locking.{IsLocked}
 pub record HeldView : Type 0 where
   pub area : Record
   pub pass : PassView
-
--- What is kept of a pass while its seat holds a slot: all that a pass keeps, but that it holds none.
-pub record KeepsPass (pass : PassView) (reserved : ℕ) : Type 0 where
-  pub legal : IsLegalJournal (config pass) (seen_by pass)
-  pub turn : HasTurn pass.reader
-  pub closed : node_seats.IsClosed pass.nodes
-  pub right : All (IsReadRight (config pass) (seen_by pass)) pass.log
-  pub rises : AllPairs (λ earlier later. version_of earlier ≤ version_of later) pass.log
-  pub few : length (made_by pass) + length pass.log + pass.left ≤ pass.operations
-  pub room : pass.operations ≤ reserved
 
 -- What a held area keeps: the pass is of the table in which the area is locked, of a valid configuration, and keeps what a pass keeps.
 pub record IsHeld (table : TableId) (held : HeldView) (reserved : ℕ) : Type 0 where

@@ -85,18 +85,22 @@ walker pass = node_seats.view pass.nodes
 abbrev pub walks_of : PassView → ℕ
 walks_of pass = (walker pass).walks
 
--- What a pass keeps: it has seen a legal journal, has its caller's turn and holds no slot, its pin is closed, each read of its
--- log is right in what it has seen, versions rise along the log, and what it made, what it read and what is left are no more
--- than its operations, for which its log has room.
-pub record IsPass (pass : PassView) (reserved : ℕ) : Type 0 where
+-- What is kept of a pass, while its seat holds a slot too: it has seen a legal journal, has its caller's turn, its pin is closed,
+-- each read of its log is right in what it has seen, versions rise along the log, and what it made, what it read and what is left
+-- are no more than its operations, for which its log has room.
+pub record KeepsPass (pass : PassView) (reserved : ℕ) : Type 0 where
   pub legal : IsLegalJournal (config pass) (seen_by pass)
   pub turn : HasTurn pass.reader
-  pub free : stage pass.reader ≡ Out
   pub closed : node_seats.IsClosed pass.nodes
   pub right : All (IsReadRight (config pass) (seen_by pass)) pass.log
   pub rises : AllPairs (λ earlier later. version_of earlier ≤ version_of later) pass.log
   pub few : length (made_by pass) + length pass.log + pass.left ≤ pass.operations
   pub room : pass.operations ≤ reserved
+
+-- what a pass keeps: all this, and its seat holds no slot
+pub record IsPass (pass : PassView) (reserved : ℕ) : Type 0 where
+  pub keeps : KeepsPass pass reserved
+  pub free : stage pass.reader ≡ Out
 
 -- the seats of the pass are at these tables
 pub record SitsAt (viewed : ViewedTable) (pass : PassView) : Type 0 where
@@ -105,12 +109,9 @@ pub record SitsAt (viewed : ViewedTable) (pass : PassView) : Type 0 where
   pub size : (walker pass).size ≡ node_size viewed.config viewed.callers
   pub config_is : config pass ≡ viewed.config
 
--- the pass is of these tables, of areas and of nodes, and has as many operations as its caller may make
-pub record IsPassOf (name walked : TableId) (settings : Config) (most : List ℕ) (pass : PassView) : Type 0 where
-  pub table : pass.reader.seat.table_id ≡ name
-  pub nodes : pass.nodes.seat.table_id ≡ walked
-  pub size : (walker pass).size ≡ node_size settings (length most)
-  pub config_is : config pass ≡ settings
+-- the pass is of these tables, and has as many operations as its caller may make
+pub record IsPassOf (viewed : ViewedTable) (most : List ℕ) (pass : PassView) : Type 0 where
+  pub sits : SitsAt viewed pass
   pub operations : pass.operations ≡ slice_index_or most (caller pass) 0
 
 -- nothing was done with the pass
@@ -130,11 +131,11 @@ pub record IsLater (old new : PassView) : Type 0 where
   pub later : StartsWith (seen_by new) (seen_by old)
 
 -- the passes of these tables: one for each caller, each in its caller's place
-pub record ArePasses (name walked : TableId) (settings : Config) (most : List ℕ) (passes : List PassView) : Type 0 where
+pub record ArePasses (viewed : ViewedTable) (most : List ℕ) (passes : List PassView) : Type 0 where
   pub all : length passes ≡ length most
-  pub each : (place : ℕ) (pass : PassView) → slice_get passes place ≡ Some pass → IsPassOf name walked settings most pass × (caller pass ≡ place)
+  pub each : (place : ℕ) (pass : PassView) → slice_get passes place ≡ Some pass → IsPassOf viewed most pass × (caller pass ≡ place)
 
 -- such passes with which nothing was done
-pub record AreFresh (name walked : TableId) (settings : Config) (most : List ℕ) (passes : List PassView) : Type 0 where
-  pub passes_are : ArePasses name walked settings most passes
+pub record AreFresh (viewed : ViewedTable) (most : List ℕ) (passes : List PassView) : Type 0 where
+  pub passes_are : ArePasses viewed most passes
   pub fresh : (place : ℕ) (pass : PassView) → slice_get passes place ≡ Some pass → IsFresh pass

@@ -2,7 +2,7 @@
 ghost use Rattle.std.specs.Prelude.{◌≡◌, length};
 ghost use Rattle.lock_core.specs.Core.{StartsWith};
 ghost use Rattle.lock_core.specs.Events.{longer};
-ghost use Rattle.fault_path.specs.Passes.{config, seen_by, made_by, looks_of, SitsAt, IsLater};
+ghost use Rattle.fault_path.specs.Passes.{config, seen_by, made_by, looks_of, IsLater};
 ghost use Rattle.fault_path.specs.Notes.{Writes};
 
 use crate::pass::Pass;

@@ -69,7 +69,7 @@ impl FaultView {
         }) }
         ensures writer { IfOk result (λ made. sight made.2 ≡ opened_view config.now (length operations.now)) }
         ensures nodes { IfOk result (λ made. IsNewWriter config.now (length operations.now) made.3) }
-        ensures passes { IfOk result (λ made. AreFresh made.2.seat.table_id made.3.desk.seat.table_id config.now operations.now made.1.items) }
+        ensures passes { IfOk result (λ made. AreFresh made.0 operations.now made.1.items) }
     {
         let callers = operations.len() as u32;
         let (rows, slots) = (rows_for(config.areas), slots_for(config.areas));
@@ -186,7 +186,12 @@ fn passes_of(
     requires walkers { (place : ℕ) (seat : Walker) → slice_get walkers.items place ≡ Some seat
         → node_seats.IsOf seat nodes.now
         × (node_seats.view seat ≡ reader_view (node_size config.now (length operations.now)) place) }
-    ensures { IfOk result (λ passes. AreFresh (table_of table.now) (node_seats.table_of nodes.now) config.now operations.now passes.items) }
+    ensures { IfOk result (λ passes. AreFresh (record {
+      table = table_of table.now;
+      nodes = node_seats.table_of nodes.now;
+      config = config.now;
+      callers = length operations.now;
+    }) operations.now passes.items) }
 {
     let mut passes = Vec::with_capacity(alloc, operations.len())?;
     let mut walkers = walkers.into_iter();

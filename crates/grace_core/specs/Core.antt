@@ -50,7 +50,7 @@ row_at words row = slice_index_or words row []
 abbrev pub since_at : List ℕ → ℕ → ℕ
 since_at since row = slice_index_or since row 0
 
--- a reader that is none: no number of a reader, or one that was joined away
+-- what stands for a number that is no reader's: it counts as joined away
 abbrev pub no_clearing : Clearing
 no_clearing = record { cleared = 0; pin = 0; tree = 0; joined = true }
 

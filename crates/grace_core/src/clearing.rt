@@ -14,6 +14,14 @@ pub struct Clearing {
     pub joined: bool,
 }
 
+/// A reader that was never scanned.
+pub const NEW_CLEARING: Clearing = Clearing {
+    cleared: 0,
+    pin: 0,
+    tree: 0,
+    joined: false,
+};
+
 impl Clearing {
     /// The same with one scan more, which finds this pin while the tree of this number is present. An even pin clears the reader
     /// up to the present tree. An odd one that is not the pin of the last scan clears it up to the tree that was present then.

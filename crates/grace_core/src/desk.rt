@@ -6,7 +6,7 @@ ghost use Rattle.grace_core.specs.Steps.{since_from, settled, filled, published,
 ghost use Rattle.grace_core.specs.Refusals.{is_unfit};
 ghost use Rattle.grace_core.specs.States.{opening_desk};
 
-use crate::clearing::{Clearing, least};
+use crate::clearing::{Clearing, NEW_CLEARING, least};
 use crate::tree::GraceTree;
 use mm_types::{NoMemory, Row};
 use std::alloc::Global;
@@ -18,14 +18,6 @@ const NO_CLEARING: Clearing = Clearing {
     pin: 0,
     tree: 0,
     joined: true,
-};
-
-/// A reader that was never scanned.
-const NEW_CLEARING: Clearing = Clearing {
-    cleared: 0,
-    pin: 0,
-    tree: 0,
-    joined: false,
 };
 
 /// What the writer knows: the present tree, the word of each row, the tree that left each row out, and what the scans of

@@ -12,7 +12,7 @@ mod state;
 mod tree;
 
 pub use applying::apply;
-pub use clearing::{Clearing, least};
+pub use clearing::{Clearing, NEW_CLEARING, least};
 pub use desk::GraceDesk;
 pub use events::{GraceAnswer, GraceEvent, GraceRefusal};
 pub use laws::{clearings_rise, pins_turn, rows_become_free, rows_stand_once, snapshots_stay};

@@ -1,7 +1,8 @@
 -- Which events are refused, and why.
-use Rattle.std.specs.Prelude.{ℕ, ◌+◌, ◌%◌, ◌^◌, Bool, true, false, not, ◌&&◌, ◌||◌, if◌then◌else◌, nat_eq, nat_lt, nat_le, List, [], ◌∷◌, ◌++◌, length, map, is_some, unwrap_or, option_map, Option, Some, None}
+use Rattle.std.specs.Prelude.{ℕ, ◌+◌, ◌%◌, Bool, true, false, not, ◌&&◌, ◌||◌, if◌then◌else◌, nat_eq, nat_lt, nat_le, List, [], ◌∷◌, ◌++◌, length, map, is_some, unwrap_or, option_map, Option, Some, None}
 use Rattle.std.specs.Cmp.Lexicographic.{pointwise}
 use Rattle.mm_types.specs.declared.config.Config.{Config}
+use Rattle.mm_types.specs.declared.config.TheConstants.{MOST_AREA_END}
 use Rattle.mm_types.specs.Packed.{packed, unpacked}
 use Rattle.mm_types.specs.Rows.{first_row}
 use Rattle.mm_types.specs.Sorts.{sort_by}
@@ -85,7 +86,7 @@ readers_left core _ = 0
 
 -- the page at which the area of a row begins; a row of no area is sorted as if it began at a page past all areas
 unfoldable pub first_page : List ℕ → ℕ
-first_page row = unwrap_or (option_map (λ area. area.span.lo) (unpacked row)) (2 ^ 45)
+first_page row = unwrap_or (option_map (λ area. area.span.lo) (unpacked row)) MOST_AREA_END
 
 -- The attached rows, sorted by the page at which their areas begin. Rows of one page stand by the numbers of their slots.
 abbrev pub sorted_rows : List SlotState → List (List ℕ)

@@ -47,7 +47,8 @@ may_lack_memory core _ = false
 abbrev pub IsDone : Lock → LockEvent → Lock → LockAnswer → Type 0
 IsDone lock event new found = (refusal lock.config lock.core event ≡ None) × (new ≡ after_step lock event) × (found ≡ answer lock.core event)
 
--- The event is refused for this reason, and the state is as it was. An event that nothing of the state refuses may find no memory.
+-- The event is refused for this reason, and the state is as it was. Or it found no memory, which an end in an open call and a split
+-- of a reader may, an end also where its rows do not show the list.
 abbrev pub IsRefused : Lock → LockEvent → Lock → StepRefusal → Type 0
 IsRefused lock event new reason = (new ≡ lock)
     × ((refusal lock.config lock.core event ≡ Some reason) ⊎ ((may_lack_memory lock.core event ≡ true) × (reason ≡ NoMemory)))

@@ -1,6 +1,7 @@
 use mm_types::{Call, Slot};
 
-/// One step of the protocol. The first number is the reader's; in `End` it is the caller's.
+/// One step of the protocol. A number that comes first is the reader's; in `End` it is the caller's. What comes second in `Field`
+/// and in `Store` is the number of the word in its row.
 #[derive(Clone, Copy, Debug, PartialEq, Eq)]
 pub enum LockEvent {
     /// The reader is counted in the slot, and holds it.
@@ -53,7 +54,7 @@ pub enum StepRefusal {
     NotMarked,
     /// The reader holds no slot.
     NotHeld,
-    /// There is no such slot or reader.
+    /// There is no such slot or reader, or a reader would be joined into itself.
     NoSlot,
     /// A call is open already.
     AlreadyOpen,

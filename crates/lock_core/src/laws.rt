@@ -1,6 +1,6 @@
 //! Laws of the definitions. Each is the contract of a function that does nothing.
 
-ghost use Rattle.std.specs.Prelude.{◌≡◌, ◌↔◌, List, map, IsPermutation};
+ghost use Rattle.std.specs.Prelude.{◌↔◌, List, map, IsPermutation};
 ghost use Rattle.mm_types.specs.declared.area.Record.{Record};
 ghost use Rattle.mm_types.specs.Packed.{packed};
 ghost use Rattle.lock_core.specs.declared.stage.SlotState.{SlotState};

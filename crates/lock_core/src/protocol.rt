@@ -1,8 +1,8 @@
-ghost use Rattle.std.specs.Prelude.{◌≡◌, ◌≢◌, ◌<◌, ◌≤◌, ◌+◌, ◌-◌, ◌%◌, ◌^◌, Bool, not, nat_eq, nat_lt, nat_le, IfOk, MatchResult, is_some, unwrap_or, length, slice_index, Some, None};
+ghost use Rattle.std.specs.Prelude.{◌≡◌, ◌<◌, ◌≤◌, ◌%◌, ◌^◌, nat_eq, IfOk, MatchResult, length};
 ghost use Rattle.lock_core.specs.Core.{slot_at, count_at, reader_at, held};
 ghost use Rattle.lock_core.specs.States.{opening_core};
 ghost use Rattle.lock_core.specs.Internal.Protocols.{reader_of};
-ghost use Rattle.lock_core.specs.Refusals.{lacks_reader, lacks_slot, is_holding};
+ghost use Rattle.lock_core.specs.Refusals.{lacks_reader, lacks_slot};
 ghost use Rattle.lock_core.specs.Events.{after_add, after_look, after_sub, after_begin, after_mark, after_store, after_end, after_split, after_join, held_slot, looked};
 
 use crate::stage::{SlotState, Stage};

@@ -7,11 +7,11 @@ ghost use Rattle.lock_core.specs.Rows.{is_detached};
 ghost use Rattle.lock_core.specs.Refusals.{first_page, sorted_rows, first_difference};
 
 use crate::stage::SlotState;
-use mm_types::{NoMemory, Record, pack, unpack};
+use mm_types::{MOST_AREA_END, NoMemory, Record, pack, unpack};
 use std::alloc::Global;
 
 /// The page past all areas, by which rows of no area are sorted.
-const PAST_ALL: u64 = 1 << 45;
+const PAST_ALL: u64 = MOST_AREA_END;
 
 /// Whether a row is that of no area.
 fn is_detached(row: &[u64; 4]) -> bool

@@ -1,6 +1,6 @@
 //! The areas beside a page.
 
-ghost use Rattle.std.specs.Prelude.{◌≡◌, ◌≤◌, ◌^◌};
+ghost use Rattle.std.specs.Prelude.{◌≡◌};
 ghost use Rattle.maple_node.specs.Words.{slot_of};
 ghost use Rattle.node_slots.specs.Seats.{Writes};
 ghost use Rattle.node_slots.specs.Built.{IsWriters, pairs_now};

@@ -1,6 +1,6 @@
 //! Going down the writer's tree.
 
-ghost use Rattle.std.specs.Prelude.{◌≡◌, ◌<◌, ◌≤◌, ◌+◌, true, ℕ, length, IfSome};
+ghost use Rattle.std.specs.Prelude.{◌≡◌, ◌<◌, ◌≤◌, ◌+◌, true, IfSome};
 ghost use Rattle.std.specs.Option.{option_or};
 ghost use Rattle.maple_node.specs.Nodes.{end_of};
 ghost use Rattle.maple_node.specs.Levels.{is_leaf, item_at};

@@ -1,6 +1,6 @@
 //! Where so many free pages begin.
 
-ghost use Rattle.std.specs.Prelude.{◌≡◌, ◌≤◌, ◌+◌, ◌*◌, MatchOption};
+ghost use Rattle.std.specs.Prelude.{◌≤◌, ◌+◌, ◌*◌, MatchOption};
 ghost use Rattle.node_slots.specs.Seats.{Writes};
 ghost use Rattle.node_slots.specs.Built.{IsWriters, pairs_now};
 ghost use Rattle.mm_types.specs.Searches.{IsGreatest, IsLeast, NonePasses};

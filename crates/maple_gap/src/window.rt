@@ -1,11 +1,11 @@
 //! The items of a node that may have room for so many pages.
 
 ghost use Rattle.std.specs.Prelude.{◌≡◌, ◌≤◌, IfNone, IfSome};
-ghost use Rattle.maple_node.specs.Nodes.{items_of, item_gap};
+ghost use Rattle.maple_node.specs.Nodes.{items_of};
 ghost use Rattle.maple_gap.specs.Internal.Searches.{may_have, edge, chosen, nothing_chosen, chosen_from};
 ghost use Rattle.maple_gap.specs.Internal.Spots.{IsNextRoom, HasNoRoom};
 
-use maple_items::Place;
+use maple_items::{Place, item_gap};
 use maple_node::{NODE_WORDS, listed_at, width_of};
 
 /// Which start is sought: the least or the greatest.
@@ -31,7 +31,7 @@ impl Window {
         ensures { result ≡ may_have self leaf place.start place.item }
     {
         // Most items fail this first test, which is the cheaper one.
-        if largest_gap(leaf, place) < self.len {
+        if item_gap(leaf, place.start, place.item) < self.len {
             return false;
         }
         let part = place
@@ -50,19 +50,6 @@ impl Window {
             Side::Low => place.start.max(self.lo),
             Side::High => place.item.end.min(self.hi).saturating_sub(self.len),
         }
-    }
-}
-
-/// The largest gap in an item: the whole of an entry that is a gap, and what the item of a child says.
-fn largest_gap(leaf: bool, place: Place) -> u64
-    ensures { result ≡ item_gap leaf place.start place.item }
-{
-    if !leaf {
-        place.item.gap
-    } else if place.item.word == 0 {
-        place.item.end.saturating_sub(place.start)
-    } else {
-        0
     }
 }
 

@@ -66,10 +66,6 @@ pub record Gapped (leaf : Bool) (start place begin largest : ℕ) (words : List 
   pub gap : gap_of leaf start (items_of leaf words) ≡ max largest (gap_of leaf begin (items_of leaf (drop place words)))
   pub ascends : Ascends begin (items_of leaf (drop place words))
 
-pub gapped_above : (leaf : Bool) (start place begin largest : ℕ) (words : List ℕ) → Gapped leaf start place begin largest words
-    → place + width_of leaf ≤ length words → get_or words place 0 ≢ 0 → begin < (listed_at leaf words place).end
-gapped_above leaf start place begin largest words is room some = (subst (Ascends begin) (listed_there leaf words place room some) is.ascends).0
-
 pub gapped_more : (leaf : Bool) (start place begin largest gap : ℕ) (words : List ℕ) → Gapped leaf start place begin largest words
     → place + width_of leaf ≤ length words → get_or words place 0 ≢ 0
     → gap ≡ max (item_gap leaf begin (listed_at leaf words place)) largest

@@ -13,7 +13,7 @@ pub use laws::{
     gaps_stay_apart, overwriting_replaces_pairs, overwritten_pages, written_items_are_read,
 };
 pub use list::{ItemList, push_all, push_beyond};
-pub use node::{lists_nothing, share};
+pub use node::{item_gap, lists_nothing, share};
 pub use part::{Part, push_part};
 pub use place::{Place, item_in};
 pub use splice::{gap_in, spliced_words, swap_child};

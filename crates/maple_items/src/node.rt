@@ -13,22 +13,22 @@ pub fn lists_nothing(words: &[u64; 32]) -> bool
     words[0] == 0
 }
 
-/// The largest gap in one item: the whole of an entry that is a gap, and what the item of a child says.
-pub(crate) fn item_gap(leaf: bool, start: u64, item: Item) -> u64
-    requires { start ≤ item.end }
+/// The largest gap in an item that begins at the page `start`: the whole of an entry that is a gap, 0 in another entry, and what
+/// the item of a child says.
+pub fn item_gap(leaf: bool, start: u64, item: Item) -> u64
     ensures { result ≡ item_gap leaf start item }
 {
     if !leaf {
         item.gap
     } else if item.word == 0 {
-        item.end - start
+        item.end.saturating_sub(start)
     } else {
         0
     }
 }
 
-/// How many of the items that are left go into the next node: all if a node has room for them, and else as many as leave
-/// enough for one more node.
+/// How many of the items that are left go into the next node: all if a node has room for them, and else so many that this node
+/// and one more have enough.
 pub fn share(leaf: bool, rest: usize) -> usize
     requires { 1 ≤ rest }
     ensures some { 1 ≤ result }

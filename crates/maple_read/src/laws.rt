@@ -1,6 +1,6 @@
 //! Laws of loaded roots. Each is the contract of a function that does nothing.
 
-ghost use Rattle.std.specs.Prelude.{◌≡◌, ◌+◌, ℕ};
+ghost use Rattle.std.specs.Prelude.{ℕ};
 ghost use Rattle.maple_node.specs.declared.root.Root.{Root as TreeRoot};
 ghost use Rattle.node_slots.specs.declared.view.ShownTree.{ShownTree};
 ghost use Rattle.node_slots.specs.declared.view.NodeView.{NodeView};

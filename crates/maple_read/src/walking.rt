@@ -1,4 +1,4 @@
-ghost use Rattle.std.specs.Prelude.{◌≡◌, ◌≢◌, ◌≤◌, ◌+◌, ◌*◌, ℕ, List, Some, true, false};
+ghost use Rattle.std.specs.Prelude.{◌≡◌, ◌≤◌, ◌+◌, ◌*◌, ℕ, Some, true, false};
 ghost use Rattle.std.specs.Option.{option_map};
 ghost use Rattle.maple_node.specs.Codec.{width_of};
 ghost use Rattle.maple_node.specs.Levels.{at_of, read, item_at};
@@ -6,12 +6,9 @@ ghost use Rattle.node_slots.specs.declared.view.ShownTree.{ShownTree};
 ghost use Rattle.node_slots.specs.Seats.{IsOf, IsOpen, view};
 ghost use Rattle.maple_read.specs.Walks.{HasLoaded, HasNode, slot_at};
 
-use maple_node::{Root, width_of};
+use maple_node::{NODE_WORDS, Root, width_of};
 use mm_types::{Page, Row, Slot};
 use node_slots::{NodeSeat, NodeTable};
-
-/// The words of a row.
-const ROW: u32 = 32;
 
 /// The slot that the loaded tree pairs with a page, or none where no pair has it. It reads at most 11 words of each inner node
 /// on the way, and 17 of a leaf.
@@ -50,7 +47,7 @@ fn item_word(
 {
     let width = width_of(leaf) as u32;
     let mut place = 0;
-    while place + width <= ROW {
+    while place + width <= NODE_WORDS as u32 {
         let end = nodes.word(seat, row, place);
         if end == 0 {
             return None;

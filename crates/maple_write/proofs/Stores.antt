@@ -4,7 +4,6 @@ use Rattle.std.proofs.lemmas.Bool.{cases_lt}
 use Rattle.std.proofs.lemmas.Bool.Decides.{nat_tests}
 use Rattle.std.proofs.lemmas.List.{length-set, length-map}
 use Rattle.grace_core.specs.Core as grace
-use Rattle.grace_core.specs.Core.{row_at}
 use Rattle.maple_node.specs.declared.item.Item.{Item}
 use Rattle.maple_node.specs.Nodes.{leaf_items, least, end_of, Ascends, IsPlain, gap_of, items_of}
 use Rattle.maple_node.specs.Levels.{is_leaf, at_of, read, item_at, IsNode, level_of, IsTower, rows_of, times}

@@ -1,6 +1,6 @@
 //! Stores into the writer's tree, and its publish.
 
-ghost use Rattle.std.specs.Prelude.{◌≡◌, ◌<◌, ◌≤◌, ◌+◌, ◌-◌, ◌*◌, ◌^◌, ◌⊎◌, ℕ, [], ◌∷◌, length, nat_eq};
+ghost use Rattle.std.specs.Prelude.{◌≡◌, ◌<◌, ◌≤◌, ◌+◌, ◌-◌, ◌*◌, ◌^◌, ℕ, [], length, nat_eq};
 ghost use Rattle.maple_node.specs.Trees.{entries_of, pairs_of};
 ghost use Rattle.maple_node.specs.Words.{slot_word};
 ghost use Rattle.maple_items.specs.Splices.{overwrite, widened_lo, widened_hi};

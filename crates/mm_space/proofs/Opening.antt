@@ -7,19 +7,18 @@ use Rattle.mm_types.specs.declared.call.Entry.{Entry}
 use Rattle.mm_types.specs.declared.config.Config.{Config}
 use Rattle.mm_types.specs.declared.call.Reply.{Reply}
 use Rattle.area_rules.specs.Steps.{step, after, IsLegalJournal}
-use Rattle.atomic_table.specs.Seated.{TableId}
 use Rattle.fault_path.specs.Passes.{PassView, ViewedTable, IsLater, AreFresh, caller, seen_by}
 use Rattle.fault_path.specs.Passes as tables
 use Rattle.mm_state.specs.States.{StateView}
-use Rattle.mm_space.specs.Names.{SpaceId, Within, AreStrangers, IsPassOf, IsNamed}
-use Rattle.mm_space.specs.Opening.{operations_of, space_of, met_space, IsReady, AreOpened}
+use Rattle.mm_space.specs.Names.{SpaceId, viewed_of, Within, AreStrangers, IsPassOf, IsNamed}
+use Rattle.mm_space.specs.Opening.{operations_of, viewed_space, met_space, CanBeOpened, AreOpened}
+use Rattle.mm_space.proofs.Settling.{still}
 
-pub operations_are : (name walked : TableId) (settings : Config) (most : List ℕ) (passes : List PassView) → tables.ArePasses name walked settings most passes
-    → operations_of passes ≡ most
-operations_are name walked settings most passes are = ext_get_or 0 (operations_of passes) most
+pub operations_are : (viewed : ViewedTable) (most : List ℕ) (passes : List PassView) → tables.ArePasses viewed most passes → operations_of passes ≡ most
+operations_are viewed most passes are = ext_get_or 0 (operations_of passes) most
     (length-map passes (λ (p : PassView). p.operations) ∙ are.all) (λ place within. at passes are place within)
   where
-    at : (passes : List PassView) → tables.ArePasses name walked settings most passes → (place : ℕ) → place < length (operations_of passes)
+    at : (passes : List PassView) → tables.ArePasses viewed most passes → (place : ℕ) → place < length (operations_of passes)
         → get_or (operations_of passes) place 0 ≡ get_or most place 0
     at [] are place within = absurd (omega (arith, within))
     at (first ∷ rest) are place within =
@@ -32,8 +31,7 @@ operations_are name walked settings most passes are = ext_get_or 0 (operations_o
 
 -- the space that a state and passes make, at these tables, is this one
 pub space_is : (name : SpaceId) (viewed : ViewedTable) (state : StateView) (passes : List PassView)
-    → viewed ≡ record { table = name.table; nodes = name.nodes; config = name.config; callers = length name.operations }
-    → state.journal ≡ name.before → operations_of passes ≡ name.operations → space_of viewed state passes ≡ name
+    → viewed ≡ viewed_of name → state.journal ≡ name.before → operations_of passes ≡ name.operations → viewed_space viewed state passes ≡ name
 space_is name viewed state passes viewed_is journal operations = λ i. record {
   table = ap (λ (v : ViewedTable). v.table) viewed_is i;
   nodes = ap (λ (v : ViewedTable). v.nodes) viewed_is i;
@@ -55,13 +53,12 @@ met_is name state passes table nodes config journal operations = λ i. record {
 
 -- a new space can be opened
 pub ready : (name : SpaceId) (passes : List PassView) (viewed : ViewedTable) (state : StateView) (logs reserved : ℕ)
-    → viewed ≡ record { table = name.table; nodes = name.nodes; config = name.config; callers = length name.operations }
-    → state.table ≡ name.table → state.nodes ≡ name.nodes → state.config ≡ name.config → state.journal ≡ name.before
+    → viewed ≡ viewed_of name → state.table ≡ name.table → state.nodes ≡ name.nodes → state.config ≡ name.config → state.journal ≡ name.before
     → AreStrangers name.before → length name.operations ≤ 64
     → length name.before + sum name.operations < state.room → length name.before + sum name.operations ≤ 16777216
-    → AreOpened name passes → logs ≡ 0 → length name.operations ≤ reserved → IsReady viewed state passes logs reserved
+    → AreOpened name passes → logs ≡ 0 → length name.operations ≤ reserved → CanBeOpened viewed state passes logs reserved
 ready name passes viewed state logs reserved viewed_is table nodes config journal strangers callers room few opened empty reserve =
-    let same : operations_of passes ≡ name.operations = operations_are _ _ _ _ _ opened.passes_are in
+    let same : operations_of passes ≡ name.operations = operations_are _ _ _ opened.passes_are in
     let count = ap (λ (j : List Entry). length j) journal in
     let total = ap (λ ops. sum ops) same in
     record {
@@ -79,12 +76,11 @@ ready name passes viewed state logs reserved viewed_is table nodes config journa
     }
 
 -- fresh passes have seen nothing
-pub opened_at_once : (name walked : TableId) (settings : Config) (most : List ℕ) (passes : List PassView)
-    → AreFresh name walked settings most passes
-    → AreOpened (record { table = name; nodes = walked; config = settings; before = []; operations = most }) passes
-opened_at_once name walked settings most passes fresh = record {
-  passes_are = fresh.passes_are;
-  opened = λ place pass found. let f = fresh.fresh place pass found in record { seen = f.seen; log = f.log; left = f.left };
+pub opened_at_once : (name : SpaceId) (viewed : ViewedTable) (passes : List PassView) → viewed ≡ viewed_of name → name.before ≡ []
+    → AreFresh viewed name.operations passes → AreOpened name passes
+opened_at_once name viewed passes viewed_is before fresh = record {
+  passes_are = subst (λ (v : ViewedTable). tables.ArePasses v name.operations passes) viewed_is fresh.passes_are;
+  opened = λ place pass found. let f = fresh.fresh place pass found in record { seen = f.seen ∙ sym before; log = f.log; left = f.left };
 }
 
 -- A pass of passes that meet a state one after another: those before this place have seen its journal.
@@ -99,7 +95,7 @@ abbrev pub AreMet : SpaceId → ℕ → List PassView → Type 0
 AreMet name done passes = (length passes ≡ length name.operations)
     × ((place : ℕ) (pass : PassView) → slice_get passes place ≡ Some pass → IsMet name done place pass)
 
-pub met_none : (name : SpaceId) (passes : List PassView) → AreFresh name.table name.nodes name.config name.operations passes → AreMet name 0 passes
+pub met_none : (name : SpaceId) (passes : List PassView) → AreFresh (viewed_of name) name.operations passes → AreMet name 0 passes
 met_none name passes fresh = (
   fresh.passes_are.all,
   λ place pass found.
@@ -128,13 +124,7 @@ met_more name done passes old new are within found later seen log left = (
         ∙ get_or_from_slice_get (set passes done new) place pass pass there in
         subst (λ (k : ℕ). IsMet name (done + 1) k pass) here
         (subst (λ (p : PassView). IsMet name (done + 1) done p) is record {
-          of = record {
-            table = later.table ∙ m.of.table;
-            nodes = later.nodes ∙ m.of.nodes;
-            size = later.size ∙ m.of.size;
-            config_is = later.config_is ∙ m.of.config_is;
-            operations = later.operations ∙ m.of.operations ∙ ap (λ c. get_or name.operations c 0) (sym later.by);
-          };
+          of = still name old new m.of later;
           by = later.by ∙ m.by;
           log = log ∙ m.log;
           left = left ∙ m.left ∙ sym later.operations;
@@ -155,7 +145,7 @@ nothing_since (entry ∷ journal) = nothing_since journal
 
 -- the state of a space that is opened
 pub named_at_once : (name : SpaceId) (viewed : ViewedTable) (state : StateView) (passes : List PassView) (logs reserved : ℕ)
-    → IsReady viewed state passes logs reserved → space_of viewed state passes ≡ name → IsNamed name state
+    → CanBeOpened viewed state passes logs reserved → viewed_space viewed state passes ≡ name → IsNamed name state
 named_at_once name viewed state passes logs reserved is same = subst (λ (n : SpaceId). IsNamed n state) same record {
   table = is.table;
   nodes = is.nodes;
@@ -173,14 +163,12 @@ pub met_at : (name : SpaceId) (done : ℕ) (passes : List PassView) (d : PassVie
 met_at name done passes d are within = are.1 done (get_or passes done d) (slice_get-get_or passes done d within)
 
 -- the same of equal things
-pub fresh_as : (name walked one other : TableId) (settings same : Config) (most : List ℕ) (passes shown : List PassView) → one ≡ name → other ≡ walked
-    → same ≡ settings → shown ≡ passes → AreFresh name walked settings most passes → AreFresh one other same (operations_of shown) shown
-fresh_as name walked one other settings same most passes shown one_is other_is same_is shown_is fresh =
-    subst (λ n. AreFresh n other same (operations_of shown) shown) (sym one_is)
-    (subst (λ n. AreFresh name n same (operations_of shown) shown) (sym other_is)
-    (subst (λ c. AreFresh name walked c (operations_of shown) shown) (sym same_is)
-    (subst (λ p. AreFresh name walked settings (operations_of p) p) (sym shown_is)
-    (subst (λ ops. AreFresh name walked settings ops passes) (sym (operations_are name walked settings most passes fresh.passes_are)) fresh))))
+pub fresh_as : (viewed same : ViewedTable) (most : List ℕ) (passes shown : List PassView) → same ≡ viewed → shown ≡ passes
+    → AreFresh viewed most passes → AreFresh same (operations_of shown) shown
+fresh_as viewed same most passes shown same_is shown_is fresh =
+    subst (λ (v : ViewedTable). AreFresh v (operations_of shown) shown) (sym same_is)
+    (subst (λ (p : List PassView). AreFresh viewed (operations_of p) p) (sym shown_is)
+    (subst (λ (ops : List ℕ). AreFresh viewed ops passes) (sym (operations_are viewed most passes fresh.passes_are)) fresh))
 
 pub opened_as : (name one : SpaceId) (passes back : List PassView) → one ≡ name → back ≡ passes → AreOpened one passes → AreOpened name back
 opened_as name one passes back is back_is opened =

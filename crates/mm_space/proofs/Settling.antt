@@ -1,5 +1,6 @@
 -- For `Space::close` and `gather_logs`: the logs of the passes, and the passes in the journal.
 use Rattle.std.proofs.Common.{ℕ, ◌≡◌, ◌≤◌, ◌<◌, List, [], ◌∷◌, ◌++◌, length, map, All, refl, sym, ap, subst, arith, ◌∙◌}
+use Rattle.std.specs.Prelude.{slice_index_or}
 use Rattle.std.proofs.lemmas.List.{length-append, length-map, map-append, get_or_past}
 use Rattle.std.proofs.lemmas.Option.{slice_get_within, get_or_from_slice_get}
 use Rattle.mm_types.specs.declared.area.Record.{Record}
@@ -11,16 +12,16 @@ use Rattle.lock_core.specs.Facts.{list_after}
 use Rattle.fault_path.specs.Passes.{PassView, ViewedTable, SitsAt, IsLater, node_size}
 use Rattle.mm_space.specs.Closing.{IsIn, Closes}
 use Rattle.lock_core.specs.Core.{StartsWith}
-use Rattle.mm_space.specs.Names.{SpaceId, IsViewOf, IsPassOf, ArePasses, Within, since}
+use Rattle.mm_space.specs.Names.{SpaceId, viewed_of, IsViewOf, IsPassOf, ArePasses, Within, since}
 
 -- a pass of a space, later, sits at the space's tables
 pub sits_later : (name : SpaceId) (viewed : ViewedTable) (old new : PassView) → IsViewOf name viewed → IsPassOf name old → IsLater old new
     → SitsAt viewed new
 sits_later name viewed old new view of later = record {
-  table = later.table ∙ of.table ∙ sym view.0;
-  nodes = later.nodes ∙ of.nodes ∙ sym view.1;
-  size = later.size ∙ of.size ∙ ap (node_size name.config) (sym view.3) ∙ ap (λ c. node_size c viewed.callers) (sym view.2);
-  config_is = later.config_is ∙ of.config_is ∙ sym view.2;
+  table = later.table ∙ of.sits.table ∙ sym view.0;
+  nodes = later.nodes ∙ of.sits.nodes ∙ sym view.1;
+  size = later.size ∙ of.sits.size ∙ ap (node_size name.config) (sym view.3) ∙ ap (λ c. node_size c viewed.callers) (sym view.2);
+  config_is = later.config_is ∙ of.sits.config_is ∙ sym view.2;
 }
 
 -- and stays there
@@ -30,6 +31,13 @@ sits_on viewed old new sits later = record {
   nodes = later.nodes ∙ sits.nodes;
   size = later.size ∙ sits.size;
   config_is = later.config_is ∙ sits.config_is;
+}
+
+-- so it is a pass of the space still
+pub still : (name : SpaceId) (old new : PassView) → IsPassOf name old → IsLater old new → IsPassOf name new
+still name old new of later = record {
+  sits = sits_on (viewed_of name) old new of.sits later;
+  operations = later.operations ∙ of.operations ∙ ap (λ c. slice_index_or name.operations c 0) (sym later.by);
 }
 
 -- there are no more logs than passes so far

@@ -234,13 +234,13 @@ met_pass old shown seat reserved settings now before kept shown_is settings_is l
     (record {
       caller = same.0;
       config = same.1;
-      turn = turn ∙ ap Some same.0 ∙ sym kept.turn;
+      turn = turn ∙ ap Some same.0 ∙ sym kept.keeps.turn;
       legal = λ was. subst (λ (j : List Entry). IsLegalJournal (areas.view seat).config j) (sym seen_is)
           (subst (λ (c : Config). IsLegalJournal c now) (sym config_is) legal);
       later = subst (λ (j : List Entry). StartsWith j (seen_by old)) (sym all) later;
-      own = λ by has. subst (λ (k : ℕ). calls_by k (seen seat) ≡ calls_by k (seen_by old)) (same_Some (caller old) by (sym kept.turn ∙ has))
+      own = λ by has. subst (λ (k : ℕ). calls_by k (seen seat) ≡ calls_by k (seen_by old)) (same_Some (caller old) by (sym kept.keeps.turn ∙ has))
           (ap (calls_by (caller old)) all ∙ own);
-    }) free kept.closed refl refl refl
+    }) free kept.keeps.closed refl refl refl
 
 -- a fault that grew an area under the lock, of a pass that one operation was taken from
 pub grew : (page : Page) (access : Access) (old kept : PassView) (seat : ReaderSeat) (settings : Config) (before now : List Entry) (area : Record)

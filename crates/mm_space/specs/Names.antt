@@ -27,6 +27,10 @@ no_table = record { words = 0; slots = 0; views_name = 0; atom = 0; block = 0; o
 abbrev pub no_space : SpaceId
 no_space = record { table = no_table; nodes = no_table; config = no_config; before = []; operations = [] }
 
+-- the tables of the space as faults see them
+abbrev pub viewed_of : SpaceId → ViewedTable
+viewed_of name = record { table = name.table; nodes = name.nodes; config = name.config; callers = length name.operations }
+
 -- these are the tables of the space
 abbrev pub IsViewOf : SpaceId → ViewedTable → Type 0
 IsViewOf name viewed = (viewed.table ≡ name.table) × (viewed.nodes ≡ name.nodes) × (viewed.config ≡ name.config)
@@ -34,11 +38,11 @@ IsViewOf name viewed = (viewed.table ≡ name.table) × (viewed.nodes ≡ name.n
 
 -- a pass of the space: it is of its tables, and has as many operations as its caller may make
 abbrev pub IsPassOf : SpaceId → PassView → Type 0
-IsPassOf name pass = passes.IsPassOf name.table name.nodes name.config name.operations pass
+IsPassOf name pass = passes.IsPassOf (viewed_of name) name.operations pass
 
 -- the passes of the space, one for each caller, each in its caller's place
 abbrev pub ArePasses : SpaceId → List PassView → Type 0
-ArePasses name all = passes.ArePasses name.table name.nodes name.config name.operations all
+ArePasses name all = passes.ArePasses (viewed_of name) name.operations all
 
 -- each caller has at most its operations in the journal, and nobody else has an entry
 abbrev pub Within : List ℕ → List Entry → Type 0

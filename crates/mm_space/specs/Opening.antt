@@ -21,8 +21,8 @@ pub record AreOpened (name : SpaceId) (passes : List PassView) : Type 0 where
   pub opened : (place : ℕ) (pass : PassView) → slice_get passes place ≡ Some pass → IsOpened name.before pass
 
 -- the space that a state and passes make, at these tables
-abbrev pub space_of : ViewedTable → StateView → List PassView → SpaceId
-space_of viewed state passes = record {
+abbrev pub viewed_space : ViewedTable → StateView → List PassView → SpaceId
+viewed_space viewed state passes = record {
   table = viewed.table;
   nodes = viewed.nodes;
   config = viewed.config;
@@ -43,12 +43,12 @@ met_space state passes = record {
 -- The state is of the viewed tables and their configuration, its journal is of no caller, with the passes nothing was done and they
 -- have seen the journal, and there is room for more entries than it has and all their operations, which are at most 16,777,216
 -- together, and for their logs.
-pub record IsReady (viewed : ViewedTable) (state : StateView) (passes : List PassView) (logs reserved : ℕ) : Type 0 where
+pub record CanBeOpened (viewed : ViewedTable) (state : StateView) (passes : List PassView) (logs reserved : ℕ) : Type 0 where
   pub table : state.table ≡ viewed.table
   pub nodes : state.nodes ≡ viewed.nodes
   pub config : state.config ≡ viewed.config
   pub strangers : AreStrangers state.journal
-  pub opened : AreOpened (space_of viewed state passes) passes
+  pub opened : AreOpened (viewed_space viewed state passes) passes
   pub callers : viewed.callers ≡ length passes
   pub most : length passes ≤ 64
   pub few : length state.journal + sum (operations_of passes) ≤ 16777216

@@ -3,7 +3,7 @@ ghost use Rattle.std.specs.Prelude.{◌≡◌, ◌≤◌, ◌<◌, ◌+◌, [], 
 ghost use Rattle.area_rules.specs.Steps.{IsLegalJournal};
 ghost use Rattle.area_rules.specs.Journals.{calls_by};
 ghost use Rattle.fault_path.specs.Passes.{AreFresh, IsLater, caller, config, seen_by};
-ghost use Rattle.mm_space.specs.Names.{AreStrangers};
+ghost use Rattle.mm_space.specs.Names.{viewed_of, AreStrangers};
 ghost use Rattle.mm_space.specs.Opening.{operations_of, met_space, AreOpened};
 ghost use Rattle.mm_types.specs.Config.{IsValidConfig};
 
@@ -27,13 +27,13 @@ pub struct Ready {
 impl Model for Ready {
     ghost use Rattle.std.specs.Prelude.{vec_len, vec_capacity};
     ghost use Rattle.mm_space.specs.Names.{SpaceId};
-    ghost use Rattle.mm_space.specs.Opening.{space_of, IsReady};
+    ghost use Rattle.mm_space.specs.Opening.{viewed_space, CanBeOpened};
 
     ghost Value = { SpaceId };
 
-    ghost view = { λ r. space_of r.view r.state r.passes.items };
+    ghost view = { λ r. viewed_space r.view r.state r.passes.items };
 
-    ghost invariant = { λ r. IsReady r.view r.state r.passes.items (vec_len r.logs) (vec_capacity r.logs) };
+    ghost invariant = { λ r. CanBeOpened r.view r.state r.passes.items (vec_len r.logs) (vec_capacity r.logs) };
 }
 
 impl Ready {
@@ -112,7 +112,7 @@ fn repeat<R: Wait>(rt: &R, state: &mut MmState, before: &[Entry])
 fn meet_all(state: &mut MmState, passes: &mut [Pass])
     requires strangers { AreStrangers state.old.journal }
     requires callers { length passes.old ≤ 64 }
-    requires fresh { AreFresh state.old.table state.old.nodes state.old.config (operations_of passes.old) passes.old }
+    requires fresh { AreFresh (viewed_of (met_space state.old passes.old)) (operations_of passes.old) passes.old }
     ensures state { state.new ≡ state.old }
     ensures opened { AreOpened (met_space state.old passes.old) passes.new }
 {

@@ -100,6 +100,8 @@ impl<N: SpaceName> Space<N> {
         ensures later { IsLater pass.old pass.new }
         ensures call { Calls pass.old pass.new call.now result.reply result.version }
         ensures looks { looks_of pass.new ≡ looks_of pass.old + 1 }
+        // it walks no tree
+        ensures nodes { pass.new.nodes ≡ pass.old.nodes }
     {
         let mut guard = self.state.take(rt);
         let state = guard.value();
@@ -202,6 +204,8 @@ impl<N: SpaceName> Space<N> {
         ensures read { IfOk result (λ version. (list : List Record) × Reads pass.old pass.new (Maps version list)) }
         ensures looks { IfOk result (λ version. looks_of pass.new ≡ looks_of pass.old + 1) }
         ensures err { OnErr result (DoesNothing pass.old pass.new) }
+        // it walks no tree
+        ensures nodes { pass.new.nodes ≡ pass.old.nodes }
     {
         let mut guard = self.state.take(rt);
         let state = guard.value();

@@ -1,5 +1,5 @@
 //! The table with its writer, the tree of areas, and which slots are free.
-ghost use Rattle.std.specs.Prelude.{◌≡◌, ◌≢◌, ◌<◌, ◌≤◌, ◌+◌, ◌-◌, ◌*◌, ◌/◌, ◌^◌, ◌∷◌, ◌++◌, [], ℕ, true, false, length, vec_len, vec_capacity, All, Contains, IfOk};
+ghost use Rattle.std.specs.Prelude.{◌≡◌, ◌<◌, ◌≤◌, ◌+◌, ◌-◌, ◌/◌, ◌^◌, ◌∷◌, [], ℕ, true, false, length, vec_len, vec_capacity, All, Contains, IfOk};
 ghost use Rattle.mm_types.specs.declared.config.Config.{Config};
 ghost use Rattle.mm_types.specs.Config.{IsValidConfig};
 ghost use Rattle.mm_types.specs.Records.{IsValid};
@@ -7,7 +7,7 @@ ghost use Rattle.area_rules.specs.Journals.{calls_by};
 ghost use Rattle.area_rules.specs.Placement.{bounds_of};
 ghost use Rattle.lock_core.specs.declared.stage.Stage.TheVariants.{Out};
 ghost use Rattle.lock_core.specs.Core.{slot_at, StartsWith};
-ghost use Rattle.split_merge.specs.Plans.{olds_of, news_of, applied, IsPlanOf};
+ghost use Rattle.split_merge.specs.Plans.{olds_of, news_of, IsPlanOf};
 ghost use Rattle.split_merge.specs.declared.plan.Change.TheVariants.{Detach, Alter, Add};
 ghost use Rattle.vma_lock.specs.Seats.{config_of, slots_of, IsOf, Writes, view, seen, stage, HasTurn, sight, journal, slots, IsOpen, MayEnter};
 ghost use Rattle.vma_lock.specs.Views.{opened_view, look_at};
@@ -18,7 +18,7 @@ ghost use Rattle.mm_state.specs.Internal.Runs.{IsRun, IsLetGo, CarriesAll};
 ghost use Rattle.span_tree.specs.SpanTrees.{IsFreshWriter};
 
 use crate::runs::run_before;
-use crate::spans::{count_adds, has_room, is_end, store_moved, taker, wait_for_slots};
+use crate::spans::{count_adds, has_room, is_end, pop_moved_at, store_moved, wait_for_slots};
 use area_slots::AreaSlots;
 use area_tree::{AreaTree, ShownArea, beside};
 use mm_types::{Config, Entry, NoMemory, Record, Slot, Span, pack, slots_for};
@@ -333,7 +333,7 @@ impl Board {
         }
         if is_end(new.span, old.span) {
             let lost = beside(new.span, old.span);
-            if let Some(other) = taker(&self.areas, &mut self.moved, lost) {
+            if let Some(other) = pop_moved_at(&self.areas, &mut self.moved, lost) {
                 self.areas.cede(old, shown, other);
                 return;
             }

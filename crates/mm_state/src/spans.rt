@@ -1,7 +1,8 @@
 //! Slots that are free again, and areas that moved, as a call needs them.
-ghost use Rattle.std.specs.Prelude.{◌≡◌, ◌≤◌, ◌<◌, ◌+◌, ◌++◌, [], true, false, length, vec_capacity, option_to_list, IfSome, IsPermutation};
+ghost use Rattle.std.specs.Prelude.{◌≡◌, ◌≤◌, ◌<◌, ◌+◌, ◌++◌, ◌∷◌, [], true, false, List, Some, length, vec_capacity, option_to_list, IfSome, IsPermutation};
 ghost use Rattle.node_slots.specs.Seats.{HasOpen};
 ghost use Rattle.area_slots.specs.Slots.{slots_of, gone_by, gone_after};
+ghost use Rattle.area_tree.specs.declared.shown.ShownArea.{ShownArea};
 ghost use Rattle.area_tree.specs.AreaTrees.{shown_of, areas_of, IsEndOf, IsRoomFor};
 ghost use Rattle.mm_state.specs.Internal.Boards.{adds_of, CanFree, IsFreed, IsScanned, CanStore, IsSameTree};
 
@@ -89,15 +90,21 @@ pub(crate) fn store_moved(areas: &mut AreaTree, moved: &mut Vec<ShownArea>)
     }
 }
 
-/// The area that moved last, if it has these pages and the tree may have one area more: it goes out of those that moved.
-pub(crate) fn taker(areas: &AreaTree, moved: &mut Vec<ShownArea>, span: Span) -> Option<ShownArea>
+/// The area that moved last, which goes out of those that moved, where it has these pages and the tree may have one area more.
+pub(crate) fn pop_moved_at(
+    areas: &AreaTree,
+    moved: &mut Vec<ShownArea>,
+    span: Span,
+) -> Option<ShownArea>
     ensures items { moved.old.items ≡ moved.new.items ++ option_to_list result }
     ensures room { vec_capacity moved.new ≡ vec_capacity moved.old }
     ensures pages { IfSome result (λ other. other.area.span ≡ span) }
     ensures few { IfSome result (λ other. length (areas_of areas.now) < areas.now.tree.areas) }
+    ensures found { (rest : List ShownArea) (last : ShownArea) → moved.old.items ≡ rest ++ last ∷ [] → last.area.span ≡ span
+        → length (areas_of areas.now) < areas.now.tree.areas → result ≡ Some last }
 {
     let last = *moved.as_slice().last()?;
-    if last.area.span == span && areas.has_place() {
+    if last.area.span == span && !areas.is_full() {
         moved.pop()
     } else {
         None

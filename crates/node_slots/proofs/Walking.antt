@@ -4,7 +4,7 @@ use mathlib.Core.Option.{some, none}
 use lib.ListN.{get_elem?}
 use Rattle.std.proofs.lemmas.List.{get_or-set_same}
 use Rattle.grace_core.specs.Core as grace
-use Rattle.grace_core.specs.Core.{has_row, row_at}
+use Rattle.grace_core.specs.Core.{has_row}
 use Rattle.grace_core.specs.Facts.{Keeps}
 use Rattle.grace_core.specs.Steps.{turned}
 use Rattle.grace_core.proofs.Moves.{loads}

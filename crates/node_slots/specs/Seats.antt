@@ -110,7 +110,7 @@ is_kept writer row = nat_lt row (row_count writer) && nat_eq (times row (free_of
 abbrev pub is_taken : NodeWriter → ℕ → Bool
 is_taken writer row = is_kept writer row && not (is_present writer row)
 
--- how often a row is counted
+-- 1 where it is so, and else 0
 abbrev pub count_of : Bool → ℕ
 count_of is = if is then 1 else 0
 
@@ -118,6 +118,7 @@ count_of is = if is then 1 else 0
 abbrev pub next_root : NodeWriter → ℕ → ℕ → Root
 next_root writer row height = record { tree = (desk writer).tree.number + 1; height = height; row = record { 0 = row } }
 
+-- the tree that this root names among the words that the writer knows
 abbrev pub next_shown : NodeWriter → ℕ → ℕ → ShownTree
 next_shown writer row height = named_tree (sight writer).known (next_root writer row height)
 

@@ -1,17 +1,12 @@
 //! The words from which new tables are copied. They are zeros but for the first, so tables of other crates can be copied from the
 //! same ones.
-ghost use Rattle.std.specs.Prelude.{◌≡◌, ◌≤◌, ◌+◌, ◌*◌, IfOk, replicate, slice_set};
+ghost use Rattle.std.specs.Prelude.{◌≡◌, ◌≤◌, IfOk, replicate, slice_set};
 ghost use Rattle.node_slots.specs.Opening.{most_words};
 
+use crate::places::word_count;
 use mm_types::NoMemory;
 use std::alloc::Global;
 use std::marker::Model;
-
-/// The words of a cache line, which has 64 bytes.
-const LINE: usize = 8;
-
-/// The words of a row.
-pub(crate) const ROW: usize = 32;
 
 /// The readers that a table has at most.
 const MOST_READERS: u32 = 64;
@@ -56,11 +51,4 @@ impl FirstWords {
     {
         &self.words[..count]
     }
-}
-
-/// How many words a table of so many rows and readers has.
-pub(crate) fn word_count(rows: u32, readers: u32) -> usize
-    ensures { result ≡ (readers + 1) * 8 + rows * 32 }
-{
-    (readers as usize + 1) * LINE + rows as usize * ROW
 }

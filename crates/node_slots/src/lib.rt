@@ -7,6 +7,7 @@ mod first_words;
 mod left;
 mod note;
 mod opening;
+mod places;
 mod reading;
 mod rows;
 mod rule;

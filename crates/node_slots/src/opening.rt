@@ -1,8 +1,6 @@
-ghost use Rattle.std.specs.Prelude.{◌≡◌, ◌≤◌, ◌<◌, ◌+◌, ◌*◌, ℕ, [], IfOk, length, slice_get, Some};
+ghost use Rattle.std.specs.Prelude.{◌≡◌, ◌≤◌, ◌<◌, ℕ, [], IfOk, length, slice_get, Some};
 ghost use Rattle.std.specs.Arc.{arc_value};
 ghost use Rattle.std.specs.VecDeque.{deque_capacity};
-ghost use Rattle.grace_core.specs.Core.{times};
-ghost use Rattle.grace_core.specs.Steps.{new_clearing};
 ghost use Rattle.node_slots.specs.declared.seats.NodeSeat.{NodeSeat as Reader};
 ghost use Rattle.node_slots.specs.Places.{word_count};
 ghost use Rattle.node_slots.specs.Views.{opened_view, reader_view, new_reader, after_reader};
@@ -10,13 +8,14 @@ ghost use Rattle.node_slots.specs.Kept.{IsSize, free_numbers};
 ghost use Rattle.node_slots.specs.Opening.{IsFreeFrom};
 ghost use Rattle.node_slots.specs.Seats.{size_of, IsOf, Writes, view, sight, free_of, left_of};
 
-use crate::first_words::{FirstWords, word_count};
+use crate::first_words::FirstWords;
 use crate::note::Note;
+use crate::places::word_count;
 use crate::rule::NewReader;
 use crate::seats::{NodeSeat, NodeTable, NodeWriter, NodeWriterSeat};
 use crate::view::Size;
 use atomic_table::Table;
-use grace_core::Clearing;
+use grace_core::NEW_CLEARING;
 use maple_node::{Root, pack_root};
 use mm_types::{NoMemory, Row};
 use std::alloc::Global;
@@ -28,14 +27,6 @@ const FIRST_ROOT: Root = Root {
     tree: 0,
     height: 1,
     row: Row(0),
-};
-
-/// A reader that was never scanned.
-const NEW_CLEARING: Clearing = Clearing {
-    cleared: 0,
-    pin: 0,
-    tree: 0,
-    joined: false,
 };
 
 /// What is remembered of a row that was never taken.

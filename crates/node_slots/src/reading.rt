@@ -6,6 +6,7 @@ ghost use Rattle.node_slots.specs.Plays.{RowsExist};
 ghost use Rattle.node_slots.specs.Views.{open_at, root_at, word_at, close_at, joined_at};
 ghost use Rattle.node_slots.specs.Seats.{IsOf, view, IsOpen, IsClosed, ShowsRow};
 
+use crate::places::{pin_place, word_place};
 use crate::rule::{Joined, Loaded, Opened, ReaderClosed, WordRead};
 use crate::seats::{NodeSeat, NodeTable};
 use maple_node::{Root, unpack_root};
@@ -29,7 +30,7 @@ impl NodeTable {
         ensures open { IsOpen seat.new }
         ensures view { view seat.new ≡ open_at (view seat.old) }
     {
-        let place = (seat.reader as usize + 1) * 8;
+        let place = pin_place(seat.reader);
         self.table
             .shared
             .fetch_add::<Opened>(&mut seat.seat, place, 1);
@@ -58,7 +59,7 @@ impl NodeTable {
         ensures word { (shown : ShownTree) → (view seat.old).snapshot ≡ Some shown → result ≡ slice_index (row_at shown.words row.0) place }
         ensures view { view seat.new ≡ word_at (view seat.old) }
     {
-        let place = (self.size.readers as usize + 1) * 8 + row.0 as usize * 32 + place as usize;
+        let place = word_place(self.size.readers, row, place as usize);
         self.table.shared.load::<WordRead>(&mut seat.seat, place)
     }
 
@@ -70,7 +71,7 @@ impl NodeTable {
         ensures closed { IsClosed seat.new }
         ensures view { view seat.new ≡ close_at (view seat.old) }
     {
-        let place = (seat.reader as usize + 1) * 8;
+        let place = pin_place(seat.reader);
         self.table
             .shared
             .fetch_add::<ReaderClosed>(&mut seat.seat, place, 1);

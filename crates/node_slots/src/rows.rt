@@ -10,17 +10,16 @@ ghost use Rattle.node_slots.specs.Kept.{left_at};
 ghost use Rattle.node_slots.specs.Built.{words_at};
 ghost use Rattle.node_slots.specs.Seats.{size_of, Writes, StaysAt, sight, desk, row_count, free_of, left_of, is_present, is_waiting, is_kept, is_taken, count_of, next_root, next_shown, pins_of, AreOut, ReachesNewRows};
 
-use crate::first_words::ROW;
 use crate::left::Left;
 use crate::seats::{NodeTable, NodeWriter};
 use crate::twins::{note_spot, note_twin};
 use grace_core::least;
-use maple_node::Root;
+use maple_node::{NODE_WORDS, Root};
 use mm_types::{NoMemory, Row, Steps};
 use std::sync::Arc;
 
 /// The words of a row that was never filled.
-static EMPTY_ROW: [u64; ROW] = [0; ROW];
+static EMPTY_ROW: [u64; NODE_WORDS] = [0; NODE_WORDS];
 
 impl NodeTable {
     /// Takes the last row of the writer's free list. None exactly where the list is empty.
@@ -34,21 +33,6 @@ impl NodeTable {
         ensures view { sight writer.new ≡ sight writer.old }
     {
         writer.take_last()
-    }
-
-    /// Takes a row for the next version of the node in a row: that row itself, if it was left and is free, or the row that held the
-    /// version before it, if that is free, whose words are nearly the same, and else any free row. None exactly where no row is
-    /// free.
-    pub fn take_row_for(&self, writer: &mut NodeWriter, old: Row) -> Option<Row>
-        requires table { Writes writer.old self.now }
-        ensures table { Writes writer.new self.now }
-        ensures free { MatchOption result ((free_of writer.old ≡ []) × (free_of writer.new ≡ []))
-            (λ row. IsPermutation (free_of writer.old) (row.0 ∷ free_of writer.new)) }
-        ensures taken { IfSome result (λ row. is_taken writer.new row.0 ≡ true) }
-        ensures left { left_of writer.new ≡ left_of writer.old }
-        ensures view { sight writer.new ≡ sight writer.old }
-    {
-        writer.take_row_for(old)
     }
 
     /// Stores the words of a row that was taken and is not published.
@@ -192,7 +176,9 @@ impl NodeWriter {
         Some(row)
     }
 
-    /// Takes a row for the next version of the node in a row, as `NodeTable::take_row_for` does.
+    /// Takes a row for the next version of the node in a row: that row itself, if it was left and is free, or the row that held the
+    /// version before it, if that is free, whose words are nearly the same, and else any free row. None exactly where no row is
+    /// free. Which free row it is no clause says.
     pub fn take_row_for(&mut self, old: Row) -> Option<Row>
         ensures table { StaysAt self.old self.new }
         ensures free { MatchOption result ((free_of self.old ≡ []) × (free_of self.new ≡ []))

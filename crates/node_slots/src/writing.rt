@@ -7,10 +7,10 @@ ghost use Rattle.node_slots.specs.Views.{store_at, fill_at, named_tree, publish_
 ghost use Rattle.node_slots.specs.Seats.{SitsAt, seat_sight};
 ghost use Rattle.node_slots.specs.Internal.Stores.{store_four_at};
 
-use crate::first_words::ROW;
+use crate::places::{pin_place, word_place};
 use crate::rule::{Published, Scanned, Stored};
 use crate::seats::{NodeTable, NodeWriterSeat};
-use maple_node::{Root, pack_root};
+use maple_node::{NODE_WORDS, Root, pack_root};
 use mm_types::Row;
 
 /// Adds rows of zeros until there are so many rows.
@@ -20,7 +20,7 @@ fn add_empty(words: &mut Vec<[u64; 32]>, count: usize)
     ensures room { vec_capacity words.new ≡ vec_capacity words.old }
 {
     for _row in words.len()..count {
-        words.push_reserved([0; ROW]);
+        words.push_reserved([0; NODE_WORDS]);
     }
 }
 
@@ -40,7 +40,7 @@ impl NodeWriterSeat {
         }
         words[place] = word;
         let nodes = &self.table;
-        let at = (nodes.size.readers as usize + 1) * 8 + row.0 as usize * 32 + place;
+        let at = word_place(nodes.size.readers, row, place);
         nodes.table.shared.store::<Stored>(&mut self.seat, at, word);
     }
 
@@ -108,7 +108,7 @@ impl NodeTable {
         ensures view { seat_sight seat.new ≡ scan_at (seat_sight seat.old) reader result }
         ensures same { seat.new.table ≡ seat.old.table }
     {
-        let place = (reader as usize + 1) * 8;
+        let place = pin_place(reader);
         let found = self.table.shared.load::<Scanned>(&mut seat.seat, place);
         let clearing = seat.clearings[reader as usize];
         seat.clearings[reader as usize] = clearing.looked(seat.root.tree, found);

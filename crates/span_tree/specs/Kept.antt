@@ -1,5 +1,6 @@
 -- What the fields of a tree of spans and slots keep.
 use Rattle.std.specs.Prelude.{ℕ, ◌≡◌, ◌<◌, ◌≤◌, true, false, [], length}
+use Rattle.mm_types.specs.declared.config.TheConstants.{MOST_AREAS}
 use Rattle.mm_types.specs.Config.{rows_for, slots_for}
 use Rattle.node_slots.specs.Seats.{table_of, Writes, sight, desk, row_count, is_present, is_kept, pins_of}
 use Rattle.node_slots.specs.Built.{IsBuilt, IsWriters, pairs_now}
@@ -30,7 +31,7 @@ pub record IsSpanTree (fields : Inside) : Type 0 where
   pub table : Writes fields.writer fields.nodes
   pub tree : IsWriters fields.writer fields.tree
   pub some_areas : 1 ≤ fields.areas
-  pub few_areas : fields.areas ≤ 65530
+  pub few_areas : fields.areas ≤ MOST_AREAS
   pub some_pages : 0 < fields.tree.limit.0
   pub rows : row_count fields.writer ≡ rows_for fields.areas
   pub slots : (sight fields.writer).size.slots ≡ slots_for fields.areas

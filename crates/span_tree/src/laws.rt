@@ -1,5 +1,6 @@
 //! Laws of the rows of a tree. Each is the contract of a function that does nothing.
 ghost use Rattle.std.specs.Prelude.{◌≡◌, ◌≤◌, ◌+◌, ℕ, false, List, length};
+ghost use Rattle.mm_types.specs.declared.config.TheConstants.{MOST_AREAS};
 ghost use Rattle.mm_types.specs.Config.{rows_for};
 ghost use Rattle.maple_node.specs.Trees.{Tree, IsLayout, tree_rows, pairs_of};
 ghost use Rattle.node_slots.specs.declared.seats.NodeWriter.{NodeWriter};
@@ -18,8 +19,8 @@ pub fn pairs_are_apart()
 /// and the tree that the writer builds is the present one, enough rows are free. So no call is refused because no row is free.
 pub fn rows_suffice()
     ensures rows { (at : ℕ → List ℕ) (slots areas : ℕ) (rows : List ℕ) (tree : Tree) → IsLayout at slots rows tree
-        → length (pairs_of at tree) ≤ areas → areas ≤ 65530 → length (tree_rows at tree) + enough areas ≤ rows_for areas }
+        → length (pairs_of at tree) ≤ areas → areas ≤ MOST_AREAS → length (tree_rows at tree) + enough areas ≤ rows_for areas }
     ensures free { (writer : NodeWriter) (tree : View) (areas : ℕ) → IsWriters writer tree → row_count writer ≡ rows_for areas
-        → length (pairs_now writer tree) ≤ areas → areas ≤ 65530 → ((row : ℕ) → is_present writer row ≡ is_kept writer row)
+        → length (pairs_now writer tree) ≤ areas → areas ≤ MOST_AREAS → ((row : ℕ) → is_present writer row ≡ is_kept writer row)
         → ((row : ℕ) → is_waiting writer row ≡ false) → enough areas ≤ length (free_of writer) }
 {}

@@ -1,5 +1,6 @@
 //! The tree of spans and slots.
-ghost use Rattle.std.specs.Prelude.{◌≡◌, ◌≤◌, ◌<◌, ◌+◌, ◌-◌, ◌^◌, ℕ, true, false, nat_eq, [], length, IfOk};
+ghost use Rattle.std.specs.Prelude.{◌≡◌, ◌≤◌, ◌<◌, ◌+◌, ◌-◌, ◌^◌, true, false, nat_eq, [], length, IfOk};
+ghost use Rattle.mm_types.specs.declared.config.TheConstants.{MOST_AREAS};
 ghost use Rattle.mm_types.specs.Config.{slots_for};
 ghost use Rattle.maple_node.specs.Words.{slot_word};
 ghost use Rattle.maple_items.specs.Pairs.{overwritten};
@@ -49,7 +50,7 @@ impl SpanTree {
     /// The tree of a table that was just made, of which the writer is given: it has no pairs yet, may have at most so many, from 1
     /// to 65,530, and its pages end at the limit. The table has the rows and slots that are for so many areas.
     pub fn new(areas: u32, limit: Page, writer: NodeWriter) -> Result<SpanTree, NoMemory>
-        requires areas { (1 ≤ areas) × (areas ≤ 65530) }
+        requires areas { (1 ≤ areas) × (areas ≤ MOST_AREAS) }
         requires limit { 0 < limit.0 }
         requires fresh { IsFreshWriter areas writer }
         ensures { IfOk result (λ tree. tree ≡ record {

@@ -23,7 +23,7 @@ pub const FIRST: Page = Page(0x20);
 /// The page at which the second caller faults, and whose area it holds.
 pub const SECOND: Page = Page(0x80);
 
-/// Runs two callers over a new space, and closes it. Each makes its calls, in order, and then faults once. What is left is a legal
+/// Runs two callers over a new space, and closes it. Each makes its calls, in order; that each then faults once is no clause. What is left is a legal
 /// journal, in which each caller's calls are those that it was to make, and the list after it. Refused where memory runs out.
 pub fn run<R: Threads + Wait + Sync>(
     rt: &R,

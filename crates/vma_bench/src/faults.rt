@@ -32,7 +32,7 @@ pub(crate) enum Reach {
 
 /// What is to be done.
 #[derive(Clone, Copy, Debug, PartialEq, Eq)]
-pub(crate) struct Plan {
+pub(crate) struct Load {
     /// The faults of each thread.
     count: u64,
     threads: u64,
@@ -45,7 +45,7 @@ pub(crate) struct Plan {
 
 /// How many faults were answered without the lock, and how many missed.
 #[derive(Clone, Copy, Debug)]
-pub(crate) struct Told {
+pub(crate) struct Counts {
     pub(crate) answered: u64,
     pub(crate) missed: u64,
 }
@@ -54,31 +54,31 @@ pub(crate) struct Told {
 #[derive(Drop)]
 struct Worker<N: SpaceName> {
     pass: Pass,
-    told: Told,
+    counts: Counts,
     of: PhantomData<N>,
     /// Keeps what the next worker writes off the cache lines of this one.
     apart: [u64; 16],
     ghost mine: { IsPassOf N.name pass },
 }
 
-impl Plan {
-    /// A plan within the limits.
+impl Load {
+    /// A load within the limits.
     pub(crate) fn new(
         count: u64,
         threads: u64,
         areas: u64,
         calls: u64,
         reach: Reach,
-    ) -> Option<Plan> {
-        let plan = Plan {
+    ) -> Option<Load> {
+        let load = Load {
             count,
             threads,
             areas,
             calls,
             reach,
         };
-        let fits = (1..=62).contains(&threads) && (1..=65_000).contains(&plan.all_areas());
-        (fits && calls <= 8_000_000).then_some(plan)
+        let fits = (1..=62).contains(&threads) && (1..=65_000).contains(&load.all_areas());
+        (fits && calls <= 8_000_000).then_some(load)
     }
 
     /// How many areas there are in all.
@@ -110,13 +110,13 @@ fn total(operations: &[u64]) -> Option<u64>
 }
 
 /// How many operations each caller may make: the first maps, and all others make faults alone.
-fn operations_of(alloc: Global, plan: &Plan) -> Result<Vec<u64>, NoMemory> {
+fn operations_of(alloc: Global, load: &Load) -> Result<Vec<u64>, NoMemory> {
     let mut operations = Vec::new(alloc);
     operations.push(
-        plan.all_areas()
-            .saturating_add(plan.calls.saturating_mul(2)),
+        load.all_areas()
+            .saturating_add(load.calls.saturating_mul(2)),
     )?;
-    for _ in 0..plan.threads {
+    for _ in 0..load.threads {
         operations.push(0)?;
     }
     Ok(operations)
@@ -138,21 +138,21 @@ fn mapping(addr: u64) -> Call {
     })
 }
 
-/// Makes the plan's faults. None where memory runs out.
+/// Makes the load's faults. None where memory runs out.
 pub(crate) fn measure<R: Threads + Wait + Sync>(
     rt: &R,
     alloc: Global,
-    plan: &Plan,
-) -> Option<Told> {
+    load: &Load,
+) -> Option<Counts> {
     let config = Config::with_files(Files::of(Vec::new(alloc)));
-    let operations = operations_of(alloc, plan).ok()?;
+    let operations = operations_of(alloc, load).ok()?;
     let few = total(operations.as_slice())? <= 16_777_216;
     let callers = operations.len();
     if !config.valid() || !few || callers == 0 || callers > 64 {
         return None;
     }
     let ready = Ready::make(alloc, config, operations.as_slice()).ok()?;
-    run::<Brand, R>(rt, alloc, ready, plan)
+    run::<Brand, R>(rt, alloc, ready, load)
 }
 
 /// Opens a space, maps its areas, and lets all threads go.
@@ -160,23 +160,23 @@ fn run<N: SpaceName + Send + Sync, R: Threads + Wait + Sync>(
     rt: &R,
     alloc: Global,
     ready: Ready,
-    plan: &Plan,
-) -> Option<Told>
+    load: &Load,
+) -> Option<Counts>
     requires { ready ≡ N.name }
 {
     let (space, passes) = Space::<N>::open(ready);
     let mut workers = workers_of::<N>(alloc, passes)?;
-    map_areas(rt, &space, workers.first_mut()?, plan.all_areas());
+    map_areas(rt, &space, workers.first_mut()?, load.all_areas());
     let threads = workers.len();
     let work = |place: usize, worker: &mut Worker<N>| {
         if place == 0 {
-            call_elsewhere(rt, &space, worker, plan.calls);
+            call_elsewhere(rt, &space, worker, load.calls);
         } else {
-            fault_all(&space, worker, plan, place as u64);
+            fault_all(&space, worker, load, place as u64);
         }
     };
     thread::for_each_mut(rt, workers.as_mut_slice(), threads, &work);
-    Some(told_by(workers.as_slice()))
+    Some(counts_of(workers.as_slice()))
 }
 
 /// A worker for each pass.
@@ -185,13 +185,13 @@ fn workers_of<N: SpaceName>(alloc: Global, passes: Vec<Pass>) -> Option<Vec<Work
 {
     let mut workers = Vec::with_capacity(alloc, passes.len()).ok()?;
     for pass in passes {
-        let told = Told {
+        let counts = Counts {
             answered: 0,
             missed: 0,
         };
         let worker = Worker {
             pass,
-            told,
+            counts,
             of: PhantomData,
             apart: [0; 16],
         };
@@ -233,31 +233,34 @@ fn call_elsewhere<N: SpaceName, R: Wait>(
 }
 
 /// Makes the faults of a thread, at areas in no order.
-fn fault_all<N: SpaceName>(space: &Space<N>, worker: &mut Worker<N>, plan: &Plan, thread: u64) {
-    let first = plan.first_area(thread);
+fn fault_all<N: SpaceName>(space: &Space<N>, worker: &mut Worker<N>, load: &Load, thread: u64) {
+    let first = load.first_area(thread);
     let mut draws = Draws::new(thread);
-    for _ in 0..plan.count {
-        let area = first.saturating_add(draws.below(plan.areas.max(1)));
+    for _ in 0..load.count {
+        let area = first.saturating_add(draws.below(load.areas.max(1)));
         let page = Page(area.saturating_mul(2).saturating_add(FIRST));
         match space
             .view()
             .fault_fast(&mut worker.pass, page, Access::Read)
         {
-            Fast::Answer { .. } => worker.told.answered = worker.told.answered.saturating_add(1),
-            Fast::Miss(_) => worker.told.missed = worker.told.missed.saturating_add(1),
+            Fast::Answer { .. } => worker.counts.answered = worker
+                .counts
+                .answered
+                .saturating_add(1),
+            Fast::Miss(_) => worker.counts.missed = worker.counts.missed.saturating_add(1),
         }
     }
 }
 
 /// What the faults of all workers came to.
-fn told_by<N: SpaceName>(workers: &[Worker<N>]) -> Told {
-    let mut told = Told {
+fn counts_of<N: SpaceName>(workers: &[Worker<N>]) -> Counts {
+    let mut counts = Counts {
         answered: 0,
         missed: 0,
     };
     for worker in workers {
-        told.answered = told.answered.saturating_add(worker.told.answered);
-        told.missed = told.missed.saturating_add(worker.told.missed);
+        counts.answered = counts.answered.saturating_add(worker.counts.answered);
+        counts.missed = counts.missed.saturating_add(worker.counts.missed);
     }
-    told
+    counts
 }

@@ -2,13 +2,13 @@
 //! stand two apart, makes COUNT faults at them without the lock in each of THREADS threads, and writes how many were answered and
 //! how many missed. `vma_bench COUNT THREADS AREAS CALLS` has another thread map and unmap a page elsewhere meanwhile, so many times.
 //! With the word `own` at the end each thread faults at AREAS areas of its own. There are 1 to 62 threads and 1 to 65,000 areas in
-//! all, and at most 8,000,000 calls. Other words are refused by a line on standard error, and the exit status is 2 then. No contract says
-//! anything of what it writes.
+//! all, and at most 8,000,000 calls. Other words are refused by a line on standard error, and the exit status is 2 then; where memory runs out it
+//! is 2 as well, and the line may be missing. No contract says anything of what it writes.
 #![tactic(auto)]
 
 mod faults;
 
-use faults::{Plan, Reach, Told, measure};
+use faults::{Counts, Load, Reach, measure};
 use std::alloc::Global;
 use std::process::ExitCode;
 use std::rt::Env;
@@ -35,7 +35,7 @@ fn number(words: &[String], place: usize) -> Option<u64> {
 const OWN: &str = "own";
 
 /// What the words ask for. None where they are no numbers, or out of their limits, or more than are asked for.
-fn plan_of(words: &[String]) -> Option<Plan> {
+fn load_of(words: &[String]) -> Option<Load> {
     let (reach, numbers) = match words.split_last() {
         Some((last, before)) if last.as_str() == OWN => (Reach::Own, before),
         _ => (Reach::Shared, words),
@@ -45,7 +45,7 @@ fn plan_of(words: &[String]) -> Option<Plan> {
         4 => number(numbers, 3)?,
         _ => return None,
     };
-    Plan::new(
+    Load::new(
         number(numbers, 0)?,
         number(numbers, 1)?,
         number(numbers, 2)?,
@@ -54,26 +54,26 @@ fn plan_of(words: &[String]) -> Option<Plan> {
     )
 }
 
-/// The plan that the program's words ask for.
-fn asked<R: Env + AllocGlobal>(rt: &R) -> Option<Plan> {
-    plan_of(words(rt).ok()?.as_slice())
+/// The load that the program's words ask for.
+fn asked<R: Env + AllocGlobal>(rt: &R) -> Option<Load> {
+    load_of(words(rt).ok()?.as_slice())
 }
 
 fn run<R: Threads + Wait + Sync + Env + Eprint + AllocGlobal>(
     rt: &R,
     alloc: Global,
-) -> Option<Told> {
-    let Some(plan) = asked(rt) else {
+) -> Option<Counts> {
+    let Some(load) = asked(rt) else {
         let _ = eprintln!(rt; "{}", USAGE);
         return None;
     };
-    measure(rt, alloc, &plan)
+    measure(rt, alloc, &load)
 }
 
 fn main(rt: HostRuntime) -> ExitCode {
     match run(&rt, rt.alloc()) {
-        Some(told) => {
-            let _ = println!(rt; "answered {} missed {}", told.answered, told.missed);
+        Some(counts) => {
+            let _ = println!(rt; "answered {} missed {}", counts.answered, counts.missed);
             ExitCode::from(0)
         }
         None => ExitCode::from(2),

@@ -1,7 +1,7 @@
 //! The words of the program, and the areas that they give each thread.
 
-use crate::faults::{Plan, Reach};
-use crate::plan_of;
+use crate::faults::{Load, Reach};
+use crate::load_of;
 use mm_types::NoMemory;
 use std::alloc::Global;
 use std::test::Fail;
@@ -17,28 +17,28 @@ fn words_of(alloc: Global, line: &[&str]) -> Result<Vec<String>, NoMemory> {
 
 #[test]
 fn words_give_a_plan(rt: HostRuntime) -> Result<(), Fail> {
-    let rows: [(&[&str], Option<Plan>); 5] = [
-        (&["9", "4", "100"], Plan::new(9, 4, 100, 0, Reach::Shared)),
+    let rows: [(&[&str], Option<Load>); 5] = [
+        (&["9", "4", "100"], Load::new(9, 4, 100, 0, Reach::Shared)),
         (
             &["9", "4", "100", "5"],
-            Plan::new(9, 4, 100, 5, Reach::Shared),
+            Load::new(9, 4, 100, 5, Reach::Shared),
         ),
         (
             &["9", "4", "100", "own"],
-            Plan::new(9, 4, 100, 0, Reach::Own),
+            Load::new(9, 4, 100, 0, Reach::Own),
         ),
         (
             &["9", "4", "100", "5", "own"],
-            Plan::new(9, 4, 100, 5, Reach::Own),
+            Load::new(9, 4, 100, 5, Reach::Own),
         ),
         (
             &["9", "4", "16250", "own"],
-            Plan::new(9, 4, 16_250, 0, Reach::Own),
+            Load::new(9, 4, 16_250, 0, Reach::Own),
         ),
     ];
-    for (line, plan) in rows {
-        assert!(rt; plan.is_some());
-        assert_eq!(rt; plan_of(&words_of(rt.alloc(), line)?), plan);
+    for (line, load) in rows {
+        assert!(rt; load.is_some());
+        assert_eq!(rt; load_of(&words_of(rt.alloc(), line)?), load);
     }
     Ok(())
 }
@@ -58,7 +58,7 @@ fn wrong_words_give_none(rt: HostRuntime) -> Result<(), Fail> {
         &["9", "4", "16251", "own"],
     ];
     for line in rows {
-        assert_eq!(rt; plan_of(&words_of(rt.alloc(), line)?), None);
+        assert_eq!(rt; load_of(&words_of(rt.alloc(), line)?), None);
     }
     Ok(())
 }
@@ -67,10 +67,10 @@ fn wrong_words_give_none(rt: HostRuntime) -> Result<(), Fail> {
 fn own_areas_lie_one_after_the_other(rt: HostRuntime) -> Result<(), Fail> {
     let rows = [(1, 0), (2, 100), (3, 200), (4, 300)];
     for (thread, first) in rows {
-        let own = Plan::new(9, 4, 100, 0, Reach::Own);
-        assert_eq!(rt; own.map(|plan| plan.first_area(thread)), Some(first));
-        let shared = Plan::new(9, 4, 100, 0, Reach::Shared);
-        assert_eq!(rt; shared.map(|plan| plan.first_area(thread)), Some(0));
+        let own = Load::new(9, 4, 100, 0, Reach::Own);
+        assert_eq!(rt; own.map(|load| load.first_area(thread)), Some(first));
+        let shared = Load::new(9, 4, 100, 0, Reach::Shared);
+        assert_eq!(rt; shared.map(|load| load.first_area(thread)), Some(0));
     }
     Ok(())
 }

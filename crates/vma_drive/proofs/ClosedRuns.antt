@@ -3,7 +3,7 @@ use Rattle.std.proofs.Common.{Bool, true, false, cond, inl, inr, ℕ, ◌≡◌,
 use Rattle.std.proofs.lemmas.List.{length-map, length-set, take-append-le, take_all, get_or-set_same}
 use Rattle.std.proofs.lemmas.Bool.{cases_lt, eq-eqb}
 use Rattle.std.proofs.lemmas.List.Elements.{All-nil, All-weaker}
-use Rattle.std.proofs.lemmas.Option.{slice_get-map, slice_get_within, slice_get_read, slice_get-get_or, get_or_from_slice_get}
+use Rattle.std.proofs.lemmas.Option.{slice_get-map, slice_get_within, slice_get-get_or, get_or_from_slice_get}
 use Rattle.mm_types.specs.declared.call.Entry.{Entry}
 use Rattle.mm_types.specs.declared.call.Seen.{Seen}
 use Rattle.mm_types.specs.declared.config.Config.{Config}
@@ -14,17 +14,16 @@ use Rattle.history.specs.declared.callers.TheConstants.{MOST_THREADS}
 use Rattle.history.specs.declared.items.Item.{Item}
 use Rattle.history.specs.Histories.{lines_of}
 use Rattle.history.specs.Runs.{own_of, ops_of, asked, HasGrown, AreMade, AreTold, IsReadRightAfter, IsRun}
-use Rattle.history.specs.Labels.{IsSerialRun}
 use Rattle.history.proofs.Steps.{own_same}
 use Rattle.history.proofs.Touches.{touches_made}
 use Rattle.history.proofs.ThreadCounts.{no_lines_past}
-use Rattle.fault_path.specs.Passes.{PassView, caller, seen_by, made_by, IsFresh, IsLater}
-use Rattle.mm_space.specs.Names.{SpaceId, since, IsPassOf, ArePasses}
+use Rattle.fault_path.specs.Passes.{PassView, caller, seen_by, made_by}
+use Rattle.mm_space.specs.Names.{SpaceId, since, ArePasses}
 use Rattle.mm_space.specs.Closing.{ClosedView, IsIn, Closes}
 use Rattle.vma_drive.specs.Hearing.{own_by, done_by, HaveGrown, AreToldBy}
 use Rattle.history.specs.CallerPlaces.{callers_of}
 use Rattle.vma_drive.specs.Sharing.{AreShares}
-use Rattle.vma_drive.proofs.Operations.{AreNew, split, nothing, calls_append}
+use Rattle.vma_drive.proofs.Operations.{split, nothing, calls_append}
 
 -- what a pass did, by the whole journal
 pub own_in : (settings : Config) (journal : List Entry) (pass : PassView) → IsIn settings journal pass

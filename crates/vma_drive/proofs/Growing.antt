@@ -5,7 +5,6 @@ use Rattle.std.proofs.lemmas.List.{append-nil, length-take}
 use Rattle.std.proofs.lemmas.List.Elements.{All-nil, All-cons, All-append, All-weaker, All-map, All-filter}
 use Rattle.mm_types.specs.declared.area.Access.{Access}
 use Rattle.mm_types.specs.declared.area.Page.{Page}
-use Rattle.mm_types.specs.declared.area.Record.{Record}
 use Rattle.mm_types.specs.declared.call.Call.{Call}
 use Rattle.mm_types.specs.declared.call.Call.TheVariants.{Mmap, Munmap, Mprotect, Mremap, Touch, Brk, Mseal}
 use Rattle.mm_types.specs.declared.call.Entry.{Entry}
@@ -17,7 +16,6 @@ use Rattle.mm_types.specs.declared.config.Config.{Config}
 use Rattle.trace_reader.specs.declared.trace.Op.{Op}
 use Rattle.trace_reader.specs.declared.trace.Op.TheVariants as ops
 use Rattle.area_rules.specs.Journals.{calls_by, version_of, IsReadRight}
-use Rattle.lock_core.specs.Core.{StartsWith}
 use Rattle.history.specs.declared.items.Item.{Item}
 use Rattle.history.specs.Histories.{items_of, is_call, op_of, read_as, asks_for, AsksItself}
 use Rattle.history.specs.Runs.{entry_items, log_items, read_item, content_of, own_of, HasGrown}
@@ -25,7 +23,7 @@ use Rattle.history.proofs.Gathers.{all_gather}
 use Rattle.history.proofs.Steps.{entry_item, own_call, own_read, own_same, read_is_no_call, entries_stand, Stands}
 use Rattle.fault_path.specs.Passes.{PassView, caller, seen_by, made_by, IsLater}
 use Rattle.mm_space.specs.declared.space.Faulted.{Faulted}
-use Rattle.mm_space.specs.Spaces.{Calls, Reads, DoesNothing, IsDone, entry_by}
+use Rattle.mm_space.specs.Spaces.{Calls, Reads, IsDone, entry_by}
 use Rattle.vma_drive.specs.Hearing.{own_by, IsLate, Grew, HaveGrown, DoesItem}
 use Rattle.vma_drive.proofs.Operations.{split, nothing, calls_append}
 

@@ -1,20 +1,20 @@
 -- Lines that name lines: where a named line stands, and how often the lines of a caller are named.
-use Rattle.std.proofs.Common.{ℕ, zero, suc, ◌≡◌, ◌+◌, ◌<◌, ◌≤◌, ◌∙◌, refl, sym, ap, subst, cond, Bool, true, false, nat_eq, nat_le, nat_lt, List, [], ◌∷◌, ◌++◌, length, take, get_or, slice_get, All, count_by, filter, Option, Some, None, IfSome, arith, inl, inr}
-use Rattle.std.specs.Prelude.{find, is_some, option_and_then}
+use Rattle.std.proofs.Common.{ℕ, zero, suc, ◌≡◌, ◌+◌, ◌<◌, ◌≤◌, ◌∙◌, refl, sym, ap, subst, cond, true, false, nat_eq, nat_lt, List, [], ◌∷◌, ◌++◌, length, take, get_or, slice_get, count_by, Option, Some, None, IfSome, arith, inl, inr}
+use Rattle.std.specs.Prelude.{find, option_and_then}
 use Rattle.std.specs.Option.{option_map_or}
 use Rattle.std.specs.List.{Contains}
 use Rattle.std.specs.List.Sorted.{IsPartitionPoint}
 use Rattle.std.proofs.lemmas.Bool.{cases_lt, cases_eq, cond-true, cond-false, eq-eqb, ne_eqb}
 use Rattle.std.proofs.lemmas.Bool.Decides.{nat_tests}
 use Rattle.std.proofs.lemmas.List.{take_more}
-use Rattle.std.proofs.lemmas.List.Sums.{sum_by-cons, sum_by_push}
+use Rattle.std.proofs.lemmas.List.Sums.{sum_by_push}
 use Rattle.std.proofs.lemmas.Option.{same_Some, slice_get_within, slice_get-get_or, get_or_from_slice_get}
 use Rattle.trace_reader.specs.declared.trace.TraceLine.{TraceLine}
 use Rattle.trace_reader.specs.Values.{AreNumbered, NamesACall, AreNamesRight, is_call_op}
 use Rattle.history.specs.Histories.{caller_of}
 use Rattle.history.proofs.Lists.{at_place}
 use Rattle.history.proofs.Numbers.{rises_at, one_place, names_call, place_of}
-use Rattle.vma_drive.specs.Naming.{HasNumber, NamesAt, named_by, names_caller, tells}
+use Rattle.vma_drive.specs.Naming.{HasNumber, NamesAt, names_caller}
 
 -- a search by halving finds the place of a number
 pub halved : (lines : List TraceLine) (number place : ℕ) → AreNumbered lines

@@ -1,15 +1,14 @@
 -- Serves `run_threads`: how many operations the callers have together.
-use Rattle.std.proofs.Common.{ℕ, zero, suc, ◌≡◌, ◌+◌, ◌<◌, ◌≤◌, ◌∙◌, refl, sym, ap, subst, cond, Bool, true, false, nat_eq, nat_le, List, [], ◌∷◌, length, get_or, filter, sum, count_by, Option, Some, None, arith}
+use Rattle.std.proofs.Common.{ℕ, zero, suc, ◌≡◌, ◌+◌, ◌<◌, ◌≤◌, ◌∙◌, sym, ap, subst, cond, Bool, true, false, nat_eq, nat_le, List, [], ◌∷◌, length, get_or, filter, sum, count_by, Option, Some, None, arith}
 use Rattle.std.specs.Prelude.{find, is_some, option_and_then}
 use Rattle.std.specs.Option.{option_map_or}
 use Rattle.std.proofs.lemmas.Bool.Decides.{nat_tests}
 use Rattle.std.proofs.lemmas.List.Sums.{sum_by-cons, length-filter, count_by-le-length}
 use Rattle.trace_reader.specs.declared.trace.TraceLine.{TraceLine}
-use Rattle.trace_reader.specs.declared.limits.TheConstants.{MOST_NAMED}
 use Rattle.history.specs.declared.callers.TheConstants.{MOST_THREADS}
 use Rattle.history.specs.CallerPlaces.{callers_of}
 use Rattle.history.specs.Histories.{caller_of, lines_of}
-use Rattle.vma_drive.specs.Naming.{named_by, names_caller, tells}
+use Rattle.vma_drive.specs.Naming.{named_by, tells}
 use Rattle.vma_drive.specs.Sharing.{AreShares}
 
 abbrev Bit : Bool → ℕ

@@ -1,12 +1,11 @@
 -- Serves `pass_note`: passes of which one is changed.
-use Rattle.std.proofs.Common.{ℕ, ◌≡◌, ◌≢◌, ◌+◌, ◌<◌, ◌≤◌, ◌∙◌, refl, sym, ap, subst, cond, Bool, true, nat_eq, List, length, get_or, set, slice_get, All, Some, arith, inl, inr}
+use Rattle.std.proofs.Common.{ℕ, ◌≡◌, ◌≢◌, ◌+◌, ◌<◌, ◌≤◌, ◌∙◌, refl, sym, ap, subst, nat_eq, List, length, get_or, set, slice_get, All, Some, arith, inl, inr}
 use Rattle.std.proofs.lemmas.Bool.{cases_eq, eq-eqb, ne_eqb}
 use Rattle.std.proofs.lemmas.List.{length-set, length-take, get_or-set_same, get_or-set_other}
 use Rattle.std.proofs.lemmas.List.Elements.{All-weaker}
 use Rattle.std.proofs.lemmas.Option.{slice_get_within, slice_get-get_or, get_or_from_slice_get, same_Some}
 use Rattle.mm_types.specs.declared.call.Entry.{Entry}
 use Rattle.area_rules.specs.Journals.{IsReadRight}
-use Rattle.lock_core.specs.Core.{StartsWith}
 use Rattle.history.specs.declared.items.Item.{Item}
 use Rattle.fault_path.specs.Passes.{PassView, caller, seen_by, IsLater}
 use Rattle.mm_space.specs.Names.{SpaceId, IsPassOf, ArePasses}
@@ -69,12 +68,6 @@ module _ (name : SpaceId) (passes : List PassView) (teller hearer : ℕ) (d e sp
       (hears : Hears (get_or (set passes teller spoke) hearer e) told heard) where
     pub noted_are : ArePasses name (set (set passes teller spoke) hearer heard)
     noted_are = set_passes name (set passes teller spoke) hearer e heard mids_are hearer_mid heard_is heard_later
-
-    Spoken : ℕ → PassView → PassView → Type 0
-    Spoken place old new = IsMoved old new × (new.left + Bit (nat_eq place teller) ≡ old.left)
-
-    Listened : ℕ → PassView → PassView → Type 0
-    Listened place old new = IsMoved old new × (new.left ≡ old.left)
 
     spoken : (place : ℕ) (old new : PassView) → slice_get passes place ≡ Some old → slice_get (set passes teller spoke) place ≡ Some new
         → IsMoved old new × (new.left + Bit (nat_eq place teller) ≡ old.left)

@@ -1,10 +1,10 @@
 -- Serves the functions that run all lines with one pass: what closing its space leaves.
-use Rattle.std.proofs.Common.{cond, ◌⊎◌, Bool, true, false, inl, inr, ℕ, zero, suc, ◌≡◌, ◌+◌, ◌<◌, ◌≤◌, ◌∙◌, refl, sym, ap, subst, nat_eq, filter, None, List, [], ◌∷◌, ◌++◌, ◌||◌, length, map, drop, get_or, set, slice_get, All, Some, arith}
+use Rattle.std.proofs.Common.{cond, ◌⊎◌, Bool, true, false, inl, inr, ℕ, zero, suc, ◌≡◌, ◌+◌, ◌<◌, ◌≤◌, ◌∙◌, refl, sym, ap, subst, nat_eq, filter, None, List, [], ◌∷◌, ◌++◌, ◌||◌, length, map, get_or, set, slice_get, All, Some, arith}
 use Rattle.std.specs.Prelude.{Result, Ok, Err, IfOk}
-use Rattle.std.proofs.lemmas.List.{length-map, length-set, get_or-set_same}
+use Rattle.std.proofs.lemmas.List.{length-set, get_or-set_same}
 use Rattle.std.proofs.lemmas.Bool.{eq-eqb, ne_eqb}
 use Rattle.std.proofs.lemmas.List.Elements.{All-nil, All-weaker, All-filter, All-head, All-tail, All-cons}
-use Rattle.std.proofs.lemmas.Option.{slice_get-map, slice_get_within, slice_get_read}
+use Rattle.std.proofs.lemmas.Option.{slice_get_within, slice_get_read}
 use Rattle.mm_types.specs.declared.call.Entry.{Entry}
 use Rattle.mm_types.specs.declared.call.Seen.{Seen}
 use Rattle.mm_types.specs.declared.call.Seen.TheVariants as reads
@@ -15,7 +15,7 @@ use Rattle.area_rules.specs.Steps.{IsLegalJournal}
 use Rattle.history.specs.declared.items.Item.{Item}
 use Rattle.history.specs.Histories.{caller_of, lines_of, occurs}
 use Rattle.history.specs.Labels.{IsSerialRun}
-use Rattle.history.specs.Runs.{own_of, ops_of, asked, entry_items, log_items, read_item, content_of, HasGrown}
+use Rattle.history.specs.Runs.{own_of, ops_of, asked, entry_items, log_items, read_item, HasGrown}
 use Rattle.history.specs.Histories.{items_of, gather, goes_first}
 use Rattle.history.proofs.SerialOrder.{insert_item}
 use Rattle.history.proofs.Lists.{at_place}

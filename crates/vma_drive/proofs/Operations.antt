@@ -1,16 +1,15 @@
 -- What passes did, and later passes.
-use Rattle.std.proofs.Common.{ℕ, ◌≡◌, subst, All, ◌+◌, ◌<◌, ◌≤◌, ◌∙◌, refl, sym, ap, nat_eq, List, [], ◌∷◌, ◌++◌, append_assoc, length, take, drop, get_or, arith}
+use Rattle.std.proofs.Common.{ℕ, ◌≡◌, subst, All, ◌+◌, ◌≤◌, ◌∙◌, refl, sym, ap, nat_eq, List, [], ◌∷◌, ◌++◌, length, take, drop, arith}
 use Rattle.std.specs.Prelude.{Result, Ok, Err, OnErr}
 use Rattle.std.proofs.lemmas.List.{take-append-drop, take-append-le, take_all, length-take, length-append}
 use Rattle.std.proofs.lemmas.List.Elements.{filter-append, All-nil}
 use Rattle.mm_types.specs.declared.call.Entry.{Entry}
 use Rattle.area_rules.specs.Journals.{calls_by}
 use Rattle.lock_core.specs.Core.{StartsWith}
-use Rattle.history.specs.declared.items.Item.{Item}
 use Rattle.history.specs.Runs.{own_of, HasGrown}
 use Rattle.history.proofs.Steps.{own_none}
 use Rattle.fault_path.specs.Passes.{PassView, caller, seen_by, IsFresh, IsLater, AreFresh}
-use Rattle.mm_space.specs.Names.{SpaceId}
+use Rattle.mm_space.specs.Names.{SpaceId, viewed_of}
 use Rattle.mm_space.specs.Opening.{AreOpened}
 use Rattle.vma_drive.specs.Hearing.{own_by, HaveGrown}
 
@@ -37,7 +36,7 @@ fresh_grown pass fresh = subst (λ (s : List Entry). All HasGrown (calls_by (cal
 
 -- passes of a space in which nothing was entered before it was opened
 abbrev pub AreNew : SpaceId → List PassView → Type 0
-AreNew name passes = AreFresh name.table name.nodes name.config name.operations passes
+AreNew name passes = AreFresh (viewed_of name) name.operations passes
 
 pub are_new : (name : SpaceId) (passes : List PassView) → name.before ≡ [] → AreOpened name passes → AreNew name passes
 are_new name passes none opened = record {

@@ -10,12 +10,11 @@ use Rattle.trace_reader.specs.declared.trace.Op.{Op}
 use Rattle.trace_reader.specs.declared.trace.TraceLine.{TraceLine}
 use Rattle.history.specs.declared.items.Item.{Item}
 use Rattle.history.specs.CallerPlaces.{ArePlaces, StandAt}
-use Rattle.history.specs.Histories.{lines_of, read_as, AsksItself, AskThemselves}
+use Rattle.history.specs.Histories.{lines_of, read_as}
 use Rattle.history.specs.Runs.{ops_of, asked}
-use Rattle.history.proofs.Lists.{at_place}
 use Rattle.history.proofs.Steps.{ops_more}
 use Rattle.fault_path.specs.Passes.{PassView, IsLater}
-use Rattle.vma_drive.specs.Hearing.{own_by, done_by, Grew, GrewNone, DoesItem, HasRun}
+use Rattle.vma_drive.specs.Hearing.{own_by, Grew, GrewNone, DoesItem, HasRun}
 use Rattle.vma_drive.specs.Internal.Rounds.{RanRound}
 use Rattle.vma_drive.proofs.Operations.{later_on, no_later}
 use Rattle.vma_drive.proofs.Growing.{grew_on, grew_still}

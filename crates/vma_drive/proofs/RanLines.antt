@@ -7,7 +7,7 @@ use Rattle.history.specs.declared.items.Item.{Item}
 use Rattle.history.specs.Histories.{read_as, AsksItself, AskThemselves}
 use Rattle.history.specs.Runs.{ops_of, asked}
 use Rattle.history.proofs.Steps.{ops_more}
-use Rattle.fault_path.specs.Passes.{PassView, seen_by, IsFresh, IsLater}
+use Rattle.fault_path.specs.Passes.{PassView, IsFresh, IsLater}
 use Rattle.vma_drive.specs.Hearing.{own_by, done_by, Grew, GrewNone, DoesItem}
 use Rattle.vma_drive.proofs.Operations.{fresh_own, later_on, no_later}
 use Rattle.vma_drive.proofs.Growing.{grew_on, grew_still}

@@ -1,22 +1,22 @@
 -- Serves `drive`: where passes stand before a round.
-use Rattle.std.proofs.Common.{ℕ, ◌≡◌, ◌+◌, ◌-◌, ◌<◌, ◌≤◌, ◌∙◌, refl, sym, ap, subst, cond, Bool, true, nat_eq, nat_le, ◌&&◌, List, [], ◌∷◌, ◌++◌, length, take, get_or, slice_get, All, count_by, Option, Some, arith, inl, inr}
+use Rattle.std.proofs.Common.{ℕ, ◌≡◌, ◌+◌, ◌-◌, ◌<◌, ◌≤◌, ◌∙◌, refl, sym, ap, subst, cond, Bool, nat_eq, nat_le, ◌&&◌, List, [], ◌∷◌, ◌++◌, length, take, get_or, slice_get, All, count_by, Some, arith, inl, inr}
 use Rattle.std.specs.Prelude.{Vec}
 use Rattle.std.specs.declared.alloc.Global.{Global}
 use Rattle.std.proofs.lemmas.Bool.{cases_lt}
 use Rattle.std.proofs.lemmas.Bool.Decides.{nat_tests}
 use Rattle.std.proofs.lemmas.List.{take_all, append-nil}
 use Rattle.std.proofs.lemmas.List.Sums.{sum_by-cons}
-use Rattle.std.proofs.lemmas.Option.{slice_get_within, slice_get_read, slice_get-get_or, get_or_from_slice_get}
+use Rattle.std.proofs.lemmas.Option.{slice_get_within, slice_get-get_or}
 use Rattle.trace_reader.specs.declared.trace.TraceLine.{TraceLine}
 use Rattle.trace_reader.specs.Values.{AreNumbered}
 use Rattle.history.specs.declared.items.Item.{Item}
-use Rattle.history.specs.Histories.{lines_of, caller_of}
+use Rattle.history.specs.Histories.{lines_of}
 use Rattle.history.specs.Runs.{ops_of, asked}
 use Rattle.history.specs.CallerPlaces.{callers_of, ArePlaces, StandAt}
 use Rattle.fault_path.specs.Passes.{PassView, seen_by, IsLater}
 use Rattle.mm_space.specs.Names.{SpaceId, ArePasses}
 use Rattle.vma_drive.specs.declared.rounds.Telling.{Telling}
-use Rattle.vma_drive.specs.Hearing.{own_by, done_by, Grew, HasRun, HaveGrown, AreToldBy}
+use Rattle.vma_drive.specs.Hearing.{own_by, done_by, HasRun, HaveGrown}
 use Rattle.vma_drive.specs.Naming.{tells}
 use Rattle.vma_drive.specs.Internal.Rounds.{AreRounds, AreTellings, IsCut, RanRound, IsMoved, HasLine, Settled, AtRound, tells_from}
 use Rattle.vma_drive.specs.Sharing.{AreShares}
@@ -158,12 +158,6 @@ module _ (name : SpaceId) (lines : List TraceLine)
       let has = at.has caller pass found in
       let enough = at.enough caller (slice_get_within passes caller pass found) in
       (omega (arith, has.left), omega (arith, has.left, has.few, enough))
-
-  pub tellers_at : (passes : List PassView) → ArePasses name passes
-      → All (λ (t : Telling). (t.teller < length passes) × (t.hearer < length passes)) tellings
-  tellers_at passes are = λ i d within.
-      let its = settled.tellings_are.callers i d within in
-      (omega (arith, its.0, callers_are passes are), omega (arith, its.1, callers_are passes are))
 
   -- after it was told
   module _ (olds mids : List PassView) (before owed : List ℕ) (round : ℕ)

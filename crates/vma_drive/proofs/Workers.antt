@@ -1,11 +1,11 @@
 -- Serves `run_workers`: passes that each ran the lines of a round.
-use Rattle.std.proofs.Common.{ℕ, ◌≡◌, ◌+◌, ◌<◌, ◌≤◌, ◌∙◌, refl, sym, ap, subst, List, length, get_or, slice_get, Some, arith}
+use Rattle.std.proofs.Common.{ℕ, ◌≡◌, ◌+◌, ◌<◌, ◌≤◌, ◌∙◌, refl, subst, List, length, get_or, slice_get, Some, arith}
 use Rattle.std.specs.Prelude.{Vec}
 use Rattle.std.specs.declared.alloc.Global.{Global}
 use Rattle.std.proofs.lemmas.Option.{slice_get_within, slice_get_read, slice_get-get_or, get_or_from_slice_get}
 use Rattle.trace_reader.specs.declared.trace.TraceLine.{TraceLine}
 use Rattle.history.specs.Histories.{lines_of, AskThemselves}
-use Rattle.history.specs.CallerPlaces.{ArePlaces, StandAt}
+use Rattle.history.specs.CallerPlaces.{ArePlaces}
 use Rattle.fault_path.specs.Passes.{PassView, IsLater}
 use Rattle.mm_space.specs.Names.{SpaceId, IsPassOf, ArePasses}
 use Rattle.vma_drive.specs.Hearing.{HasRun}

@@ -11,7 +11,7 @@ ghost use Rattle.vma_drive.specs.Alone.{RanAlone};
 ghost use Rattle.vma_drive.specs.Sharing.{AreOfOneThread, NameNoLine};
 
 use crate::driving::in_order_with;
-use crate::told::Told;
+use crate::watcher::Watcher;
 use mm_space::{Closed, Ready, Space, SpaceName};
 use mm_types::{Entry, NoMemory};
 use std::alloc::Global;
@@ -21,12 +21,12 @@ use trace_reader::Trace;
 
 /// Runs the lines of a child, of its one thread, over a space that begins with what the child inherits, and closes it. Each line is told
 /// before and after its operation. Refused where memory runs out.
-pub fn run_child<R: Wait, T: Told<R>>(
+pub fn run_child<R: Wait, T: Watcher<R>>(
     rt: &R,
     alloc: Global,
     trace: &Trace,
     before: &[Entry],
-    told: &T,
+    watcher: &T,
 ) -> Result<Closed, NoMemory>
     requires config { IsValidConfig trace.now.config }
     requires few { length before.now + length trace.now.lines ≤ 16777216 }
@@ -42,16 +42,16 @@ pub fn run_child<R: Wait, T: Told<R>>(
     let config = trace.config.copy(alloc)?;
     let count = trace.lines.items().len() as u64;
     let ready = Ready::make_after(rt, alloc, config, before, &[count])?;
-    run_alone::<Brand, R, T>(rt, alloc, ready, trace, told)
+    run_alone::<Brand, R, T>(rt, alloc, ready, trace, watcher)
 }
 
 /// Opens a space of one caller, runs all lines with its pass, and closes it.
-pub(crate) fn run_alone<N: SpaceName, R: Wait, T: Told<R>>(
+pub(crate) fn run_alone<N: SpaceName, R: Wait, T: Watcher<R>>(
     rt: &R,
     alloc: Global,
     ready: Ready,
     trace: &Trace,
-    told: &T,
+    watcher: &T,
 ) -> Result<Closed, NoMemory>
     requires name { ready ≡ N.name }
     requires strangers { AreStrangers ready.before }
@@ -61,6 +61,6 @@ pub(crate) fn run_alone<N: SpaceName, R: Wait, T: Told<R>>(
     ensures { IfOk result (RanAlone trace.now.config ready.before trace.now.lines) }
 {
     let (space, mut passes) = Space::<N>::open(ready);
-    in_order_with(rt, alloc, &space, &mut passes[0], trace, told)?;
+    in_order_with(rt, alloc, &space, &mut passes[0], trace, watcher)?;
     Ok(space.close(passes))
 }

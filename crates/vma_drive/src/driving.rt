@@ -14,7 +14,7 @@ ghost use Rattle.vma_drive.specs.Sharing.{AreShares};
 use crate::busy::is_whole;
 use crate::rounds::{Telling, count_rounds, rounds_of, tellings_of};
 use crate::telling::tell_round;
-use crate::told::{Told, Untold};
+use crate::watcher::{NoWatcher, Watcher};
 use crate::working::{run_op, run_workers};
 use fault_path::Pass;
 use history::{Callers, places_by_caller};
@@ -121,17 +121,17 @@ pub fn in_order<N: SpaceName, R: Wait>(
     ensures late { All (IsLate (length (seen_by pass.old))) (own_by pass.new) }
     ensures grown { HaveGrown pass.new }
 {
-    in_order_with(rt, alloc, space, pass, trace, &Untold)
+    in_order_with(rt, alloc, space, pass, trace, &NoWatcher)
 }
 
 /// The same, where each line is told before and after its operation.
-pub(crate) fn in_order_with<N: SpaceName, R: Wait, T: Told<R>>(
+pub(crate) fn in_order_with<N: SpaceName, R: Wait, T: Watcher<R>>(
     rt: &R,
     alloc: Global,
     space: &Space<N>,
     pass: &mut Pass,
     trace: &Trace,
-    told: &T,
+    watcher: &T,
 ) -> Result<(), NoMemory>
     requires pass { IsPassOf N.name pass.old }
     requires unused { IsUnused pass.old }
@@ -145,9 +145,9 @@ pub(crate) fn in_order_with<N: SpaceName, R: Wait, T: Told<R>>(
     ensures grown { HaveGrown pass.new }
 {
     for line in trace.lines.items() {
-        told.before(rt, line.number);
+        watcher.before(rt, line.number);
         run_op(rt, alloc, space, pass, line.op)?;
-        told.after(rt, line.number);
+        watcher.after(rt, line.number);
     }
     Ok(())
 }

@@ -10,10 +10,10 @@ mod places;
 mod rounds;
 mod running;
 mod telling;
-mod told;
+mod watcher;
 mod working;
 
 pub use alone::run_child;
 pub use driving::{drive, in_order};
 pub use running::{run_serial, run_threads};
-pub use told::{Gated, Told, Untold};
+pub use watcher::{GateWatcher, NoWatcher, Watcher};

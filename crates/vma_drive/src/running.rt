@@ -11,7 +11,7 @@ ghost use Rattle.vma_drive.specs.Sharing.{AreShares};
 use crate::alone::run_alone;
 use crate::driving::drive;
 use crate::places::shares;
-use crate::told::Untold;
+use crate::watcher::NoWatcher;
 use io_edge::Gate;
 use mm_space::{Closed, Ready, Space, SpaceName};
 use mm_types::NoMemory;
@@ -29,7 +29,7 @@ pub fn run_serial<R: Wait>(rt: &R, alloc: Global, trace: &Trace) -> Result<Close
 {
     let config = trace.config.copy(alloc)?;
     let ready = Ready::make(alloc, config, &[trace.lines.items().len() as u64])?;
-    run_alone::<Brand, R, Untold>(rt, alloc, ready, trace, &Untold)
+    run_alone::<Brand, R, NoWatcher>(rt, alloc, ready, trace, &NoWatcher)
 }
 
 /// Runs the lines of each thread of a trace over a new space, in a thread of its own, in rounds, so that what a line names was done

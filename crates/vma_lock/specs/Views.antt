@@ -1,12 +1,12 @@
 -- What a seat knows, and what each step makes of it.
-use Rattle.std.specs.Prelude.{ℕ, ◌+◌, Bool, true, false, if◌then◌else◌, nat_eq, List, [], ◌∷◌, ◌++◌, slice_index, slice_index_or, slice_set, replicate, Option, Some, None}
+use Rattle.std.specs.Prelude.{ℕ, ◌+◌, Bool, if◌then◌else◌, nat_eq, List, [], ◌∷◌, ◌++◌, slice_index, slice_index_or, slice_set, replicate, is_some, Option, Some, None}
 use Rattle.mm_types.specs.declared.call.Entry.{Entry}
 use Rattle.mm_types.specs.declared.config.Config.{Config}
 use Rattle.mm_types.specs.Config.{slots_for}
 use Rattle.lock_core.specs.declared.stage.SlotState.{SlotState}
 use Rattle.lock_core.specs.declared.stage.Stage.{Stage}
-use Rattle.lock_core.specs.declared.stage.Stage.TheVariants.{Out, Holds, Valid, Gone}
-use Rattle.lock_core.specs.Core.{Reader, slot_at, free_slot}
+use Rattle.lock_core.specs.declared.stage.Stage.TheVariants.{Out, Holds, Gone}
+use Rattle.lock_core.specs.Core.{Reader, slot_at, free_slot, held}
 use Rattle.lock_core.specs.Events.{longer}
 use Rattle.vma_lock.specs.declared.view.Desk.{Desk}
 use Rattle.vma_lock.specs.declared.view.SeatKind.{SeatKind}
@@ -136,10 +136,7 @@ add_at view slot found = record view {
 
 -- whether a seat that stands there holds a slot
 abbrev pub holds_slot : Stage → Bool
-holds_slot Out = false
-holds_slot (Holds slot found) = true
-holds_slot (Valid slot found row) = true
-holds_slot Gone = false
+holds_slot stage = is_some (held stage)
 
 -- look
 abbrev pub look_at : View → ℕ → List Entry → Stage → View

@@ -10,11 +10,13 @@ mod rule;
 mod seats;
 mod turns;
 mod view;
+mod words;
 mod writing;
 
-pub use opening::{FIRST_SEQ, word_count};
+pub use opening::FIRST_SEQ;
 pub use seats::{NoteSeat, ReaderSeat, VmaTable, WriterSeat};
 pub use view::{Desk, LastWords, SeatKind, SeenAt, Trace, View};
+pub use words::word_count;
 pub use writing::ReadersLeft;
 
 #[cfg(test)]

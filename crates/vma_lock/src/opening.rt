@@ -1,19 +1,17 @@
-ghost use Rattle.std.specs.Prelude.{◌≡◌, ◌≤◌, ◌<◌, ◌+◌, ◌*◌, ℕ, IfOk, length, slice_get, Some};
+ghost use Rattle.std.specs.Prelude.{◌≡◌, ◌≤◌, ◌<◌, ℕ, IfOk, length, slice_get, Some};
 ghost use Rattle.mm_types.specs.Config.{IsValidConfig};
 ghost use Rattle.vma_lock.specs.declared.seats.ReaderSeat.{ReaderSeat as Reader};
 ghost use Rattle.vma_lock.specs.Opening.{first_words};
-ghost use Rattle.vma_lock.specs.Views.{slot_count, opened_view, new_reader, after_reader};
-ghost use Rattle.vma_lock.specs.Seats.{table_of, config_of, IsOf, Writes, view, sight};
+ghost use Rattle.vma_lock.specs.Views.{opened_view, new_reader, after_reader};
+ghost use Rattle.vma_lock.specs.Seats.{config_of, IsOf, Writes, view, sight};
 
 use crate::rule::NewReader;
 use crate::seats::{ReaderSeat, VmaTable, WriterSeat};
+use crate::words::word_count;
 use atomic_table::Table;
 use mm_types::{Config, NoMemory, slots_for};
 use std::alloc::Global;
 use std::sync::Arc;
-
-/// The words of a cache line, which has 64 bytes.
-const LINE: usize = 8;
 
 /// The sequence of a new table.
 pub const FIRST_SEQ: u64 = 2;
@@ -103,12 +101,4 @@ fn open(alloc: Global, words: &[u64], config: &Config) -> Result<(VmaTable, Writ
         turn: None,
     };
     Ok((table, writer))
-}
-
-/// How many words a table has.
-pub fn word_count(config: &Config) -> usize
-    requires { IsValidConfig config.now }
-    ensures { result ≡ (slot_count config.now + 1) * 8 }
-{
-    (slots_for(config.areas) as usize + 1) * LINE
 }

@@ -1,4 +1,4 @@
-ghost use Rattle.std.specs.Prelude.{◌≡◌, ◌<◌, ◌+◌, ◌-◌, ◌^◌, min, length, true};
+ghost use Rattle.std.specs.Prelude.{◌≡◌, ◌<◌, ◌-◌, ◌^◌, min, length, true};
 ghost use Rattle.lock_core.specs.declared.stage.Stage.TheVariants.{Out};
 ghost use Rattle.vma_lock.specs.Views.{add_at, look_at, field_at, read_at, sub_at};
 ghost use Rattle.vma_lock.specs.Rule.{IsTraced};
@@ -7,6 +7,7 @@ ghost use Rattle.vma_lock.specs.Seats.{slots_of, IsOf, view, seen, stage, IsHeld
 
 use crate::rule::{Added, GivenBack, Looked, Read};
 use crate::seats::{ReaderSeat, VmaTable};
+use crate::words::{COUNTS, field_place, mark_place};
 use mm_types::Slot;
 
 impl ReaderSeat {
@@ -42,12 +43,12 @@ impl VmaTable {
         ensures view { view seat.new ≡ add_at (view seat.old) slot.0 result }
     {
         seat.slot = slot.0;
-        let place = (slot.0 as usize + 1) * 8;
+        let place = mark_place(slot.0);
         let found = self
             .table
             .shared
             .fetch_add::<Added>(&mut seat.seat, place, 1);
-        found / 256
+        found / COUNTS
     }
 
     /// Reads the sequence, and answers it. The reader has then seen the whole journal, and it is validated where it holds
@@ -93,7 +94,7 @@ impl VmaTable {
         ensures right { IsTraced (view seat.old).config (view seat.old).trace.added (view seat.old).trace.valid (stage seat.old) }
         ensures view { view seat.new ≡ field_at (view seat.old) result }
     {
-        let place = (seat.slot as usize + 1) * 8 + 1 + field;
+        let place = field_place(seat.slot, field);
         self.table.shared.load::<Read>(&mut seat.seat, place)
     }
 
@@ -104,7 +105,7 @@ impl VmaTable {
         ensures table { IsOf seat.new self.now }
         ensures view { view seat.new ≡ sub_at (view seat.old) }
     {
-        let place = (seat.slot as usize + 1) * 8;
+        let place = mark_place(seat.slot);
         self.table
             .shared
             .fetch_sub::<GivenBack>(&mut seat.seat, place, 1);

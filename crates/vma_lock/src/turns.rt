@@ -1,9 +1,8 @@
-ghost use Rattle.std.specs.Prelude.{◌≡◌, ◌≢◌, ℕ, length, IfOk, if◌then◌else◌, true, None, Some};
+ghost use Rattle.std.specs.Prelude.{◌≡◌, ◌≢◌, ℕ, length, IfOk, true, None, Some};
 ghost use Rattle.lock_core.specs.declared.stage.Stage.TheVariants.{Out};
 ghost use Rattle.lock_core.specs.Core.{StartsWith};
 ghost use Rattle.vma_lock.specs.Views.{without_turn, lent_at, heard_at, joined_at, returned_at};
 ghost use Rattle.area_rules.specs.Journals.{calls_by};
-ghost use Rattle.vma_lock.specs.Plays.{IsSettled};
 ghost use Rattle.vma_lock.specs.Seats.{config_of, IsOf, Writes, view, seen, stage, HasTurn, sight, journal, IsClosed, is_turn_of, met_turn, kept_turn, greeted_at, Meets};
 
 use crate::rule::{Heard, Joined, Lent, Noted, Returned, Settled, TurnNoted};

@@ -29,7 +29,7 @@ pub struct LastWords {
     pub fourth: u64,
 }
 
-/// How many steps of each kind a seat made, and what its last ones found.
+/// How many looks, adds, reads of words and tries to mark a seat made, and what its last ones found.
 pub struct Trace {
     pub looks: u64,
     pub adds: u64,
@@ -68,11 +68,14 @@ pub struct View {
     pub caller: u32,
     /// The caller whose turn it has: the right to have this caller's next entry made.
     pub turn: Option<u32>,
-    /// What it had seen before the last seat was joined into it.
+    /// What it had seen before the last seat was joined into it; after a look or an end since, the journal then; in a new seat,
+    /// what it has seen.
     pub before: LinkedList<Entry>,
-    /// What the seat had seen that was joined into it last.
+    /// What the seat that was joined into it last had seen; after a look or an end since, the journal then; in a new seat, what it
+    /// has seen.
     pub joined: LinkedList<Entry>,
-    /// What the seat had seen from which it has its turn.
+    /// A list that has every entry of the caller whose turn it has: what the seat that gave the turn had seen, what it had itself
+    /// seen before a join since, or the journal at a look or an end since.
     pub own: LinkedList<Entry>,
     pub desk: Desk,
     pub trace: Trace,

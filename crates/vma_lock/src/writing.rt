@@ -1,4 +1,4 @@
-ghost use Rattle.std.specs.Prelude.{◌≡◌, ◌<◌, ◌+◌, ◌*◌, ◌^◌, ◌++◌, ◌∷◌, [], length, MatchResult};
+ghost use Rattle.std.specs.Prelude.{◌≡◌, ◌<◌, ◌+◌, ◌^◌, ◌++◌, ◌∷◌, [], length, MatchResult};
 ghost use Rattle.area_rules.specs.Steps.{step, after, IsLegalJournal};
 ghost use Rattle.lock_core.specs.Core.{slot_at};
 ghost use Rattle.lock_core.specs.Facts.{list_after};
@@ -9,6 +9,7 @@ ghost use Rattle.vma_lock.specs.Seats.{slots_of, Writes, sight, journal, slots, 
 
 use crate::rule::{Begun, Ended, Stored, Tried};
 use crate::seats::{VmaTable, WriterSeat};
+use crate::words::{COUNTS, field_place, mark_place};
 use mm_types::{Entry, Slot};
 
 /// So many readers hold the slot that a call would mark.
@@ -44,9 +45,9 @@ impl VmaTable {
             (λ left. (0 < left.readers) × (left.readers < 256)
             × (sight writer.new ≡ try_at (sight writer.old) slot.0 (free_mark (slot_at (slots writer.old) slot.0) + left.readers))) }
     {
-        let place = (slot.0 as usize + 1) * 8;
+        let place = mark_place(slot.0);
         let free = writer.marks[slot.0 as usize];
-        let marked = writer.seq * 256;
+        let marked = writer.seq * COUNTS;
         let found = self
             .table
             .shared
@@ -88,7 +89,7 @@ impl VmaTable {
         ensures view { sight writer.new ≡ store_at (sight writer.old) slot.0 field word }
         ensures wide { length (slot_at (slots writer.old) slot.0).row ≡ 4 }
     {
-        let place = (slot.0 as usize + 1) * 8 + 1 + field;
+        let place = field_place(slot.0, field);
         self.table
             .shared
             .store::<Stored>(&mut writer.seat, place, word);

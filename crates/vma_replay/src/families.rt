@@ -21,7 +21,7 @@ use std::sync::Wait;
 use std::thread;
 use std::thread::Threads;
 use trace_reader::{Lines, Op, Trace, TraceLine};
-use vma_drive::{Gated, Told, Untold, run_child};
+use vma_drive::{GateWatcher, NoWatcher, Watcher, run_child};
 
 /// The closed runs of a trace, the parent's first and then one for each child, by ascending child, with the history and the forks of the
 /// parent.
@@ -137,7 +137,7 @@ fn run_in_turn<R: Wait>(
 {
     let mut runs = Vec::with_capacity(alloc, forks.len())?;
     for fork in forks {
-        let child = closed_child(rt, alloc, trace, parent, fork, &Untold)?;
+        let child = closed_child(rt, alloc, trace, parent, fork, &NoWatcher)?;
         runs.push(child)?;
     }
     Ok(runs)
@@ -162,7 +162,7 @@ fn run_at_once<R: Threads + Wait + Sync, G: Gate>(
             × All (IsForkOf trace.now.lines parent.now) forks.now }
         ensures { IfOk result (λ run. (fork : Fork) → slice_get forks.entry.now place ≡ Some fork
             → IsRunOfChild trace.entry.now parent.entry.now fork run) }
-    { closed_child(rt, alloc, trace, parent, &forks[place], &Gated(gate)) };
+    { closed_child(rt, alloc, trace, parent, &forks[place], &GateWatcher(gate)) };
     let ended = thread::map_indices(rt, alloc, forks.len(), &worker)?;
     runs_of(alloc, ended)
 }
@@ -179,13 +179,13 @@ fn runs_of(alloc: Global, ended: Vec<Result<Closed, NoMemory>>) -> Result<Vec<Cl
 }
 
 /// Runs the lines of a child over a space that begins with what its parent had at the fork, and closes it.
-fn closed_child<R: Wait, T: Told<R>>(
+fn closed_child<R: Wait, T: Watcher<R>>(
     rt: &R,
     alloc: Global,
     trace: &Trace,
     parent: &[Entry],
     fork: &Fork,
-    told: &T,
+    watcher: &T,
 ) -> Result<Closed, NoMemory>
     requires trace { IsTraceValue trace.now }
     requires parent { IsOfParent trace.now.config parent.now }
@@ -194,5 +194,5 @@ fn closed_child<R: Wait, T: Told<R>>(
 {
     let before = inherit(alloc, parent, fork.version)?;
     let child = child_of(alloc, trace, fork.child)?;
-    run_child(rt, alloc, &child, before.as_slice(), told)
+    run_child(rt, alloc, &child, before.as_slice(), watcher)
 }

@@ -208,7 +208,8 @@ pub record IsReadied (old new : Board) (changes : List Change) : Type 0 where
   pub slots : IsFreed new.areas.tree.settled old.slots new.slots
   pub free : adds_of changes ≤ length new.slots.free
 
--- between two calls no call is open
+-- The board between two calls: no call is open, the writer is of the table and of its configuration, each slot of the table is
+-- free, left or shows one area, and the present tree is the one that is built.
 pub record IsAtRest (board : Board) : Type 0 where
   pub table : Writes board.writer board.table
   pub config : (sight board.writer).config ≡ config_of board.table

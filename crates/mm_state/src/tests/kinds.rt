@@ -2,7 +2,7 @@
 
 use super::bench::{Bench, config};
 use mm_types::{
-    Access, Attr, Call, Errno, MAP_ANONYMOUS, MAP_FIXED, MAP_PRIVATE, MmapArgs, Page, Prot, Reply,
+    Access, Call, Errno, MAP_ANONYMOUS, MAP_FIXED, MAP_PRIVATE, MmapArgs, Page, Prot, Reply,
     Verdict,
 };
 use std::test::Fail;

@@ -6,7 +6,7 @@ use Rattle.vma_lock.specs.Seats.{table_of}
 use Rattle.node_slots.specs.declared.view.NodeView.{NodeView}
 use Rattle.node_slots.specs.Views.{reader_view}
 use Rattle.node_slots.specs.Seats as node_seats
-use Rattle.fault_path.specs.Passes.{PassView, IsPassOf, IsFresh, caller, node_size}
+use Rattle.fault_path.specs.Passes.{PassView, ViewedTable, IsPassOf, IsFresh, caller, node_size}
 use Rattle.fault_path.proofs.Places.{push_places, next_at, next_part, last_part, same_lengths, some_left}
 use Rattle.fault_path.proofs.Passes.{fresh_pass}
 use Rattle.fault_path.proofs.view.passes_of.Goals as goal
@@ -48,6 +48,12 @@ loop-reader-preserved c =
     c.next-in-loop-reader.ensures.items ∙ ap (λ o. option_to_list o ++ rest) c.unwrap-walker.ensures in
     let seat = c.requires.walkers _ _ (next_at kept.walked.0 _ rest _ c.unwrap-walker.result kept.walked.1 taken) in
     let place : length kept.walked.0 ≡ length c.loop-reader.yielded = kept.walked.2 ∙ kept.count in
+    let viewed : ViewedTable = record {
+      table = table_of c.args.table.now;
+      nodes = node_seats.table_of c.args.nodes.now;
+      config = c.args.config.now;
+      callers = length c.args.operations.now;
+    } in
     record {
       rest = next_part _ _ _ _ _ kept.rest c.in-Some.ensures.steps.0;
       left = search rules;
@@ -66,12 +72,11 @@ loop-reader-preserved c =
       count = ap (λ items. length items) c.in_ok-push.ensures.items ∙ same_lengths _ _ _ _ kept.count;
       fresh = subst
           (λ items. (place : ℕ) (pass : PassView) → slice_get items place ≡ Some pass
-          → (IsPassOf (table_of c.args.table.now) (node_seats.table_of c.args.nodes.now) c.args.config.now c.args.operations.now pass × (caller pass ≡ place))
-          × IsFresh pass)
+          → (IsPassOf viewed c.args.operations.now pass × (caller pass ≡ place)) × IsFresh pass)
           (sym c.in_ok-push.ensures.items)
           (push_places _ c.loop-reader.passes.items c.in_ok-new.field-0 kept.fresh
           (rw kept.count
-          (fresh_pass _ _ _ _ _ _ _ _ _ c.in_ok-new.ensures known.0 known.1 seat.0.same (seat.1 ∙ ap (reader_view (node_size c.args.config.now (length c.args.operations.now))) place)
+          (fresh_pass viewed _ _ _ _ _ _ c.in_ok-new.ensures known.0 known.1 seat.0.same (seat.1 ∙ ap (reader_view (node_size c.args.config.now (length c.args.operations.now))) place)
           (grind (arith, c.len.ensures, kept.count, c.loop-reader.passes.ok)))));
     }
 

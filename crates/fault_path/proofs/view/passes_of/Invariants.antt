@@ -15,5 +15,6 @@ invariant-loop-reader l = record {
   walkers_left : into_iter_len l.walkers ≡ length (into_iter_items l.walkers);
   count : length l.passes.items ≡ length l.yielded;
   fresh : (place : ℕ) (pass : PassView) → slice_get l.passes.items place ≡ Some pass
-      → (IsPassOf (table_of l.table) (node_seats.table_of l.nodes) l.config l.operations pass × (caller pass ≡ place)) × IsFresh pass;
+      → (IsPassOf (record { table = table_of l.table; nodes = node_seats.table_of l.nodes; config = l.config; callers = length l.operations }) l.operations pass
+      × (caller pass ≡ place)) × IsFresh pass;
 }

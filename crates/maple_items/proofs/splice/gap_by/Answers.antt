@@ -4,19 +4,8 @@ use Rattle.maple_node.specs.declared.item.Item.{Item}
 use Rattle.maple_node.specs.Nodes.{item_gap}
 use Rattle.maple_node.specs.Codec.{width_of}
 use Rattle.maple_items.proofs.Parts.{listed_none, listed_past}
-use Rattle.maple_items.proofs.Spliced.{Gapped, gapped_above, gapped_more, gapped_all, some_words}
+use Rattle.maple_items.proofs.Spliced.{Gapped, gapped_more, gapped_all, some_words}
 use Rattle.maple_items.proofs.splice.gap_by.Goals as goal
-
-pub item_gap-requires : goal.item_gap-requires
-item_gap-requires c =
-    let is = c.loop-place.invariant in
-    let end = ap (λ (x : Item). x.end) c.listed_at-item.ensures in
-    omega (
-      arith,
-      end,
-      gapped_above c.args.leaf c.args.start c.loop-place.place c.loop-place.start c.loop-place.largest c.args.words.now is.gap
-          (omega (arith, c.loop-place-test.true, is.width, c.told-words)) c.if-words-place-ne0.true,
-    )
 
 pub loop-place-preserved : goal.loop-place-preserved
 loop-place-preserved c =

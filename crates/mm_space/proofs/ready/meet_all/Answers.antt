@@ -15,12 +15,12 @@ loop-place-init c = record { state = refl; met = met_none _ _ c.requires.fresh }
 pub meet_one-requires-clause-table : goal.meet_one-requires-clause-table
 meet_one-requires-clause-table c =
     let within : c.loop-place.place < length c.loop-place.passes = omega (arith, c.loop-place-test.true, c.loop-place.auto.passes) in
-    (met_at _ _ _ _ c.loop-place.invariant.met within).of.table ∙ sym (ap (λ (s : StateView). s.table) c.loop-place.invariant.state)
+    (met_at _ _ _ _ c.loop-place.invariant.met within).of.sits.table ∙ sym (ap (λ (s : StateView). s.table) c.loop-place.invariant.state)
 
 pub meet_one-requires-clause-config : goal.meet_one-requires-clause-config
 meet_one-requires-clause-config c =
     let within : c.loop-place.place < length c.loop-place.passes = omega (arith, c.loop-place-test.true, c.loop-place.auto.passes) in
-    (met_at _ _ _ _ c.loop-place.invariant.met within).of.config_is ∙ sym (ap (λ (s : StateView). s.config) c.loop-place.invariant.state)
+    (met_at _ _ _ _ c.loop-place.invariant.met within).of.sits.config_is ∙ sym (ap (λ (s : StateView). s.config) c.loop-place.invariant.state)
 
 pub meet_one-requires-clause-made : goal.meet_one-requires-clause-made
 meet_one-requires-clause-made c =

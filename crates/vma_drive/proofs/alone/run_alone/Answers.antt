@@ -2,7 +2,7 @@
 use Rattle.std.proofs.Common.{◌≡◌, ◌∙◌, sym, ap, subst, List}
 use Rattle.mm_types.specs.declared.call.Entry.{Entry}
 use Rattle.mm_space.specs.Names.{SpaceId, AreStrangers}
-use Rattle.vma_drive.proofs.OnePass.{OnlyPass, only_pass, used_alone, alone_closed}
+use Rattle.vma_drive.proofs.OnePass.{only_pass, used_alone, alone_closed}
 use Rattle.vma_drive.proofs.alone.run_alone.Goals as goal
 
 pub in_order_with-requires-clause-pass : goal.in_order_with-requires-clause-pass

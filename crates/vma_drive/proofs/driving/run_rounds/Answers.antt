@@ -1,6 +1,6 @@
 -- The proof of `run_rounds`: before each round, and after the last.
-use Rattle.std.proofs.Common.{◌+◌, length, arith}
-use Rattle.vma_drive.proofs.Standing.{places_at, may_tell_at, tellers_at, has_mid, has_new, begun_new, grown_new, at_next, begun_at, grown_at, done_at}
+use Rattle.std.proofs.Common.{◌+◌, arith}
+use Rattle.vma_drive.proofs.Standing.{may_tell_at, has_mid, has_new, begun_new, grown_new, at_next, begun_at, grown_at, done_at}
 use Rattle.vma_drive.proofs.OwnLines.{places_in}
 use Rattle.vma_drive.proofs.driving.run_rounds.Goals as goal
 

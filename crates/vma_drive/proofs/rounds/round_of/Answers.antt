@@ -1,5 +1,5 @@
 -- The proof of `round_of`: the named line stands among those of known round.
-use Rattle.std.proofs.Common.{◌+◌, ◌≤◌, length, get_or, arith}
+use Rattle.std.proofs.Common.{◌+◌, ◌≤◌, arith}
 use Rattle.vma_drive.proofs.NamedLines.{place_low}
 use Rattle.vma_drive.proofs.rounds.round_of.Goals as goal
 

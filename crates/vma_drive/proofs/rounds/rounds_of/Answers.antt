@@ -1,5 +1,5 @@
 -- The proof of `rounds_of`: before the first line, at the next, and after the last.
-use Rattle.std.proofs.Common.{ℕ, ◌≡◌, length, get_or, ◌+◌, ◌∙◌, ap, List, arith}
+use Rattle.std.proofs.Common.{ℕ, ◌≡◌, length, ◌+◌, ◌∙◌, ap, List, arith}
 use Rattle.std.proofs.lemmas.Option.{slice_get-get_or}
 use Rattle.vma_drive.proofs.Rounding.{rounded_none, rounded_at, rounded_all, name_low, round_few}
 use Rattle.vma_drive.proofs.rounds.rounds_of.Goals as goal

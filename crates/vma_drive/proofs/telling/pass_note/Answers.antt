@@ -1,9 +1,9 @@
 -- The proof of `pass_note`: two passes are changed, one after the other.
-use Rattle.std.proofs.Common.{ℕ, ◌≡◌, ◌<◌, ◌∙◌, refl, sym, ap, subst, List, length, get_or, All}
+use Rattle.std.proofs.Common.{subst, get_or, All}
 use Rattle.mm_types.specs.declared.config.Config.{Config}
 use Rattle.area_rules.specs.Journals.{IsReadRight}
 use Rattle.fault_path.specs.Passes.{PassView, seen_by}
-use Rattle.std.proofs.lemmas.Option.{slice_get-get_or, slice_get_read}
+use Rattle.std.proofs.lemmas.Option.{slice_get-get_or}
 use Rattle.vma_drive.proofs.Noting.{hearer_is, noted_are, noted_moved, noted_heard, reread}
 use Rattle.vma_drive.proofs.telling.pass_note.Goals as goal
 
@@ -40,4 +40,4 @@ returns-clause-heard g c told heard was its = noted_heard g.N.SpaceName.name c.a
     (reread c.args.passes.now c.args.teller c.index-passes-teller.result c.index-passes-teller-2.result c.requires.callers.0)
     (subst (λ (s : Config). All (IsReadRight s (seen_by (get_or c.args.passes.now c.args.teller c.index-passes-teller.result))) (get_or c.args.passes.now c.args.teller c.index-passes-teller.result).log)
     (c.requires.passes.each c.args.teller (get_or c.args.passes.now c.args.teller c.index-passes-teller.result)
-    (slice_get-get_or c.args.passes.now c.args.teller c.index-passes-teller.result c.requires.callers.0)).0.config_is c.facts.ensures.right)) was its
+    (slice_get-get_or c.args.passes.now c.args.teller c.index-passes-teller.result c.requires.callers.0)).0.sits.config_is c.facts.ensures.right)) was its

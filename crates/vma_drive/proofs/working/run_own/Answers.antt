@@ -1,5 +1,5 @@
 -- The proof of `run_own`: the line at the next place is the next of the caller's lines.
-use Rattle.std.proofs.Common.{ℕ, List, get_or, length, subst, arith}
+use Rattle.std.proofs.Common.{ℕ, List, get_or, subst, arith}
 use Rattle.history.specs.Histories.{lines_of}
 use Rattle.vma_drive.specs.Internal.Rounds.{RanRound}
 use Rattle.vma_drive.proofs.Operations.{stopped}

@@ -7,4 +7,4 @@ use Rattle.area_tree.proofs.placing.AreaTreeAreas.may_be_sealed.Goals as goal
 pub returns : goal.returns
 returns c none =
     let fields = c.self.inside in
-    subst (λ (v : AreaTreeView). All IsOpen (areas_of v)) c.self.view_is (areas_open fields.records fields.tree.pairs (c.self.invariant.unsealed none))
+    subst (λ (v : AreaTreeView). All IsOpen (areas_of v)) c.self.view_is (areas_open fields.records fields.tree.pairs (c.may_be_sealed.ensures none))

@@ -4,7 +4,6 @@ use Rattle.std.proofs.lemmas.List.{length-set}
 use Rattle.mm_types.specs.declared.area.Record.{Record}
 use Rattle.span_tree.specs.SpanTrees.{SpanView}
 use Rattle.area_tree.specs.AreaTrees.{AreaTreeView, AreRecords}
-use Rattle.area_tree.proofs.Unsealed.{set_open}
 use Rattle.area_tree.proofs.Changing.{counted}
 use Rattle.area_tree.proofs.Ceding.{CanCede, shown_below, other_below, ceded_told, ceded_shown}
 use Rattle.area_tree.proofs.tree.AreaTree.cede.Goals as goal
@@ -61,8 +60,6 @@ invariant_of-self c =
         areas,
       );
       limit = kept.limit ∙ sym (ap (λ (t : SpanView). t.limit) c.store.ensures);
-      unsealed = λ none.
-          rw records (set_open first c.args.other.slot c.args.other.area _ (λ before. set_open fields.records c.args.shown.slot c.args.shown.area fields.sealed kept.unsealed before) none);
       top = kept.top;
       window = kept.window;
       empty = kept.empty;

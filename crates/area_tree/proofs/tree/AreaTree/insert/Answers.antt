@@ -4,7 +4,6 @@ use Rattle.std.proofs.lemmas.List.{length-set}
 use Rattle.mm_types.specs.declared.area.Record.{Record}
 use Rattle.span_tree.specs.SpanTrees.{SpanView}
 use Rattle.area_tree.specs.AreaTrees.{AreaTreeView, AreRecords}
-use Rattle.area_tree.proofs.Unsealed.{set_open}
 use Rattle.area_tree.proofs.Changing.{counted, more, more_shown}
 use Rattle.area_tree.proofs.tree.AreaTree.insert.Goals as goal
 
@@ -25,7 +24,6 @@ invariant_of-self c =
       most_is = kept.most_is ∙ sym areas;
       slots = omega (arith, ap (λ (rs : List Record). length rs) c.show.ensures, length-set fields.records c.args.shown.slot c.args.shown.area, kept.slots, areas);
       limit = kept.limit ∙ sym (ap (λ (t : SpanView). t.limit) c.store.ensures);
-      unsealed = λ none. rw c.show.ensures (set_open fields.records c.args.shown.slot c.args.shown.area fields.sealed kept.unsealed none);
       top = kept.top;
       window = kept.window;
       empty = kept.empty;

@@ -1,15 +1,13 @@
--- For `AreaTree::new`: no area is there, and no record is sealed.
-use Rattle.std.proofs.Common.{◌≡◌, ◌∙◌, List, length, All, refl, sym, ap, subst, arith}
+-- For `AreaTree::new`: no area is there, and each slot has a record.
+use Rattle.std.proofs.Common.{◌≡◌, ◌∙◌, length, sym, ap, subst, arith}
 use Rattle.std.proofs.lemmas.List.{length-replicate}
-use Rattle.std.proofs.lemmas.List.Elements.{All-nil, All-replicate}
-use Rattle.mm_types.specs.declared.area.Record.{Record}
+use Rattle.std.proofs.lemmas.List.Elements.{All-nil}
 use Rattle.area_rules.specs.declared.placement.Bounds.{Bounds}
 use Rattle.area_rules.proofs.Limits.{limit_between}
 use Rattle.maple_node.specs.Trees.{Pair}
 use Rattle.span_tree.specs.SpanTrees.{SpanView}
 use Rattle.maple_gap.specs.Gaps.{span_of}
 use Rattle.area_tree.specs.AreaTrees.{AreRecords, area_in, no_area}
-use Rattle.area_tree.proofs.Unsealed.{IsOpen}
 use Rattle.area_tree.proofs.tree.AreaTree.new.Goals as goal
 
 pub invariant_of-result : goal.invariant_of-result
@@ -25,7 +23,6 @@ invariant_of-result c =
       most_is = sym (ap (λ (t : SpanView). t.areas) tree);
       slots = omega (arith, ap length records, length-replicate c.slots_for.result no_area, c.slots_for.ensures, ap (λ (t : SpanView). t.areas) tree);
       limit = ap (λ (b : Bounds). b.limit) bounds ∙ sym c.page_of.ensures ∙ sym (ap (λ (t : SpanView). t.limit) tree);
-      unsealed = λ none. subst (λ (l : List Record). All IsOpen l) (sym records) (All-replicate IsOpen c.slots_for.result no_area refl);
       top = omega (arith, ap (λ (b : Bounds). b.top) bounds, ap (λ (b : Bounds). b.limit) bounds, c.requires.config.top.within, between.low);
       window = omega (arith, ap (λ (b : Bounds). b.limit) bounds, between.low);
       empty = c.in_ok-with_capacity.ensures.items;

@@ -27,7 +27,6 @@ invariant_of-self c =
       most_is = kept.most_is ∙ sym areas;
       slots = omega (arith, kept.slots, areas);
       limit = kept.limit ∙ sym (ap (λ (t : SpanView). t.limit) c.store.ensures);
-      unsealed = kept.unsealed;
       top = kept.top;
       window = kept.window;
       empty = kept.empty;

@@ -6,7 +6,6 @@ use Rattle.mm_types.specs.declared.area.Record.{Record}
 use Rattle.maple_items.specs.Pairs.{overwritten}
 use Rattle.span_tree.specs.SpanTrees.{SpanView}
 use Rattle.area_tree.specs.AreaTrees.{AreRecords}
-use Rattle.area_tree.proofs.Unsealed.{set_open}
 use Rattle.area_tree.proofs.Reshaped.{IsReshaped, record_below, shrunk_told, beside_within, told_shown}
 use Rattle.area_tree.proofs.tree.AreaTree.shrink.Goals as goal
 
@@ -41,7 +40,6 @@ invariant_of-self c =
       most_is = kept.most_is ∙ sym areas;
       slots = omega (arith, ap (λ (rs : List Record). length rs) c.show.ensures, length-set fields.records c.args.shown.slot c.args.shown.area, kept.slots, areas);
       limit = kept.limit ∙ sym (ap (λ (t : SpanView). t.limit) c.store.ensures);
-      unsealed = λ none. rw c.show.ensures (set_open fields.records c.args.shown.slot c.args.shown.area fields.sealed kept.unsealed none);
       top = kept.top;
       window = kept.window;
       empty = kept.empty;

@@ -2,7 +2,6 @@
 use Rattle.std.proofs.Common.{List, length, ap, arith}
 use Rattle.std.proofs.lemmas.List.{length-set}
 use Rattle.mm_types.specs.declared.area.Record.{Record}
-use Rattle.area_tree.proofs.Unsealed.{set_open}
 use Rattle.area_tree.proofs.Changing.{within, same_pages, changed}
 use Rattle.area_tree.proofs.tree.AreaTree.update.Goals as goal
 
@@ -21,7 +20,6 @@ invariant_of-self c =
       most_is = kept.most_is;
       slots = omega (arith, ap (λ (rs : List Record). length rs) c.show.ensures, length-set fields.records c.args.shown.slot c.args.shown.area, kept.slots);
       limit = kept.limit;
-      unsealed = λ none. rw c.show.ensures (set_open fields.records c.args.shown.slot c.args.shown.area fields.sealed kept.unsealed none);
       top = kept.top;
       window = kept.window;
       empty = kept.empty;

@@ -27,6 +27,6 @@ invariant_of-into c =
     ap config c.other.view_is ∙ c.requires.1.config_is ∙ sym c.requires.0.config_is ∙ sym (ap config c.into.view_is) in
     gone_on _ _ _ c.into.invariant
     (joined_goes (view pass.reader) (view other.reader) (view c.join.new.seat) joined.view joined.old joined.own
-    (subst (λ (k : Config). IsLegalJournal k (seen other.reader)) same c.other.invariant.legal))
+    (subst (λ (k : Config). IsLegalJournal k (seen other.reader)) same c.other.invariant.keeps.legal))
     (ap (λ (v : View). v.stage) joined.view ∙ c.into.invariant.free)
-    (subst (λ (v : NodeView). v.pin % 2 ≡ 0) (sym c.join-2.ensures.view) c.into.invariant.closed) refl refl refl
+    (subst (λ (v : NodeView). v.pin % 2 ≡ 0) (sym c.join-2.ensures.view) c.into.invariant.keeps.closed) refl refl refl

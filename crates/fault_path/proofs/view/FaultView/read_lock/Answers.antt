@@ -4,7 +4,7 @@ use Rattle.mm_types.specs.Config.{IsValidConfig}
 use Rattle.fault_path.specs.Passes.{PassView, ViewedTable, config, walker, pass_of}
 use Rattle.fault_path.specs.Holding.{HeldView, Locks}
 use Rattle.fault_path.proofs.Holding.{locks}
-use Rattle.fault_path.proofs.Passes.{keeps_on, keeps_of}
+use Rattle.fault_path.proofs.Passes.{keeps_on}
 use Rattle.fault_path.proofs.view.FaultView.read_lock.Goals as goal
 
 pub invariant_of-result : goal.invariant_of-result
@@ -15,7 +15,7 @@ invariant_of-result c =
       table_is = lock.tables.0;
       valid = subst IsValidConfig (sym config_is) c.self.invariant.valid;
       locked = c.in-Ok.ensures.locked.0;
-      keeps = keeps_on _ _ _ (keeps_of _ _ c.pass.invariant) lock.goes_on lock.closed refl refl refl;
+      keeps = keeps_on _ _ _ c.pass.invariant.keeps lock.goes_on lock.closed refl refl refl;
     }
 
 pub returns-in-Ok-clause-held : goal.returns-in-Ok-clause-held
@@ -29,4 +29,4 @@ returns-in-Ok-clause-held c =
     let nodes : new.nodes.seat.table_id ≡ old.nodes.seat.table_id = search rules in
     let size : (walker new).size ≡ (walker old).size = search rules in
     subst (λ (was : PassView). Locks c.args.page.0 was held) c.pass.view_is
-    (locks c.args.page.0 old held lock.goes_on c.pass.invariant.turn table nodes size refl refl refl lock.walk c.in-Ok.ensures.locked.0 c.in-Ok.ensures.locked.1)
+    (locks c.args.page.0 old held lock.goes_on c.pass.invariant.keeps.turn table nodes size refl refl refl lock.walk c.in-Ok.ensures.locked.0 c.in-Ok.ensures.locked.1)

@@ -44,14 +44,14 @@ cede-requires-clause-slot g c =
     let board = c.args.self.now in
     omega (
       arith,
-      (last_alone (slots board.writer) (shown_of board.areas) board.moved.items c.taker.new.moved.items board.slots c.in-Some.other c.requires.can.hangs c.in-Some.ensures.items).below,
+      (last_alone (slots board.writer) (shown_of board.areas) board.moved.items c.pop_moved_at.new.moved.items board.slots c.in-Some.other c.requires.can.hangs c.in-Some.ensures.items).below,
       c.requires.can.records,
     )
 
 pub cede-requires-clause-free : goal.cede-requires-clause-free
 cede-requires-clause-free g c =
     let board = c.args.self.now in
-    (last_alone (slots board.writer) (shown_of board.areas) board.moved.items c.taker.new.moved.items board.slots c.in-Some.other c.requires.can.hangs c.in-Some.ensures.items).free
+    (last_alone (slots board.writer) (shown_of board.areas) board.moved.items c.pop_moved_at.new.moved.items board.slots c.in-Some.other c.requires.can.hangs c.in-Some.ensures.items).free
 
 pub shrink-requires-clause-once : goal.shrink-requires-clause-once
 shrink-requires-clause-once g c =
@@ -129,7 +129,7 @@ returns-then-is_end g c =
         same = subst (IsSameTree board.areas) (sym c.shrink.ensures.same) refl;
         moved_room = c.in_default.ensures.room;
       },
-      record { rest = out.0; before = out.1; after = inl (out.2, sym (c.in_default.ensures.items ∙ append-nil c.taker.new.moved.items), end_meets c.args.old.now c.args.new.now (c.is_end.ensures c.if-is_end.true)) },
+      record { rest = out.0; before = out.1; after = inl (out.2, sym (c.in_default.ensures.items ∙ append-nil c.pop_moved_at.new.moved.items), end_meets c.args.old.now c.args.new.now (c.is_end.ensures c.if-is_end.true)) },
       refl,
     )
 

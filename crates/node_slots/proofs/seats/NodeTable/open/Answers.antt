@@ -8,11 +8,11 @@ pub fetch_add-requires : goal.fetch_add-requires
 fetch_add-requires c =
     let kept = c.args.seat.now.kept in
     let same = ap (λ id. id.words) c.requires.table.same in
-    rw c.deref.ensures (
+    rw c.deref.ensures (rw c.pin_place-place.ensures (
       c.requires.table.same,
       omega (arith, kept.within, same),
       open_allows _ _ _ _ _ kept.kind kept.reader_is c.requires.closed,
-    )
+    ))
 
 pub invariant_of-seat : goal.invariant_of-seat
 invariant_of-seat c = record {

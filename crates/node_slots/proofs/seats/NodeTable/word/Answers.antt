@@ -12,11 +12,11 @@ load-requires c =
     let there = kept.exist shown.0 shown.1 c.args.row.0 shown.2 in
     let size = c.requires.table.size_is in
     let rows = ap (λ s. s.rows) size in
-    rw c.deref.ensures (
+    rw c.deref.ensures (rw c.word_place-place.ensures (
       c.requires.table.same,
       omega (arith, sized.words_are, there, rows, c.requires.place),
       word_allows _ _ _ _ _ kept.kind,
-    )
+    ))
 
 pub invariant_of-seat : goal.invariant_of-seat
 invariant_of-seat c = record {

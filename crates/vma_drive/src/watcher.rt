@@ -1,11 +1,11 @@
-//! Who is told of the operations of a pass.
+//! Who watches the operations of a pass.
 
 use io_edge::Gate;
 use std::sync::Wait;
 use std::thread::Threads;
 
 /// Is told of each line before its operation and after it. It has no part in any result.
-pub trait Told<R: Wait> {
+pub trait Watcher<R: Wait> {
     /// The operation on this line of the trace, counted from 1, comes next.
     fn before(&self, rt: &R, line: u64);
 
@@ -15,9 +15,9 @@ pub trait Told<R: Wait> {
 
 /// Nobody is told.
 #[derive(Clone, Copy, Debug)]
-pub struct Untold;
+pub struct NoWatcher;
 
-impl<R: Wait> Told<R> for Untold {
+impl<R: Wait> Watcher<R> for NoWatcher {
     fn before(&self, _rt: &R, _line: u64) {}
 
     fn after(&self, _rt: &R, _line: u64) {}
@@ -25,9 +25,9 @@ impl<R: Wait> Told<R> for Untold {
 
 /// A gate is told, which may hold the pass.
 #[derive(Drop)]
-pub struct Gated<'a, G: Gate>(pub &'a G);
+pub struct GateWatcher<'a, G: Gate>(pub &'a G);
 
-impl<'a, R: Threads + Wait + Sync, G: Gate> Told<R> for Gated<'a, G> {
+impl<'a, R: Threads + Wait + Sync, G: Gate> Watcher<R> for GateWatcher<'a, G> {
     fn before(&self, rt: &R, line: u64) {
         self.0.before(rt, line);
     }

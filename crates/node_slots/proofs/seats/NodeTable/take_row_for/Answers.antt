@@ -1,5 +1,0 @@
--- For `take_row_for`: the writer is still of this table.
-use Rattle.node_slots.proofs.seats.NodeTable.take_row_for.Goals as goal
-
-pub returns-clause-table : goal.returns-clause-table
-returns-clause-table c = c.take_row_for.ensures.table c.args.self.now c.requires.table

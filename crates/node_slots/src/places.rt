@@ -1,0 +1,32 @@
+//! Where the words of a table stand: each pin has a cache line of its own, and so has the root word, which is the first.
+ghost use Rattle.std.specs.Prelude.{◌≡◌, ◌<◌, ◌+◌, ◌*◌};
+ghost use Rattle.node_slots.specs.Places.{pin_place, word_place};
+
+use maple_node::NODE_WORDS;
+use mm_types::Row;
+
+/// The words of a cache line, which has 64 bytes.
+const LINE: usize = 8;
+
+/// The place of a reader's pin.
+pub(crate) fn pin_place(reader: u32) -> usize
+    ensures { result ≡ pin_place reader }
+{
+    (reader as usize + 1) * LINE
+}
+
+/// The place of a word of a row, in a table of so many readers.
+pub(crate) fn word_place(readers: u32, row: Row, place: usize) -> usize
+    requires { place < 32 }
+    ensures { result ≡ word_place readers row.0 place }
+{
+    // the rows stand after the last pin
+    pin_place(readers) + row.0 as usize * NODE_WORDS + place
+}
+
+/// How many words a table of so many rows and readers has.
+pub(crate) fn word_count(rows: u32, readers: u32) -> usize
+    ensures { result ≡ (readers + 1) * 8 + rows * 32 }
+{
+    pin_place(readers) + rows as usize * NODE_WORDS
+}
