@@ -3,6 +3,7 @@ use Rattle.std.specs.Prelude.{ℕ, ◌≡◌, ◌≤◌, ◌+◌, ◌*◌, Bool,
 use Rattle.mm_types.specs.declared.area.Record.{Record}
 use Rattle.area_rules.specs.declared.placement.Bounds.{Bounds}
 use Rattle.split_merge.specs.Plans.{IsKept}
+use Rattle.area_chunks.specs.declared.chunk.TheConstants.{HALF}
 use Rattle.area_chunks.specs.declared.store.Store.{Store}
 use Rattle.area_chunks.specs.Internal.Chunks.{areas_of, IsFilled}
 
@@ -16,7 +17,7 @@ pub record Stored : Type 0 where
 pub record IsRoomy (store : Store) : Type 0 where
   pub chunks : vec_len store.chunks + vec_len store.spares ≤ vec_capacity store.chunks
   pub spares : vec_len store.chunks + vec_len store.spares ≤ vec_capacity store.spares
-  pub enough : vec_capacity store.whole ≤ 64 * (vec_len store.chunks + vec_len store.spares)
+  pub enough : vec_capacity store.whole ≤ HALF * (vec_len store.chunks + vec_len store.spares)
 
 -- each chunk of a roomy store has an area, and room for one more
 pub record IsSane (store : Store) : Type 0 where

@@ -14,10 +14,10 @@ use std::alloc::Global;
 use std::marker::Model;
 
 /// The most areas of a chunk. One with so many is divided.
-pub(crate) const CHUNK: usize = 128;
+pub(crate) const MOST_IN_CHUNK: usize = 128;
 
 /// How many areas each of the two halves of a full chunk has.
-pub(crate) const HALF: usize = 64;
+pub(crate) const HALF: usize = MOST_IN_CHUNK / 2;
 
 /// Some areas in order, with room for as many as a chunk may have. Contracts see it as their list.
 #[derive(Debug, Drop)]
@@ -58,7 +58,7 @@ impl Chunk {
         ensures { IfOk result (λ chunk. chunk ≡ []) }
     {
         Ok(Chunk {
-            items: Vec::with_capacity(alloc, CHUNK)?,
+            items: Vec::with_capacity(alloc, MOST_IN_CHUNK)?,
             widest: 0,
         })
     }
@@ -72,9 +72,9 @@ impl Chunk {
 
     /// Whether it has as many areas as a chunk may have.
     pub(crate) fn is_full(&self) -> bool
-        ensures { result ≡ nat_le 128 (length self.now) }
+        ensures { result ≡ nat_le MOST_IN_CHUNK (length self.now) }
     {
-        CHUNK <= self.items.len()
+        MOST_IN_CHUNK <= self.items.len()
     }
 
     /// Whether it has no area.
@@ -106,7 +106,7 @@ impl Chunk {
 
     /// Makes it hold these areas alone.
     pub(crate) fn fill(&mut self, areas: &[Record])
-        requires { length areas.now ≤ 128 }
+        requires { length areas.now ≤ MOST_IN_CHUNK }
         ensures { self.new ≡ areas.now }
     {
         self.items.clear();
@@ -136,7 +136,7 @@ impl Chunk {
     /// Inserts an area by its lowest page.
     pub(crate) fn insert(&mut self, new: Record)
         requires rise { BeginsRise self.old }
-        requires room { length self.old < 128 }
+        requires room { length self.old < MOST_IN_CHUNK }
         ensures { self.new ≡ insert_area new self.old }
     {
         let place = begins_below(self.items.as_slice(), new.span.lo);

@@ -1,5 +1,5 @@
 //! Gaps between the areas of one chunk: the widest, and the first one below or above a page that is wide enough.
-ghost use Rattle.std.specs.Prelude.{◌≡◌, ◌≤◌, ◌<◌, ◌+◌, true, false, ℕ};
+ghost use Rattle.std.specs.Prelude.{◌≡◌, ◌≤◌, ◌<◌, ◌+◌, true, false};
 ghost use Rattle.area_list.specs.Areas.{OfFirst};
 ghost use Rattle.area_chunks.specs.Internal.Gaps.{HasGapsUpTo, IsAscending, HasScannedDown, HasScannedUp};
 

@@ -2,6 +2,7 @@
 ghost use Rattle.std.specs.Prelude.{◌≡◌, ◌≤◌, ◌<◌, ◌+◌, ◌*◌, [], ◌∷◌, ◌++◌, length, All, Contains, IfOk, vec_len, vec_capacity, set, slice_index_or};
 ghost use Rattle.area_list.specs.Changes.{insert_area};
 ghost use Rattle.split_merge.specs.Plans.{without};
+ghost use Rattle.area_chunks.specs.declared.chunk.TheConstants.{MOST_IN_CHUNK, HALF};
 ghost use Rattle.area_chunks.specs.Internal.BinarySearch.{BeginsRise, BeginsAscend};
 ghost use Rattle.area_chunks.specs.Internal.Chunks.{areas_of, IsFilled, AreOthersFilled};
 ghost use Rattle.area_chunks.specs.Stored.{IsRoomy, IsSane, StaysSane};
@@ -49,7 +50,7 @@ fn give_back(chunks: &mut Vec<Chunk>, spares: &mut Vec<Chunk>)
 /// Shares areas out to chunks that are half full, and a last one.
 fn deal(chunks: &mut Vec<Chunk>, spares: &mut Vec<Chunk>, areas: &[Record])
     requires none { chunks.old.items ≡ [] }
-    requires enough { length areas.now ≤ 64 * vec_len spares.old }
+    requires enough { length areas.now ≤ HALF * vec_len spares.old }
     requires room { vec_len spares.old ≤ vec_capacity chunks.old }
     ensures areas { areas_of chunks.new.items ≡ areas.now }
     ensures filled { All IsFilled chunks.new.items }
@@ -72,7 +73,7 @@ fn deal(chunks: &mut Vec<Chunk>, spares: &mut Vec<Chunk>, areas: &[Record])
 /// Divides a full chunk into two halves, the upper one into a spare chunk.
 fn divide(chunks: &mut Vec<Chunk>, place: usize, mut upper: Chunk)
     requires within { place < vec_len chunks.old }
-    requires full { length (slice_index_or chunks.old.items place []) ≡ 128 }
+    requires full { length (slice_index_or chunks.old.items place []) ≡ MOST_IN_CHUNK }
     requires others { AreOthersFilled chunks.old.items place }
     requires room { vec_len chunks.old < vec_capacity chunks.old }
     ensures areas { areas_of chunks.new.items ≡ areas_of chunks.old.items }
@@ -92,7 +93,7 @@ impl Store {
         ensures { IfOk result (λ store. (store.chunks.items ≡ []) × (IsSane store) × (vec_capacity store.whole ≡ areas)) }
     {
         // Twice as many as half-full chunks hold these areas: after sharing out at least half of them are spare.
-        let count = areas as usize / 32 + 2;
+        let count = areas as usize / (HALF / 2) + 2;
         let mut spares = Vec::with_capacity(alloc, count)?;
         for _made in 0..count {
             spares.push_reserved(Chunk::with_room(alloc)?);
@@ -119,7 +120,7 @@ impl Store {
     /// Makes two chunks of a full one, or, where no chunk is spare, shares all areas out anew.
     fn relieve(&mut self, place: usize)
         requires within { place < vec_len self.old.chunks }
-        requires full { length (slice_index_or self.old.chunks.items place []) ≡ 128 }
+        requires full { length (slice_index_or self.old.chunks.items place []) ≡ MOST_IN_CHUNK }
         requires others { AreOthersFilled self.old.chunks.items place }
         requires roomy { IsRoomy self.old }
         requires few { length (areas_of self.old.chunks.items) ≤ vec_capacity self.old.whole }

@@ -1,7 +1,6 @@
 //! Plans over a list of one area in chunks.
 ghost use Rattle.std.specs.Prelude.{◌≡◌, ◌<◌, ◌≤◌, ◌∷◌, [], IfOk};
 ghost use Rattle.mm_types.specs.Records.{IsValid};
-ghost use Rattle.split_merge.specs.Plans.{IsKept, IsFresh};
 
 use crate::AreaChunks;
 use mm_types::{ADDRESS_LIMIT, Attr, Config, Files, NoMemory, Prot, Record, Span};

@@ -17,7 +17,7 @@ page_of address = address / PAGE_SIZE
 abbrev pub has_page : Span → ℕ → Bool
 has_page span page = nat_le span.lo page && nat_lt page span.hi
 
--- whether two spans share a page
+-- whether two spans, each with a page, share one
 abbrev pub overlap : Span → Span → Bool
 overlap a b = nat_lt a.lo b.hi && nat_lt b.lo a.hi
 

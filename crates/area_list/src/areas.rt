@@ -20,7 +20,7 @@ pub fn area_at(areas: &[Record], page: u64) -> Option<&Record>
         .find(|area| area.span.lo <= page && page < area.span.hi)
 }
 
-/// Whether two spans share a page.
+/// Whether two spans, each with a page, share one.
 pub fn overlap(a: Span, b: Span) -> bool
     ensures { result ≡ overlap a b }
 {

@@ -13,7 +13,7 @@ use area_rules::guarded_ranges;
 use mm_types::{Call, Counters, Errno, NoMemory, Record, Reply, Span};
 use std::alloc::Global;
 
-/// Whether a page of the span is sealed.
+/// Whether a page of the span, which has one, is sealed.
 #[tactic(auto, unfolding(area_rules::specs::Seals::has_sealed))]
 pub(crate) fn has_sealed(span: Span, areas: &[Record]) -> bool
     ensures { result ≡ has_sealed span areas.now }
@@ -23,7 +23,7 @@ pub(crate) fn has_sealed(span: Span, areas: &[Record]) -> bool
         .any(|area| area.attr.sealed && overlap(area.span, span))
 }
 
-/// Whether a page of the span is sealed, if there is a span.
+/// Whether a page of the span, which has one, is sealed, if there is a span.
 fn has_sealed_in(span: Option<Span>, areas: &[Record]) -> bool
     ensures { result ≡ list_any (λ range. has_sealed range areas.now) (option_to_list span) }
 {

@@ -1,6 +1,6 @@
 -- For the laws of the step: a place that is found has room below the limit, and is free.
-use Rattle.std.proofs.Common.{◌≡◌, ◌≤◌, ◌+◌, ℕ, zero, suc, Bool, true, ◌&&◌, if◌then◌else◌, nat_le, List, Option, Some, None, option_and_then, refl, subst, arith}
-use Rattle.std.proofs.lemmas.Bool.{cond_both, cond-false, and_parts, and_right, leb-true}
+use Rattle.std.proofs.Common.{◌≡◌, ◌≤◌, ◌+◌, ℕ, zero, suc, Bool, true, ◌&&◌, if◌then◌else◌, nat_le, List, Option, Some, None, option_and_then, subst, arith}
+use Rattle.std.proofs.lemmas.Bool.{cond_both, and_parts, leb-true}
 use Rattle.std.proofs.lemmas.Option.{same_Some, cond_some}
 use Rattle.mm_types.specs.declared.area.Record.{Record}
 use Rattle.mm_types.specs.declared.config.Config.{Config}
@@ -8,7 +8,6 @@ use Rattle.mm_types.specs.Config.{IsValidConfig}
 use Rattle.area_list.specs.Areas.{page_of}
 use Rattle.std.specs.Option.{option_or}
 use Rattle.area_rules.proofs.Limits.{limit_between}
-use Rattle.area_rules.specs.declared.placement.Bounds.{Bounds}
 use Rattle.area_rules.specs.declared.placement.TheConstants.{WINDOW_END}
 use Rattle.area_rules.specs.Placement.{greatest_below, least_below, bounds_of, is_free, has_room_at, hint_page, is_high, window_end, hinted_place, high_place, low_place, place_high, place_low, place}
 

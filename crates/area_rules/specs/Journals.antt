@@ -1,5 +1,5 @@
 -- What callers make of a journal: their entries, and what they read of the list of areas.
-use Rattle.std.specs.Prelude.{ℕ, ◌≡◌, ◌≤◌, Bool, false, nat_eq, List, filter, length, take}
+use Rattle.std.specs.Prelude.{ℕ, ◌≡◌, ◌≤◌, false, nat_eq, List, filter, length, take}
 use Rattle.mm_types.specs.declared.call.Entry.{Entry}
 use Rattle.mm_types.specs.declared.call.Seen.{Seen}
 use Rattle.mm_types.specs.declared.call.Seen.TheVariants as reads

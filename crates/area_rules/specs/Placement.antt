@@ -1,5 +1,5 @@
 -- Where a new area goes that names no fixed place.
-use Rattle.std.specs.Prelude.{ℕ, zero, suc, ◌+◌, max, Bool, false, ◌&&◌, ◌||◌, if◌then◌else◌, map, nat_eq, nat_lt, nat_le, List, Option, Some, None, option_and_then}
+use Rattle.std.specs.Prelude.{ℕ, zero, suc, ◌+◌, max, Bool, false, ◌&&◌, if◌then◌else◌, map, nat_eq, nat_lt, nat_le, List, Option, Some, None, option_and_then}
 use Rattle.std.specs.Option.{option_or, option_map_or}
 use Rattle.mm_types.specs.declared.area.Record.{Record}
 use Rattle.mm_types.specs.declared.config.Config.{Config}
@@ -26,7 +26,7 @@ passes_below passes bound n = nat_lt n bound && passes n
 abbrev pub bounds_of : Config → Bounds
 bounds_of config = record { low = page_of config.min; top = page_of config.top; limit = page_of config.limit }
 
--- whether no area has one of so many pages from this start on
+-- whether no area has one of so many pages, at least one, from this start on
 unfoldable pub is_free : List Record → ℕ → ℕ → Bool
 is_free areas pages start = is_clear_of (map (λ area. area.span) areas) pages start
 

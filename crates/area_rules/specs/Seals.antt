@@ -16,7 +16,7 @@ use Rattle.area_rules.specs.Tables.{AddressSpace, Outcome, is_refusal}
 use Rattle.area_rules.specs.Munmap.{range_of}
 use Rattle.area_rules.specs.Mprotect.{protect_request_rows}
 
--- whether a page of the span is sealed
+-- whether a page of the span, which has one, is sealed
 unfoldable pub has_sealed : Span → List Record → Bool
 has_sealed span areas = list_any (λ area. area.attr.sealed && overlap area.span span) areas
 

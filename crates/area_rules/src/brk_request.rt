@@ -2,6 +2,7 @@
 ghost use Rattle.std.specs.Prelude.{◌≡◌, ◌||◌, nat_eq, nat_lt};
 ghost use Rattle.area_rules.specs.Brk.{pages_between, heap_area};
 
+use crate::mmap_request::EVERY_ACCESS;
 use crate::tables::pages_of;
 use mm_types::{Attr, Config, Prot, Record, Span};
 
@@ -35,11 +36,7 @@ pub fn heap_area(span: Span) -> Record
                 write: true,
                 exec: false,
             },
-            most: Prot {
-                read: true,
-                write: true,
-                exec: true,
-            },
+            most: EVERY_ACCESS,
             shared: false,
             grows: false,
             sealed: false,

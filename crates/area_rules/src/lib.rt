@@ -5,6 +5,7 @@
 mod brk_request;
 mod faults;
 mod growth;
+mod growth_brk_seal_laws;
 mod growth_laws;
 mod laws;
 mod mmap_request;
@@ -12,7 +13,6 @@ mod mprotect_request;
 mod mremap_request;
 mod mseal_request;
 mod munmap_request;
-mod new_call_laws;
 mod page_laws;
 mod placement;
 mod placement_laws;
@@ -22,6 +22,10 @@ mod tables;
 pub use brk_request::{heap_area, is_below_heap, pages_between};
 pub use faults::{area_verdict, permits};
 pub use growth::{grown_to, is_above};
+pub use growth_brk_seal_laws::{
+    brk_changes_the_pages_between, growth_maps_one_page, mseal_seals_the_range, sealed_pages_stay,
+    seals_and_holes_are_of_pages,
+};
 pub use growth_laws::growing_keeps_the_list_canonical;
 pub use laws::{
     journal_laws, legal_journal_is_sound, move_carries_the_pages, new_object_is_fresh,
@@ -35,10 +39,6 @@ pub use mremap_request::{
 };
 pub use mseal_request::mseal_answer;
 pub use munmap_request::range_of;
-pub use new_call_laws::{
-    brk_changes_the_pages_between, growth_maps_one_page, mseal_seals_the_range, sealed_pages_stay,
-    seals_and_holes_are_of_pages,
-};
 pub use page_laws::{
     calls_change_only_their_pages, mmap_changes_its_pages, mprotect_changes_its_pages,
     mremap_changes_its_pages, munmap_changes_its_pages,

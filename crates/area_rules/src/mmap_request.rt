@@ -3,7 +3,7 @@ ghost use Rattle.std.specs.Prelude.{◌≡◌, ◌<◌, ◌≤◌, ◌+◌, ◌-
 ghost use Rattle.std.specs.Prelude.{option_copied, ◌&&◌, ◌*◌};
 ghost use Rattle.mm_types.specs.Config.{IsValidConfig};
 ghost use Rattle.mm_types.specs.declared.area.Record.{Record};
-ghost use Rattle.mm_types.specs.declared.config.TheConstants.{PAGE_SIZE};
+ghost use Rattle.mm_types.specs.declared.config.TheConstants.{MOST_FILES, PAGE_SIZE};
 ghost use Rattle.mm_types.specs.Rows.{first_row};
 ghost use Rattle.area_rules.specs.Tables.{is_aligned, pages_of};
 ghost use Rattle.area_rules.specs.Mmap.{is_anonymous, is_shared, grows_down, is_noreplace, is_fixed, file_of, file_place};
@@ -22,7 +22,7 @@ use mm_types::{
 const LAST_OFFSET: u128 = 0x7fff_ffff_ffff_ffff;
 
 /// Every access.
-const EVERY_ACCESS: Prot = Prot {
+pub(crate) const EVERY_ACCESS: Prot = Prot {
     read: true,
     write: true,
     exec: true,
@@ -203,7 +203,7 @@ fn file_place(files: &[FileRow], fd: i32) -> Option<usize>
 /// The object number of a descriptor: its file's place, counted from 1.
 #[tactic(auto, unfolding(crate::specs::Mmap::object_of))]
 fn object_of(files: &[FileRow], fd: i32) -> Option<u32>
-    requires { length files.now ≤ 1024 }
+    requires { length files.now ≤ MOST_FILES }
     ensures { result ≡ object_of files.now fd }
 {
     let place = file_place(files, fd)?;

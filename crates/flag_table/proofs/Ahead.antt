@@ -42,9 +42,6 @@ pub record AreAhead (rows : List Row) (text rest : List ℕ) (bits : ℕ) : Type
   pub read : AreRead rows words bits
   pub text_is : words_of text ≡ words ++ words_of rest
 
-pub ahead_start : (rows : List Row) (text : List ℕ) → AreAhead rows text text 0
-ahead_start rows text = record { words = []; read = record { good = refl; together = refl }; text_is = refl }
-
 -- one more name
 pub record NextName (rows : List Row) (words : List (List ℕ)) (rest after : List ℕ) (bits : ℕ) : Type 0 where
   pub name : List ℕ

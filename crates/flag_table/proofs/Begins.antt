@@ -1,9 +1,9 @@
 -- For `after_name` and `bit_ahead`: where a text does not begin with a name.
-use Rattle.std.proofs.Common.{ℕ, ◌≡◌, ◌≢◌, ◌<◌, ◌∙◌, sym, ap, refl, false, true, List, [], ◌∷◌, ◌++◌, length, drop, get_or, nat_eq, Some, arith}
+use Rattle.std.proofs.Common.{ℕ, ◌≡◌, ◌≢◌, ◌<◌, ◌∙◌, sym, ap, refl, false, true, List, [], ◌∷◌, ◌++◌, length, drop, get_or, nat_eq, Some}
 use Rattle.std.specs.List.{starts_with}
 use Rattle.std.proofs.lemmas.Bool.{cond-true, cond-false, false_from_ne_true}
 use Rattle.std.proofs.lemmas.Bool.Decides.{Decides-eqb}
-use Rattle.std.proofs.lemmas.List.{get_or_append_left, length-append}
+use Rattle.std.proofs.lemmas.List.{get_or_append_left}
 use Rattle.std.proofs.lemmas.Slice.Eq.{starts_is}
 use Rattle.flag_table.specs.Tables.{Row}
 use Rattle.flag_table.specs.Reading.{bit_ahead}
@@ -11,15 +11,6 @@ use Rattle.flag_table.specs.Reading.{bit_ahead}
 -- a text that begins with a name is the name and what follows
 pub begins_is : (text name : List ℕ) → starts_with nat_eq text name ≡ true → text ≡ name ++ drop (length name) text
 begins_is text name begins = (starts_is Decides-eqb text name true (sym begins)).0 refl
-
-pub shorter_differs : (text name : List ℕ) → length text < length name → starts_with nat_eq text name ≡ false
-shorter_differs text name short = false_from_ne_true (starts_with nat_eq text name)
-    (λ begins. absurd (omega (
-      arith,
-      short,
-      ap length (begins_is text name begins),
-      length-append name (drop (length name) text),
-    )))
 
 pub last_differs : (text name : List ℕ) (last : ℕ) → last < length name → get_or text last 0 ≢ get_or name last 0
     → starts_with nat_eq text name ≡ false

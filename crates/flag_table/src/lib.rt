@@ -1,6 +1,6 @@
 //! Texts of flags, as `PROT_READ|PROT_WRITE`, and the bits that they stand for: those of mmap(2),
-//! mprotect(2) and mremap(2). A text is `0`, or names joined by `|` without spaces, which are compared
-//! byte for byte.
+//! mprotect(2) and mremap(2). A text is `0`, the name that stands for no flag, or names joined by `|`
+//! without spaces. Names are compared byte for byte.
 #![tactic(auto)]
 
 mod error;

@@ -1,4 +1,4 @@
--- A load: a trace of pseudo-random operations, made from a number.
+-- A load: a trace of pseudo-random operations, made from two numbers alone, how many operations and a seed.
 use Rattle.std.specs.Prelude.{ℕ, zero, suc, ◌+◌, ◌*◌, ◌/◌, ◌%◌, ◌^◌, List, [], ◌∷◌, ◌++◌, codes, flat_map, nat_eq, bit_or, negsuc, None, if◌then◌else◌}
 use Rattle.mm_types.specs.declared.area.Access.TheVariants.{Read, Write}
 use Rattle.mm_types.specs.declared.call.Call.TheVariants.{Mmap, Munmap, Mprotect, Mremap}
@@ -11,7 +11,7 @@ use Rattle.trace_reader.specs.declared.trace.Op.TheVariants.{Call, Fault}
 use Rattle.trace_reader.specs.declared.trace.Trace.{Trace}
 use Rattle.trace_reader.specs.declared.trace.TraceLine.{TraceLine}
 use Rattle.gen_load.specs.declared.draw.TheConstants.{MULTIPLIER, INCREMENT, FIRST_ADDRESS}
-use Rattle.trace_text.specs.LineTexts.{line_text}
+use Rattle.trace_text.specs.LineTexts.{header, line_text}
 
 -- the number after a number: a linear congruential generator of 64 bits
 abbrev pub next_of : ℕ → ℕ
@@ -98,4 +98,4 @@ load_trace count seed = record { config = default_config []; lines = load_lines 
 
 -- the text of a load
 unfoldable pub load_text : ℕ → ℕ → List ℕ
-load_text count seed = codes "vmatrace 1\n" ++ flat_map line_text (load_lines count seed)
+load_text count seed = header ++ flat_map line_text (load_lines count seed)

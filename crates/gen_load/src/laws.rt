@@ -7,7 +7,7 @@ ghost use Rattle.flag_table.specs.Printing.{printed};
 ghost use Rattle.trace_reader.specs.Grammar.{trace_of};
 ghost use Rattle.gen_load.specs.declared.draw.TheConstants.{MULTIPLIER, INCREMENT, FIRST_ADDRESS};
 ghost use Rattle.gen_load.specs.declared.loading.TheConstants.{MOST_OPERATIONS};
-ghost use Rattle.gen_load.specs.Loads.{exactly, anywhere, load_lines, load_trace, load_text};
+ghost use Rattle.gen_load.specs.Loads.{exactly, anywhere, load_trace, load_text};
 
 /// The text of a load is a trace: its reader gives the lines of the load, one for each operation.
 pub fn loads_are_traces()

@@ -1,5 +1,5 @@
-//! Loads: traces of pseudo-random operations, each made from a number alone, so that the same number always makes the same
-//! trace.
+//! Loads: traces of pseudo-random operations, each made from two numbers alone, how many operations and a seed, so that the same
+//! two always make the same trace.
 //!
 //! A linear congruential generator of 64 bits starts at the seed, and each line takes its next number. The upper 31 bits of
 //! that number are the draw of the line: its kind of operation, its thread of four, its page of 65,536, its length of 1 to 16

@@ -36,7 +36,7 @@ pub record IsToCome (lines : List TraceLine) (before : List Item) (number : ℕ)
   pub owned : caller ≡ caller_of lines line.thread
   pub told : IfSome line.after (StandsAmong lines before)
 
--- no line of a number is
+-- no line of this number can come next
 abbrev pub NoneIsToCome : List TraceLine → List Item → ℕ → Type 0
 NoneIsToCome lines before number = (line : TraceLine) (caller : ℕ) → IsToCome lines before number line caller → ⊥
 

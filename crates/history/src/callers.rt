@@ -1,5 +1,5 @@
 //! The callers of a trace.
-ghost use Rattle.std.specs.Prelude.{ℕ, ◌≡◌, ◌<◌, ◌≤◌, All, List, [], length, take, count_by, nat_lt};
+ghost use Rattle.std.specs.Prelude.{◌≡◌, ◌<◌, ◌≤◌, All, List, length};
 ghost use Rattle.trace_reader.specs.declared.trace.TraceLine.{TraceLine};
 ghost use Rattle.history.specs.Histories.{caller_of, lines_of};
 ghost use Rattle.history.specs.Threads.{counts_below, busy_below, AreCallers};
@@ -41,7 +41,7 @@ impl Callers {
         for line in lines {
             counts[line.thread as usize] += 1;
         }
-        let callers = callers_of(&counts);
+        let callers = callers_by_thread(&counts);
         Callers { counts, callers }
     }
 
@@ -81,7 +81,7 @@ fn busy_below(counts: &[u64; MOST_THREADS], thread: usize) -> usize
 }
 
 /// The caller that each thread is.
-fn callers_of(counts: &[u64; MOST_THREADS]) -> [u32; MOST_THREADS]
+fn callers_by_thread(counts: &[u64; MOST_THREADS]) -> [u32; MOST_THREADS]
     ensures { AreCallers counts.now result }
 {
     let mut callers = [0; MOST_THREADS];
@@ -91,7 +91,7 @@ fn callers_of(counts: &[u64; MOST_THREADS]) -> [u32; MOST_THREADS]
     callers
 }
 
-/// How many lines the caller has whose thread is that of the first count but for so many that is not 0.
+/// How many lines a caller has: of the counts that are not 0, the one with so many before it; 0 where there are not so many.
 fn lines_at(counts: &[u64], caller: usize) -> u64
     ensures { (lines : List TraceLine) → All (λ line. line.thread < MOST_THREADS) lines
         → counts.now ≡ counts_below MOST_THREADS lines → result ≡ length (lines_of lines caller) }

@@ -12,6 +12,7 @@ ghost use Rattle.history.specs.Internal.Walks.{shown, space_after_line, HasBegun
 
 use crate::answers::{Answer, BadEntry, CheckError, Expected};
 use crate::items::{Content, History, Item};
+use crate::made::made_call;
 use crate::progress::Progress;
 use mm_types::{Call, Config, Entry, NoMemory};
 use std::alloc::Global;
@@ -207,24 +208,6 @@ fn run_line(space: &mut PlainSpace<'_>, line: Option<TraceLine>) -> Expected
     match made_call(space, line.op) {
         Some(call) => Expected::Call(call, space.call(&call)),
         None => read_by(space, line.op),
-    }
-}
-
-/// The call that an operation makes over an address space, if it makes one: a fault that grows touches its page.
-#[tactic(auto, unfolding(crate::specs::Histories::call_of))]
-fn made_call(space: &PlainSpace<'_>, op: Op) -> Option<Call>
-    ensures { result ≡ call_of space.now.config space.now.space op }
-{
-    match op {
-        Op::Call(call) => Some(call),
-        Op::Fault { page, access } => {
-            if space.grows(page, access) {
-                Some(Call::Touch { page, access })
-            } else {
-                None
-            }
-        }
-        Op::Maps | Op::Fork { .. } => None,
     }
 }
 

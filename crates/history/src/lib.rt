@@ -9,6 +9,8 @@ mod gathering;
 mod items;
 mod labelling;
 mod laws;
+mod made;
+mod numbered;
 mod ordering;
 mod places;
 mod progress;
@@ -28,6 +30,8 @@ pub use laws::{
     lines_of_a_trace_ask_for_themselves, refused_is_not_legal, serial_history_by_version,
     serial_history_is_legal, sort_by_caller_is_stable,
 };
+pub use made::made_call;
+pub use numbered::are_numbered;
 pub use places::places_by_caller;
 pub use progress::Progress;
 pub use run_laws::{

@@ -1,5 +1,5 @@
 //! The order of a history.
-ghost use Rattle.std.specs.Prelude.{◌≡◌, ◌<◌, ◌^◌, ◌↔◌, ℕ, All, AllPairs, IfOk, IsOk, IsTrue, OnOk, true};
+ghost use Rattle.std.specs.Prelude.{◌≡◌, ◌<◌, ◌+◌, ◌*◌, ◌^◌, ◌↔◌, All, AllPairs, IsOk, IsTrue, OnOk, if◌then◌else◌, true};
 ghost use Rattle.std.specs.Bool.{OnTrue};
 ghost use Rattle.history.specs.declared.items.Item.{Item};
 ghost use Rattle.history.specs.Histories.{goes_first, gather};
@@ -9,7 +9,7 @@ use crate::items::Item;
 use mm_types::NoMemory;
 
 /// What a version counts for in a place: more than any caller does.
-pub(crate) const VERSION_STEP: u128 = 1 << 33;
+const VERSION_STEP: u128 = 1 << 33;
 
 /// Puts items in the order of a history, those that tie in the order that they had; where they are so already, in linear time and without
 /// memory.
@@ -48,10 +48,13 @@ pub(crate) fn are_in_order(items: &[Item]) -> bool
 fn place(item: &Item) -> u128
     ensures { result ≡ place_key item.now }
 {
-    let caller = if item.is_call() {
-        0
-    } else {
-        u128::from(item.caller) + 1
-    };
-    u128::from(item.version) * VERSION_STEP + caller
+    place_at(item.version, item.is_call(), item.caller)
+}
+
+/// Where what a caller did at a version stands in a history, as a number: first the call of the version, and then its reads by caller.
+pub(crate) fn place_at(version: u64, is_call: bool, caller: u32) -> u128
+    ensures { result ≡ version * 2 ^ 33 + (if is_call then 0 else caller + 1) }
+{
+    let reader = if is_call { 0 } else { u128::from(caller) + 1 };
+    u128::from(version) * VERSION_STEP + reader
 }

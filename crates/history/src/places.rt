@@ -3,6 +3,7 @@ ghost use Rattle.std.specs.Prelude.{◌≡◌, ◌≤◌, ◌<◌, length, All, 
 ghost use Rattle.trace_reader.specs.declared.limits.TheConstants.{MOST_LINES};
 ghost use Rattle.history.specs.declared.callers.TheConstants.{MOST_THREADS};
 ghost use Rattle.history.specs.CallerPlaces.{callers_of, ArePlaces};
+ghost use Rattle.history.specs.Threads.{counts_below};
 
 use crate::callers::Callers;
 use mm_types::NoMemory;
@@ -15,7 +16,20 @@ pub fn places_by_caller(alloc: Global, lines: &[TraceLine]) -> Result<Vec<Vec<u3
     requires threads { All (λ line. line.thread < MOST_THREADS) lines.now }
     ensures { IfOk result (λ places. ArePlaces lines.now (callers_of lines.now) places.items) }
 {
-    let callers = Callers::of(lines);
+    places_of(alloc, lines, &Callers::of(lines))
+}
+
+/// The same, where the callers of the lines are known.
+pub(crate) fn places_of(
+    alloc: Global,
+    lines: &[TraceLine],
+    callers: &Callers,
+) -> Result<Vec<Vec<u32>>, NoMemory>
+    requires few { length lines.now ≤ MOST_LINES }
+    requires threads { All (λ line. line.thread < MOST_THREADS) lines.now }
+    requires counted { callers.now ≡ counts_below MOST_THREADS lines.now }
+    ensures { IfOk result (λ places. ArePlaces lines.now (callers_of lines.now) places.items) }
+{
     let mut places = empty_places(alloc, callers.count().max(1))?;
     for (place, line) in lines.iter().enumerate() {
         let caller = callers.caller(line.thread) as usize;

@@ -1,5 +1,5 @@
 //! How far the callers of a trace are in a history.
-ghost use Rattle.std.specs.Prelude.{ℕ, ◌≡◌, ◌≢◌, ◌+◌, ◌<◌, ◌≤◌, ◌-◌, ◌^◌, ◌↔◌, List, [], length, All, IsTrue, IfOk, IfSome, IfNone, Contains, MatchBool, MatchOption, slice_index, slice_set, if◌then◌else◌, false};
+ghost use Rattle.std.specs.Prelude.{◌≡◌, ◌≢◌, ◌+◌, ◌<◌, ◌≤◌, ◌-◌, ◌^◌, ◌↔◌, List, [], length, All, IsTrue, IfOk, IfSome, IfNone, Contains, MatchBool, MatchOption, slice_index, slice_set, if◌then◌else◌, false};
 ghost use Rattle.trace_reader.specs.declared.limits.TheConstants.{MOST_LINES};
 ghost use Rattle.trace_reader.specs.Values.{AreNumbered};
 ghost use Rattle.history.specs.declared.callers.TheConstants.{MOST_THREADS};
@@ -11,7 +11,7 @@ ghost use Rattle.history.specs.Internal.Walks.{IsNext, IsTold, IsLowestLeft};
 
 use crate::callers::Callers;
 use crate::items::Item;
-use crate::places::places_by_caller;
+use crate::places::places_of;
 use mm_types::NoMemory;
 use std::alloc::Global;
 use std::marker::Model;
@@ -53,11 +53,12 @@ impl<'a> Progress<'a> {
         requires numbered { AreNumbered lines.now }
         ensures { IfOk result (IsProgress lines.now []) }
     {
-        let places = places_by_caller(alloc, lines)?;
+        let callers = Callers::of(lines);
+        let places = places_of(alloc, lines, &callers)?;
         let answered = vec![in alloc; 0usize; places.len()]?;
         Ok(Progress {
             lines,
-            callers: Callers::of(lines),
+            callers,
             places,
             answered,
             version: 0,
@@ -131,7 +132,7 @@ impl<'a> Progress<'a> {
         }
     }
 
-    /// Whether an item of a caller can come next: reads of one version come by ascending caller.
+    /// Whether an item of a caller keeps the order of reads: those of one version come by ascending caller.
     pub fn is_in_order(&self, caller: u32, is_call: bool) -> bool
         ensures { IsTrue result ↔ (is_call ≡ false → self.now.lowest ≤ caller) }
     {
@@ -180,7 +181,7 @@ impl<'a> Progress<'a> {
         None
     }
 
-    /// Whether a caller has a line left.
+    /// Whether any caller has a line left.
     pub fn has_line_left(&self) -> bool
         ensures { (lines : List TraceLine) (before : List Item) → IsProgress lines before self.now
             → MatchBool result (HasNoneLeft lines before → ⊥) (HasNoneLeft lines before) }

@@ -9,22 +9,22 @@ pub(crate) fn same_call(a: &Call, b: &Call) -> bool
     ensures { IsTrue result ↔ (a.now ≡ b.now) }
 {
     match (a, b) {
-        (Call::Mmap(a), Call::Mmap(b)) => same_args(a, b),
+        (Call::Mmap(args), Call::Mmap(other_args)) => same_args(args, other_args),
         (
             Call::Munmap { addr, len },
             Call::Munmap {
-                addr: place,
-                len: size,
+                addr: other_addr,
+                len: other_len,
             },
-        ) => { addr == place && len == size }
+        ) => { addr == other_addr && len == other_len }
         (
             Call::Mprotect { addr, len, prot },
             Call::Mprotect {
-                addr: place,
-                len: size,
-                prot: access,
+                addr: other_addr,
+                len: other_len,
+                prot: other_prot,
             },
-        ) => addr == place && len == size && same_prot(prot, access),
+        ) => addr == other_addr && len == other_len && same_prot(prot, other_prot),
         (
             Call::Mremap {
                 old,
@@ -33,32 +33,53 @@ pub(crate) fn same_call(a: &Call, b: &Call) -> bool
                 flags,
                 new,
             },
-            Call::Mremap {
-                old: place,
-                old_len: size,
-                new_len: wanted,
-                flags: bits,
-                new: target,
-            },
-        ) => {
-            old == place && old_len == size && new_len == wanted && flags == bits && new == target
-        }
+            _,
+        ) => is_mremap(b, *old, *old_len, *new_len, *flags, *new),
         (
             Call::Touch { page, access },
             Call::Touch {
-                page: place,
-                access: kind,
+                page: other_page,
+                access: other_access,
             },
-        ) => page == place && access == kind,
-        (Call::Brk { addr }, Call::Brk { addr: end }) => addr == end,
-        (
-            Call::Mseal { addr, len, flags },
-            Call::Mseal {
-                addr: place,
-                len: size,
-                flags: bits,
-            },
-        ) => addr == place && len == size && flags == bits,
+        ) => page == other_page && access == other_access,
+        (Call::Brk { addr }, Call::Brk { addr: other_addr }) => addr == other_addr,
+        (Call::Mseal { addr, len, flags }, _) => is_mseal(b, *addr, *len, *flags),
+        _ => false,
+    }
+}
+
+/// Whether a call is mremap(2) with these arguments.
+fn is_mremap(call: &Call, old: u64, old_len: u64, new_len: u64, flags: u32, new: u64) -> bool
+    ensures { IsTrue result ↔ (Call.Mremap old old_len new_len flags new ≡ call.now) }
+{
+    match call {
+        Call::Mremap {
+            old: other_old,
+            old_len: other_old_len,
+            new_len: other_new_len,
+            flags: other_flags,
+            new: other_new,
+        } => {
+            old == *other_old
+                && old_len == *other_old_len
+                && new_len == *other_new_len
+                && flags == *other_flags
+                && new == *other_new
+        }
+        _ => false,
+    }
+}
+
+/// Whether a call is mseal(2) with these arguments.
+fn is_mseal(call: &Call, addr: u64, len: u64, flags: u64) -> bool
+    ensures { IsTrue result ↔ (Call.Mseal addr len flags ≡ call.now) }
+{
+    match call {
+        Call::Mseal {
+            addr: other_addr,
+            len: other_len,
+            flags: other_flags,
+        } => addr == *other_addr && len == *other_len && flags == *other_flags,
         _ => false,
     }
 }
@@ -68,16 +89,16 @@ pub(crate) fn same_reply(a: &Reply, b: &Reply) -> bool
     ensures { IsTrue result ↔ (a.now ≡ b.now) }
 {
     match (a, b) {
-        (Reply::Addr(addr), Reply::Addr(place)) => addr == place,
+        (Reply::Addr(addr), Reply::Addr(other_addr)) => addr == other_addr,
         (Reply::Zero, Reply::Zero) => true,
-        (Reply::Refused(errno), Reply::Refused(cause)) => errno == cause,
+        (Reply::Refused(errno), Reply::Refused(other_errno)) => errno == other_errno,
         (
             Reply::Grown { area, index },
             Reply::Grown {
-                area: other,
-                index: page,
+                area: other_area,
+                index: other_index,
             },
-        ) => same_area(area, other) && index == page,
+        ) => same_area(area, other_area) && index == other_index,
         _ => false,
     }
 }
@@ -90,10 +111,10 @@ pub(crate) fn same_verdict(a: &Verdict, b: &Verdict) -> bool
         (
             Verdict::Served { area, index },
             Verdict::Served {
-                area: other,
-                index: page,
+                area: other_area,
+                index: other_index,
             },
-        ) => { same_area(area, other) && index == page }
+        ) => { same_area(area, other_area) && index == other_index }
         (Verdict::MapErr, Verdict::MapErr)
         | (Verdict::AccErr, Verdict::AccErr)
         | (Verdict::BusErr, Verdict::BusErr) => true,

@@ -1,8 +1,7 @@
 //! Gathering, labelling and checking, against lists worked out by hand.
-ghost use Rattle.std.specs.Bool.{OnTrue};
-ghost use Rattle.trace_reader.specs.Values.{AreNumbered};
-
-use crate::{Answer, CheckError, Content, History, Item, MOST_THREADS, check, gather, label};
+use crate::{
+    Answer, CheckError, Content, History, Item, MOST_THREADS, are_numbered, check, gather, label,
+};
 use mm_types::{
     Access, AreaList, Attr, Call, Config, Entry, Files, MAP_ANONYMOUS, MAP_PRIVATE, MmapArgs, Page,
     Prot, Record, Reply, Seen, Span, Verdict,
@@ -261,18 +260,6 @@ fn kind_of(answer: &Answer) -> Kind {
         Answer::List(_) => Kind::List,
         Answer::Nothing => Kind::Nothing,
     }
-}
-
-/// Whether the numbers of lines rise.
-fn are_numbered(lines: &[TraceLine]) -> bool
-    ensures { OnTrue result (AreNumbered lines.now) }
-{
-    for place in 1..lines.len() {
-        if lines[place].number <= lines[place - 1].number {
-            return false;
-        }
-    }
-    true
 }
 
 /// The place of the bad entry of a history of the small trace, if it has one, with what was expected there and what was found.

@@ -11,7 +11,7 @@ ghost use Rattle.history.specs.Turns.{turn_item};
 
 use crate::callers::{Callers, MOST_THREADS};
 use crate::gathering::{is_in_order, version_of};
-use crate::ordering::VERSION_STEP;
+use crate::ordering::place_at;
 use mm_types::{Entry, Seen};
 use std::marker::Model;
 use trace_reader::TraceLine;
@@ -101,8 +101,9 @@ fn next_read<'a>(version: u64, journal: &[Entry], log: &'a [Seen]) -> Option<(&'
     Some((read, rest))
 }
 
-/// What the one caller did that ran all these lines, where in the order of the lines it is in the order of a history, whoever's they are;
-/// else `None`: there a thread reads a version of which a later thread read before.
+/// What one caller did by a journal and a log, in the order of a history, where that is the order of the lines that stand with it.
+/// `None` says nothing, by any clause. By the code it comes where the versions of the log fall, or where a read of a version
+/// stands behind one of it by a later thread.
 pub fn in_turn<'a>(lines: &[TraceLine], journal: &'a [Entry], log: &'a [Seen]) -> Option<Turns<'a>>
     requires { All (λ line. line.thread < MOST_THREADS) lines.now }
     ensures all { IfSome result (λ turns. turns ≡ history_of journal.now (log.now ∷ [])) }
@@ -139,9 +140,8 @@ fn is_in_turn(lines: &[TraceLine], mut turns: Turns<'_>) -> bool
 fn place(turn: &Turn<'_>, caller: u32) -> u128
     ensures { result ≡ turn_place caller turn.now }
 {
-    let reader = match turn {
-        Turn::Call(_, _) => 0,
-        Turn::Read(_) => u128::from(caller) + 1,
-    };
-    u128::from(turn.version()) * VERSION_STEP + reader
+    match turn {
+        Turn::Call(version, _) => place_at(*version, true, caller),
+        Turn::Read(read) => place_at(version_of(read), false, caller),
+    }
 }

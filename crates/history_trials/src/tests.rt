@@ -1,14 +1,12 @@
 //! Histories that are judged by `check`, `check_parent` or `check_child`, and by the slow judge.
 ghost use Rattle.std.specs.Prelude.{◌≡◌, ◌≤◌, ◌↔◌, All, IsTrue};
-ghost use Rattle.std.specs.Bool.{OnTrue};
 ghost use Rattle.area_rules.specs.Journals.{version_of};
-ghost use Rattle.trace_reader.specs.Values.{AreNumbered};
 
 use crate::drawing::{CHILD, changed, drawn_trace, reordered};
 use crate::running::{Run, Space, run_lines};
 use crate::slow_judge::{Bad, Told, first_bad};
 use draws::Draws;
-use history::{Answer, CheckError, History, MOST_THREADS, check};
+use history::{Answer, CheckError, History, MOST_THREADS, are_numbered, check};
 use mm_fork::{check_child, check_parent, child_history, inherit};
 use mm_types::{Entry, NoMemory, Seen};
 use std::alloc::Global;
@@ -56,18 +54,6 @@ fn told(judged: Result<(), CheckError>) -> Result<Option<Bad>, Fail> {
         ))),
         Err(CheckError::NoMemory) => Err("no memory".into()),
     }
-}
-
-/// Whether the numbers of lines rise.
-fn are_numbered(lines: &[TraceLine]) -> bool
-    ensures { OnTrue result (AreNumbered lines.now) }
-{
-    for place in 1..lines.len() {
-        if lines[place].number <= lines[place - 1].number {
-            return false;
-        }
-    }
-    true
 }
 
 /// What is bad of a history, by the judge of such histories.

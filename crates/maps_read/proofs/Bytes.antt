@@ -10,7 +10,7 @@ use Rattle.trace_reader.proofs.Beginnings.{IsLimited, lines_leave-front, lines_l
 use Rattle.trace_reader.proofs.FirstBad.{lines_leave-Err}
 use Rattle.trace_reader.proofs.LineTests.{text_within-past}
 use Rattle.maps_read.specs.declared.maps.MapsLine.{MapsLine}
-use Rattle.maps_read.specs.declared.reading.TheConstants.{LINE_LIMIT}
+use Rattle.maps_read.specs.declared.reading.TheConstants.{MAPS_LINE_LIMIT}
 use Rattle.maps_read.specs.Laws.{AreRead, IsFirstBad}
 use Rattle.maps_read.specs.Maps.{IsMaps, next_line, after_line, maps_of}
 use Rattle.maps_read.proofs.Ordered.{leaves, leaves_apart, no_lines}
@@ -23,7 +23,7 @@ maps_of-Err bytes first e = lines_leave-Err after_line [] bytes first e
 -- the lines are limited
 after_line-limited : IsLimited trace_limit after_line
 unfolding after_line next_line
-after_line-limited before line past = rw (text_within-past LINE_LIMIT trace_limit line past) refl
+after_line-limited before line past = rw (text_within-past MAPS_LINE_LIMIT trace_limit line past) refl
 
 -- so one byte more than the limit settles them
 pub maps_of-front : (bytes : List ℕ) → maps_of (take (trace_limit + 1) bytes) ≡ maps_of bytes

@@ -10,14 +10,14 @@ use Rattle.trace_reader.specs.declared.error.Cause.{Cause}
 use Rattle.trace_reader.specs.Numbers.{digits_of, is_lower_digit, lower_hexadecimal_of}
 use Rattle.trace_reader.proofs.Digits.{part_fits}
 use Rattle.trace_reader.proofs.WordParts.{position_or_len-le}
-use Rattle.maps_read.specs.Fields.{is_part, spaces_before, hexadecimal}
+use Rattle.maps_read.specs.Fields.{is_part, leading_spaces, hexadecimal}
 
 space_is_ascii : (c : ℕ) → nat_eq c (byte " ") ≡ true → c < 128
 space_is_ascii c e = grind (arith, nat_tests)
 
 -- a text may be cut after its first spaces
-pub boundary_at_part : (text : List ℕ) → IsUtf8 text → IsCharBoundary text (spaces_before text)
-unfolding spaces_before
+pub boundary_at_part : (text : List ℕ) → IsUtf8 text → IsCharBoundary text (leading_spaces text)
+unfolding leading_spaces
 boundary_at_part text utf8 = at_place (position_or_len is_part text) refl
   where
     at_place : (n : ℕ) → position_or_len is_part text ≡ n → IsCharBoundary text n

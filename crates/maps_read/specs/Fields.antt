@@ -31,12 +31,12 @@ abbrev pub is_part : ℕ → Bool
 is_part c = not (nat_eq c (byte " "))
 
 -- how many spaces a text begins with
-unfoldable pub spaces_before : List ℕ → ℕ
-spaces_before text = position_or_len is_part text
+unfoldable pub leading_spaces : List ℕ → ℕ
+leading_spaces text = position_or_len is_part text
 
 -- a text without the spaces that it begins with
-unfoldable pub without_spaces_before : List ℕ → List ℕ
-without_spaces_before text = drop (spaces_before text) text
+unfoldable pub without_leading_spaces : List ℕ → List ℕ
+without_leading_spaces text = drop (leading_spaces text) text
 
 -- a number of 1 to so many digits of lower-case hexadecimal
 unfoldable pub hexadecimal : ℕ → List ℕ → Result ℕ Cause
@@ -87,4 +87,4 @@ line_of_words addresses letters start numbers node name = do
 -- what a line says: five words with one space after each but the last, and a name after the spaces that follow that one, if there are any
 unfoldable pub line_of : List ℕ → Result MapsLine Cause
 line_of text = line_of_words (word 0 text) (word 1 text) (word 2 text) (word 3 text) (word 4 text)
-    (without_spaces_before (behind_words 5 text))
+    (without_leading_spaces (behind_words 5 text))

@@ -8,7 +8,7 @@ use Rattle.trace_reader.specs.Grammar.{lines_leave}
 use Rattle.trace_reader.specs.Lines.{trace_limit}
 use Rattle.trace_reader.specs.RawLines.{RawLine, raw_lines, text_within}
 use Rattle.maps_read.specs.declared.maps.MapsLine.{MapsLine}
-use Rattle.maps_read.specs.declared.reading.TheConstants.{LINE_LIMIT}
+use Rattle.maps_read.specs.declared.reading.TheConstants.{MAPS_LINE_LIMIT}
 use Rattle.maps_read.specs.Fields.{line_of}
 
 -- fewer than 2^32 lines; each begins below its end, and not below the end of a line before it
@@ -33,7 +33,7 @@ is_in_order end line = nat_lt line.lo line.hi && nat_le end line.lo
 -- the line that a raw line is, behind lines that end here
 unfoldable pub next_line : ℕ → RawLine → Result MapsLine Cause
 next_line end raw = do
-  text ← text_within LINE_LIMIT trace_limit raw
+  text ← text_within MAPS_LINE_LIMIT trace_limit raw
   line ← line_of text
   if is_in_order end line then Ok line else Err MapsOrder
 

@@ -3,7 +3,7 @@
 ghost use Rattle.std.specs.Prelude.{◌≡◌, ◌<◌, IfOk, IfErr, IfSome, Ok, length, slice_get};
 ghost use Rattle.trace_reader.specs.RawLines.{raw_lines};
 ghost use Rattle.maps_read.specs.Query.{query_answer, query_text, without_spaces_after};
-ghost use Rattle.maps_read.specs.Reading.{IsErrorOf};
+ghost use Rattle.trace_reader.specs.Reading.{IsErrorOf};
 
 use crate::querying::query;
 use crate::reading::read_maps;

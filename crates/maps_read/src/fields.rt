@@ -2,7 +2,7 @@
 
 ghost use Rattle.std.specs.Prelude.{◌≡◌, ◌<◌, ◌≤◌};
 ghost use Rattle.trace_reader.specs.Reading.{Gives};
-ghost use Rattle.maps_read.specs.Fields.{front, behind, spaces_before, without_spaces_before, hexadecimal, decimal, bounds, device, letter, perms, line_of_words, line_of};
+ghost use Rattle.maps_read.specs.Fields.{front, behind, leading_spaces, without_leading_spaces, hexadecimal, decimal, bounds, device, letter, perms, line_of_words, line_of};
 
 use crate::maps::MapsLine;
 use mm_types::{Prot, Text};
@@ -19,9 +19,9 @@ fn cut(text: &str, at: char) -> (&str, &str)
 }
 
 /// How many spaces a text begins with.
-#[tactic(auto, unfolding(crate::specs::Fields::spaces_before))]
-fn spaces_before(text: &[u8]) -> usize
-    ensures { result ≡ spaces_before text.now }
+#[tactic(auto, unfolding(crate::specs::Fields::leading_spaces))]
+fn leading_spaces(text: &[u8]) -> usize
+    ensures { result ≡ leading_spaces text.now }
 {
     text.iter()
         .position(|byte| *byte != b' ')
@@ -29,11 +29,11 @@ fn spaces_before(text: &[u8]) -> usize
 }
 
 /// A text without the spaces that it begins with.
-#[tactic(auto, unfolding(crate::specs::Fields::without_spaces_before))]
-fn without_spaces_before(text: &str) -> &str
-    ensures { result.now ≡ without_spaces_before text.now }
+#[tactic(auto, unfolding(crate::specs::Fields::without_leading_spaces))]
+fn without_leading_spaces(text: &str) -> &str
+    ensures { result.now ≡ without_leading_spaces text.now }
 {
-    let (_, rest) = text.split_at(spaces_before(text.as_bytes()));
+    let (_, rest) = text.split_at(leading_spaces(text.as_bytes()));
     rest
 }
 
@@ -158,6 +158,6 @@ pub(crate) fn line_of(alloc: Global, text: &str) -> Result<MapsLine, CallError>
     let (start, rest) = cut(rest, ' ');
     let (numbers, rest) = cut(rest, ' ');
     let (node, rest) = cut(rest, ' ');
-    let name = without_spaces_before(rest);
+    let name = without_leading_spaces(rest);
     line_of_words(alloc, addresses, letters, start, numbers, node, name)
 }

@@ -5,7 +5,7 @@ ghost use Rattle.trace_reader.specs.Lines.{trace_limit};
 ghost use Rattle.trace_reader.specs.RawLines.{raw_lines};
 ghost use Rattle.trace_reader.specs.declared.error.BadLine.{BadLine};
 ghost use Rattle.maps_read.specs.declared.maps.MapsLine.{MapsLine};
-ghost use Rattle.maps_read.specs.declared.reading.TheConstants.{LINE_LIMIT};
+ghost use Rattle.maps_read.specs.declared.reading.TheConstants.{MAPS_LINE_LIMIT};
 ghost use Rattle.maps_read.specs.Laws.{AreRead, IsFirstBad};
 ghost use Rattle.maps_read.specs.Maps.{IsMaps, maps_of};
 ghost use Rattle.maps_read.specs.Query.{query_answer};
@@ -35,5 +35,5 @@ pub fn maps_are_within()
 
 /// A line has at most 8,192 bytes.
 pub fn maps_limits()
-    ensures { LINE_LIMIT ≡ 8192 }
+    ensures { MAPS_LINE_LIMIT ≡ 8192 }
 {}

@@ -26,7 +26,7 @@ pub use answering::{answer_of, query_text};
 pub use laws::{first_bad_line, front_is_enough, lines_are_read, maps_are_within, maps_limits};
 pub use maps::{MapsLine, MapsText};
 pub use querying::query;
-pub use reading::{LINE_LIMIT, read_maps};
+pub use reading::{MAPS_LINE_LIMIT, read_maps};
 
 #[cfg(test)]
 mod process_tests;

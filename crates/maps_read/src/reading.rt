@@ -1,19 +1,18 @@
 //! Which maps text bytes are.
 
 ghost use Rattle.std.specs.Prelude.{◌≡◌, IfOk, IfErr, Ok};
-ghost use Rattle.trace_reader.specs.Reading.{Gives, line_view};
+ghost use Rattle.trace_reader.specs.Reading.{Gives, IsErrorOf, line_view};
 ghost use Rattle.maps_read.specs.Maps.{maps_of, after_line, end_of, is_in_order, next_line};
-ghost use Rattle.maps_read.specs.Reading.{IsErrorOf};
 
 use crate::fields::line_of;
 use crate::maps::{MapsLine, MapsText};
 use std::alloc::Global;
 use trace_reader::{
-    CallError, Cause, RawLine, ReadError, TRACE_LIMIT, at_line, first_line, text_within,
+    CallError, Cause, RawLine, ReadError, TRACE_LIMIT, error_at, first_line, text_within,
 };
 
-/// The most bytes of a line, its newline not counted.
-pub const LINE_LIMIT: usize = 8192;
+/// The most bytes of a line of a maps text, its newline not counted.
+pub const MAPS_LINE_LIMIT: usize = 8192;
 
 /// Reads bytes as a maps text.
 ///
@@ -30,7 +29,7 @@ pub fn read_maps(alloc: Global, bytes: &[u8]) -> Result<MapsText, ReadError>
     while !rest.is_empty() {
         let (line, after) = first_line(rest, number, bytes.len() - rest.len());
         if let Err(error) = push_line(alloc, &mut lines, &line) {
-            return Err(at_line(number, error));
+            return Err(error_at(number, error));
         }
         rest = after;
         number += 1;
@@ -53,7 +52,7 @@ fn push_line(alloc: Global, lines: &mut Vec<MapsLine>, line: &RawLine) -> Result
 fn next_line(alloc: Global, end: u64, raw: &RawLine) -> Result<MapsLine, CallError>
     ensures { Gives (λ line. line) result (next_line end (line_view raw.now)) }
 {
-    let text = text_within(raw, LINE_LIMIT, TRACE_LIMIT)?;
+    let text = text_within(raw, MAPS_LINE_LIMIT, TRACE_LIMIT)?;
     let line = line_of(alloc, text)?;
     if is_in_order(end, &line) {
         Ok(line)

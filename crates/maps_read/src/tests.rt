@@ -1,4 +1,4 @@
-use crate::{LINE_LIMIT, answer_of, read_maps};
+use crate::{MAPS_LINE_LIMIT, answer_of, read_maps};
 use std::alloc::Global;
 use std::process::Abort;
 use std::test::Fail;
@@ -166,10 +166,10 @@ fn long_line(alloc: Global, len: usize) -> Result<Vec<u8>, Fail> {
 
 #[test]
 fn long_lines(rt: HostRuntime) -> Result<(), Fail> {
-    let longest = long_line(rt.alloc(), LINE_LIMIT)?;
+    let longest = long_line(rt.alloc(), MAPS_LINE_LIMIT)?;
     let read = refusal(rt.alloc(), &longest)?;
     assert_eq!(rt; read, None);
-    let mut longer = long_line(rt.alloc(), LINE_LIMIT + 1)?;
+    let mut longer = long_line(rt.alloc(), MAPS_LINE_LIMIT + 1)?;
     check_second(&rt, &longer, Cause::TooLong)?;
     longer.pop();
     check_second(&rt, &longer, Cause::TooLong)

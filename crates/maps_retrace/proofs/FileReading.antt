@@ -17,7 +17,8 @@ use Rattle.trace_reader.specs.RawLines.{raw_line, is_newline, is_longer_than, te
 use Rattle.trace_reader.specs.Words.{words_of, text_after_words}
 use Rattle.trace_reader.proofs.RawPieces.{lines_from-nil}
 use Rattle.trace_text.proofs.LinesRead.{text_of-utf8, lines_from-text, lines_read-header}
-use Rattle.maps_retrace.specs.FileLines.{header, files_of, files_opened}
+use Rattle.trace_text.specs.LineTexts.{header}
+use Rattle.maps_retrace.specs.FileLines.{files_of, files_opened}
 
 abbrev ok_of : {A E : Type 0} → A → Result A E
 ok_of a = Ok a

@@ -13,7 +13,7 @@ use Rattle.trace_reader.specs.Grammar.{at_line, lines_leave}
 use Rattle.trace_reader.specs.Lines.{trace_limit}
 use Rattle.trace_reader.specs.RawLines.{RawLine, raw_line, is_newline, is_longer_than, text_within, lines_of_pieces, lines_from, raw_lines}
 use Rattle.maps_read.specs.declared.maps.MapsLine.{MapsLine}
-use Rattle.maps_read.specs.Fields.{behind, behind_words, word, spaces_before, without_spaces_before, hexadecimal, decimal, bounds, device, perms, line_of_words, line_of}
+use Rattle.maps_read.specs.Fields.{behind, behind_words, word, leading_spaces, without_leading_spaces, hexadecimal, decimal, bounds, device, perms, line_of_words, line_of}
 use Rattle.maps_read.specs.Maps.{end_of, is_in_order, next_line, after_line, maps_of}
 
 abbrev ok_of : {A E : Type 0} → A → Result A E
@@ -196,7 +196,7 @@ behind_single (suc count) text single = behind_single count (behind (byte " ") t
     (All-drop (λ c. is_newline c ≡ false) (position_or_len (λ c. nat_eq c (byte " ")) text + 1) text single)
 
 pub name_single : (text : List ℕ) (line : MapsLine) → IsSingle text → line_of text ≡ Ok line → IsSingle line.name
-unfolding line_of without_spaces_before spaces_before
+unfolding line_of without_leading_spaces leading_spaces
 name_single text line single e =
-    let is = name_of_words (word 0 text) (word 1 text) (word 2 text) (word 3 text) (word 4 text) (without_spaces_before (behind_words 5 text)) line e in
-    rw is (All-drop (λ c. is_newline c ≡ false) (spaces_before (behind_words 5 text)) (behind_words 5 text) (behind_single 5 text single))
+    let is = name_of_words (word 0 text) (word 1 text) (word 2 text) (word 3 text) (word 4 text) (without_leading_spaces (behind_words 5 text)) line e in
+    rw is (All-drop (λ c. is_newline c ≡ false) (leading_spaces (behind_words 5 text)) (behind_words 5 text) (behind_single 5 text single))

@@ -21,12 +21,12 @@ use Rattle.flag_table.specs.Tables.{prot_flags}
 use Rattle.trace_reader.specs.Grammar.{nothing, after_lines, lines_read, config_of, trace_of}
 use Rattle.trace_reader.specs.Lines.{SoFar, trace_limit, has_descriptor}
 use Rattle.trace_reader.specs.RawLines.{is_newline, lines_from}
-use Rattle.trace_text.specs.LineTexts.{hexadecimal, prot_word, line_text_by, text_by}
+use Rattle.trace_text.specs.LineTexts.{header, hexadecimal, prot_word, line_text_by, text_by}
 use Rattle.trace_text.proofs.Numerals.{length-address, length-number, length-hexadecimal}
 use Rattle.trace_text.proofs.Operations.{IsNumberWord, decimal_is_word, hexadecimal_is_word, mapping_read_from}
 use Rattle.trace_text.proofs.LinesRead.{IsReadableBy, AreNumberedFrom, with_lines, length-text, after_more, after_all, lines_read-header, trace_of-read}
 use Rattle.maps_read.specs.declared.maps.MapsLine.{MapsLine}
-use Rattle.maps_retrace.specs.FileLines.{file_text, file_texts, files_opened, header}
+use Rattle.maps_retrace.specs.FileLines.{file_text, file_texts, files_opened}
 use Rattle.maps_retrace.specs.Mappings.{descriptor_of, flags_of, mapping_of, offset_word, mapped_words, mapping_line, mapping_lines, mapping_text}
 use Rattle.maps_retrace.proofs.FileReading.{with_files, opens_behind, opens_short}
 use Rattle.maps_retrace.proofs.Mapped.{flags_say}

@@ -6,6 +6,7 @@ use Rattle.mm_types.specs.MapsText.{hex}
 use Rattle.trace_reader.specs.declared.error.BadLine.{BadLine}
 use Rattle.trace_reader.specs.declared.trace.Trace.{Trace}
 use Rattle.trace_reader.specs.Grammar.{trace_of}
+use Rattle.trace_text.specs.LineTexts.{header}
 use Rattle.maps_read.specs.declared.maps.MapsLine.{MapsLine}
 
 -- whether two lines show one file: the same numbers and name
@@ -25,10 +26,6 @@ file_text fd line = codes "file " ++ (decimal fd ++ (codes " rw 9223372036854775
 unfoldable pub file_texts : ℕ → List MapsLine → List ℕ
 file_texts fd [] = []
 file_texts fd (line ∷ lines) = file_text fd line ++ file_texts (fd + 1) lines
-
--- the header of a trace
-abbrev pub header : List ℕ
-header = codes "vmatrace 1\n"
 
 -- the files of what was read as a trace
 abbrev pub files_of : Result Trace BadLine → List FileRow

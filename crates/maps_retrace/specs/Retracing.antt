@@ -16,7 +16,8 @@ use Rattle.trace_reader.specs.RawLines.{RawLine, raw_lines}
 use Rattle.maps_read.specs.declared.maps.MapsLine.{MapsLine}
 use Rattle.maps_read.specs.Maps.{maps_of}
 use Rattle.maps_retrace.specs.declared.file_lines.TheConstants.{FIRST_DESCRIPTOR}
-use Rattle.maps_retrace.specs.FileLines.{file_place, file_text, file_texts, header, files_opened, are_one_file}
+use Rattle.trace_text.specs.LineTexts.{header}
+use Rattle.maps_retrace.specs.FileLines.{file_place, file_text, file_texts, files_opened, are_one_file}
 use Rattle.maps_retrace.specs.Mappings.{mapping_text}
 
 -- What was taken of the lines so far: those that show a file first, for each the files that its line of the trace opens, which are one,

@@ -2,7 +2,7 @@
 
 ghost use Rattle.std.specs.Prelude.{◌≡◌, IfOk, IfErr, Ok, string_bytes};
 ghost use Rattle.maps_read.specs.Maps.{maps_of};
-ghost use Rattle.maps_read.specs.Reading.{IsErrorOf};
+ghost use Rattle.trace_reader.specs.Reading.{IsErrorOf};
 ghost use Rattle.maps_retrace.specs.Retracing.{lines_taken, taken_text, retraced_of};
 ghost use Rattle.maps_retrace.specs.Internal.Taking.{IsTaken, what_taken};
 
@@ -12,7 +12,7 @@ use crate::taking::Taken;
 use maps_read::{MapsLine, MapsText, read_maps};
 use mm_types::NoMemory;
 use std::alloc::Global;
-use trace_reader::{ReadError, at_line, first_line};
+use trace_reader::{ReadError, error_at, first_line};
 
 /// Reads bytes as a maps text, and makes the trace that ends with this text.
 ///
@@ -63,7 +63,7 @@ fn take_lines<'a>(
     for line in lines {
         let (raw, after) = first_line(rest, number, bytes.len() - rest.len());
         if let Err(error) = taken.add(alloc, line, raw.text) {
-            return Err(at_line(number, error));
+            return Err(error_at(number, error));
         }
         rest = after;
         number += 1;

@@ -6,10 +6,11 @@ use Rattle.std.proofs.lemmas.List.Elements.{All-filter, All-nil, All-cons, All-h
 use Rattle.std.proofs.lemmas.List.Kept.{AllPairs-filter, AllPairs-cons}
 use Rattle.trace_reader.specs.declared.trace.Trace.{Trace}
 use Rattle.trace_reader.specs.declared.trace.TraceLine.{TraceLine}
+use Rattle.trace_reader.specs.Lines.{has_child}
 use Rattle.trace_reader.specs.Values.{IsTraceValue, IsLineValue, AreForksRight, AreNamesRight, AreNumbered, NamesACall, NamesInSpace, ForksFromParent, IsOfParent, child_of, children_of, is_call_op, is_maps}
 use Rattle.split_merge.proofs.Lists.{length-filter_at_most}
 use Rattle.split_merge.proofs.Counting.{contains_filter}
-use Rattle.mm_fork.specs.Children.{is_among, parent_lines, child_lines, parent_trace, child_trace}
+use Rattle.mm_fork.specs.Children.{parent_lines, child_lines, parent_trace, child_trace}
 
 -- ---- what a test gives of some of the elements
 
@@ -159,20 +160,20 @@ module _ (p : TraceLine → Bool) (trace : Trace) (value : IsTraceValue trace) (
 -- ---- the lines of the parent
 
 -- a thread that no line forks is among no children
-parent_apart : (children : List ℕ) (thread : ℕ) → All (λ child. child ≢ thread) children → is_among children thread ≡ false
+parent_apart : (children : List ℕ) (thread : ℕ) → All (λ child. child ≢ thread) children → has_child children thread ≡ false
 parent_apart [] thread all = refl
 parent_apart (child ∷ children) thread all =
-    ap (λ (t : Bool). t || is_among children thread) (ne_eqb child thread (All-head (λ child. child ≢ thread) child children all))
+    ap (λ (t : Bool). t || has_child children thread) (ne_eqb child thread (All-head (λ child. child ≢ thread) child children all))
     ∙ parent_apart children thread (All-tail (λ child. child ≢ thread) child children all)
 
 pub parent_is_trace : (trace : Trace) → IsTraceValue trace → IsTraceValue (parent_trace trace)
-parent_is_trace trace value = trace_some (λ line. not (is_among (children_of trace.lines) line.thread)) trace value
-    (All-weaker (NamesInSpace trace.lines) (NamesStay (λ line. not (is_among (children_of trace.lines) line.thread)) trace.lines)
+parent_is_trace trace value = trace_some (λ line. not (has_child (children_of trace.lines) line.thread)) trace value
+    (All-weaker (NamesInSpace trace.lines) (NamesStay (λ line. not (has_child (children_of trace.lines) line.thread)) trace.lines)
     (λ line inside passes. if_some line.after
     (λ number. IsOfParent trace.lines line.thread × All (λ other. other.number ≡ number → IsOfParent trace.lines other.thread) trace.lines)
-    (λ number. All (λ other. other.number ≡ number → not (is_among (children_of trace.lines) other.thread) ≡ true) trace.lines)
+    (λ number. All (λ other. other.number ≡ number → not (has_child (children_of trace.lines) other.thread) ≡ true) trace.lines)
     (λ number both. All-weaker (λ other. other.number ≡ number → IsOfParent trace.lines other.thread)
-    (λ other. other.number ≡ number → not (is_among (children_of trace.lines) other.thread) ≡ true)
+    (λ other. other.number ≡ number → not (has_child (children_of trace.lines) other.thread) ≡ true)
     (λ other is_parent same. ap not (parent_apart (children_of trace.lines) other.thread (is_parent same))) trace.lines both.1) inside)
     trace.lines value.inside)
 

@@ -1,11 +1,11 @@
 -- Child spaces: what a child begins with, whose lines are whose, and the history of a child.
-use Rattle.std.specs.Prelude.{ℕ, ◌≡◌, ◌≤◌, ◌<◌, ◌+◌, Bool, true, false, not, nat_eq, List, [], ◌++◌, length, map, take, drop, filter, fold, slice_get, All, Some}
-use Rattle.std.specs.List.{list_any}
+use Rattle.std.specs.Prelude.{ℕ, ◌≡◌, ◌≤◌, ◌<◌, ◌+◌, false, not, nat_eq, List, [], ◌++◌, length, map, take, drop, filter, fold, slice_get, All, Some}
 use Rattle.mm_types.specs.declared.call.Entry.{Entry}
 use Rattle.mm_types.specs.declared.call.Seen.{Seen}
 use Rattle.mm_types.specs.declared.config.Config.{Config}
 use Rattle.trace_reader.specs.declared.trace.Trace.{Trace}
 use Rattle.trace_reader.specs.declared.trace.TraceLine.{TraceLine}
+use Rattle.trace_reader.specs.Lines.{has_child}
 use Rattle.trace_reader.specs.Values.{children_of}
 use Rattle.area_rules.specs.Growing.{grows}
 use Rattle.area_rules.specs.Tables.{AddressSpace}
@@ -32,13 +32,9 @@ inherited journal version = map as_inherited (take version journal)
 abbrev pub child_history_of : ℕ → List Entry → List (List Seen) → List Item
 child_history_of version journal logs = history_of (drop version journal) (map (log_behind version) logs)
 
--- whether a thread is one of these children
-abbrev pub is_among : List ℕ → ℕ → Bool
-is_among children thread = list_any (λ child. nat_eq child thread) children
-
 -- the lines of the parent, in order: those of threads that are no child's
 abbrev pub parent_lines : List TraceLine → List TraceLine
-parent_lines lines = filter (λ line. not (is_among (children_of lines) line.thread)) lines
+parent_lines lines = filter (λ line. not (has_child (children_of lines) line.thread)) lines
 
 -- the lines of a child, in order
 abbrev pub child_lines : List TraceLine → ℕ → List TraceLine

@@ -1,7 +1,8 @@
 //! Whose lines of a trace are whose.
 ghost use Rattle.std.specs.Prelude.{◌≡◌, IfOk, filter, not};
+ghost use Rattle.trace_reader.specs.Lines.{has_child};
 ghost use Rattle.trace_reader.specs.Values.{child_of, children_of};
-ghost use Rattle.mm_fork.specs.Children.{is_among, parent_lines, child_lines};
+ghost use Rattle.mm_fork.specs.Children.{parent_lines, child_lines};
 
 use mm_types::NoMemory;
 use std::alloc::Global;
@@ -33,9 +34,11 @@ fn lines_of_others(
     lines: &[TraceLine],
     children: &[u32],
 ) -> Result<Vec<TraceLine>, NoMemory>
-    ensures { IfOk result (λ own. own.items ≡ filter (λ line. not (is_among children.now line.thread)) lines.now) }
+    ensures { IfOk result (λ own. own.items ≡ filter (λ line. not (has_child children.now line.thread)) lines.now) }
 {
-    let own = lines.iter().filter(|line| !is_among(children, line.thread));
+    let own = lines
+        .iter()
+        .filter(|line| !has_child(children, line.thread));
     Ok(own.copied().collect(alloc)?)
 }
 
@@ -58,8 +61,8 @@ fn child_of(op: Op) -> Option<u32>
 }
 
 /// Whether a thread is one of these children.
-fn is_among(children: &[u32], thread: u32) -> bool
-    ensures { result ≡ is_among children.now thread }
+fn has_child(children: &[u32], thread: u32) -> bool
+    ensures { result ≡ has_child children.now thread }
 {
     children.contains(&thread)
 }

@@ -1,9 +1,6 @@
 //! Histories of traces that grow, name and fork, worked out by hand.
-ghost use Rattle.std.specs.Bool.{OnTrue};
-ghost use Rattle.trace_reader.specs.Values.{AreNumbered};
-
 use crate::{check_child, check_parent, child_history, inherit};
-use history::{Answer, CheckError, Content, History, Item, MOST_THREADS};
+use history::{Answer, CheckError, Content, History, Item, MOST_THREADS, are_numbered};
 use mm_types::{
     Access, AreaList, Attr, Call, Config, Entry, Files, MAP_ANONYMOUS, MAP_FIXED, MAP_GROWSDOWN,
     MAP_PRIVATE, MmapArgs, Page, Prot, Record, Reply, Seen, Span, Verdict,
@@ -151,18 +148,6 @@ fn told(judged: Result<(), CheckError>) -> Result<Option<Bad>, Fail> {
         ))),
         Err(CheckError::NoMemory) => Err("no memory".into()),
     }
-}
-
-/// Whether the numbers of lines rise.
-fn are_numbered(lines: &[TraceLine]) -> bool
-    ensures { OnTrue result (AreNumbered lines.now) }
-{
-    for place in 1..lines.len() {
-        if lines[place].number <= lines[place - 1].number {
-            return false;
-        }
-    }
-    true
 }
 
 /// What is bad of a history of the parent of a trace.

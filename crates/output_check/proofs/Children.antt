@@ -351,19 +351,6 @@ none_forks (b ∷ bytes) none = absurd (omega arith)
 
 -- ---- the loop of `first_fork`
 
--- the first of the lines that are left forks
-pub fork_here : (lines more : List RawLine) (line : RawLine) (all : Option ℕ) (number : ℕ) → first_fork lines ≡ all → lines ≡ line ∷ more
-    → line.number ≡ number → true ≡ is_fork line → Some number ≡ all
-fork_here lines more line all number so_far first numbered forks =
-    ap Some (sym numbered) ∙ sym (ap (λ (b : Bool). if b then Some line.number else first_fork more) (sym forks))
-    ∙ sym (ap first_fork first) ∙ so_far
-
--- it does not, and so the first that forks is among the others
-pub fork_later : (lines more : List RawLine) (line : RawLine) (all : Option ℕ) → first_fork lines ≡ all → lines ≡ line ∷ more
-    → false ≡ is_fork line → first_fork more ≡ all
-fork_later lines more line all so_far first other =
-    sym (ap (λ (b : Bool). if b then Some line.number else first_fork more) (sym other)) ∙ sym (ap first_fork first) ∙ so_far
-
 -- no lines are left
 pub fork_none : (number start : ℕ) (bytes : List ℕ) (all : Option ℕ) → length bytes ≡ 0 → first_fork (lines_from number start bytes) ≡ all → None ≡ all
 fork_none number start [] all none so_far = sym (ap first_fork (lines_from-nil number start)) ∙ so_far

@@ -58,10 +58,6 @@ pub behind_behind : (a b : ℕ) (place : Option ℕ) → behind a (behind b plac
 behind_behind a b None = refl
 behind_behind a b (Some n) = ap Some (omega arith)
 
-pub behind_none : (place : Option ℕ) → behind 0 place ≡ place
-behind_none None = refl
-behind_none (Some n) = ap Some (omega arith)
-
 -- where a line goes on, the next may begin behind its newline
 pub mark_past_line : (bytes : List ℕ) → mark_from false bytes
     ≡ behind (position_or_len is_newline bytes + 1) (mark_from true (drop (position_or_len is_newline bytes + 1) bytes))

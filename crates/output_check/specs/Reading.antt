@@ -1,15 +1,10 @@
 -- What is read of the bytes of a check: what the definition gives, unless memory runs out.
 use Rattle.std.specs.Prelude.{◌≡◌, Result, Ok, Err}
 use Rattle.trace_reader.specs.declared.error.ReadError.{ReadError}
-use Rattle.trace_reader.specs.declared.error.ReadError.TheVariants.{Bad, NoMemory}
 use Rattle.trace_reader.specs.declared.error.BadLine.{BadLine}
+use Rattle.trace_reader.specs.Reading.{IsErrorOf}
 use Rattle.output_check.specs.declared.input.Input.{Input}
 use Rattle.output_check.specs.Input.{CheckInput}
-
--- a bad line is that of the definition; out of memory is free
-abbrev pub IsErrorOf : {Y : Type 0} → ReadError → Result Y BadLine → Type 0
-IsErrorOf (Bad first) read = read ≡ Err first
-IsErrorOf NoMemory read = Unit {0}
 
 -- an input as the definition has it
 abbrev pub input_view : Input → CheckInput

@@ -1,9 +1,10 @@
 //! What is answered to the bytes of a check.
 ghost use Rattle.std.specs.Prelude.{◌≡◌, IfOk, IfErr, IsOkAnd};
+ghost use Rattle.trace_reader.specs.Reading.{IsErrorOf};
 ghost use Rattle.trace_reader.specs.Values.{IsTraceValue};
 ghost use Rattle.output_check.specs.Input.{input_of};
 ghost use Rattle.output_check.specs.Checked.{IsCheckedAs};
-ghost use Rattle.output_check.specs.Reading.{IsErrorOf, input_view};
+ghost use Rattle.output_check.specs.Reading.{input_view};
 
 use crate::input::{Input, read_input};
 use mm_types::NoMemory;

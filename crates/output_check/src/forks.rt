@@ -1,22 +1,23 @@
 //! Which lines of a trace fork, by their words.
-ghost use Rattle.std.specs.Prelude.{◌≡◌, IfOk, map, true, false};
-ghost use Rattle.trace_reader.specs.Lines.{begins_with_digit};
+ghost use Rattle.std.specs.Prelude.{◌≡◌, IfOk, map};
 ghost use Rattle.trace_reader.specs.RawLines.{raw_lines};
 ghost use Rattle.trace_reader.specs.Reading.{line_view};
 ghost use Rattle.output_check.specs.Internal.Forks.{first_fork, is_fork, are_fork_words};
 
+use mm_types::NoMemory;
 use std::alloc::Global;
-use trace_reader::{CallError, RawLine, first_line, text_of, words_of};
+use trace_reader::{CallError, RawLine, begins_with_digit, first_line, set_words, text_of};
 
 /// The number of the first line that forks, as its words say. Fails only where memory runs out.
-pub(crate) fn first_fork(alloc: Global, bytes: &[u8]) -> Result<Option<u64>, CallError>
+pub(crate) fn first_fork(alloc: Global, bytes: &[u8]) -> Result<Option<u64>, NoMemory>
     ensures { IfOk result (λ fork. fork ≡ first_fork (raw_lines bytes.now)) }
 {
+    let mut words = Vec::new(alloc);
     let mut rest = bytes;
     let mut number = 1;
     while !rest.is_empty() {
         let (line, after) = first_line(rest, number, bytes.len() - rest.len());
-        if is_fork(alloc, &line)? {
+        if is_fork(&mut words, &line)? {
             return Ok(Some(number));
         }
         rest = after;
@@ -25,38 +26,28 @@ pub(crate) fn first_fork(alloc: Global, bytes: &[u8]) -> Result<Option<u64>, Cal
     Ok(None)
 }
 
-/// Whether a line below the header forks, as its words say.
+/// Whether a line below the header forks, as its words say. They come into `words`, a list that serves for every line. Fails only
+/// where memory runs out.
 #[tactic(auto, unfolding(crate::specs::Internal::Forks::is_fork))]
-fn is_fork(alloc: Global, line: &RawLine) -> Result<bool, CallError>
+fn is_fork<'a>(words: &mut Vec<&'a str>, line: &RawLine<'a>) -> Result<bool, NoMemory>
     ensures { IfOk result (λ forks. forks ≡ is_fork (line_view line.now)) }
 {
     let text = match text_of(line) {
         Ok(text) => text,
         Err(CallError::Bad(_)) => return Ok(false),
-        Err(CallError::NoMemory) => return Err(CallError::NoMemory),
+        Err(CallError::NoMemory) => return Err(NoMemory),
     };
-    let words = words_of(alloc, text)?;
+    set_words(words, text)?;
     Ok(line.number != 1 && are_fork_words(words.as_slice()))
 }
 
 /// Whether the first word begins with a digit, and the second is `fork`.
-#[tactic(auto, unfolding(crate::specs::Internal::Forks::are_fork_words, trace_reader::specs::Lines::begins_with_digit))]
+#[tactic(auto, unfolding(crate::specs::Internal::Forks::are_fork_words))]
 fn are_fork_words(words: &[&str]) -> bool
     ensures { result ≡ are_fork_words (map (λ word. word.now) words.now) }
 {
     match words {
         [first, name, ..] => begins_with_digit(first) && *name == "fork",
         _ => false,
-    }
-}
-
-/// Whether a word begins with a decimal digit.
-#[tactic(auto, unfolding(trace_reader::specs::Lines::begins_with_digit))]
-fn begins_with_digit(word: &str) -> bool
-    ensures { result ≡ begins_with_digit word.now }
-{
-    match word.as_bytes() {
-        [first, ..] => first.is_ascii_digit(),
-        [] => false,
     }
 }

@@ -1,11 +1,9 @@
 -- For `Walk::line_to_come`: what the number that a text tells says of the item that comes.
-use Rattle.std.proofs.Common.{ℕ, ◌≡◌, ◌^◌, ◌<◌, ◌∙◌, sym, List, length, All, Option, Some, None}
+use Rattle.std.proofs.Common.{ℕ, ◌≡◌, ◌^◌, ◌<◌, ◌∙◌, sym, List, length, Option, Some, None}
 use Rattle.std.specs.Prelude.{MatchOption}
-use Rattle.std.proofs.lemmas.List.Elements.{All-weaker}
 use Rattle.trace_reader.specs.declared.trace.Trace.{Trace}
 use Rattle.trace_reader.specs.declared.trace.TraceLine.{TraceLine}
 use Rattle.trace_reader.specs.Values.{IsLineValue, IsTraceValue}
-use Rattle.history.specs.declared.callers.TheConstants.{MOST_THREADS}
 use Rattle.history.specs.declared.items.Item.{Item}
 use Rattle.history.specs.Histories.{items_of}
 use Rattle.history.specs.Checking.{next_line}
@@ -13,11 +11,6 @@ use Rattle.history.specs.Coming.{ProgressView, IsProgress, IsToCome, NoneIsToCom
 use Rattle.history.proofs.Lists.{at_place}
 use Rattle.history.proofs.Numbers.{own_place}
 use Rattle.output_judge.specs.Internal.Judging.{Begins, NoneComes, TheOneComes}
-
--- the threads of a trace are below the most
-pub few_threads : (trace : Trace) → IsTraceValue trace → All (λ line. line.thread < MOST_THREADS) trace.lines
-few_threads trace value =
-    All-weaker IsLineValue (λ (line : TraceLine). line.thread < MOST_THREADS) (λ line is. is.thread) trace.lines value.lines
 
 -- the number of a line of a trace has 64 bits
 pub number_fits : (trace : Trace) (before : List Item) (line : TraceLine) (caller : ℕ) → IsTraceValue trace

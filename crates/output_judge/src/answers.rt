@@ -1,8 +1,9 @@
 //! What an address space answers to a line of a trace.
 ghost use Rattle.std.specs.Prelude.{◌≡◌, ◌+◌, ◌-◌, ◌^◌, ◌<◌, ◌≤◌, [], length};
-ghost use Rattle.history.specs.Histories.{answer_of, call_of, is_call, read_of, space_after};
+ghost use Rattle.history.specs.Histories.{answer_of, is_call, read_of, space_after};
 ghost use Rattle.output_judge.specs.Internal.Printed.{shown};
 
+use history::made_call;
 use mm_types::{Access, Call, Page, Reply, Verdict};
 use sys_calls::PlainSpace;
 use trace_reader::Op;
@@ -49,24 +50,6 @@ pub(crate) fn run_op(space: &mut PlainSpace<'_>, op: Op) -> Answer
     match made_call(space, op) {
         Some(call) => Answer::Called(call, space.call(&call)),
         None => read_by(space, op),
-    }
-}
-
-/// The call that an operation makes over an address space, if it makes one: a fault that grows touches its page.
-#[tactic(auto, unfolding(history::specs::Histories::call_of))]
-fn made_call(space: &PlainSpace<'_>, op: Op) -> Option<Call>
-    ensures { result ≡ call_of space.now.config space.now.space op }
-{
-    match op {
-        Op::Call(call) => Some(call),
-        Op::Fault { page, access } => {
-            if space.grows(page, access) {
-                Some(Call::Touch { page, access })
-            } else {
-                None
-            }
-        }
-        Op::Maps | Op::Fork { .. } => None,
     }
 }
 

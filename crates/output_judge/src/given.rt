@@ -5,7 +5,7 @@ ghost use Rattle.mm_types.specs.declared.area.Record.{Record};
 ghost use Rattle.mm_types.specs.declared.files.FileRow.{FileRow};
 ghost use Rattle.trace_reader.specs.declared.trace.TraceLine.{TraceLine};
 ghost use Rattle.trace_reader.specs.Values.{child_of};
-ghost use Rattle.output_text.specs.Output.{item_text, maps_text, start_text, result_text};
+ghost use Rattle.output_text.specs.Output.{maps_text, start_text, result_text};
 ghost use Rattle.output_judge.specs.Internal.Printed.{first_text, more_text, shown, IsLine};
 ghost use Rattle.output_judge.specs.Internal.Judging.{HasRead, IsBadAt, Shrinks};
 
@@ -191,11 +191,11 @@ fn number_at(text: &[u8]) -> Option<u64>
 {
     let digits = text.strip_prefix(b"L")?;
     let end = digits.iter().position(|byte| *byte == b' ')?;
-    number_of(digits.split_at(end).0)
+    decimal_of_bytes(digits.split_at(end).0)
 }
 
 /// The number that a word of decimal digits is, if it is one.
-fn number_of(word: &[u8]) -> Option<u64>
+fn decimal_of_bytes(word: &[u8]) -> Option<u64>
     ensures { (number : ℕ) → number < 2 ^ 64 → word.now ≡ decimal number → result ≡ Some number }
 {
     match str::from_utf8(word) {

@@ -23,7 +23,7 @@ pub fn push_item(
 }
 
 /// Appends what an operation results in: a list that a child begins with by the child and how many areas it has.
-pub fn push_result(
+pub(crate) fn push_result(
     text: &mut Vec<u8>,
     files: &Files,
     op: Op,
@@ -39,7 +39,11 @@ pub fn push_result(
 
 /// Appends what happened, up to the end of its last line.
 #[tactic(auto, unfolding(crate::specs::Output::content_text))]
-pub fn push_content(text: &mut Vec<u8>, files: &Files, content: &Content) -> Result<(), NoMemory>
+pub(crate) fn push_content(
+    text: &mut Vec<u8>,
+    files: &Files,
+    content: &Content,
+) -> Result<(), NoMemory>
     ensures { OnOk result (text.new.items ≡ text.old.items ++ content_text files.now content.now) }
 {
     match content {

@@ -7,5 +7,5 @@ mod output;
 #[cfg(test)]
 mod tests;
 
-pub use items::{push_content, push_item, push_maps, push_result};
+pub use items::{push_item, push_maps};
 pub use output::{push_count, push_forked, push_reply, push_start, push_verdict};

@@ -290,11 +290,6 @@ settle_room planner next mid new more settle is room = omega (
   room,
 )
 
--- the room that is left where the planner went along
-pub goes_room : (events : List Event) {planner next : Planner} {old new : PlanView} → GoesAlong events planner next old new → (more : ℕ)
-    → length old.changes + (held planner + (weight events + more)) ≤ old.room → length new.changes + (held next + more) ≤ new.room
-goes_room events g more room = omega (arith, g.within, g.room, room)
-
 -- the room that is left at the end, after the new area if that is still to come
 pub last_room : (planner next : Planner) (new : Record) (old mid : PlanView) → planner.coming ≡ Some new → next ≡ laid planner new
     → mid ≡ record old { changes = old.changes ++ planned_with planner.pending planner.run new } → length old.changes + held planner ≤ old.room
@@ -321,10 +316,6 @@ same_room planner next old mid same is room = omega (
   ap (λ (p : Planner). option_len p.run) same,
   room,
 )
-
--- along nothing
-pub goes_nowhere : (planner : Planner) (plan : PlanView) → GoesAlong [] planner planner plan plan
-goes_nowhere planner plan = record { planned = λ later. refl; within = omega arith; room = refl; coming = inr refl }
 
 -- along some parts and then along others is along all
 pub comes_on : (xs ys : List Record) {planner next last : Planner} {old new newest : PlanView} → GoesAlong (map Event.Comes xs) planner next old new

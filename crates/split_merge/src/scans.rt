@@ -8,7 +8,7 @@ use crate::areas::Areas;
 use crate::lookups::area_at;
 use mm_types::{Page, Span};
 
-/// Whether a page of the span is sealed. One look for each area of the span and one more, and none where no area may be sealed.
+/// Whether a page of the span, which has one, is sealed. One look for each area of the span and one more, and none where no area may be sealed.
 pub fn has_sealed<A: Areas>(areas: &A, span: Span) -> bool
     requires { IsCanonical (A.bounds areas.now).limit (A.list areas.now) }
     ensures { result ≡ has_sealed span (A.list areas.now) }
@@ -29,7 +29,7 @@ pub fn has_sealed<A: Areas>(areas: &A, span: Span) -> bool
     false
 }
 
-/// Whether a page of the span is not mapped. One look for each area of the span.
+/// Whether a page of the span is not mapped. One look for each area of the span up to the first hole, and one that finds it.
 pub fn has_hole<A: Areas>(areas: &A, span: Span) -> bool
     requires { IsCanonical (A.bounds areas.now).limit (A.list areas.now) }
     ensures { result ≡ has_hole span (A.list areas.now) }

@@ -9,7 +9,7 @@ ghost use Rattle.step_script.specs.Values.{IsScript, IsSoFar};
 use crate::lines::after_line;
 use crate::script::{MOST_LINES, Script};
 use std::alloc::Global;
-use trace_reader::{CallError, Cause, ReadError, at_line, first_line};
+use trace_reader::{CallError, Cause, ReadError, error_at, first_line};
 
 /// The script that the bytes are, or the first bad line and its cause.
 #[tactic(auto, unfolding(crate::specs::Grammar::script_of))]
@@ -19,7 +19,7 @@ pub(crate) fn read_script(alloc: Global, bytes: &[u8]) -> Result<Script, ReadErr
 {
     match read_lines(alloc, bytes)? {
         Some(script) => Ok(script),
-        None => Err(at_line(1, CallError::Bad(Cause::Header))),
+        None => Err(error_at(1, CallError::Bad(Cause::Header))),
     }
 }
 
@@ -35,7 +35,7 @@ fn read_lines(alloc: Global, bytes: &[u8]) -> Result<Option<Script>, ReadError>
         let (line, after) = first_line(rest, number, bytes.len() - rest.len());
         script = match after_line(alloc, script, &line) {
             Ok(next) => next,
-            Err(error) => return Err(at_line(number, error)),
+            Err(error) => return Err(error_at(number, error)),
         };
         rest = after;
         number += 1;

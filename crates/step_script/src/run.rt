@@ -2,7 +2,7 @@
 
 ghost use Rattle.std.specs.Prelude.{◌≡◌, ◌+◌, IfOk, IfErr, Ok};
 ghost use Rattle.step_script.specs.Output.{script_output, script_text};
-ghost use Rattle.step_script.specs.Reading.{IsErrorOf};
+ghost use Rattle.trace_reader.specs.Reading.{IsErrorOf};
 ghost use Rattle.step_script.specs.Values.{IsScript};
 
 use crate::grace_run::grace_text;

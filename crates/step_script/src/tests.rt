@@ -102,12 +102,8 @@ L13 ok | T 1 root 1 P 0:2 free 0 2 wait
     )
 }
 
-/// A reader's add before each step of one locked call, and after the last.
-#[test]
-fn an_add_at_each_point(rt: HostRuntime) -> Result<(), Fail> {
-    check(
-        &rt,
-        "vmasteps 1
+/// A reader adds before each step of one locked call, and after the last.
+const ADDS: &str = "vmasteps 1
 lock 2 1
 add 0 0
 look 0
@@ -135,8 +131,10 @@ end 0 mmap 0 4096 PROT_READ|PROT_WRITE MAP_PRIVATE|MAP_ANONYMOUS -1 0
 look 0
 look 1
 field 1 1
-",
-        "L3 found 0 | S 2 M 0:0/1
+";
+
+/// What is answered to `ADDS`.
+const ADDS_ANSWERED: &str = "L3 found 0 | S 2 M 0:0/1
 L4 seq 2 version 0 | S 2 M 0:0/1
 L5 ok | S 2 M 0:0/0
 L6 ok | S 3 M 0:0/0
@@ -162,8 +160,11 @@ L25 ok | S 4 M 0:3/2
 L26 seq 4 version 1 | S 4 M 0:3/2
 L27 seq 4 version 1 | S 4 M 0:3/2
 L28 word 0x7ffff7fff | S 4 M 0:3/2
-",
-    )
+";
+
+#[test]
+fn an_add_at_each_point(rt: HostRuntime) -> Result<(), Fail> {
+    check(&rt, ADDS, ADDS_ANSWERED)
 }
 
 /// The rows of a reader that never closes never become free.
@@ -210,11 +211,8 @@ L18 refused 2 RowNotFree 4 | T 5 root 5 P 0:1 1:0 free wait 0 1 2 3 4
     )
 }
 
-#[test]
-fn steps_are_refused(rt: HostRuntime) -> Result<(), Fail> {
-    check(
-        &rt,
-        "vmasteps 1
+/// Steps of a locked call, of which some are refused.
+const REFUSED: &str = "vmasteps 1
 lock 1 1
 end 0 munmap 0x1000 4096
 begin
@@ -228,8 +226,10 @@ end 0 munmap 0x1000 4096
 begin
 add 0 0
 add 0 0
-",
-        "L3 refused 1 NotOpen | S 2 M 0:0/0
+";
+
+/// What is answered to `REFUSED`.
+const REFUSED_ANSWERED: &str = "L3 refused 1 NotOpen | S 2 M 0:0/0
 L4 ok | S 3 M 0:0/0
 L5 ok | S 4 M 0:0/0
 L6 refused 1 NotOpen | S 4 M 0:0/0
@@ -241,8 +241,11 @@ L11 refused 8 NotTheList 0 | S 5 M 0:5/0
 L12 refused 6 AlreadyOpen | S 5 M 0:5/0
 L13 found 5 | S 5 M 0:5/1
 L14 refused 7 AlreadyHeld | S 5 M 0:5/1
-",
-    )?;
+";
+
+#[test]
+fn steps_are_refused(rt: HostRuntime) -> Result<(), Fail> {
+    check(&rt, REFUSED, REFUSED_ANSWERED)?;
     check(
         &rt,
         "vmasteps 1\nlock 1 1\nbegin\nstore 0 0 1\n",

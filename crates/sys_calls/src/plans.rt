@@ -68,8 +68,7 @@ fn plan_unsealed<A: Areas>(
 }
 
 /// One call, planned. `counters` are those before it. The reply, the counters and the list that the plan makes are those of the
-/// step: of the call's table, unless it would change sealed pages. A touch is one change at most. No memory is taken. Where no
-/// area may be sealed, nothing is spent on the tests of seals.
+/// step: of the call's table, unless it would change sealed pages. A touch is one change at most. No memory is taken.
 #[tactic(auto, unfolding(area_rules::specs::Steps::step))]
 pub fn plan_call<A: Areas>(
     config: &Config,
@@ -85,8 +84,5 @@ pub fn plan_call<A: Areas>(
     ensures touch { TouchesOne call.now plan.new.changes }
 {
     let planned = plan_unsealed(config, counters, areas, call, plan);
-    if !areas.may_be_sealed() {
-        return planned;
-    }
     guard(areas, call, counters, planned, plan)
 }

@@ -8,6 +8,7 @@ use Rattle.mm_types.specs.declared.config.TheConstants.{MOST_FILES}
 use Rattle.mm_types.specs.declared.files.FileRow.{FileRow}
 use Rattle.mm_types.specs.Rows.{first_row}
 use Rattle.trace_reader.specs.declared.trace.TraceLine.{TraceLine}
+use Rattle.trace_reader.specs.declared.builder.TheConstants.{WORDS_BEFORE_PATH}
 use Rattle.trace_reader.specs.declared.builder.Version.{Version}
 use Rattle.trace_reader.specs.declared.builder.Version.TheVariants.{Narrow, Wide}
 use Rattle.trace_reader.specs.declared.error.Cause.{Cause}
@@ -86,11 +87,11 @@ unfoldable pub may_fork : SoFar → ℕ → ℕ → Bool
 may_fork so_far thread child = not (has_child so_far.children thread) && (not (nat_eq child thread)
     && (not (has_child so_far.children child) && not (list_any (λ other. nat_eq other.thread child) so_far.lines)))
 
--- the same of a line, where it names one
+-- whether a line may name the line that it names, if it names one
 unfoldable pub names_rightly : SoFar → TraceLine → Bool
 names_rightly so_far line = all_some (may_name so_far line.thread) line.after
 
--- and where it forks
+-- whether a line may fork its child, if it forks one
 unfoldable pub forks_rightly : SoFar → TraceLine → Bool
 forks_rightly so_far line = all_some (may_fork so_far line.thread) (child_of line.op)
 
@@ -151,14 +152,14 @@ with_file so_far file = unless
     ∷ []))
     (Ok (record so_far { files = so_far.files ++ file ∷ [] }))
 
--- a line whose first word begins with no digit: PATH follows six words
+-- a line whose first word begins with no digit
 unfoldable pub after_setting : SoFar → List ℕ → List ℕ → List (List ℕ) → Result SoFar Cause
 after_setting so_far text first words = if nat_lt 0 (length so_far.lines) then Err Word
     else (if bytes_eq first (codes "limit") then with_limit so_far words
     else (if bytes_eq first (codes "top") then with_top so_far words
     else (if bytes_eq first (codes "min") then with_min so_far words
     else (if bytes_eq first (codes "heap") then with_heap so_far words
-    else (if bytes_eq first (codes "file") then (file_of words (text_after_words 6 text) >>= λ file. with_file so_far file)
+    else (if bytes_eq first (codes "file") then (file_of words (text_after_words WORDS_BEFORE_PATH text) >>= λ file. with_file so_far file)
     else Err Word)))))
 
 -- whether a word begins with `#`

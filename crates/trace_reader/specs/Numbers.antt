@@ -13,17 +13,17 @@ digits_of base most word =
     && (list_all (λ c. is_digit c base) word && nat_lt (digits_value base word) (2 ^ 64)))
     then Some (digits_value base word) else None
 
--- the number that a word is: 1 to 20 decimal digits, or `0x` and 1 to 16 hexadecimal digits
-unfoldable pub number_of : List ℕ → Option ℕ
-number_of word = if starts_with nat_eq word (codes "0x") then digits_of 16 16 (drop 2 word) else digits_of 10 20 word
-
 -- the number that a word of decimal digits is: 1 to 20 of them and nothing else
 abbrev pub decimal_of : List ℕ → Option ℕ
 decimal_of word = digits_of 10 20 word
 
+-- the number that a word is: 1 to 20 decimal digits, or `0x` and 1 to 16 hexadecimal digits
+unfoldable pub number_of : List ℕ → Option ℕ
+number_of word = if starts_with nat_eq word (codes "0x") then digits_of 16 16 (drop 2 word) else decimal_of word
+
 -- the thread that a word is: 1 to 20 decimal digits with a value of at most 63
 unfoldable pub thread_of : List ℕ → Option ℕ
-thread_of word = option_and_then (λ n. if nat_le n GREATEST_THREAD then Some n else None) (digits_of 10 20 word)
+thread_of word = option_and_then (λ n. if nat_le n GREATEST_THREAD then Some n else None) (decimal_of word)
 
 -- a digit of lower-case hexadecimal
 unfoldable pub is_lower_digit : ℕ → Bool

@@ -23,11 +23,15 @@ abbrev pub Gives : {X Y : Type 0} → (X → Y) → Result X CallError → Resul
 Gives view (Ok x) read = read ≡ Ok (view x)
 Gives view (Err error) read = Fails error read
 
--- the same of a whole trace
+-- a bad line is that of the definition; out of memory is free
+abbrev pub IsErrorOf : {Y : Type 0} → ReadError → Result Y BadLine → Type 0
+IsErrorOf (reads.Bad first) read = read ≡ Err first
+IsErrorOf reads.NoMemory read = Unit {0}
+
+-- what was answered of a whole trace is what the definition gives
 abbrev pub GivesTrace : Result Trace ReadError → Result Trace BadLine → Type 0
 GivesTrace (Ok trace) read = read ≡ Ok trace
-GivesTrace (Err (reads.Bad first)) read = read ≡ Err first
-GivesTrace (Err reads.NoMemory) read = Unit {0}
+GivesTrace (Err error) read = IsErrorOf error read
 
 -- an error in the line of this number
 abbrev pub error_at : ℕ → CallError → ReadError
@@ -56,5 +60,4 @@ so_far builder = record {
 -- what was answered to lines, of which the first bad one has its number
 abbrev pub GivesLines : Result TraceBuilder ReadError → Result SoFar BadLine → Type 0
 GivesLines (Ok builder) read = read ≡ Ok (so_far builder)
-GivesLines (Err (reads.Bad first)) read = read ≡ Err first
-GivesLines (Err reads.NoMemory) read = Unit {0}
+GivesLines (Err error) read = IsErrorOf error read

@@ -357,7 +357,7 @@ pub fn is_comment(word: &str) -> bool
 
 /// Whether a word begins with a decimal digit.
 #[tactic(auto, unfolding(crate::specs::Lines::begins_with_digit))]
-fn begins_with_digit(word: &str) -> bool
+pub fn begins_with_digit(word: &str) -> bool
     ensures { result ≡ begins_with_digit word.now }
 {
     match word.as_bytes() {

@@ -9,9 +9,10 @@ use thiserror::Error;
 /// NEW against the flags; the line that is named; the child; a descriptor for the second time; too many lines.
 #[derive(Clone, Copy, Debug, PartialEq, Eq)]
 pub enum Cause {
-    /// The first line is neither `vmatrace 1` nor `vmatrace 2`.
+    /// The first line is not the header of its format, there is no line, or a script names no core.
     Header,
-    /// The line has more than 4,096 bytes, or its newline would be past byte 67,108,864 of the trace.
+    /// The line has more bytes than its format allows (4,096; 8,192 in a maps text), or its newline would be past byte 67,108,864.
+    /// Of a text that `check` judges: it has more than 268,435,456 bytes.
     TooLong,
     /// A word is none of those that may stand there. `limit`, `top`, `min`, `heap` and `file` may not stand after a line with
     /// a thread, and the first four not for the second time.
@@ -25,7 +26,7 @@ pub enum Cause {
     /// The first word begins with a digit and is no thread from 0 to 63.
     Thread,
     /// It is the 1,000,001st line with a thread, the 1,025th file, the 65th `maps`, the 1,001st line that names a line, or the
-    /// ninth fork.
+    /// ninth fork. Of a script: it is line 10,001.
     TooMany,
     /// A file has the descriptor of one before it.
     FileTwice,
@@ -36,6 +37,7 @@ pub enum Cause {
     /// The line that `after=` names is no call above it, of another thread of the same address space.
     After,
     /// A child is the thread that forks it, or stands above, as a thread or as a child; or the thread that forks is a child.
+    /// In `check`: the line forks.
     Child,
     /// A line of a maps text has another form.
     MapsLine,

@@ -1,7 +1,6 @@
 //! The fields of a line, each a word.
 
 ghost use Rattle.std.specs.Prelude.{◌≡◌, ◌≤◌, IfOk};
-ghost use Rattle.flag_table.specs.Tables.{prot_flags};
 ghost use Rattle.trace_reader.specs.Fields.{number, number_in, bound, descriptor, mapped_descriptor, device_part, device, mode, access, flags, prot_of_bits, prot};
 ghost use Rattle.trace_reader.specs.Reading.{Gives};
 

@@ -24,7 +24,8 @@
 //! names a line nor is named. In one line the causes come in the order in which `Cause` explains them.
 //!
 //! The parts of this form that other formats share are public as well: `first_line`, `text_within`, `text_of`, `words_of`,
-//! `text_after_words`, `is_comment`, `number`, `number_in`, `digits_of`, `lower_hexadecimal_of`, `thread_of` and `at_line`.
+//! `set_words`, `text_after_words`, `is_comment`, `begins_with_digit`, `number`, `number_in`, `number_of`, `decimal_of`,
+//! `lower_hexadecimal_of`, `thread_of`, `call_of` and `error_at`.
 #![tactic(auto)]
 
 mod builder;
@@ -41,17 +42,19 @@ mod settings;
 mod trace;
 mod words;
 
-pub use builder::is_comment;
+pub use builder::{begins_with_digit, is_comment};
 pub use calls::call_of;
 pub use error::{BadLine, CallError, Cause, ReadError};
 pub use fields::{number, number_in};
 pub use laws::{first_bad_line, front_is_enough, trace_limits, traces_fit};
-pub use limits::{LINE_LIMIT, MOST_FORKS, MOST_LINES, MOST_MAPS, MOST_NAMED, TRACE_LIMIT};
+pub use limits::{
+    LINE_LIMIT, MOST_FILE_BYTES, MOST_FORKS, MOST_LINES, MOST_MAPS, MOST_NAMED, TRACE_LIMIT,
+};
 pub use lines::{RawLine, first_line, text_of, text_within};
-pub use numbers::{decimal_of, digits_of, lower_hexadecimal_of, number_of, thread_of};
-pub use reading::{at_line, read};
+pub use numbers::{decimal_of, lower_hexadecimal_of, number_of, thread_of};
+pub use reading::{error_at, read};
 pub use trace::{Lines, Op, Trace, TraceLine};
-pub use words::{text_after_words, words_of};
+pub use words::{set_words, text_after_words, words_of};
 
 #[cfg(test)]
 mod tests;

@@ -22,7 +22,7 @@ pub const MOST_FORKS: usize = 8;
 pub(crate) const GREATEST_THREAD: u64 = 63;
 
 /// The most bytes of a file.
-pub(crate) const MOST_FILE_BYTES: u64 = 0x7fff_ffff_ffff_ffff;
+pub const MOST_FILE_BYTES: u64 = 0x7fff_ffff_ffff_ffff;
 
 /// The most hexadecimal digits of the major half of a device number.
 pub(crate) const MAJOR_DIGITS: usize = 3;

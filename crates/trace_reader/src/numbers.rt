@@ -19,7 +19,7 @@ pub fn number_of(word: &str) -> Option<u64>
 {
     match word.strip_prefix("0x") {
         Some(digits) => digits_of(digits, 16, 16),
-        None => digits_of(word, 10, 20),
+        None => decimal_of(word),
     }
 }
 
@@ -36,7 +36,7 @@ pub fn decimal_of(word: &str) -> Option<u64>
 pub fn thread_of(word: &str) -> Option<u32>
     ensures { result ≡ thread_of word.now }
 {
-    match digits_of(word, 10, 20) {
+    match decimal_of(word) {
         Some(thread) if thread <= GREATEST_THREAD => Some(thread as u32),
         _ => None,
     }
@@ -73,7 +73,7 @@ fn is_lower_digit(byte: u8) -> bool
 /// The value below 2^64 that at least one and at most `most` digits of a base, of either case, spell. There is none where the
 /// word is anything else.
 #[tactic(auto, unfolding(crate::specs::Numbers::digits_of))]
-pub fn digits_of(word: &str, base: u32, most: usize) -> Option<u64>
+pub(crate) fn digits_of(word: &str, base: u32, most: usize) -> Option<u64>
     requires low { 2 ≤ base }
     requires high { base ≤ 36 }
     ensures { result ≡ digits_of base most word.now }
@@ -101,11 +101,11 @@ pub fn digits_of(word: &str, base: u32, most: usize) -> Option<u64>
     Some(value)
 }
 
-/// The value that at most 12 digits of a base spell, which fits 64 bits. There is none where a byte is no digit.
+/// The value that at most `FEW_DIGITS` digits of a base spell, which fits 64 bits. There is none where a byte is no digit.
 fn value_of_few(digits: &[u8], base: u32) -> Option<u64>
     requires low { 2 ≤ base }
     requires high { base ≤ 36 }
-    requires few { length digits.now ≤ 12 }
+    requires few { length digits.now ≤ FEW_DIGITS }
     ensures { result ≡ if list_all (λ c. is_digit c base) digits.now then Some (digits_value base digits.now) else None }
 {
     let mut value: u64 = 0;

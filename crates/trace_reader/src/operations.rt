@@ -1,7 +1,7 @@
 //! What a line with a thread asks for, by its tests in their order.
 
 ghost use Rattle.std.specs.Prelude.{◌≡◌, map, option_copied};
-ghost use Rattle.trace_reader.specs.Operations.{fault, fault_of, maps_of, fork_of, called, op_named, op_of, note_of, without_note, line_named, op_has_its_new, line_of};
+ghost use Rattle.trace_reader.specs.Operations.{fault, fault_of, maps_of, fork_of, op_named, op_of, note_of, without_note, line_named, op_has_its_new, line_of};
 ghost use Rattle.trace_reader.specs.Reading.{Gives};
 
 use crate::calls::{brk_of, call_named, has_its_new, mseal_of};

@@ -1,4 +1,4 @@
-ghost use Rattle.std.specs.Prelude.{◌≡◌, ◌<◌, length};
+ghost use Rattle.std.specs.Prelude.{◌≡◌};
 ghost use Rattle.trace_reader.specs.Grammar.{bad_line, trace_of, lines_read};
 ghost use Rattle.trace_reader.specs.Reading.{GivesLines, GivesTrace, error_at};
 
@@ -16,7 +16,7 @@ fn bad(line: u64, cause: Cause) -> ReadError
 }
 
 /// What is wrong with a file whose line of this number is bad for this cause, or was not read for want of memory.
-pub fn at_line(line: u64, error: CallError) -> ReadError
+pub fn error_at(line: u64, error: CallError) -> ReadError
     ensures { result ≡ error_at line error }
 {
     match error {
@@ -37,7 +37,7 @@ fn read_lines(alloc: Global, bytes: &[u8]) -> Result<TraceBuilder, ReadError>
     while !rest.is_empty() {
         let (line, after) = first_line(rest, number, bytes.len() - rest.len());
         if let Err(error) = builder.add(alloc, &mut words, &line) {
-            return Err(at_line(number, error));
+            return Err(error_at(number, error));
         }
         rest = after;
         number += 1;

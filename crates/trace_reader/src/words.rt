@@ -61,8 +61,8 @@ fn first_low(text: &[u8]) -> usize
 
 /// How many of the `LANES` bytes from a place on come before the first that is no greater than a space.
 fn bytes_before_low(text: &[u8], from: usize) -> usize
-    requires { from + 16 ≤ length text.now }
-    ensures { result ≡ position_or_len (λ c. nat_le c (byte " ")) (take 16 (drop from text.now)) }
+    requires { from + LANES ≤ length text.now }
+    ensures { result ≡ position_or_len (λ c. nat_le c (byte " ")) (take LANES (drop from text.now)) }
 {
     let low = u8x16::from_slice(&text[from..])
         .simd_le(u8x16::splat(b' '))
@@ -117,7 +117,7 @@ pub fn words_of(alloc: Global, text: &str) -> Result<Vec<&str>, AllocError>
 }
 
 /// Makes a list that of the words of a text, in the room that it has. It fails only where it needs more and memory runs out.
-pub(crate) fn set_words<'a>(words: &mut Vec<&'a str>, text: &'a str) -> Result<(), AllocError>
+pub fn set_words<'a>(words: &mut Vec<&'a str>, text: &'a str) -> Result<(), AllocError>
     ensures { OnOk result (map (λ word. word.now) words.new.items ≡ words_of text.now) }
 {
     words.clear();

@@ -22,6 +22,10 @@ use Rattle.trace_reader.specs.declared.trace.Op.{Op}
 use Rattle.trace_reader.specs.declared.trace.Op.TheVariants as ops
 use Rattle.trace_reader.specs.declared.trace.TraceLine.{TraceLine}
 
+-- line 1 of a trace
+abbrev pub header : List ℕ
+header = codes "vmatrace 1\n"
+
 -- a number in hexadecimal: `0x` and its digits
 abbrev pub hexadecimal : ℕ → List ℕ
 hexadecimal n = codes "0x" ++ digits 16 false n

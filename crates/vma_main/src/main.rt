@@ -4,7 +4,7 @@
 //! after it. `vma_main query ADDRESS` and `vma_main retrace` read a maps text, and write one of its lines, or a trace that makes it.
 //! `vma_main check` reads a trace and a text, and writes whether the text is an output of the trace. `vma_main generate COUNT SEED`
 //! runs a generated trace of COUNT operations, at most 400,000, and writes a summary of what it did; it reads nothing. Where that
-//! fails, a line on standard error says why, and the exit status is 2 to 6.
+//! fails, a line on standard error says why, if there is memory for it, and the exit status is 2 to 6.
 #![tactic(auto)]
 
 use io_edge::{PlainGate, StdSink, StdSource};
@@ -42,10 +42,11 @@ fn run<R: Threads + Wait + Sync + Env + Input + Print + AllocGlobal>(rt: &R) -> 
 }
 
 fn report<R: Eprint + AllocGlobal>(rt: &R, status: &Status) {
+    if matches!(status, Status::Done) {
+        return;
+    }
     if let Ok(line) = status_line(rt.alloc(), status) {
-        if !matches!(status, Status::Done) {
-            let _ = eprintln!(rt; "{}", line.as_str());
-        }
+        let _ = eprintln!(rt; "{}", line.as_str());
     }
 }
 

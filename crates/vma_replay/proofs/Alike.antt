@@ -1,14 +1,9 @@
 -- For `serial_outputs_are_equal`: in `serial` the parent's history, and so its forks, are the same in each run, and so are its children's.
-use Rattle.std.proofs.Common.{ℕ, ◌≡◌, ◌∙◌, refl, sym, ap, subst, List, [], ◌∷◌, ◌++◌, take}
-use Rattle.mm_types.specs.declared.area.Record.{Record}
+use Rattle.std.proofs.Common.{ℕ, ◌≡◌, ◌∙◌, refl, sym, ap, subst, List, [], ◌∷◌, ◌++◌}
 use Rattle.mm_types.specs.declared.call.Entry.{Entry}
-use Rattle.mm_types.specs.declared.config.Config.{Config}
 use Rattle.trace_reader.specs.declared.trace.Trace.{Trace}
 use Rattle.trace_reader.specs.declared.trace.TraceLine.{TraceLine}
-use Rattle.area_rules.specs.Tables.{AddressSpace}
-use Rattle.area_rules.specs.Steps.{after}
 use Rattle.history.specs.declared.items.Item.{Item}
-use Rattle.history.specs.Histories.{journal_of}
 use Rattle.mm_space.specs.Closing.{ClosedView}
 use Rattle.mm_fork.specs.Children.{inherited, child_history_of, child_lines, parent_lines, parent_trace}
 use Rattle.mm_fork.proofs.Alike.{same_history}

@@ -3,11 +3,9 @@ use Rattle.std.proofs.Common.{ℕ, ◌≡◌, refl, sym, subst, List, Option, So
 use Rattle.std.specs.Prelude.{IsOkAnd}
 use Rattle.io_edge.specs.Edge.{SourceView}
 use Rattle.trace_reader.specs.declared.error.ReadError.{ReadError}
-use Rattle.trace_reader.specs.declared.error.ReadError.TheVariants as reads
 use Rattle.trace_reader.specs.declared.error.BadLine.{BadLine}
-use Rattle.step_script.specs.Reading.{IsErrorOf}
+use Rattle.trace_reader.specs.Reading.{IsErrorOf}
 use Rattle.output_check.specs.Input.{CheckInput, check_limit, input_of}
-use Rattle.output_check.specs.Reading.{IsErrorOf as IsInputError}
 use Rattle.output_check.specs.Checked.{IsCheckedAs}
 use Rattle.output_check.proofs.Fronts.{input_of-front}
 use Rattle.output_check.proofs.Inputs.{input_within}
@@ -31,10 +29,6 @@ judged_whole None parts text judged read = tt
 judged_whole (Some input) parts text judged read =
     subst (λ (r : Result CheckInput BadLine). IsOkAnd r (λ parts. IsCheckedAs parts text)) (sym read) judged
 
-input_error : (error : ReadError) (read : Result CheckInput BadLine) → IsInputError error read → IsErrorOf error read
-input_error (reads.Bad first) read is = is
-input_error reads.NoMemory read is = is
-
 -- where what was taken is judged, the source gave it whole
 pub checks : (old new : SourceView) (bytes text : List ℕ) → IsTaking check_limit old new (Ok bytes)
     → IsOkAnd (input_of bytes) (λ parts. IsCheckedAs parts text) → IsChecking old new (Ok text)
@@ -45,6 +39,5 @@ checks old new bytes text taken judged =
 
 -- where it is not, it has the source's first bad line, or memory ran out
 pub checks_nothing : (old new : SourceView) (bytes : List ℕ) (error : ReadError) (status : Status) → IsTaking check_limit old new (Ok bytes)
-    → IsInputError error (input_of bytes) → status ≡ refused_as error → IsReading input_of check_limit old new (Err status)
-checks_nothing old new bytes error status taken bad =
-    refused_first input_of check_limit bounded_input old new bytes error status taken (input_error error (input_of bytes) bad)
+    → IsErrorOf error (input_of bytes) → status ≡ refused_as error → IsReading input_of check_limit old new (Err status)
+checks_nothing = refused_first input_of check_limit bounded_input

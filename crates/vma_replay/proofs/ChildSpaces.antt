@@ -17,7 +17,6 @@ use Rattle.area_rules.specs.Tables.{AddressSpace}
 use Rattle.area_rules.specs.Steps.{step, after, IsLegalJournal}
 use Rattle.area_rules.specs.Journals.{version_of}
 use Rattle.lock_core.specs.Facts.{list_after}
-use Rattle.history.specs.declared.items.Item.{Item}
 use Rattle.history.specs.Histories.{AskThemselves, IsLegalHistory}
 use Rattle.history.proofs.Calls.{values_ask}
 use Rattle.mm_space.specs.Closing.{ClosedView}

@@ -1,5 +1,5 @@
 -- Serves `printing.rt` and `family_given`: the texts of a parent and of its children.
-use Rattle.std.proofs.Common.{ℕ, zero, suc, ◌≡◌, ◌+◌, ◌-◌, ◌<◌, ◌≤◌, ◌^◌, ◌∙◌, refl, sym, ap, subst, List, [], ◌∷◌, ◌++◌, append_assoc, length, take, drop, slice_get, get_or, nat_lt, false, Some, arith}
+use Rattle.std.proofs.Common.{ℕ, ◌≡◌, ◌+◌, ◌-◌, ◌<◌, ◌≤◌, ◌^◌, ◌∙◌, refl, sym, ap, subst, List, [], ◌∷◌, ◌++◌, append_assoc, length, take, drop, slice_get, get_or, nat_lt, false, Some, arith}
 use Rattle.std.proofs.lemmas.List.{drop_more, length-drop, take_all}
 use Rattle.std.proofs.lemmas.Option.{get_or_from_slice_get, slice_get-get_or, slice_get_read, slice_get_within}
 use Rattle.std.proofs.lemmas.Bool.{lt-ltb}
@@ -23,7 +23,7 @@ use Rattle.vma_replay.specs.ChildTexts.{child_line, child_text}
 use Rattle.vma_replay.specs.Forks.{forks_of}
 use Rattle.vma_replay.specs.Internal.Families.{AreRunsOfChildren, IsFamily, text_of_child, text_of_children, text_of_family}
 use Rattle.vma_replay.specs.Internal.Giving.{BeginsAsSerial, GivesAnOutput}
-use Rattle.vma_replay.specs.Replaying.{AreChildrenGiven, GivesRuns, IsRunOf, IsRunOfChild, history_of_run}
+use Rattle.vma_replay.specs.Replaying.{AreChildrenGiven, IsRunOf, IsRunOfChild, history_of_run}
 use Rattle.vma_replay.proofs.ChildSpaces.{inherited_count, run_at, runs_count}
 use Rattle.vma_replay.proofs.RunTexts.{given_for_run, list_of_run, serial_is}
 

@@ -1,5 +1,5 @@
 -- Serves `replay`: a beginning of a text that was given.
-use Rattle.std.proofs.Common.{ℕ, ◌≡◌, sym, subst, List, [], Option, Some, None, Result, Ok, inl, inr}
+use Rattle.std.proofs.Common.{ℕ, ◌≡◌, sym, subst, List, Option, Some, None, Result, Ok, inl, inr}
 use Rattle.std.specs.Prelude.{◌⊎◌, IfSome, IsOkAnd, IsSomeAnd}
 use Rattle.std.specs.Io.KnownBytes.{Keeps}
 use Rattle.io_edge.specs.Edge.{SinkView}

@@ -1,12 +1,12 @@
 -- Serves `closed_family`: the journal of a parent that has run, and its forks.
-use Rattle.std.proofs.Common.{ℕ, ◌≡◌, ◌+◌, ◌<◌, ◌≤◌, ◌^◌, ◌∙◌, refl, sym, ap, subst, cond, Bool, true, false, not, List, [], ◌∷◌, ◌++◌, ◌||◌, append_assoc, append-nil, length, length-append, map, take, drop, take-append-drop, filter, filter_map, slice_get, get_or, zero, suc, Option, Some, None, All, Contains, arith, inl, inr}
+use Rattle.std.proofs.Common.{ℕ, ◌≡◌, ◌+◌, ◌<◌, ◌≤◌, ◌^◌, ◌∙◌, refl, sym, ap, subst, Bool, true, false, not, List, [], ◌∷◌, ◌++◌, ◌||◌, append_assoc, append-nil, length, length-append, take, drop, take-append-drop, filter, slice_get, get_or, zero, suc, Option, Some, None, All, Contains, arith, inl, inr}
 use Rattle.std.specs.Prelude.{is_some}
 use Rattle.std.specs.List.{list_any, cons_option}
 use Rattle.std.specs.Option.{option_map_or}
 use Rattle.std.proofs.lemmas.Bool.{cases_lt}
 use Rattle.std.proofs.lemmas.List.{length-map, take_more}
 use Rattle.std.proofs.lemmas.List.Elements.{All-nil, All-cons, All-head, All-tail, All-weaker, All-append}
-use Rattle.std.proofs.lemmas.Option.{slice_get-get_or, slice_get_within, get_or_from_slice_get}
+use Rattle.std.proofs.lemmas.Option.{slice_get-get_or}
 use Rattle.mm_types.specs.declared.call.Entry.{Entry}
 use Rattle.mm_types.specs.declared.call.Seen.{Seen}
 use Rattle.mm_types.specs.declared.config.Config.{Config}
@@ -14,13 +14,14 @@ use Rattle.trace_reader.specs.declared.limits.TheConstants.{MOST_LINES}
 use Rattle.trace_reader.specs.declared.trace.Op.{Op}
 use Rattle.trace_reader.specs.declared.trace.Trace.{Trace}
 use Rattle.trace_reader.specs.declared.trace.TraceLine.{TraceLine}
+use Rattle.trace_reader.specs.Lines.{has_child}
 use Rattle.trace_reader.specs.Values.{IsTraceValue, child_of, children_of}
 use Rattle.area_rules.specs.Journals.{calls_by, version_of, IsReadRight}
 use Rattle.lock_core.specs.Facts.{list_after}
 use Rattle.history.specs.declared.callers.TheConstants.{MOST_THREADS}
 use Rattle.history.specs.declared.items.Item.{Item}
 use Rattle.history.specs.Histories.{caller_of, lines_of, items_of, line_of, op_of, read_as, gather, journal_of, IsLegalHistory}
-use Rattle.history.specs.Runs.{entry_items, log_items, logs_items, read_item, own_of, ops_of, asked, history_of, IsRun}
+use Rattle.history.specs.Runs.{entry_items, log_items, logs_items, own_of, ops_of, history_of, IsRun}
 use Rattle.history.specs.Labels.{labelled, label_of, IsSerialRun}
 use Rattle.history.specs.CallerPlaces.{callers_of}
 use Rattle.history.proofs.Advances.{journal_within, version_more}
@@ -35,7 +36,7 @@ use Rattle.history.proofs.ThreadCounts.{items_within, threads_of_trace}
 use Rattle.split_merge.proofs.Counting.{contains_later}
 use Rattle.mm_types.proofs.Sorting.{All-sort_by}
 use Rattle.mm_space.specs.Closing.{ClosedView}
-use Rattle.mm_fork.specs.Children.{is_among, parent_lines, parent_trace}
+use Rattle.mm_fork.specs.Children.{parent_lines, parent_trace}
 use Rattle.mm_fork.proofs.Traces.{parent_is_trace}
 use Rattle.vma_drive.proofs.NamesShared.{few_callers}
 use Rattle.vma_replay.specs.declared.forks.Fork.{Fork}
@@ -66,7 +67,7 @@ all_kept (line ∷ lines) = ap (λ (l : List TraceLine). line ∷ l) (all_kept l
 -- all lines are the parent's
 pub all_of_parent : (lines : List TraceLine) → list_any (λ line. is_some (child_of line.op)) lines ≡ false → parent_lines lines ≡ lines
 all_of_parent lines none =
-    ap (λ (children : List ℕ). filter (λ (line : TraceLine). not (is_among children line.thread)) lines) (no_children lines none) ∙ all_kept lines
+    ap (λ (children : List ℕ). filter (λ (line : TraceLine). not (has_child children line.thread)) lines) (no_children lines none) ∙ all_kept lines
 
 -- ---- the journal of a parent
 
@@ -244,7 +245,7 @@ forks_right lines journal items within =
     All-sort_by (λ (fork : Fork). fork.child) P (forks_from (parent_lines lines) items)
     (told_each fork_of (parent_lines lines) P [] items (λ place item line found answers.
     let at = answered_line (parent_lines lines) (take place items) item line answers in
-    let among = passed (λ (l : TraceLine). not (is_among (children_of lines) l.thread)) lines at.0 line at.1 in
+    let among = passed (λ (l : TraceLine). not (has_child (children_of lines) l.thread)) lines at.0 line at.1 in
     one line item among.0 among.1 (at_place (λ (i : Item). i.version ≤ length journal) items place item within found) (child_of line.op) refl))
   where
     one : (line : TraceLine) (item : Item) (place : ℕ) → slice_get lines place ≡ Some line → item.version ≤ length journal

@@ -15,6 +15,7 @@ use Rattle.mm_types.specs.MapsText.{list_text}
 use Rattle.mm_types.specs.Sorts.{sort_by}
 use Rattle.trace_reader.specs.declared.trace.Trace.{Trace}
 use Rattle.trace_reader.specs.declared.trace.TraceLine.{TraceLine}
+use Rattle.trace_reader.specs.Lines.{has_child}
 use Rattle.trace_reader.specs.Values.{children_of}
 use Rattle.area_rules.specs.Tables.{AddressSpace, Outcome}
 use Rattle.area_rules.specs.Steps.{opening, after}
@@ -24,7 +25,7 @@ use Rattle.history.specs.Histories.{AsksItself, AskThemselves, asks_for, caller_
 use Rattle.history.proofs.Serial.{AllAnswer, all_answer, items_of_pairs, none_counted, opening_stands, pairs_from}
 use Rattle.history.proofs.SerialOrder.{insert_item, BeginsAt, inserted_first, serial_space}
 use Rattle.mm_space.specs.Closing.{ClosedView}
-use Rattle.mm_fork.specs.Children.{is_among, parent_lines, parent_trace}
+use Rattle.mm_fork.specs.Children.{parent_lines, parent_trace}
 use Rattle.maps_retrace.specs.Laws.{space_with, AreMappedBehind, mapping_trace, MakesMaps}
 use Rattle.maps_retrace.specs.Mappings.{mapping_of, mapping_line, mapping_lines}
 use Rattle.maps_retrace.proofs.Made.{makes}
@@ -169,9 +170,9 @@ no_children number (area ∷ areas) = no_children (number + 1) areas
 
 -- where no line forks, all lines are the parent's
 all_lines : (lines : List TraceLine) → children_of lines ≡ [] → parent_lines lines ≡ lines
-all_lines lines none = ap (λ (c : List ℕ). filter (λ (line : TraceLine). not (is_among c line.thread)) lines) none ∙ kept lines
+all_lines lines none = ap (λ (c : List ℕ). filter (λ (line : TraceLine). not (has_child c line.thread)) lines) none ∙ kept lines
   where
-    kept : (lines : List TraceLine) → filter (λ (line : TraceLine). not (is_among [] line.thread)) lines ≡ lines
+    kept : (lines : List TraceLine) → filter (λ (line : TraceLine). not (has_child [] line.thread)) lines ≡ lines
     kept [] = refl
     kept (line ∷ lines) = ap (λ (l : List TraceLine). line ∷ l) (kept lines)
 

@@ -1,6 +1,6 @@
 -- Serves `closed_family`: the history of a closed run is legal, and ends with its list.
-use Rattle.std.proofs.Common.{ℕ, ◌≡◌, ◌<◌, ◌^◌, ◌∙◌, refl, sym, ap, subst, nat_eq, List, [], ◌∷◌, ◌++◌, append-nil, length, map, take, filter, fold, filter_map, slice_get, unwrap_or, All, Some, arith}
-use Rattle.std.specs.Prelude.{Bool, Option, None, Vec}
+use Rattle.std.proofs.Common.{ℕ, ◌≡◌, ◌<◌, ◌^◌, ◌∙◌, refl, sym, ap, subst, nat_eq, List, [], ◌∷◌, ◌++◌, append-nil, length, map, filter, slice_get, unwrap_or, All, arith}
+use Rattle.std.specs.Prelude.{Vec}
 use Rattle.std.specs.declared.alloc.Global.{Global}
 use Rattle.std.proofs.lemmas.List.{length-map}
 use Rattle.std.proofs.lemmas.Bool.{eq-eqb, cond-true}

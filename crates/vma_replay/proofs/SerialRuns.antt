@@ -14,11 +14,10 @@ use Rattle.history.specs.declared.items.Content.{Content}
 use Rattle.history.specs.declared.items.Content.TheVariants as contents
 use Rattle.history.specs.declared.items.Item.{Item}
 use Rattle.history.specs.Histories.{answer_of, is_call, op_of, journal_of}
-use Rattle.history.specs.Runs.{entry_items, log_items, logs_items, history_of, own_of, ops_of, asked, IsReadRightAfter}
+use Rattle.history.specs.Runs.{entry_items, logs_items, history_of, ops_of, asked, IsReadRightAfter}
 use Rattle.history.specs.Labels.{IsSerialRun}
 use Rattle.history.proofs.Gathers.{all_gather}
 use Rattle.history.proofs.Legal.{IsGathered, all_log, all_logs, entries_below, history_journal, legal_from_opening, right_from_opening, small_items}
-use Rattle.history.proofs.Lists.{at_place}
 use Rattle.history.proofs.Placed.{IsPlaced, placed}
 use Rattle.history.proofs.Serial.{right_is_answer}
 use Rattle.vma_replay.proofs.RunTexts.{serial_own}

@@ -9,8 +9,7 @@ use Rattle.trace_reader.specs.declared.error.ReadError.TheVariants as reads
 use Rattle.trace_reader.specs.declared.error.BadLine.{BadLine}
 use Rattle.trace_reader.specs.declared.trace.Trace.{Trace}
 use Rattle.trace_reader.specs.Lines.{trace_limit}
-use Rattle.trace_reader.specs.Reading.{GivesTrace}
-use Rattle.step_script.specs.Reading.{IsErrorOf}
+use Rattle.trace_reader.specs.Reading.{GivesTrace, IsErrorOf}
 use Rattle.vma_replay.specs.declared.status.Status.{Status}
 use Rattle.vma_replay.specs.declared.words.Conversion.{Conversion}
 use Rattle.vma_replay.specs.declared.words.Conversion.TheVariants as conversions
@@ -76,11 +75,6 @@ bounded conversions.Steps = record { front = output-front; within = output-withi
 bounded (conversions.Query address) = record { front = query_answer-front address; within = query_answer-within address }
 bounded conversions.Retrace = record { front = retraced-front; within = retraced-within }
 
--- what the reader of traces answers in place of a trace
-trace_error : (error : ReadError) (read : Result Trace BadLine) → GivesTrace (Err error) read → IsErrorOf error read
-trace_error (reads.Bad first) read is = is
-trace_error reads.NoMemory read is = is
-
 -- of traces
 pub reads_trace : (old new : SourceView) (bytes : List ℕ) (trace : Trace)
     → IsTaking trace_limit old new (Ok bytes) → trace_of bytes ≡ Ok trace → IsReading trace_of trace_limit old new (Ok trace)
@@ -89,8 +83,7 @@ reads_trace = found_whole trace_of trace_limit bounded_trace
 pub reads_no_trace : (old new : SourceView) (bytes : List ℕ) (error : ReadError) (status : Status)
     → IsTaking trace_limit old new (Ok bytes) → GivesTrace (Err error) (trace_of bytes) → status ≡ refused_as error
     → IsReading trace_of trace_limit old new (Err status)
-reads_no_trace old new bytes error status taken given =
-    refused_first trace_of trace_limit bounded_trace old new bytes error status taken (trace_error error (trace_of bytes) given)
+reads_no_trace = refused_first trace_of trace_limit bounded_trace
 
 -- of what is turned into a text
 pub converts : (conversion : Conversion) (old new : SourceView) (bytes text : List ℕ)

@@ -6,7 +6,6 @@ use Rattle.gen_load.specs.declared.loading.TheConstants.{MOST_OPERATIONS}
 use Rattle.vma_replay.specs.declared.words.Conversion.TheVariants as conversions
 use Rattle.vma_replay.specs.declared.words.Job.{Job}
 use Rattle.vma_replay.specs.declared.words.Job.TheVariants as jobs
-use Rattle.vma_replay.specs.declared.words.Mode.{Mode}
 use Rattle.vma_replay.specs.declared.words.Mode.TheVariants as modes
 
 -- a job that has no words after the first

@@ -2,8 +2,8 @@
 ghost use Rattle.std.specs.Prelude.{◌≡◌, ◌<◌, ◌^◌, ◌-◌, IfErr, IfOk, Ok};
 ghost use Rattle.trace_reader.specs.Grammar.{trace_of};
 ghost use Rattle.trace_reader.specs.Lines.{trace_limit};
+ghost use Rattle.trace_reader.specs.Reading.{IsErrorOf};
 ghost use Rattle.trace_reader.specs.Values.{IsTraceValue};
-ghost use Rattle.step_script.specs.Reading.{IsErrorOf};
 ghost use Rattle.vma_replay.specs.Internal.Reading.{IsChecking, IsReading, IsTaking, refused_as, taken_bytes};
 ghost use Rattle.vma_replay.specs.Replaying.{converted, most_converted};
 

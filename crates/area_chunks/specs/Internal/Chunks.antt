@@ -3,6 +3,7 @@ use Rattle.std.specs.Prelude.{ℕ, ◌<◌, ◌+◌, List, [], ◌∷◌, ◌++�
 use Rattle.std.specs.List.{last_or}
 use Rattle.std.specs.Option.{option_map_or}
 use Rattle.mm_types.specs.declared.area.Record.{Record}
+use Rattle.area_chunks.specs.declared.chunk.TheConstants.{MOST_IN_CHUNK}
 use Rattle.area_chunks.specs.Internal.BinarySearch.{BeginsRise, BeginsAscend, EndsAscend}
 
 -- the areas of chunks, one chunk after the other
@@ -25,7 +26,7 @@ IsSome chunk = 0 < length chunk
 
 -- a chunk has an area, and room for one more
 abbrev pub IsFilled : List Record → Type 0
-IsFilled chunk = (0 < length chunk) × (length chunk < 128)
+IsFilled chunk = (0 < length chunk) × (length chunk < MOST_IN_CHUNK)
 
 -- each chunk but that at a place has an area, and room for one more
 pub record AreOthersFilled (chunks : List (List Record)) (place : ℕ) : Type 0 where

@@ -3,6 +3,7 @@ use Rattle.std.specs.Prelude.{ℕ, ◌≡◌, ◌≤◌, ◌<◌, ◌+◌, ◌-�
 use Rattle.mm_types.specs.declared.area.Record.{Record}
 use Rattle.area_list.specs.Areas.{Neighbours}
 use Rattle.area_rules.specs.Placement.{is_free}
+use Rattle.area_chunks.specs.declared.chunk.TheConstants.{MOST_IN_CHUNK}
 use Rattle.area_chunks.specs.Internal.BinarySearch.{BeginsAscend, EndsAscend}
 
 -- no gap between an area and the next is wider
@@ -11,7 +12,7 @@ HasGapsUpTo widest areas = Neighbours (λ a b. b.span.lo ≤ a.span.hi + widest)
 
 -- a chunk has room for as many areas as one may have, and no wider gap
 pub record IsWellFilled (areas : List Record) (room widest : ℕ) : Type 0 where
-  pub fits : 128 ≤ room
+  pub fits : MOST_IN_CHUNK ≤ room
   pub gaps : HasGapsUpTo widest areas
 
 -- the areas lie by strictly ascending lowest page and end

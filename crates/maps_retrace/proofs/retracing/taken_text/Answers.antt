@@ -1,6 +1,7 @@
 -- For `taken_text`: its goals.
 use Rattle.std.proofs.Common.{◌≡◌, ◌≤◌, ◌∷◌, ◌+◌, map, drop, flat_map, length, string_bytes, ap, arith}
-use Rattle.maps_retrace.specs.FileLines.{header, file_texts}
+use Rattle.trace_text.specs.LineTexts.{header}
+use Rattle.maps_retrace.specs.FileLines.{file_texts}
 use Rattle.maps_retrace.specs.Mappings.{mapping_text}
 use Rattle.maps_retrace.specs.Internal.Taking.{what_taken}
 use Rattle.maps_retrace.proofs.Steps.{dropped, length_map, file_printed, files_printed}

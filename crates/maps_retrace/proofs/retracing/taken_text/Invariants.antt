@@ -1,6 +1,7 @@
 -- For `taken_text`: what its loops keep.
 use Rattle.std.proofs.Common.{◌≡◌, ◌+◌, ◌++◌, flat_map, drop, string_bytes}
-use Rattle.maps_retrace.specs.FileLines.{header, file_texts}
+use Rattle.trace_text.specs.LineTexts.{header}
+use Rattle.maps_retrace.specs.FileLines.{file_texts}
 use Rattle.maps_retrace.specs.Mappings.{mapping_text}
 use Rattle.maps_retrace.specs.Internal.Taking.{what_taken}
 use Rattle.maps_retrace.proofs.retracing.taken_text.Given as goal

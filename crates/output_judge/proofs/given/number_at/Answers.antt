@@ -33,5 +33,5 @@ returns c = λ line version rest fits is.
     position_from_yields_List is_space _ _ c.position.result c.position.ensures.ran
     (YieldsList-from_slice c.in_ok-digits.digits.now cc) (λ x b q k. search (rules, tests)) in
     let end = end_is line.number between.0 c.in_ok-digits.digits.now c.position.result c.in_ok-end.end digits found c.in_ok-end.was in
-    c.number_of.ensures line.number fits
+    c.decimal_of_bytes.ensures line.number fits
     (word_is line.number between.0 c.in_ok-digits.digits.now c.split_at.result.0.now c.in_ok-end.end digits end c.split_at.ensures.front)

@@ -10,7 +10,7 @@ use Rattle.trace_reader.proofs.TraceValues.{after_line-good}
 use Rattle.trace_reader.proofs.reading.read_lines.Goals as goal
 
 pub returns-in-Err : goal.returns-in-Err
-returns-in-Err c = rw c.at_line.ensures (first_fails _ _ _ _ c.in-Err.error _ c.loop-rest.number
+returns-in-Err c = rw c.error_at.ensures (first_fails _ _ _ _ c.in-Err.error _ c.loop-rest.number
     c.loop-rest.invariant.read c.first_line.ensures.line c.first_line.ensures.number c.in-Err.ensures)
 
 pub loop-rest-preserved : goal.loop-rest-preserved

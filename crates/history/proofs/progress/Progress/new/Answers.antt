@@ -9,7 +9,7 @@ invariant_of-result c =
     let count : c.len.result ≡ callers_of c.args.lines.now = omega (arith, c.len.ensures, c.in_ok-places.places.ok.0, c.in_ok-places.ensures.all) in
     let none : c.in_ok-answered.answered.items ≡ replicate (callers_of c.args.lines.now) 0 =
     c.in_ok-answered.ensures.items_if_clones_equal (λ y same. same) ∙ ap (λ n. replicate n 0) count in
-    placed_none (callers_of c.args.lines.now) _ c.requires.threads c.requires.numbered c.of.ensures c.in_ok-places.ensures none
+    placed_none (callers_of c.args.lines.now) _ c.requires.threads c.requires.numbered c.of-callers.ensures c.in_ok-places.ensures none
 
 pub returns : goal.returns
 returns c =

@@ -1,7 +1,0 @@
--- The proof of `places_by_caller`: what its loop keeps.
-use Rattle.history.specs.CallerPlaces.{callers_of}
-use Rattle.history.proofs.Placing.{Placed}
-use Rattle.history.proofs.places.places_by_caller.Given as goal
-
-abbrev pub invariant-loop-place : goal.invariant-loop-place
-invariant-loop-place l = Placed l.fn.lines l.place (callers_of l.fn.lines) l.places.items

@@ -1,0 +1,28 @@
+-- The proof of `places_of`: before the first line, at the next, and after the last.
+use Rattle.std.proofs.Common.{◌≡◌, arith}
+use Rattle.history.specs.declared.callers.TheConstants.{MOST_THREADS}
+use Rattle.history.specs.Histories.{caller_of}
+use Rattle.history.proofs.Placing.{placed_none, placed_more, caller_at, placed_all}
+use Rattle.history.proofs.places.places_of.Goals as goal
+
+pub loop-place-init : goal.loop-place-init
+loop-place-init c =
+    let count : c.count.result ≡ caller_of c.args.lines.now MOST_THREADS = c.count.ensures.count c.args.lines.now c.requires.counted in
+    placed_none _ _ _ (omega (arith, c.in_ok-places.places.ok.0, c.in_ok-places.ensures.count, c.max.ensures)) c.in_ok-places.ensures.empty
+
+pub index_mut-requires : goal.index_mut-requires
+index_mut-requires c =
+    caller_at c.args.lines.now c.loop-place.place _ _ _ c.loop-place-test.true c.requires.threads
+    (omega (arith, c.loop-place.places.ok.0, c.loop-place.invariant.all))
+    (c.caller-caller.ensures.caller c.args.lines.now c.requires.counted)
+
+pub loop-place-preserved : goal.loop-place-preserved
+loop-place-preserved c =
+    placed_more _ _ _ _ c.loop-place.invariant _ c.loop-place-test.true c.caller-caller.result
+    (c.caller-caller.ensures.caller c.args.lines.now c.requires.counted)
+    (caller_at c.args.lines.now c.loop-place.place _ _ _ c.loop-place-test.true c.requires.threads c.loop-place.invariant.all
+    (c.caller-caller.ensures.caller c.args.lines.now c.requires.counted))
+    c.index_mut.result.now c.push.new.self c.index_mut.ensures.value c.in_ok-push.ensures.items
+
+pub returns : goal.returns
+returns c = placed_all c.args.lines.now _ _ c.loop-place.invariant c.loop-place-test.false c.requires.threads
