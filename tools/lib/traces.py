@@ -7,7 +7,7 @@ from collections import namedtuple
 
 PAGE = 4096
 USER_PAGES = {1: 0x7ffffffff, 2: 0xfffffffffff}  # by version, the page at which user memory ends
-LIMITS = {"bytes": 67_108_864, "line": 4_096, "operations": 1_000_000, "maps": 64, "forks": 8, "notes": 1_000, "files": 1_024}
+LIMITS = {"bytes": 67_108_864, "line": 4_096, "threads": 64, "operations": 1_000_000, "maps": 64, "forks": 8, "notes": 1_000, "files": 1_024}
 MOST_AREAS = 65_530
 MOST_DESCRIPTOR = 2**31 - 1
 MOST_SIZE = 2**63 - 1
@@ -100,7 +100,7 @@ def number_of(text, most=MOST_NUMBER):
 
 
 def thread_of(text):
-    is_one = re.fullmatch("[0-9]{1,20}", text) and int(text) < 64
+    is_one = re.fullmatch("[0-9]{1,20}", text) and int(text) < LIMITS["threads"]
     return int(text) if is_one else None
 
 
