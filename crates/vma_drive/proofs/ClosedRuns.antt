@@ -1,5 +1,5 @@
 -- Serves the functions that run a trace: what closing a space after all lines were run leaves.
-use Rattle.std.proofs.Common.{Bool, true, false, cond, inl, inr, ℕ, ◌≡◌, ◌+◌, ◌<◌, ◌≤◌, ◌∙◌, zero, suc, refl, sym, ap, subst, nat_eq, List, [], ◌∷◌, ◌++◌, length, map, take, drop, get_or, set, slice_get, option_map, All, Some, arith}
+use Rattle.std.proofs.Common.{Bool, true, false, cond, inl, inr, ℕ, ◌≡◌, ◌<◌, ◌≤◌, ◌∙◌, zero, suc, refl, sym, ap, subst, nat_eq, List, [], ◌∷◌, ◌++◌, length, map, take, drop, get_or, set, slice_get, option_map, All, Some, arith}
 use Rattle.std.proofs.lemmas.List.{length-map, length-set, take-append-le, take_all, get_or-set_same}
 use Rattle.std.proofs.lemmas.Bool.{cases_lt, eq-eqb}
 use Rattle.std.proofs.lemmas.List.Elements.{All-nil, All-weaker}

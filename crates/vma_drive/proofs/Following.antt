@@ -100,7 +100,7 @@ own_rises lines rounds caller places a b numbered are stand low within =
           let alike : get_or places a 0 ≡ get_or places b 0 = ap (λ (k : ℕ). get_or places k 0) same in
           omega (arith, alike)
     ] in
-    are.rises (get_or places a 0) (get_or places b 0) one.line two.line one.stands two.stands rises
+    are.order.rises (get_or places a 0) (get_or places b 0) one.line two.line one.stands two.stands rises
     (own_caller lines caller a one.line one.own_is ∙ sym (own_caller lines caller b two.line two.own_is))
 
 -- after a round the lines that a pass ran are cut at the next round
@@ -196,7 +196,7 @@ module _ (lines : List TraceLine) (rounds : List ℕ) (tellings : List Telling) 
       let names : NamesAt lines (get_or hearing.own.items i 0) (get_or telling.own.items j 0) =
       record { line = line; other = named; stands = place.1; there = at.1; after = after ∙ ap Some (sym same) } in
       let lower : get_or rounds (get_or telling.own.items j 0) 0 < get_or rounds (get_or hearing.own.items i 0) 0 =
-      rounds_are.above (get_or hearing.own.items i 0) (get_or telling.own.items j 0) names in
+      rounds_are.order.above (get_or hearing.own.items i 0) (get_or telling.own.items j 0) names in
       let within : i < length (own_by pass) = slice_get_within (own_by pass) i item item_is in
       let said_cut : IsCut rounds telling.own.items round telling.old = cut t telling.old telling.own telling.old_is telling.own_is in
       let heard_cut : IsCut rounds hearing.own.items round hearing.old = cut c hearing.old hearing.own hearing.old_is hearing.own_is in

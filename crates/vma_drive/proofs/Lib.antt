@@ -8,6 +8,7 @@ pub mod Following
 pub mod ToldFirst
 pub mod Noting
 pub mod Workers
+pub mod Apart
 pub mod Rounding
 pub mod AllTold
 pub mod Standing

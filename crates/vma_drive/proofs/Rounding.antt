@@ -2,7 +2,6 @@
 use Rattle.std.proofs.Common.{ℕ, ◌≡◌, ◌+◌, ◌-◌, ◌<◌, ◌≤◌, ◌∙◌, refl, sym, ap, subst, List, [], ◌∷◌, ◌++◌, length, get_or, set, slice_get, replicate, All, Option, Some, None, arith, inl, inr}
 use Rattle.std.specs.Prelude.{IfSome}
 use Rattle.std.proofs.lemmas.Bool.{cases_lt, cases_eq}
-use Rattle.std.proofs.lemmas.Bool.Decides.{nat_tests}
 use Rattle.std.proofs.lemmas.List.{length-set, length-replicate, get_or-replicate, get_or_past, length_push, get_or-set_same, get_or-set_other, get_or_append_left, get_or-append_right}
 use Rattle.std.proofs.lemmas.Option.{slice_get_within, slice_get-get_or, get_or_from_slice_get, same_Some}
 use Rattle.trace_reader.specs.declared.trace.TraceLine.{TraceLine}
@@ -11,7 +10,7 @@ use Rattle.trace_reader.specs.Values.{AreNumbered, AreNamesRight}
 use Rattle.history.specs.Histories.{caller_of}
 use Rattle.history.proofs.Numbers.{one_place}
 use Rattle.vma_drive.specs.Naming.{HasNumber, NamesAt}
-use Rattle.vma_drive.specs.Internal.Rounds.{AreRounds}
+use Rattle.vma_drive.specs.Internal.Rounds.{AreRounds, KeepOrder}
 use Rattle.vma_drive.proofs.NamedLines.{named_before, name_stands, names_at}
 use Rattle.vma_drive.proofs.NamesShared.{caller_few}
 
@@ -25,6 +24,9 @@ pub record RoundedTo (lines : List TraceLine) (rounds reached : List ℕ) (place
   pub rises : (a b : ℕ) (line other : TraceLine) → b < place → slice_get lines a ≡ Some line → slice_get lines b ≡ Some other → a ≤ b
       → caller_of lines line.thread ≡ caller_of lines other.thread → get_or rounds a 0 ≤ get_or rounds b 0
   pub above : (at said : ℕ) → at < place → NamesAt lines at said → get_or rounds said 0 < get_or rounds at 0
+  pub least : (others : List ℕ) → KeepOrder lines others → (k : ℕ) → k < place → get_or rounds k 0 ≤ get_or others k 0
+  pub reached_least : (others : List ℕ) → KeepOrder lines others → (b : ℕ) (line : TraceLine) → place ≤ b → slice_get lines b ≡ Some line
+      → get_or reached (caller_of lines line.thread) 0 ≤ get_or others b 0
 
 zeros : (many caller : ℕ) → get_or (replicate many 0) caller 0 ≤ 0
 zeros many caller = elim (cases_lt caller many) [
@@ -42,6 +44,8 @@ rounded_none lines rounds none = record {
   below = λ a line within. absurd (omega arith);
   rises = λ a b line other within. absurd (omega arith);
   above = λ at said within. absurd (omega arith);
+  least = λ others keeps k within. absurd (omega (arith, within));
+  reached_least = λ others keeps b line past at. let low = zeros 64 (caller_of lines line.thread) in omega (arith, low);
 }
 
 pub rounded_more : (lines : List TraceLine) (rounds reached : List ℕ) (place caller round : ℕ) (here : TraceLine)
@@ -49,8 +53,9 @@ pub rounded_more : (lines : List TraceLine) (rounds reached : List ℕ) (place c
     → RoundedTo lines rounds reached place → slice_get lines place ≡ Some here → caller ≡ caller_of lines here.thread → caller < length reached
     → get_or reached caller 0 ≤ round → round ≤ place
     → ((said : ℕ) → NamesAt lines place said → get_or rounds said 0 < round)
+    → ((bound : ℕ) → get_or reached caller 0 ≤ bound → ((said : ℕ) → NamesAt lines place said → get_or rounds said 0 < bound) → round ≤ bound)
     → RoundedTo lines (rounds ++ round ∷ []) (set reached caller round) (place + 1)
-rounded_more lines rounds reached place caller round here numbered names to stands is within up small name =
+rounded_more lines rounds reached place caller round here numbered names to stands is within up small name least =
     let old : (k : ℕ) → k < place → get_or (rounds ++ round ∷ []) k 0 ≡ get_or rounds k 0 =
     λ k early. get_or_append_left rounds (round ∷ []) 0 k (omega (arith, early, to.all)) in
     let new : (k : ℕ) → k ≡ place → get_or (rounds ++ round ∷ []) k 0 ≡ round =
@@ -63,6 +68,13 @@ rounded_more lines rounds reached place caller round here numbered names to stan
       | inr other ↦ omega (arith, get_or-set_other reached caller c round 0 other)
     ] in
     let late : (b : ℕ) → b < place + 1 → (place ≤ b) → b ≡ place = λ b low high. omega (arith, low, high) in
+    let least_here : (others : List ℕ) → KeepOrder lines others → round ≤ get_or others place 0 = λ others keeps.
+    let own = to.reached_least others keeps place here (omega arith) stands in
+    least (get_or others place 0) (omega (arith, own, ap (λ (n : ℕ). get_or reached n 0) is))
+    (λ said its.
+    let low = to.least others keeps said (named_before lines numbered names place said its) in
+    let high = keeps.above place said its in
+    omega (arith, low, high)) in
     record {
       all = omega (arith, length_push rounds round, to.all);
       size = length-set reached caller round ∙ to.size;
@@ -102,6 +114,21 @@ rounded_more lines rounds reached place caller round here numbered names to stan
             let before = named_before lines numbered names at said its in
             omega (arith, new at one, old said (omega (arith, before, one)), name said (subst (λ (n : ℕ). NamesAt lines n said) one its))
       ];
+      least = λ others keeps k inside. elim (cases_lt k place) [
+        | inl early ↦ omega (arith, old k early, to.least others keeps k early)
+        | inr past ↦
+            let one : k ≡ place = late k inside past in
+            omega (arith, new k one, least_here others keeps, ap (λ (n : ℕ). get_or others n 0) one)
+      ];
+      reached_least = λ others keeps b line past at. elim (cases_eq (caller_of lines line.thread) caller) [
+        | inl same ↦
+            let here_low = least_here others keeps in
+            let rises = keeps.rises place b here line stands at (omega (arith, past)) (sym is ∙ sym same) in
+            omega (arith, mine (caller_of lines line.thread) same, here_low, rises)
+        | inr other ↦
+            let low = to.reached_least others keeps b line (omega (arith, past)) at in
+            omega (arith, get_or-set_other reached caller (caller_of lines line.thread) round 0 other, low)
+      ];
     }
   where
     none : (k : ℕ) → k ≡ place → k - place ≡ 0
@@ -114,25 +141,34 @@ rounded_all lines rounds reached place to all few = record {
   few = λ k d within.
       let low = to.low k (omega (arith, within, to.all)) in
       omega (arith, low, within, to.all, all, few, same rounds k d within);
-  rises = λ a b line other at there. to.rises a b line other (omega (arith, all, slice_get_within lines b other there)) at there;
-  above = λ at said its. to.above at said (omega (arith, all, slice_get_within lines at its.line its.stands)) its;
+  order = record {
+    rises = λ a b line other at there. to.rises a b line other (omega (arith, all, slice_get_within lines b other there)) at there;
+    above = λ at said its. to.above at said (omega (arith, all, slice_get_within lines at its.line its.stands)) its;
+  };
+  least = λ others keeps k within. to.least others keeps k (omega (arith, all, within));
 }
   where
     same : (xs : List ℕ) (k d : ℕ) → k < length xs → get_or xs k d ≡ get_or xs k 0
     same xs k d within = get_or_from_slice_get xs k (get_or xs k 0) d (slice_get-get_or xs k 0 within)
 
+-- what holds of the lines that a line names holds of the one that it names
+name_holds : (lines : List TraceLine) (place : ℕ) (line : TraceLine) (P : ℕ → Type 0) → AreNumbered lines → AreNamesRight lines
+    → slice_get lines place ≡ Some line → ((said : ℕ) → NamesAt lines place said → P said)
+    → IfSome line.after (λ number. (said : ℕ) × HasNumber lines number said × P said)
+name_holds lines place line P numbered names found holds = by_name line.after refl
+  where
+    by_name : (after : Option ℕ) → line.after ≡ after → IfSome after (λ number. (said : ℕ) × HasNumber lines number said × P said)
+    by_name None is = tt
+    by_name (Some number) is =
+        let stands = name_stands lines place line number names found is in
+        (stands.0, stands.1, holds stands.0 (names_at lines place stands.0 line number found is stands.1))
+
 -- the line that a line names is an earlier one
 pub name_low : (lines : List TraceLine) (place many : ℕ) (line : TraceLine) → AreNumbered lines → AreNamesRight lines
     → slice_get lines place ≡ Some line → many ≡ place
     → IfSome line.after (λ number. (said : ℕ) × HasNumber lines number said × (said < many))
-name_low lines place many line numbered names found same = by_name line.after refl
-  where
-    by_name : (after : Option ℕ) → line.after ≡ after → IfSome after (λ number. (said : ℕ) × HasNumber lines number said × (said < many))
-    by_name None is = tt
-    by_name (Some number) is =
-        let stands = name_stands lines place line number names found is in
-        let low : stands.0 < place = named_before lines numbered names place stands.0 (names_at lines place stands.0 line number found is stands.1) in
-        (stands.0, stands.1, omega (arith, low, same))
+name_low lines place many line numbered names found same = name_holds lines place line (λ said. said < many) numbered names found
+    (λ said its. let low = named_before lines numbered names place said its in omega (arith, low, same))
 
 -- it has a lower round
 pub name_above : (lines : List TraceLine) (rounds shown : List ℕ) (round place : ℕ) (line : TraceLine) → AreNumbered lines → slice_get lines place ≡ Some line
@@ -159,17 +195,25 @@ pub rounded_at : (lines : List TraceLine) (rounds reached shown pushed : List �
     → AreNumbered lines → AreNamesRight lines → RoundedTo lines rounds reached place → place < length lines
     → All (λ (line : TraceLine). line.thread < 64) lines → caller ≡ caller_of lines (get_or lines place d).thread
     → get_or reached caller 0 ≤ round
-    → ((bound : ℕ) → get_or reached caller 0 ≤ bound → All (λ (r : ℕ). r + 1 ≤ bound) shown → round ≤ bound)
+    → ((bound : ℕ) → get_or reached caller 0 ≤ bound
+    → IfSome (get_or lines place d).after (λ number. (said : ℕ) × HasNumber lines number said × (get_or shown said 0 < bound)) → round ≤ bound)
     → shown ≡ rounds
     → IfSome (get_or lines place d).after (λ number. (said : ℕ) × HasNumber lines number said × (get_or shown said 0 < round))
     → pushed ≡ rounds ++ round ∷ []
     → RoundedTo lines pushed (set reached caller round) (place + 1)
-rounded_at lines rounds reached shown pushed place caller round d numbered names to within threads is up few same above push =
+rounded_at lines rounds reached shown pushed place caller round d numbered names to within threads is up least same above push =
     let here : TraceLine = get_or lines place d in
     let stands : slice_get lines place ≡ Some here = slice_get-get_or lines place d within in
     let low : caller_of lines here.thread ≤ here.thread = caller_few lines here.thread in
-    let small : round ≤ place = few place (to.reached_low caller) (λ k e inside. round_few lines rounds reached shown place k e to same inside) in
+    let read : (said : ℕ) → get_or shown said 0 ≡ get_or rounds said 0 = λ said. ap (λ (l : List ℕ). get_or l said 0) same in
+    let least_of : (bound : ℕ) → get_or reached caller 0 ≤ bound → ((said : ℕ) → NamesAt lines place said → get_or rounds said 0 < bound) → round ≤ bound =
+    λ bound own named. least bound own (name_holds lines place here (λ said. get_or shown said 0 < bound) numbered names stands
+    (λ said its. let below = named said its in omega (arith, below, read said))) in
+    let small : round ≤ place = least_of place (to.reached_low caller) (λ said its.
+    let before = named_before lines numbered names place said its in
+    let few = to.low said before in
+    omega (arith, few, before)) in
     subst (λ (l : List ℕ). RoundedTo lines l (set reached caller round) (place + 1)) (sym push)
     (rounded_more lines rounds reached place caller round here numbered names to stands is
     (omega (arith, is, low, threads place d within, to.size)) up small
-    (name_above lines rounds shown round place here numbered stands above same))
+    (name_above lines rounds shown round place here numbered stands above same) least_of)

@@ -1,5 +1,5 @@
 -- Serves `drive`: where passes stand before a round.
-use Rattle.std.proofs.Common.{ℕ, ◌≡◌, ◌+◌, ◌-◌, ◌<◌, ◌≤◌, ◌∙◌, refl, sym, ap, subst, cond, Bool, nat_eq, nat_le, ◌&&◌, List, [], ◌∷◌, ◌++◌, length, take, get_or, slice_get, All, count_by, Some, arith, inl, inr}
+use Rattle.std.proofs.Common.{ℕ, ◌≡◌, ◌+◌, ◌<◌, ◌≤◌, ◌∙◌, refl, sym, ap, subst, cond, Bool, nat_eq, nat_le, ◌&&◌, List, [], ◌∷◌, length, take, get_or, slice_get, All, count_by, Some, arith, inl, inr}
 use Rattle.std.specs.Prelude.{Vec}
 use Rattle.std.specs.declared.alloc.Global.{Global}
 use Rattle.std.proofs.lemmas.Bool.{cases_lt}

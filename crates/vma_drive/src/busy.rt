@@ -3,7 +3,7 @@ ghost use Rattle.std.specs.Prelude.{ℕ, ◌≡◌, ◌≤◌, ◌<◌, ◌+◌,
 ghost use Rattle.std.specs.declared.alloc.Global.{Global};
 ghost use Rattle.fault_path.specs.Passes.{PassView};
 ghost use Rattle.vma_drive.specs.Hearing.{own_by};
-ghost use Rattle.vma_drive.specs.Internal.Rounds.{HasLine};
+ghost use Rattle.vma_drive.specs.Internal.Rounds.{AreApart, HasLine};
 
 use fault_path::Pass;
 
@@ -21,7 +21,9 @@ pub(crate) fn threads_for(
     requires within { All (λ own. All (λ place. place < length rounds.now) own.items) places.now }
     requires left { (caller : ℕ) (pass : PassView) → slice_get passes.now caller ≡ Some pass
         → pass.left + length (own_by pass) ≡ slice_index owed.now caller }
-    ensures { 0 < result }
+    ensures some { 0 < result }
+    ensures apart { AreApart places.now rounds.now round passes.now result }
+    ensures fewest { (fewer : ℕ) → 0 < fewer → AreApart places.now rounds.now round passes.now fewer → result ≤ fewer }
 {
     let mut closest = passes.len();
     let mut last = None;

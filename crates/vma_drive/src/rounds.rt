@@ -79,7 +79,8 @@ pub(crate) fn tellings_of(
 /// How many rounds there are.
 pub(crate) fn count_rounds(rounds: &[u32]) -> u32
     requires { All (λ round. round < MOST_LINES) rounds.now }
-    ensures { All (λ round. round < result) rounds.now }
+    ensures above { All (λ round. round < result) rounds.now }
+    ensures least { (bound : ℕ) → All (λ round. round < bound) rounds.now → result ≤ bound }
 {
     let mut count = 0;
     for round in rounds {
@@ -97,7 +98,8 @@ fn round_of(reached: u32, lines: &[TraceLine], after: Option<u64>, rounds: &[u32
     requires few { (reached < MOST_LINES) × All (λ round. round + 1 < MOST_LINES) rounds.now }
     ensures reached { reached ≤ result }
     ensures above { IfSome after (λ number. (said : ℕ) × HasNumber lines.now number said × (slice_index rounds.now said < result)) }
-    ensures few { (bound : ℕ) → reached ≤ bound → All (λ round. round + 1 ≤ bound) rounds.now → result ≤ bound }
+    ensures least { (bound : ℕ) → reached ≤ bound
+        → IfSome after (λ number. (said : ℕ) × HasNumber lines.now number said × (slice_index rounds.now said < bound)) → result ≤ bound }
 {
     match after {
         Some(number) => reached.max(rounds[place_of(lines, number)] + 1),

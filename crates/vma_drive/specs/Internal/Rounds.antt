@@ -1,5 +1,5 @@
 -- Rounds, in which lines are run where lines name earlier ones.
-use Rattle.std.specs.Prelude.{ℕ, ◌≡◌, ◌≤◌, ◌<◌, ◌+◌, ◌&&◌, nat_eq, nat_le, List, [], length, slice_get, slice_index, Some, All, count_by, Vec}
+use Rattle.std.specs.Prelude.{ℕ, ◌≡◌, ◌≤◌, ◌<◌, ◌+◌, ◌*◌, ◌&&◌, nat_eq, nat_le, List, [], length, slice_get, slice_index, Some, All, count_by, Vec}
 use Rattle.std.specs.declared.alloc.Global.{Global}
 use Rattle.trace_reader.specs.declared.trace.TraceLine.{TraceLine}
 use Rattle.trace_reader.specs.Values.{AreNumbered}
@@ -14,13 +14,19 @@ use Rattle.vma_drive.specs.Hearing.{own_by, Grew, HasRun, AreToldBy}
 use Rattle.vma_drive.specs.Naming.{NamesAt, tells}
 use Rattle.vma_drive.specs.Sharing.{AreShares}
 
--- The round of each line: rounds rise along the lines of a caller, and a named line has a lower round than the one that names it.
+-- Numbers of lines that keep the order: they rise along the lines of a caller, and a named line has a lower one than the line that
+-- names it.
+pub record KeepOrder (lines : List TraceLine) (numbers : List ℕ) : Type 0 where
+  pub rises : (a b : ℕ) (line other : TraceLine) → slice_get lines a ≡ Some line → slice_get lines b ≡ Some other → a ≤ b
+      → caller_of lines line.thread ≡ caller_of lines other.thread → slice_index numbers a ≤ slice_index numbers b
+  pub above : (place said : ℕ) → NamesAt lines place said → slice_index numbers said < slice_index numbers place
+
+-- The round of each line: the least numbers that keep the order.
 pub record AreRounds (lines : List TraceLine) (rounds : List ℕ) : Type 0 where
   pub all : length rounds ≡ length lines
   pub few : All (λ round. round < MOST_LINES) rounds
-  pub rises : (a b : ℕ) (line other : TraceLine) → slice_get lines a ≡ Some line → slice_get lines b ≡ Some other → a ≤ b
-      → caller_of lines line.thread ≡ caller_of lines other.thread → slice_index rounds a ≤ slice_index rounds b
-  pub above : (place said : ℕ) → NamesAt lines place said → slice_index rounds said < slice_index rounds place
+  pub order : KeepOrder lines rounds
+  pub least : (others : List ℕ) → KeepOrder lines others → (place : ℕ) → place < length lines → slice_index rounds place ≤ slice_index others place
 
 -- What callers tell each other: one telling for each line that names one, before its round.
 pub record AreTellings (lines : List TraceLine) (rounds : List ℕ) (tellings : List Telling) : Type 0 where
@@ -44,6 +50,16 @@ pub record IsCut (rounds places : List ℕ) (round : ℕ) (pass : PassView) : Ty
 -- the next line of a pass is of this round or of a lower one
 abbrev pub HasLine : List ℕ → List ℕ → ℕ → PassView → Type 0
 HasLine places rounds round pass = (length (own_by pass) < length places) × (slice_index rounds (slice_index places (length (own_by pass))) ≤ round)
+
+-- the caller of this number has a line next that is of this round or of a lower one
+abbrev pub IsBusy : List (Vec ℕ Global) → List ℕ → ℕ → List PassView → ℕ → Type 0
+IsBusy places rounds round passes caller = (pass : PassView) × (own : Vec ℕ Global) × (slice_get passes caller ≡ Some pass)
+    × (slice_get places caller ≡ Some own) × HasLine own.items rounds round pass
+
+-- where callers are shared out to so many threads, as many neighbours to each, no two busy ones have the same thread
+abbrev pub AreApart : List (Vec ℕ Global) → List ℕ → ℕ → List PassView → ℕ → Type 0
+AreApart places rounds round passes threads = (caller gap : ℕ) → 0 < gap → IsBusy places rounds round passes caller
+    → IsBusy places rounds round passes (caller + gap) → length passes ≤ threads * gap
 
 -- A pass went on with the lines of its caller, none of them past this round.
 pub record RanRound (own : List TraceLine) (rounds places : List ℕ) (round owed : ℕ) (old new : PassView) : Type 0 where

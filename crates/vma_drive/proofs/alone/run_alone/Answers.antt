@@ -1,5 +1,5 @@
 -- The proof of `run_alone`: the space has one pass with which nothing was done, which ran all lines.
-use Rattle.std.proofs.Common.{◌≡◌, ◌∙◌, sym, ap, subst, List}
+use Rattle.std.proofs.Common.{◌∙◌, sym, ap, subst, List}
 use Rattle.mm_types.specs.declared.call.Entry.{Entry}
 use Rattle.mm_space.specs.Names.{SpaceId, AreStrangers}
 use Rattle.vma_drive.proofs.OnePass.{only_pass, used_alone, alone_closed}

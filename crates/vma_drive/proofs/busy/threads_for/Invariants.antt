@@ -1,11 +1,8 @@
 -- The proof of `threads_for`: what its loop keeps.
-use Rattle.std.proofs.Common.{◌<◌}
-use Rattle.std.specs.Prelude.{IfSome}
+use Rattle.vma_drive.specs.Internal.Rounds.{IsBusy}
+use Rattle.vma_drive.proofs.Apart.{Closest}
+use Rattle.std.proofs.Common.{length}
 use Rattle.vma_drive.proofs.busy.threads_for.Given as goal
 
--- the last caller with a line is one of the first
 abbrev pub invariant-loop-caller : goal.invariant-loop-caller
-invariant-loop-caller l = record {
-  some : 0 < l.closest;
-  before : IfSome l.last (λ caller. caller < l.caller);
-}
+invariant-loop-caller l = Closest (IsBusy l.fn.places l.fn.rounds l.fn.round l.fn.passes) (length l.fn.passes) l.caller l.closest l.last

@@ -1,10 +1,12 @@
 -- The proof of `drive`: with fresh passes the first round can begin.
-use Rattle.std.proofs.Common.{ℕ, ◌≡◌, ◌∙◌, ap, sym, subst, List, length, get_or}
+use Rattle.std.proofs.Common.{ℕ, ◌≡◌, ◌∙◌, ap, sym, subst, List, length, get_or, slice_get, take, Some}
 use Rattle.trace_reader.specs.declared.trace.TraceLine.{TraceLine}
-use Rattle.history.specs.Histories.{AskThemselves}
+use Rattle.history.specs.Histories.{AskThemselves, lines_of}
+use Rattle.history.specs.Runs.{asked}
+use Rattle.fault_path.specs.Passes.{PassView}
 use Rattle.history.proofs.Calls.{values_ask}
 use Rattle.std.specs.Prelude.{OnOk}
-use Rattle.vma_drive.specs.Hearing.{AreToldBy}
+use Rattle.vma_drive.specs.Hearing.{AreToldBy, done_by}
 use Rattle.vma_drive.proofs.Operations.{are_new}
 use Rattle.vma_drive.proofs.Standing.{settle, begun_fresh, grown_fresh, at_first}
 use Rattle.vma_drive.proofs.driving.drive.Goals as goal
@@ -56,3 +58,7 @@ run_rounds-requires-clause-first g c lifetimes outlives =
 pub returns-clause-told : goal.returns-clause-told
 returns-clause-told g c =
     subst (λ (l : List TraceLine). OnOk c.run_rounds.result (AreToldBy l c.run_rounds.new.passes)) c.items-lines.ensures c.run_rounds.ensures.told
+
+pub returns-clause-begun : goal.returns-clause-begun
+returns-clause-begun g c = subst (λ (l : List TraceLine). (caller : ℕ) (pass : PassView) → slice_get c.run_rounds.new.passes caller ≡ Some pass
+    → (count : ℕ) × (done_by pass ≡ asked (take count (lines_of l caller)))) c.items-lines.ensures c.run_rounds.ensures.begun

@@ -1,5 +1,5 @@
 -- The proof of `run_rounds`: before each round, and after the last.
-use Rattle.std.proofs.Common.{◌+◌, arith}
+use Rattle.std.proofs.Common.{arith}
 use Rattle.vma_drive.proofs.Standing.{may_tell_at, has_mid, has_new, begun_new, grown_new, at_next, begun_at, grown_at, done_at}
 use Rattle.vma_drive.proofs.OwnLines.{places_in}
 use Rattle.vma_drive.proofs.driving.run_rounds.Goals as goal
@@ -57,4 +57,4 @@ returns-clause-grown g c = grown_at g.N.SpaceName.name c.args.lines.now c.args.p
 pub returns-clause-done : goal.returns-clause-done
 returns-clause-done g c = done_at g.N.SpaceName.name c.args.lines.now c.args.places.now c.args.rounds.now c.args.tellings.now c.requires.settled
     c.loop-round.passes c.loop-round.owed c.loop-round.round c.loop-round.invariant
-    (λ k d within. let low = c.count_rounds-round-end.ensures k d within in omega (arith, low, c.loop-round-test.false))
+    (λ k d within. let low = c.count_rounds-round-end.ensures.above k d within in omega (arith, low, c.loop-round-test.false))

@@ -1,5 +1,5 @@
 -- The proof of `rounds_of`: before the first line, at the next, and after the last.
-use Rattle.std.proofs.Common.{ℕ, ◌≡◌, length, ◌+◌, ◌∙◌, ap, List, arith}
+use Rattle.std.proofs.Common.{ℕ, length, ◌∙◌, ap, List, arith}
 use Rattle.std.proofs.lemmas.Option.{slice_get-get_or}
 use Rattle.vma_drive.proofs.Rounding.{rounded_none, rounded_at, rounded_all, name_low, round_few}
 use Rattle.vma_drive.proofs.rounds.rounds_of.Goals as goal
@@ -25,7 +25,7 @@ pub loop-line-preserved : goal.loop-line-preserved
 loop-line-preserved c = rounded_at c.args.lines.now c.loop-line.rounds.items c.loop-line.reached c.as_slice.result.now c.push.new.self.items
     c.loop-line.line-index c.caller-caller.result c.round_of-round.result _ c.requires.numbered c.requires.named c.loop-line.invariant
     c.loop-line-test.true c.requires.threads (c.caller-caller.ensures.caller c.args.lines.now c.requires.callers) c.round_of-round.ensures.reached
-    c.round_of-round.ensures.few c.as_slice.ensures.value c.round_of-round.ensures.above c.in_ok-push.ensures.items
+    c.round_of-round.ensures.least c.as_slice.ensures.value c.round_of-round.ensures.above c.in_ok-push.ensures.items
 
 pub returns : goal.returns
 returns c = rounded_all c.args.lines.now c.loop-line.rounds.items c.loop-line.reached c.loop-line.line-index c.loop-line.invariant

@@ -1,5 +1,5 @@
 -- The proof of `tell_round`: at a telling of the round, at another, and after the last.
-use Rattle.std.proofs.Common.{ℕ, ◌≡◌, ◌+◌, ◌-◌, suc, List, get_or, subst, sym, arith}
+use Rattle.std.proofs.Common.{ℕ, ◌≡◌, ◌+◌, suc, List, get_or, subst, sym, arith}
 use Rattle.std.proofs.lemmas.Option.{slice_get-get_or, slice_get_within}
 use Rattle.fault_path.specs.Passes.{PassView}
 use Rattle.vma_drive.specs.declared.rounds.Telling.{Telling}
