@@ -1,5 +1,5 @@
 -- Serves `closed_child` and the runs of children: what a child begins with, and what its run is.
-use Rattle.std.proofs.Common.{ℕ, zero, suc, ◌≡◌, ◌+◌, ◌<◌, ◌≤◌, ◌^◌, ◌∙◌, refl, sym, ap, subst, List, [], ◌∷◌, ◌++◌, length, get_or, map, take, take-take, slice_get, Some, Result, Ok, Err, All, arith}
+use Rattle.std.proofs.Common.{ℕ, zero, suc, ◌≡◌, ◌+◌, ◌<◌, ◌≤◌, ◌∙◌, refl, sym, ap, subst, List, [], ◌∷◌, ◌++◌, length, get_or, map, take, take-take, slice_get, Some, Result, Ok, Err, All, arith}
 use Rattle.std.specs.Prelude.{IfOk, Vec}
 use Rattle.std.specs.Option.{option_map}
 use Rattle.std.specs.declared.alloc.Global.{Global}

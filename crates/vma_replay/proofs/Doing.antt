@@ -1,5 +1,5 @@
 -- Serves the functions that do a piece of work: what giving its text leaves, by the answer.
-use Rattle.std.proofs.Common.{ℕ, ◌≡◌, ◌<◌, ◌∙◌, refl, sym, ap, subst, List, [], ◌∷◌, ◌++◌, length, take, take_at, length-append, Option, Some, None, Result, Ok, Err, arith, inl, inr}
+use Rattle.std.proofs.Common.{ℕ, ◌≡◌, ◌<◌, ◌∙◌, refl, sym, ap, subst, List, [], ◌++◌, length, take, take_at, length-append, Option, Some, None, Result, Ok, Err, arith, inl, inr}
 use Rattle.std.specs.Prelude.{IsErrAnd, MatchResult}
 use Rattle.std.specs.Io.KnownBytes.{Appends, Keeps}
 use Rattle.io_edge.specs.Edge.{SinkView}

@@ -1,5 +1,5 @@
 -- Serves `closed_family`: the journal of a parent that has run, and its forks.
-use Rattle.std.proofs.Common.{ℕ, ◌≡◌, ◌+◌, ◌<◌, ◌≤◌, ◌^◌, ◌∙◌, refl, sym, ap, subst, Bool, true, false, not, List, [], ◌∷◌, ◌++◌, ◌||◌, append_assoc, append-nil, length, length-append, take, drop, take-append-drop, filter, slice_get, get_or, zero, suc, Option, Some, None, All, Contains, arith, inl, inr}
+use Rattle.std.proofs.Common.{ℕ, ◌≡◌, ◌+◌, ◌<◌, ◌≤◌, ◌∙◌, refl, sym, ap, subst, Bool, true, false, not, List, [], ◌∷◌, ◌++◌, ◌||◌, append_assoc, append-nil, length, length-append, take, drop, take-append-drop, filter, slice_get, get_or, zero, suc, Option, Some, None, All, Contains, arith, inl, inr}
 use Rattle.std.specs.Prelude.{is_some}
 use Rattle.std.specs.List.{list_any, cons_option}
 use Rattle.std.specs.Option.{option_map_or}

@@ -1,5 +1,5 @@
 -- The forks of a parent that has run.
-use Rattle.std.specs.Prelude.{ℕ, List, [], ◌∷◌}
+use Rattle.std.specs.Prelude.{List, [], ◌∷◌}
 use Rattle.std.specs.Option.{option_map_or}
 use Rattle.mm_types.specs.Sorts.{sort_by}
 use Rattle.trace_reader.specs.declared.trace.TraceLine.{TraceLine}

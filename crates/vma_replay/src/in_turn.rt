@@ -5,15 +5,16 @@ ghost use Rattle.std.specs.List.{list_any};
 ghost use Rattle.history.specs.Labels.{labelled};
 ghost use Rattle.history.specs.Runs.{content_of};
 ghost use Rattle.history.specs.Turns.{turn_item};
-ghost use Rattle.history.specs.declared.items.Content.TheVariants as contents;
 ghost use Rattle.output_text.specs.Output.{item_text, listed_text, result_text};
 ghost use Rattle.trace_reader.specs.Values.{IsTraceValue, child_of};
 ghost use Rattle.vma_replay.specs.Internal.Giving.{GivesAnOutput, IsDoing, IsGivingText, IsPrinting};
 ghost use Rattle.vma_replay.specs.Internal.Telling.{told_in_turn};
 ghost use Rattle.vma_replay.specs.Replaying.{IsRunOf, history_of_run};
 
-use crate::giving::{end_line, give_all, give_full};
-use crate::printing::{ROOM, print_history, print_maps, run_history};
+use crate::giving::give_all;
+use crate::printing::{
+    ROOM, print_areas, print_history, print_maps, print_reply, print_verdict, run_history,
+};
 use crate::replayed::Runs;
 use crate::running::closed_run;
 use crate::status::Status;
@@ -21,8 +22,8 @@ use crate::words::Mode;
 use history::{Turn, Turns, in_turn};
 use io_edge::{Gate, Sink};
 use mm_space::Closed;
-use mm_types::{Files, NoMemory, Record, Seen};
-use output_text::{push_forked, push_reply, push_start, push_verdict};
+use mm_types::{Files, NoMemory, Seen};
+use output_text::push_start;
 use std::alloc::Global;
 use std::sync::Wait;
 use std::thread::Threads;
@@ -148,10 +149,7 @@ fn print_turn<K: Sink>(
 {
     push_start(piece, line, turn.version())?;
     match turn {
-        Turn::Call(_, entry) => {
-            push_reply(piece, entry.reply)?;
-            end_line(sink, piece)
-        }
+        Turn::Call(_, entry) => print_reply(sink, piece, entry.reply),
         Turn::Read(read) => print_read(sink, piece, files, line.op, read),
     }
 }
@@ -169,31 +167,7 @@ fn print_read<K: Sink>(
         (result_text files.now (child_of op) (content_of read.now)) result }
 {
     match read {
-        Seen::Fault { verdict, .. } => {
-            push_verdict(piece, *verdict)?;
-            end_line(sink, piece)
-        }
+        Seen::Fault { verdict, .. } => print_verdict(sink, piece, *verdict),
         Seen::Maps { list, .. } => print_areas(sink, piece, files, op, list.items()),
-    }
-}
-
-/// Prints the list that an operation read: where it makes a child, the child and how many areas it begins with.
-fn print_areas<K: Sink>(
-    sink: &mut K,
-    piece: &mut Vec<u8>,
-    files: &Files,
-    op: Op,
-    areas: &[Record],
-) -> Result<(), Status>
-    requires { (K.seen sink.old).faults < 2 ^ 64 - 1 }
-    ensures { IsPrinting (K.seen sink.old) (K.seen sink.new) piece.old.items piece.new.items
-        (result_text files.now (child_of op) (contents.List areas.now)) result }
-{
-    match op {
-        Op::Fork { child } => {
-            push_forked(piece, child, areas.len())?;
-            give_full(sink, piece)
-        }
-        Op::Call(_) | Op::Fault { .. } | Op::Maps => print_maps(sink, piece, files, areas),
     }
 }

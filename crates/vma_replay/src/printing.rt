@@ -1,13 +1,14 @@
 //! The text of closed runs, which is given while it is printed: each history stands whole before its first byte is given.
-ghost use Rattle.std.specs.Prelude.{◌≡◌, ◌≤◌, ◌<◌, ◌^◌, ◌-◌, ◌++◌, [], All, IfOk, OnOk, List, length};
+ghost use Rattle.std.specs.Prelude.{◌≡◌, ◌≤◌, ◌<◌, ◌^◌, ◌-◌, ◌++◌, [], All, IfOk, OnOk, List, codes, length};
 ghost use Rattle.mm_types.specs.MapsText.{list_text};
 ghost use Rattle.mm_types.specs.declared.call.Entry.{Entry};
 ghost use Rattle.trace_reader.specs.declared.limits.TheConstants.{MOST_LINES};
 ghost use Rattle.trace_reader.specs.Values.{IsTraceValue, child_of};
 ghost use Rattle.history.specs.declared.callers.TheConstants.{MOST_THREADS};
 ghost use Rattle.history.specs.CallerPlaces.{ArePlaces};
+ghost use Rattle.history.specs.declared.items.Content.TheVariants as contents;
 ghost use Rattle.mm_fork.specs.Children.{parent_trace};
-ghost use Rattle.output_text.specs.Output.{content_text, item_text, listed_text, maps_text, result_text, told_by};
+ghost use Rattle.output_text.specs.Output.{item_text, listed_text, maps_text, reply_text, result_text, told_by, verdict_text};
 ghost use Rattle.vma_replay.specs.ChildTexts.{child_line};
 ghost use Rattle.vma_replay.specs.Internal.Families.{AreLegal, AreRunsOfChildren, IsFamily, text_of_child, text_of_children, text_of_family};
 ghost use Rattle.vma_replay.specs.Internal.Giving.{IsGivingText, IsPrinting};
@@ -24,7 +25,7 @@ use io_edge::Sink;
 use maps_print::push_line;
 use mm_fork::{child_history, lines_of_child};
 use mm_space::Closed;
-use mm_types::{Files, NoMemory, Record};
+use mm_types::{Files, NoMemory, Record, Reply, Verdict};
 use output_text::{push_count, push_forked, push_reply, push_start, push_verdict};
 use std::alloc::Global;
 use std::io::Write;
@@ -220,7 +221,7 @@ fn print_item<K: Sink>(
     print_result(sink, piece, files, line.op, &item.content)
 }
 
-/// Prints what an operation results in: a list that a child begins with by the child and how many areas it has.
+/// Prints what an operation results in, up to the end of its last line.
 fn print_result<K: Sink>(
     sink: &mut K,
     piece: &mut Vec<u8>,
@@ -232,36 +233,57 @@ fn print_result<K: Sink>(
     ensures { IsPrinting (K.seen sink.old) (K.seen sink.new) piece.old.items piece.new.items
         (result_text files.now (child_of op) content.now) result }
 {
-    match (op, content) {
-        (Op::Fork { child }, Content::List(areas)) => {
-            push_forked(piece, child, areas.items().len())?;
-            give_full(sink, piece)
-        }
-        (_, content) => print_content(sink, piece, files, content),
+    match content {
+        Content::Called(_, reply) => print_reply(sink, piece, *reply),
+        Content::Fault { verdict, .. } => print_verdict(sink, piece, *verdict),
+        Content::List(areas) => print_areas(sink, piece, files, op, areas.items()),
     }
 }
 
-/// Prints what happened, up to the end of its last line.
-fn print_content<K: Sink>(
+/// Prints a reply, and ends its line.
+pub(crate) fn print_reply<K: Sink>(
+    sink: &mut K,
+    piece: &mut Vec<u8>,
+    reply: Reply,
+) -> Result<(), Status>
+    requires { (K.seen sink.old).faults < 2 ^ 64 - 1 }
+    ensures { IsPrinting (K.seen sink.old) (K.seen sink.new) piece.old.items piece.new.items (reply_text reply ++ codes "\n") result }
+{
+    push_reply(piece, reply)?;
+    end_line(sink, piece)
+}
+
+/// Prints a verdict, and ends its line.
+pub(crate) fn print_verdict<K: Sink>(
+    sink: &mut K,
+    piece: &mut Vec<u8>,
+    verdict: Verdict,
+) -> Result<(), Status>
+    requires { (K.seen sink.old).faults < 2 ^ 64 - 1 }
+    ensures { IsPrinting (K.seen sink.old) (K.seen sink.new) piece.old.items piece.new.items (verdict_text verdict ++ codes "\n") result }
+{
+    push_verdict(piece, verdict)?;
+    end_line(sink, piece)
+}
+
+/// Prints the list that an operation read: where it makes a child, the child and how many areas it begins with.
+pub(crate) fn print_areas<K: Sink>(
     sink: &mut K,
     piece: &mut Vec<u8>,
     files: &Files,
-    content: &Content,
+    op: Op,
+    areas: &[Record],
 ) -> Result<(), Status>
     requires { (K.seen sink.old).faults < 2 ^ 64 - 1 }
     ensures { IsPrinting (K.seen sink.old) (K.seen sink.new) piece.old.items piece.new.items
-        (content_text files.now content.now) result }
+        (result_text files.now (child_of op) (contents.List areas.now)) result }
 {
-    match content {
-        Content::Called(_, reply) => {
-            push_reply(piece, *reply)?;
-            end_line(sink, piece)
+    match op {
+        Op::Fork { child } => {
+            push_forked(piece, child, areas.len())?;
+            give_full(sink, piece)
         }
-        Content::Fault { verdict, .. } => {
-            push_verdict(piece, *verdict)?;
-            end_line(sink, piece)
-        }
-        Content::List(areas) => print_maps(sink, piece, files, areas.items()),
+        Op::Call(_) | Op::Fault { .. } | Op::Maps => print_maps(sink, piece, files, areas),
     }
 }
 

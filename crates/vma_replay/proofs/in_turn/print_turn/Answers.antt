@@ -8,11 +8,11 @@ use Rattle.vma_replay.proofs.InTurn.{reply_told}
 use Rattle.vma_replay.proofs.Pieces.{printing_after, printing_as}
 use Rattle.vma_replay.proofs.in_turn.print_turn.Goals as goal
 
-pub returns-in_ok-push_reply-in-Call : goal.returns-in_ok-push_reply-in-Call
-returns-in_ok-push_reply-in-Call g c =
+pub returns-in-Call : goal.returns-in-Call
+returns-in-Call g c =
     printing_after _ _ _ _ _ _ _ _
     (c.in_ok-push_start.ensures ∙ ap (λ (v : ℕ). c.args.piece.now.items ++ start_text c.args.line.now v) c.version.ensures)
     (printing_as _ _ _ _ _ _ _
     (reply_told c.args.files.now (child_of c.args.line.now.op) c.in-Call.entry.now.call c.in-Call.entry.now.reply
     ∙ ap (λ (t : Turn). result_text c.args.files.now (child_of c.args.line.now.op) (turn_item t).content) (sym c.in-Call.is))
-    (printing_after _ _ _ _ _ _ _ _ c.in_ok-push_reply-in-Call.ensures c.end_line.ensures))
+    c.print_reply.ensures)

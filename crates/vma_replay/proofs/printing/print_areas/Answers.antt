@@ -4,7 +4,7 @@ use Rattle.history.specs.declared.items.Content.TheVariants as contents
 use Rattle.vma_replay.proofs.InTurn.{areas_told}
 use Rattle.vma_replay.proofs.Outputs.{forked_is}
 use Rattle.vma_replay.proofs.Pieces.{printing_as, printing_pushed}
-use Rattle.vma_replay.proofs.in_turn.print_areas.Goals as goal
+use Rattle.vma_replay.proofs.printing.print_areas.Goals as goal
 
 pub returns-in_ok-push_forked-in-Fork : goal.returns-in_ok-push_forked-in-Fork
 returns-in_ok-push_forked-in-Fork g c = printing_as _ _ _ _ _ _ _
