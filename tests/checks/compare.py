@@ -1,0 +1,258 @@
+#!/usr/bin/env python3
+"""Tries `vma compare` and `vma explain`: on the program itself, on systems that are wrong in one thing each, and on broken traces.
+
+PROGRAM is crates/vma_main/out/vma_main by default. The wrong systems are those of tools/vmatools/mutants.py. Each has to be found, and
+its smallest trace has at most five lines below the header. Of each broken trace the line and the cause that `vma explain` names have
+to be those of the program. Takes less than a minute; --runs 2000 --broken 500 takes longer.
+
+Exit status: 0 where all is as it should be, 1 at the first thing that is not, 2 on wrong use, or where the program is missing.
+"""
+import argparse, contextlib, io, os, random, re, subprocess, sys, tempfile, time
+from concurrent.futures import ThreadPoolExecutor
+
+sys.dont_write_bytecode = True
+sys.path.insert(0, os.path.join(os.path.dirname(os.path.abspath(__file__)), "../../tools"))
+from checking import program_of
+from vmatools.commands import compare
+from vmatools import cli, comparison, explanations, generator, outputs, serial, program as programs, traces, mutants
+
+HERE = os.path.dirname(os.path.abspath(__file__))
+TOOLS, DEV = (os.path.join(programs.TOP, name) for name in ("tools", "dev"))
+
+MOST_LINES = 5
+WRONG = {  # of each wrong system: runs, profiles, and a pattern of the kind that has to be found
+    "keeps-prefix": (30, "few,files,mremap", r"mprotect: list: .*"),
+    "from-below": (12, "few,files", r"mmap: an address here, another address there"),
+    "forgets-to-merge": (30, "few,mremap", r"mprotect: list: joined here, list: apart there"),
+    "swaps-errors": (60, "few,edges", r"munmap: -1 EINVAL here, -1 ENOMEM there"),
+}
+ENDS = {  # of those that are run as commands: runs, profiles, how many seconds each may take (more on a slow machine), kind
+    "crashes-at-zero": (60, "few", ["60"], r"munmap: an output here, ends with status 1 there"),
+    "hangs-on-move": (4, "mremap", ["2", "10", "40"], r"run: an output here, does not end there"),
+}
+
+
+def fail(what):
+    sys.exit(f"check-compare: {what}")
+
+
+def told(name, began):
+    print(f"check-compare: {name}, in {time.monotonic() - began:.1f} seconds", flush=True)
+
+
+class InProcess(comparison.Sides):
+    """Sides whose system under test is a model in this process."""
+
+    def there(self, trace, seconds=None):
+        return programs.Ran(serial.serial_output(trace, mutants.MODELS[self.command[0]]), None, "")
+
+
+def compared(words, sides_type=None):
+    """Status and text of a comparison with these words."""
+    parser, _ = cli.parser_of(cli.COMMANDS["compare"])
+    options = parser.parse_args(words)
+    kept, text = comparison.Sides, io.StringIO()
+    comparison.Sides = sides_type or kept
+    try:
+        with contextlib.redirect_stdout(text):
+            status = compare.compare(options)
+    finally:
+        comparison.Sides = kept
+    return status, text.getvalue()
+
+
+def smallest_traces(text):
+    """Of each kind in a report, its title and the lines below the header of its smallest trace."""
+    kinds = re.findall(r"^\d+\. (.*?) \(\d+ traces?; --ignore .*\n   the smallest trace:\n((?:     .*\n)+)", text, re.MULTILINE)
+    return [(title, [line.strip() for line in trace.splitlines()[1:]]) for title, trace in kinds]
+
+
+def wrong_report(name, status, text, pattern):
+    """What is wrong with a report, if something is."""
+    found = smallest_traces(text)
+    if status != 1 or not re.search(r"^\d+ traces, [1-9]\d* differ$", text, re.MULTILINE):
+        return f"{name} is not found: status {status}\n{text[-2000:]}"
+    if not any(re.fullmatch(pattern, title) for title, _ in found):
+        return f"{name} is found as something else than {pattern}:\n{text[-4000:]}"
+    long = [f"{title}` has {len(lines)}" for title, lines in found if len(lines) > MOST_LINES]
+    return f"{name}: the smallest trace of `{long[0]} lines:\n{text[-4000:]}" if long else None
+
+
+def check_itself(program, runs):
+    began = time.monotonic()
+    status, text = compared(["--runs", str(runs), "--program", program, "--", program, "serial"])
+    if (status, text) != (0, f"{runs} traces, 0 differ\n"):
+        fail(f"the program differs from itself: status {status}\n{text[-4000:]}")
+    told(f"the program against itself, {runs} traces", began)
+
+
+def check_model(program, runs):
+    """The model that the generator keeps is the program's, on all profiles."""
+    began = time.monotonic()
+    profiles = ",".join(generator.PROFILES)
+    words = ["--runs", str(runs), "--program", program, "--profile", profiles, "--lines", "15", "--", "right"]
+    status, text = compared(words, InProcess)
+    if status:
+        fail(f"the model of tools/vmatools differs from the program:\n{text[-4000:]}")
+    told(f"the model against the program, {runs} traces", began)
+
+
+def check_wrong(program):
+    for name, (runs, profiles, pattern) in WRONG.items():
+        began = time.monotonic()
+        words = ["--runs", str(runs), "--program", program, "--profile", profiles, "--", name]
+        wrong = wrong_report(name, *compared(words, InProcess), pattern)
+        if wrong:
+            fail(wrong)
+        told(f"{name} found", began)
+    for name, (runs, profiles, seconds, pattern) in ENDS.items():
+        began = time.monotonic()
+        command = [sys.executable, os.path.join(TOOLS, "vmatools", "mutants.py"), name]
+        for limit in seconds:
+            shrinks = str(float(limit) / 2)
+            words = ["--runs", str(runs), "--lines", "12", "--seconds", limit, "--shrink-seconds", shrinks, "--program", program]
+            wrong = wrong_report(name, *compared([*words, "--profile", profiles, "--", *command]), pattern)
+            if not wrong:
+                break
+        else:
+            fail(wrong)
+        told(f"{name} found", began)
+
+
+def check_rules(program):
+    """What is set aside is counted, and the rest of its trace is compared. --keep leaves traces and outputs."""
+    began = time.monotonic()
+    words = ["--runs", "8", "--program", program, "--profile", "few"]
+    for rule in ("munmap/-1 EINVAL/-1 ENOMEM", "errors"):
+        status, text = compared([*words, "--ignore", rule, "--", "swaps-errors"], InProcess)
+        if status or not re.search(rf"^set aside: \d+ times --ignore {re.escape(rule)}$", text, re.MULTILINE):
+            fail(f"--ignore {rule}: status {status}\n{text[-2000:]}")
+    with tempfile.TemporaryDirectory() as folder:
+        compared([*words, "--keep", folder, "--", "from-below"], InProcess)
+        kept = sorted(os.listdir(folder))
+        if kept[:3] != ["1-mmap.here", "1-mmap.there", "1-mmap.trace"]:
+            fail(f"--keep leaves {kept}")
+    told("--ignore and --keep", began)
+
+
+def check_statuses(program):
+    """Wrong use and a missing program end with status 2 and a clear line, and what a system does wrong with 1."""
+    began = time.monotonic()
+    runs = [([], 2), (["--runs", "0", "--", "true"], 2), (["--profile", "none", "--", "true"], 2), (["--", "no-such-command"], 2), (["--help"], 0),
+            (["--runs", "3", "--", "true"], 1), (["--runs", "3", "--", "false"], 1), (["--runs", "3", "--", "echo", "L2"], 1)]
+    vma, measure = os.path.join(TOOLS, "vma"), os.path.join(DEV, "measure")
+    jobs = [(vma, ["compare", "--program", program, *words], wanted, "") for words, wanted in runs]
+    jobs += [(os.path.join(HERE, f"{name}.py"), ["/no/program"], 2, "rt run") for name in ("program", "compare", "judged_runs", "memory")]
+    jobs += [(os.path.join(DEV, name), ["/no/program"], 2, "rt run") for name in ("measure", "measure-faults")]
+    jobs += [(vma, ["compare", "--program", "/no/program", "--", "true"], 2, "rt run"), (measure, ["--only", "nosuch", program], 2, "nosuch"),
+             (vma, ["explain", "/no/trace"], 2, "/no/trace"), (vma, ["judge", "/no/trace", "/no/output"], 2, "/no/trace")]
+    with ThreadPoolExecutor(max_workers=4) as pool:
+        wrong = [why for why in pool.map(lambda job: wrong_status(*job), jobs) if why]
+    if wrong:
+        fail(wrong[0])
+    told("exit statuses", began)
+
+
+def wrong_status(tool, words, wanted, named):
+    """What is wrong with the status of a tool, or with its line on standard error, if something is."""
+    done = subprocess.run([sys.executable, tool, *words], capture_output=True, text=True)
+    if done.returncode != wanted or named not in done.stderr or "Traceback" in done.stderr:
+        return f"{tool} {' '.join(words)}: status {done.returncode}, and not {wanted}: {done.stderr[-500:]}"
+
+
+# Broken traces
+
+PIECES = ["after=2", "after=", "0", "-1", "+5", "64", "0x", "0xg", "18446744073709551616", "PROT_NONE", "PROT_READ|PROT_READ", "MAP_ANON", "r", "rw", "x",
+          "3", "maps", "fork", "1", "file", "limit", "areas", "heap", "top", "min", "mmap", "|", "#", "\t", "\r", "0x1000", "65531", "4095", "MREMAP_FIXED",
+          "\ufeff", "8:1", "fffff:1", "00000000000000000000001", "0 fork 2", "2 maps"]
+LINES = ["0 maps", "1 fork 2", "0 fork 1", "0 fork 0", "1 brk 0 after=3", "file 3 r 1 0:0 1 /a", "# note", "", "0 maps\n" * 65]
+
+
+def broken(draw, text):
+    """A good trace with something changed in it, mostly so that a line is bad: words, bytes and lines."""
+    lines = text.split("\n")[:-1]
+    for _ in range(draw.choice([1, 1, 2])):
+        place = draw.randrange(len(lines))
+        words = lines[place].split(" ")
+        at = draw.randrange(len(words))
+        how = draw.randrange(9)
+        if how == 0:
+            del words[at]
+        elif how == 1:
+            words.insert(at, draw.choice(PIECES))
+        elif how in (2, 3):
+            words[at] = draw.choice(PIECES)
+        elif how == 4:
+            words.append(draw.choice(["after=2", "after=3", "after=x", f"after={place}", draw.choice(PIECES)]))
+        elif how == 5:
+            words[at] = words[at][:-1] + draw.choice(["x", "|", ":", "\r", "9", "é", ""])
+        elif how == 6:
+            words = draw.choice(lines).split(" ")
+        elif how == 7:
+            lines.insert(place, draw.choice([*lines, *LINES]))
+            continue
+        else:
+            words[at] += draw.choice(PIECES)
+        lines[place] = " ".join(words)
+    data = ("\n".join(lines) + "\n").encode()
+    end = draw.randrange(40)
+    ends = [data[:-1], data.replace(b"0", b"\xff", 1), data.replace(b"\n", b"\r\n"), b"\xef\xbb\xbf" + data, data + b"#" * 4097 + b"\n"]
+    return ends[end] if end < len(ends) else data
+
+
+def explained(data):
+    """The program's line on standard error as `vma explain` has it, and its sentence."""
+    try:
+        traces.read_trace(data)
+    except traces.BadLine as bad:
+        sentence, (text, span) = explanations.explain(data, bad), explanations.marked_span(data, bad)
+        if not sentence or not 0 <= span[0] < span[1]:
+            fail(f"{bad}: no sentence or no mark for {text[:100]!r}")
+        return f"trace {bad}\n"
+    return ""
+
+
+def check_explanations(program, count):
+    """The line and the cause that are explained are the program's."""
+    began, draw, causes = time.monotonic(), random.Random("broken"), set()
+    profiles = [name for name in generator.PROFILES if name != "many"]
+    goods = (generator.Generator(profiles[number % len(profiles)], f"broken {number}", 6).draw().text() for number in range(count))
+    texts = [broken(draw, good) for good in goods]
+    with ThreadPoolExecutor() as pool:
+        runs = list(pool.map(lambda data: subprocess.run([program, "serial"], input=data, capture_output=True), texts))
+    for number, (data, done) in enumerate(zip(texts, runs)):
+        ours, theirs = explained(data), done.stderr.decode()
+        causes.update(re.findall(r"\d+ (\w+)$", theirs.strip()))
+        if ours != theirs or done.returncode != (3 if theirs else 0):
+            fail(f"broken trace {number}: explained as `{ours.strip()}`, and the program says `{theirs.strip()}`:\n{data[:2000]!r}")
+    told(f"{count} broken traces, with {len(causes)} causes, explained by the program's line and cause", began)
+
+
+def check_adapter():
+    """The adapter of docs/COMPARE.md writes the form of an output."""
+    for name in ("readme", "two-mappings"):
+        front = os.path.join(programs.TOP, "examples", name)
+        adapter = [sys.executable, os.path.join(programs.TOP, "examples/page-table")]
+        done = subprocess.run(adapter, stdin=open(front + ".trace"), capture_output=True, text=True)
+        if done.stdout != open(front + ".out").read():
+            fail(f"examples/page-table on {name}.trace writes\n{done.stdout}{done.stderr}")
+
+
+def main():
+    parser = argparse.ArgumentParser(prog="check-compare", description=__doc__, formatter_class=argparse.RawDescriptionHelpFormatter)
+    parser.add_argument("program", nargs="?", metavar="PROGRAM", help="the program (crates/vma_main/out/vma_main)")
+    parser.add_argument("--runs", type=int, default=40, metavar="N", help="traces on which the program is compared with itself (40)")
+    parser.add_argument("--broken", type=int, default=40, metavar="N", help="broken traces (40)")
+    options = parser.parse_args()
+    program = program_of(options.program)
+    check_itself(program, options.runs)
+    check_model(program, 78)
+    check_wrong(program)
+    check_rules(program)
+    check_explanations(program, options.broken)
+    check_adapter()
+    check_statuses(program)
+
+
+if __name__ == "__main__":
+    main()

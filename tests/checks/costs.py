@@ -1,0 +1,134 @@
+#!/usr/bin/env python3
+"""Checks that what the program takes grows with its input and not faster: memory that it asks for, and processor time.
+
+PROGRAM is crates/vma_main/out/vma_main by default. Each run gets an address space of so many MiB, some tenth more than it needs, of two
+sizes of most inputs. And the processor time of an input is compared with that of one of four times its size, the least of three runs
+each: it may take seven times as long, where linear work takes four to five and quadratic sixteen. A comparison that fails is made again.
+It ends with status 1 at the first run that takes more, and 2 on wrong use, or where the program is missing.
+"""
+import argparse, os, resource, sys
+
+sys.dont_write_bytecode = True
+sys.path.insert(0, os.path.join(os.path.dirname(os.path.abspath(__file__)), "../../tools"))
+from vmatools import program as programs
+from checking import program_of, answer, bytes_of, check_ended, fail, limit, passed
+
+MIB = 2**20
+SECONDS = 60
+TRIES = 5
+MOST_TIMES = 7
+ANONYMOUS = "MAP_PRIVATE|MAP_ANONYMOUS|MAP_FIXED"
+
+
+def place(area):
+    return 0x10000000 + 8192 * area
+
+
+def calls(count):
+    """Calls that map a page and unmap it again."""
+    both = (f"0 mmap {{0:#x}} 4096 PROT_READ {ANONYMOUS} -1 0", "0 munmap {0:#x} 4096")
+    return ["vmatrace 1", *(both[line % 2].format(place(line // 2 % 8)) for line in range(count))]
+
+
+def faults(count):
+    return ["vmatrace 1", *(f"0 fault {4096 * (line % 5):#x} r" for line in range(count))]
+
+
+def leaving(count):
+    """A list of as many areas as it may have, which then leave in another order. Each call leaves rows of the tree."""
+    half = count // 2
+    made = (f"0 mmap {place(area):#x} 4096 PROT_READ {ANONYMOUS} -1 0" for area in range(half))
+    return ["vmatrace 1", f"limit areas {half}", *made, *(f"0 munmap {place(area * 7919 % half):#x} 4096" for area in range(half))]
+
+
+def maps(count):
+    return [f"{place(area):08x}-{place(area) + 4096:08x} r--p 00000000 00:00 0 " for area in range(count)]
+
+
+def script(count):
+    return ["vmasteps 1", "lock 1 1", *["add 0 0", "look 0", "sub 0", "begin", "mark 0", "end 0 munmap 0x1000 4096"] * (count // 6)]
+
+
+def judged(made):
+    """The input of `check`: a trace, and its output."""
+    def both(program, count):
+        trace = bytes_of(made(count))
+        done, _ = answer("serial", [program, "serial"], SECONDS, input=trace)
+        return trace + b"==\n" + done.stdout
+    return both
+
+
+def given(made):
+    return lambda program, count: bytes_of(made(count))
+
+
+def nothing(_program, _count):
+    return b""
+
+
+# the words, what makes the input, and its sizes, each with the MiB in which it runs
+MEMORY = [
+    ("a header alone", ["serial"], given(calls), ((0, 80),)),
+    ("calls", ["serial"], given(calls), ((200_000, 150), (800_000, 400))),
+    ("faults", ["serial"], given(faults), ((200_000, 150), (800_000, 400))),
+    ("areas that come and leave", ["serial"], given(leaving), ((32_000, 36), (128_000, 120))),
+    ("a load", ["generate", "{}", "1"], nothing, ((100_000, 115), (400_000, 225))),
+    ("a text of calls", ["check"], judged(calls), ((200_000, 75), (800_000, 205))),
+    ("an address in a list", ["query", "0x10000000"], given(maps), ((250_000, 44), (1_000_000, 158))),
+    ("a list", ["retrace"], given(maps), ((16_000, 12), (64_000, 24))),
+    ("a script", ["steps"], given(script), ((2_500, 8), (9_996, 9))),
+]
+
+# the same, with the smaller of the two sizes
+TIME = [
+    ("calls", ["serial"], given(calls), 100_000),
+    ("faults", ["serial"], given(faults), 100_000),
+    ("areas that come and leave", ["serial"], given(leaving), 32_000),
+    ("a load", ["generate", "{}", "1"], nothing, 100_000),
+    ("a text of calls", ["check"], judged(calls), 50_000),
+    ("a text of areas that come and leave", ["check"], judged(leaving), 32_000),
+    ("an address in a list", ["query", "0x10000000"], given(maps), 250_000),
+]
+
+
+def words_of(words, count):
+    return [word.format(count) for word in words]
+
+
+def check_memory(program, name, words, text, count, most):
+    at = f"{name}, {count} of them in {most} MiB"
+    command = [program, *words_of(words, count)]
+    done, _ = answer(at, command, SECONDS, input=text, begin=lambda: limit(resource.RLIMIT_AS, most * MIB))
+    check_ended(at, done, 0)
+    passed(at)
+
+
+def least_time(program, name, words, text, count):
+    runs = [answer(name, [program, *words_of(words, count)], SECONDS, input=text) for _ in range(3)]
+    for done, _ in runs:
+        check_ended(name, done, 0)
+    return min(took for _, took in runs)
+
+
+def check_time(program, name, words, made, count):
+    small, large = made(program, count), made(program, 4 * count)
+    for _ in range(TRIES):
+        before = least_time(program, name, words, small, count)
+        after = least_time(program, name, words, large, 4 * count)
+        if after < MOST_TIMES * before:
+            return passed(f"{name}, {count} in {before:.2f} seconds and {4 * count} in {after:.2f}")
+    fail(name, f"{count} take {before:.2f} seconds, and {4 * count} take {after:.2f}, {TRIES} times over")
+
+
+def main():
+    parser = argparse.ArgumentParser(prog="check-costs", description=__doc__, formatter_class=argparse.RawDescriptionHelpFormatter)
+    parser.add_argument("program", nargs="?", metavar="PROGRAM", help="the program (crates/vma_main/out/vma_main)")
+    program = program_of(parser.parse_args().program)
+    for name, words, made, sizes in MEMORY:
+        for count, most in sizes:
+            check_memory(program, name, words, made(program, count), count, most)
+    for name, words, made, count in TIME:
+        check_time(program, name, words, made, count)
+
+
+main()

@@ -1,0 +1,130 @@
+#!/usr/bin/env python3
+"""Runs the program on small inputs with each request for memory refused in turn, and says what it answers.
+
+PROGRAM is crates/vma_main/out/vma_main by default, as `rt run` leaves it. A small library, which cc compiles and the loader puts
+before the C library, makes the Nth malloc or realloc of a run fail, for N from 1 up to the number that a whole run makes. Each
+such run has to end with status 6, `no memory` on standard error and a beginning of the output, or as a run does of which nothing
+is refused (in `threads`, an output of the same lines). It is no part of the gate.
+The exit status is 0 where all is so, 1 where a run is not, 2 on wrong use, or where the program or cc is missing.
+"""
+import argparse, collections, os, shutil, subprocess, sys, tempfile
+
+sys.dont_write_bytecode = True
+sys.path.insert(0, os.path.join(os.path.dirname(os.path.abspath(__file__)), "../../tools"))
+from checking import program_of
+from vmatools import program as programs
+
+LIBRARY = r"""
+#define _GNU_SOURCE
+#include <dlfcn.h>
+#include <fcntl.h>
+#include <stdatomic.h>
+#include <stdlib.h>
+#include <sys/mman.h>
+
+/* How many requests were made, in a file, since the program ends without a destructor. */
+static atomic_long *made;
+static long refused;
+
+__attribute__((constructor)) static void begin(void) {
+    int file = open(getenv("MADE"), O_RDWR);
+    made = mmap(NULL, sizeof *made, PROT_READ | PROT_WRITE, MAP_SHARED, file, 0);
+    refused = atol(getenv("REFUSED"));
+}
+
+static int is_refused(void) {
+    return made && atomic_fetch_add(made, 1) + 1 == refused;
+}
+
+void *malloc(size_t size) {
+    static void *(*next)(size_t);
+    if (!next) next = (void *(*)(size_t))dlsym(RTLD_NEXT, "malloc");
+    return is_refused() ? NULL : next(size);
+}
+
+void *realloc(void *old, size_t size) {
+    static void *(*next)(void *, size_t);
+    if (!next) next = (void *(*)(void *, size_t))dlsym(RTLD_NEXT, "realloc");
+    return is_refused() ? NULL : next(old, size);
+}
+"""
+
+TRACE = b"""vmatrace 1
+limit areas 8
+file 3 r 8192 08:02 7 /usr/lib/libdemo.so
+0 mmap 0x10000 16384 PROT_READ|PROT_WRITE MAP_PRIVATE|MAP_ANONYMOUS|MAP_FIXED -1 0
+1 mmap 0 8192 PROT_READ MAP_PRIVATE 3 0
+0 mprotect 0x11000 4096 PROT_READ
+1 fault 0x11010 w
+0 mremap 0x12000 4096 8192 MREMAP_MAYMOVE
+1 maps
+0 munmap 0x10000 4096
+"""
+SCRIPT = b"vmasteps 1\nlock 1 1\nbegin\nend 0 munmap 0x1000 4096\n"
+MAPS = b"""00010000-00012000 rw-p 00000000 00:00 0 
+00012000-00014000 r--p 00000000 08:02 7                                  /usr/lib/libdemo.so
+"""
+JUDGED = b"""vmatrace 1
+limit areas 8
+0 mmap 0x10000 8192 PROT_READ MAP_PRIVATE|MAP_ANONYMOUS|MAP_FIXED -1 0
+1 maps
+==
+L4 t1 v0 = maps 0
+L3 t0 v1 = 0x10000
+maps 1
+00010000-00012000 r--p 00000000 00:00 0 
+"""
+RUNS = [(["serial"], TRACE), (["threads"], TRACE), (["steps"], SCRIPT), (["generate", "20", "1"], b""), (["query", "0x11000"], MAPS),
+        (["retrace"], MAPS), (["check"], JUDGED)]
+
+
+def run(program, words, text, library, at, counted):
+    """What a run gives in which the request of this number is refused; at 0, none is, and the number of requests is told."""
+    with open(counted, "wb") as none:
+        none.write(bytes(8))
+    environment = {"LD_PRELOAD": library, "REFUSED": str(at), "MADE": counted}
+    done = subprocess.run([program, *words], input=text, capture_output=True, env=environment, timeout=120)
+    with open(counted, "rb") as told:
+        return done, int.from_bytes(told.read(), sys.byteorder)
+
+
+def lines_of(output):
+    """How many lines of the input an output answers."""
+    return sum(line.startswith(b"L") for line in output.split(b"\n"))
+
+
+def is_right(done, whole, words):
+    """Whether a run gave the whole output, or was out of memory and gave a beginning of it. What `threads` gives is another each time."""
+    if done.returncode == 0:
+        return done.stdout == whole.stdout or words == ["threads"] and lines_of(done.stdout) == lines_of(whole.stdout)
+    begins = whole.stdout.startswith(done.stdout) or words == ["threads"] and lines_of(done.stdout) <= lines_of(whole.stdout)
+    return begins and (done.returncode, done.stderr) == (6, b"no memory\n")
+
+
+def main():
+    parser = argparse.ArgumentParser(prog="refuse-memory", description=__doc__, formatter_class=argparse.RawDescriptionHelpFormatter)
+    parser.add_argument("program", nargs="?", metavar="PROGRAM", help="the program (crates/vma_main/out/vma_main)")
+    program = program_of(parser.parse_args().program)
+    if shutil.which("cc") is None:
+        print("refuse-memory: there is no `cc`, which compiles the library that refuses", file=sys.stderr)
+        sys.exit(2)
+    with tempfile.TemporaryDirectory() as folder:
+        source, library, counted = (os.path.join(folder, name) for name in ("refuse.c", "refuse.so", "made"))
+        with open(source, "w") as file:
+            file.write(LIBRARY)
+        subprocess.run(["cc", "-shared", "-fPIC", "-O1", "-o", library, source, "-ldl"], check=True)
+        for words, text in RUNS:
+            whole, made = run(program, words, text, library, 0, counted)
+            if whole.returncode:
+                sys.exit(f"refuse-memory: {' '.join(words)}: status {whole.returncode} with nothing refused")
+            answers = collections.Counter()
+            for at in range(1, made + 1):
+                done, _ = run(program, words, text, library, at, counted)
+                answers[done.returncode] += 1
+                if not is_right(done, whole, words):
+                    sys.exit(f"refuse-memory: {' '.join(words)}: request {at}: status {done.returncode}, {done.stderr}, {len(done.stdout)} bytes")
+            told = ", ".join(f"status {status} {count} times" for status, count in sorted(answers.items()))
+            print(f"{' '.join(words)}: {made} requests, each refused in turn: {told}")
+
+
+main()

@@ -1,0 +1,149 @@
+#!/usr/bin/env python3
+"""Checks that three programs above mm_space do not compile: one that makes a Closed of its own, one that uses a pass that a
+closing took, and one that makes a call with the pass of an area that it holds.
+
+Each is made as a crate with one empty test in a copy of the repository, and compiled there from the sources by `rt try`, which
+proves nothing. It has to refuse it for the reason that is named here, and to accept the same program without the line in
+question. No edit of the gate can say this, since each of those has to compile. The status is 0 where all is so, 1 where not, 2 on wrong use.
+"""
+import argparse, os, shutil, subprocess, sys, tempfile
+from concurrent.futures import ThreadPoolExecutor
+
+TOP = os.path.realpath(os.path.join(os.path.dirname(os.path.abspath(__file__)), "../.."))
+
+HEAD = """//! A program above a space.
+#![tactic(auto)]
+
+ghost use Rattle.std.specs.Prelude.{◌≡◌};
+ghost use Rattle.mm_space.specs.Names.{ArePasses};
+
+use fault_path::Pass;
+use mm_space::{Closed, Space, SpaceName};
+"""
+
+CLOSES = """
+/// Closes a space.
+pub fn close<N: SpaceName>(space: Space<N>, passes: Vec<Pass>) -> Closed
+    requires { ArePasses N.name passes.items }
+{
+    space.close(passes)
+}
+"""
+
+MAKES = """
+use mm_types::AreaList;
+use std::alloc::Global;
+
+/// A closed space that nobody closed.
+pub fn make(alloc: Global) -> Closed {
+    Closed {
+        journal: Vec::new(alloc),
+        logs: Vec::new(alloc),
+        list: AreaList::of(Vec::new(alloc)),
+    }
+}
+"""
+
+USES = """
+/// Closes a space, and asks what is left of a pass that the closing took.
+pub fn close<N: SpaceName>(space: Space<N>, passes: Vec<Pass>) -> (Closed, usize)
+    requires { ArePasses N.name passes.items }
+{
+    let closed = space.close(passes);
+    (closed, passes.len())
+}
+"""
+
+HOLDS_HEAD = """//! A program above a space.
+#![tactic(auto)]
+
+ghost use Rattle.std.specs.Prelude.{◌<◌};
+ghost use Rattle.mm_space.specs.Names.{IsPassOf};
+
+use fault_path::Pass;
+use mm_space::{Space, SpaceName};
+use mm_types::{Call, Page};
+use std::sync::Wait;
+
+/// Makes a call, and then holds an area.
+pub fn hold<N: SpaceName, R: Wait>(rt: &R, space: &Space<N>, pass: Pass, call: &Call)
+    requires pass { IsPassOf N.name pass }
+    requires left { 0 < pass.left }
+{
+    let mut pass = pass;
+    space.call(rt, &mut pass, call);
+    if let Ok(held) = space.view().read_lock(pass, Page(16)) {
+"""
+
+HOLDS_END = """        held.unlock();
+    }
+}
+"""
+
+# rt try asks for a test
+TESTED = """
+#[cfg(test)]
+mod tests {
+    #[test]
+    fn compiles() {}
+}
+"""
+
+CALLS = "        space.call(rt, &mut pass, call);\n"
+
+# the name, the source, and words of the reason for which it is refused; none for one that is accepted
+PROGRAMS = [
+    ("closes", HEAD + CLOSES, None),
+    ("makes_a_closed", HEAD.replace("ghost use Rattle.std.specs.Prelude.{◌≡◌};\nghost use Rattle.mm_space.specs.Names.{ArePasses};\n\n", "")
+        .replace("use fault_path::Pass;\nuse mm_space::{Closed, Space, SpaceName};", "use mm_space::Closed;") + MAKES, "private"),
+    ("uses_a_pass_that_is_gone", HEAD + USES, "moved"),
+    ("holds", HOLDS_HEAD + HOLDS_END, None),
+    ("calls_while_it_holds", HOLDS_HEAD + CALLS + HOLDS_END, "moved"),
+]
+
+
+def libraries():
+    """mm_space and all that it stands on, as crates.txt names them."""
+    for line in open(os.path.join(TOP, "crates.txt")):
+        name, _, below = line.partition(":")
+        if name.split()[0] == "mm_space":
+            return below.strip() + " mm_space"
+    sys.exit("check-refused: crates.txt has no mm_space")
+
+
+def write_all(copy):
+    """A copy of the repository, with a crate for each program."""
+    shutil.copytree(os.path.join(TOP, "crates"), os.path.join(copy, "crates"), ignore=shutil.ignore_patterns("out"))
+    shutil.copy(os.path.join(TOP, "HANDLES"), copy)
+    shutil.copy(os.path.join(TOP, "crates.txt"), copy)
+    with open(os.path.join(copy, "crates.txt"), "a") as crates:
+        for name, text, _ in PROGRAMS:
+            crates.write(f"{name}: {libraries()}\n")
+            os.makedirs(os.path.join(copy, "crates", name, "src"))
+            with open(os.path.join(copy, "crates", name, "src/lib.rt"), "w") as file:
+                file.write(text + TESTED)
+
+
+def judge(copy, name, reason):
+    """What is wrong with the answer on a program, or nothing."""
+    done = subprocess.run(["rt", "try", "--test"], cwd=os.path.join(copy, "crates", name), capture_output=True, text=True)
+    said = done.stdout + done.stderr
+    if reason is None and done.returncode != 0:
+        return f"check-refused: {name} was refused:\n{said[-4000:]}"
+    if reason is not None and (done.returncode == 0 or reason not in said):
+        return f"check-refused: {name} was not refused as {reason}:\n{said[-4000:]}"
+
+
+def main():
+    argparse.ArgumentParser(prog="check-refused", description=__doc__, formatter_class=argparse.RawDescriptionHelpFormatter).parse_args()
+    with tempfile.TemporaryDirectory() as copy:
+        write_all(copy)
+        with ThreadPoolExecutor(max_workers=3) as pool:
+            answers = list(pool.map(lambda program: judge(copy, program[0], program[2]), PROGRAMS))
+        for (name, _, reason), wrong in zip(PROGRAMS, answers):
+            if wrong:
+                sys.exit(wrong)
+            print(f"{name}: {'accepted' if reason is None else 'refused'}")
+
+
+main()

@@ -1,0 +1,110 @@
+"""Programs that are run: the proved one, which may be missing, and any other, which may crash, hang or write on."""
+from __future__ import annotations
+
+import argparse
+import os
+import selectors
+import shutil
+import signal
+import subprocess
+import tempfile
+import time
+from collections.abc import Sequence
+from dataclasses import dataclass
+from pathlib import Path
+from typing import IO
+
+from . import console
+
+TOP = Path(__file__).resolve().parents[2]
+DEFAULT_PROGRAM = TOP / "crates/vma_main/out/vma_main"
+VARIABLE = "DILTZEKUN"
+ON_PATH = "diltzekun"
+MOST_OUTPUT = 64 * 1024 * 1024
+BUILDS = f"`(cd {TOP}/crates/vma_main && rt run -- serial < ../../examples/readme.trace)` proves and builds it"
+
+
+@dataclass(frozen=True)
+class Ran:
+    """What a run gave. `fault` is none, or in words how it failed."""
+    output: str
+    fault: str | None
+    message: str
+
+
+def add_arguments(parser: argparse.ArgumentParser) -> None:
+    """The words by which every command that runs the program finds it."""
+    parser.add_argument("--program", metavar="PATH",
+                        help=f"the program (${VARIABLE}, {ON_PATH} on the PATH, or the repository's crates/vma_main/out/vma_main)")
+    parser.add_argument("-v", "--verbose", action="store_true", help="says on standard error which program is taken")
+
+
+def find(given: str | os.PathLike[str] | None = None, verbose: bool = False) -> str:
+    """The path of the program that is to be run, from the first place that names one."""
+    on_path = shutil.which(ON_PATH)
+    places = [(given, "--program"), (os.environ.get(VARIABLE), f"${VARIABLE}"), (on_path, "the PATH"), (DEFAULT_PROGRAM, "the repository")]
+    place, source = next((place, source) for place, source in places if place)
+    path = existing(place)
+    if verbose:
+        console.say(f"the program is {path} ({source})")
+    return path
+
+
+def existing(place: str | os.PathLike[str], builds: str = BUILDS) -> str:
+    """The whole path of a program, which has to be there."""
+    path = os.path.abspath(place)
+    if os.path.isfile(path) and os.access(path, os.X_OK):
+        return path
+    missing = "is not there" if not os.path.exists(path) else "cannot be run"
+    raise console.Failure(f"the program {path} {missing}; {builds}")
+
+
+def run(command: Sequence[str | os.PathLike[str]], text: bytes, seconds: float) -> Ran:
+    """Runs a command over a text on its standard input, for so many seconds at most."""
+    end = time.monotonic() + seconds
+    with tempfile.TemporaryFile() as source:
+        source.write(text)
+        source.seek(0)
+        with subprocess.Popen(command, stdin=source, stdout=subprocess.PIPE, stderr=subprocess.PIPE, start_new_session=True) as process:
+            output, message, fault = read_both(process, end)
+            status = None
+            try:
+                status = None if fault else process.wait(max(end - time.monotonic(), 0.1))
+            except subprocess.TimeoutExpired:
+                fault = "does not end"
+            if fault:
+                stop(process)
+    if fault is None and status:
+        fault = f"ends with status {status}" if status > 0 else f"ends by signal {signal.Signals(-status).name}"
+    return Ran(output.decode("utf-8", "replace"), fault, message.decode("utf-8", "replace"))
+
+
+def read_both(process: subprocess.Popen[bytes], end: float) -> tuple[bytes, bytes, str | None]:
+    """Standard output and standard error up to their ends, and None; or what came of them until it took too long or was too much."""
+    assert process.stdout and process.stderr
+    read: dict[IO[bytes], list[bytes]] = {process.stdout: [], process.stderr: []}
+    size, fault = 0, None
+    with selectors.DefaultSelector() as selector:
+        for stream, pieces in read.items():
+            selector.register(stream, selectors.EVENT_READ, pieces)
+        while selector.get_map() and fault is None:
+            ready = selector.select(max(end - time.monotonic(), 0))
+            if not ready and time.monotonic() >= end:
+                fault = "does not end"
+            for key, _ in ready:
+                piece = os.read(key.fd, 1 << 20)
+                key.data.append(piece)
+                size += len(piece)
+                if not piece:
+                    selector.unregister(key.fileobj)
+            if size > MOST_OUTPUT:
+                fault = "writes on and on"
+    return b"" if fault else b"".join(read[process.stdout]), b"".join(read[process.stderr])[-10_000:], fault
+
+
+def stop(process: subprocess.Popen[bytes]) -> None:
+    """Ends a process with all that it started in its session."""
+    try:
+        os.killpg(process.pid, signal.SIGKILL)
+    except ProcessLookupError:
+        pass

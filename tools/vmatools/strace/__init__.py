@@ -1,0 +1,1 @@
+"""What strace writes: recorded, and made into traces."""

@@ -1,0 +1,1 @@
+"""Systems under test: the running Linux, and what runs them."""
