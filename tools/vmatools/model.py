@@ -61,7 +61,7 @@ def is_free(areas, lo, hi):
     return place == len(areas) or areas[place].lo >= hi
 
 
-def replaced(areas, lo, hi, middle):
+def replaced(areas, lo, hi, middle, join=joins):
     """The list with these areas in the place of all that was mapped from `lo` up to `hi`, merged."""
     begin, end = first_above(areas, lo), bisect.bisect_left(areas, (hi,))
     # A split leaves the parts of the outermost areas that lie below and above.
@@ -71,19 +71,19 @@ def replaced(areas, lo, hi, middle):
     left = max(begin - 1, 0)
     merged = []
     for area in areas[left:begin] + below + middle + above + areas[end:end + 1]:
-        if merged and joins(merged[-1], area):
+        if merged and join(merged[-1], area):
             merged[-1] = merged[-1]._replace(hi=area.hi)
         else:
             merged.append(area)
     return areas[:left] + merged + areas[end + 1:]
 
 
-def changed(areas, lo, hi, **attributes):
+def changed(areas, lo, hi, join=joins, **attributes):
     """The list in which all pages from `lo` up to `hi`, which are mapped, have these attributes."""
     if lo == hi:
         return areas
     inner = areas_in(areas, lo, hi)
-    return replaced(areas, lo, hi, [piece(a, max(a.lo, lo), min(a.hi, hi))._replace(**attributes) for a in inner])
+    return replaced(areas, lo, hi, [piece(a, max(a.lo, lo), min(a.hi, hi))._replace(**attributes) for a in inner], join)
 
 
 def permissions(area):
@@ -116,22 +116,43 @@ class Space:
         child.__dict__.update(self.__dict__)
         return child
 
-    def keep(self, areas, reply, objects=0):
-        """Makes this the list, unless it has too many areas: then nothing changes."""
+    @staticmethod
+    def joins(first, second):
+        """Whether neighbours join, which a model that is wrong may say otherwise."""
+        return joins(first, second)
+
+    def replaced(self, areas, lo, hi, middle):
+        return replaced(areas, lo, hi, middle, self.joins)
+
+    def changed(self, areas, lo, hi, **attributes):
+        return changed(areas, lo, hi, self.joins, **attributes)
+
+    def note(self, row):
+        """Hears which row of a table of docs/MODEL.md decides; coverage.py counts them."""
+
+    def by(self, row, reply):
+        """A reply, by the row that gives it."""
+        self.note(row)
+        return reply
+
+    def keep(self, areas, reply, row, objects=0):
+        """Makes this the list, unless it has too many areas: then nothing changes. `row` is that of a call that is done."""
         if len(areas) > self.most_areas:
-            return "ENOMEM"
+            return self.by(f"{row.split('/')[0]}/too-many", "ENOMEM")
+        if len(areas) == self.most_areas:
+            self.note("limit/reached")
         self.areas = areas
         self.objects = objects or self.objects
-        return reply
+        return self.by(row, reply)
 
     def has_sealed(self, lo, hi):
         return any(area.sealed for area in areas_in(self.areas, lo, hi))
 
-    def unless_sealed(self, areas, reply, *ranges, objects=0):
+    def unless_sealed(self, areas, reply, row, *ranges, objects=0):
         """Keeps the list, unless it has too many areas, or a page that it changes is sealed."""
         if len(areas) <= self.most_areas and any(self.has_sealed(lo, hi) for lo, hi in ranges):
-            return "EPERM"
-        return self.keep(areas, reply, objects)
+            return self.by(f"{row.split('/')[0]}/sealed", "EPERM")
+        return self.keep(areas, reply, row, objects)
 
     # Placement
 
@@ -164,12 +185,18 @@ class Space:
         return start if start + pages <= WINDOW_END else None
 
     def place(self, pages, hint=0):
-        searches = [lambda: self.hinted_place(hint, pages)]
-        if self.is_high(hint):
-            searches += [lambda: self.highest_below(self.limit, pages)]
+        which = "high" if self.is_high(hint) else "window"
+        searches = {f"{which}-hint": lambda: self.hinted_place(hint, pages)}
+        if which == "high":
+            searches["high-search"] = lambda: self.highest_below(self.limit, pages)
         else:
-            searches += [lambda: self.highest_below(self.top, pages), lambda: self.low_place(pages)]
-        return next((start for start in (search() for search in searches) if start is not None), None)
+            searches["first-search"] = lambda: self.highest_below(self.top, pages)
+            searches["second-search"] = lambda: self.low_place(pages)
+        for name, search in searches.items():
+            start = search()
+            if start is not None:
+                return self.by(f"placement/{name}", start)
+        return self.by(f"placement/{which}-none", None)
 
     # Calls. Each returns the name of an error, an address, or 0 where it has none to tell. The first test that holds decides.
 
@@ -180,60 +207,65 @@ class Space:
         number, file = (0, None) if anonymous else self.files.get(descriptor, (0, None))
         pages, start = pages_of(length), address // PAGE
         if offset % PAGE:  # an offset inside of a page
-            return "EINVAL"
+            return self.by("mmap/odd-offset", "EINVAL")
         if not anonymous and file is None:  # a descriptor that is no file's
-            return "EBADF"
+            return self.by("mmap/no-file", "EBADF")
         if length == 0:
-            return "EINVAL"
+            return self.by("mmap/no-length", "EINVAL")
         if pages > self.limit:  # longer than user memory
-            return "ENOMEM"
+            return self.by("mmap/longer-than-memory", "ENOMEM")
         if file and offset + PAGE * pages > 2**63 - 1:  # past the end of all offsets
-            return "EOVERFLOW"
+            return self.by("mmap/offset-overflows", "EOVERFLOW")
         if shared == bool(flags & MAP["MAP_PRIVATE"]):  # both shared and private, or neither
-            return "EINVAL"
+            return self.by("mmap/sharing", "EINVAL")
         if grows and (not anonymous or shared):  # only private anonymous memory grows
-            return "EINVAL"
+            return self.by("mmap/cannot-grow", "EINVAL")
         if file and ("r" not in file.mode or "w" not in file.mode and shared and prot & WRITE):  # not open for this
-            return "EACCES"
+            return self.by("mmap/denied", "EACCES")
         if fixed and address % PAGE:
-            return "EINVAL"
+            return self.by("mmap/odd-place", "EINVAL")
         if fixed and start < self.min:
-            return "EPERM"
+            return self.by("mmap/below-min", "EPERM")
         if fixed and start + pages > self.limit:  # it ends past user memory
-            return "ENOMEM"
+            return self.by("mmap/past-limit", "ENOMEM")
         if noreplace and not is_free(self.areas, start, start + pages):
-            return "EEXIST"
+            return self.by("mmap/taken", "EEXIST")
         if not fixed:
             start = self.place(pages, address)
         if start is None:  # nowhere is so much room
-            return "ENOMEM"
+            return self.by("mmap/no-place", "ENOMEM")
         if not file:  # shared anonymous memory has the next number, each time
             number = self.objects + 1 if shared else 0
         # A shared mapping of a file that is not open for writing may never be written.
         most = READ | EXEC if file and shared and "w" not in file.mode else ALL
         area = Area(start, start + pages, prot, most, shared, grows, False, False, number, offset // PAGE if file else 0)
-        after = replaced(self.areas, area.lo, area.hi, [area])
-        return self.unless_sealed(after, start * PAGE, (area.lo, area.hi), objects=max(self.objects, number))
+        after = self.replaced(self.areas, area.lo, area.hi, [area])
+        return self.unless_sealed(after, start * PAGE, "mmap/done", (area.lo, area.hi), objects=max(self.objects, number))
 
     def munmap(self, address, length):
         start, end = address // PAGE, address // PAGE + pages_of(length)
-        if address % PAGE or length == 0 or end > self.limit:
-            return "EINVAL"
-        return self.unless_sealed(replaced(self.areas, start, end, []), 0, (start, end))  # which need not be mapped
+        if address % PAGE:
+            return self.by("munmap/odd-address", "EINVAL")
+        if length == 0:
+            return self.by("munmap/no-length", "EINVAL")
+        if end > self.limit:
+            return self.by("munmap/past-limit", "EINVAL")
+        return self.unless_sealed(self.replaced(self.areas, start, end, []), 0, "munmap/done", (start, end))  # which need not be mapped
 
     def mprotect(self, address, length, prot):
         start, end = address // PAGE, address // PAGE + pages_of(length)
         if address % PAGE:
-            return "EINVAL"
+            return self.by("mprotect/odd-address", "EINVAL")
         if length == 0:
-            return 0
+            return self.by("mprotect/no-length", 0)
         if end * PAGE >= 2**64:  # it ends past all addresses
-            return "ENOMEM"
+            return self.by("mprotect/past-all", "ENOMEM")
         if self.has_sealed(start, end):
-            return "EPERM"
+            return self.by("mprotect/sealed", "EPERM")
         # The stop is the first page that is not mapped, or that may never have this protection. The pages before it get it.
         stop, reply = self.stop_of(start, end, prot)
-        return self.keep(changed(self.areas, start, stop, prot=prot), reply)
+        row = {"ENOMEM": "not-mapped", "EACCES": "may-not-have"}.get(reply, "done")
+        return self.keep(self.changed(self.areas, start, stop, prot=prot), reply, f"mprotect/{row}")
 
     def stop_of(self, start, end, prot):
         while start < end:
@@ -250,70 +282,81 @@ class Space:
         old, olds, new, news = address // PAGE, pages_of(old_length), new_address // PAGE, pages_of(new_length)
         old_end, grows = old + olds, news > olds
         if flags & MREMAP["MREMAP_DONTUNMAP"]:  # a flag that is refused
-            return "EINVAL"
+            return self.by("mremap/other-flag", "EINVAL")
         if to_fixed and not may_move:
-            return "EINVAL"
-        if address % PAGE or new_length == 0 or old_length == 0:
-            return "EINVAL"
+            return self.by("mremap/may-not-move", "EINVAL")
+        if address % PAGE:
+            return self.by("mremap/odd-address", "EINVAL")
+        if new_length == 0:
+            return self.by("mremap/no-new-length", "EINVAL")
+        if old_length == 0:
+            return self.by("mremap/no-old-length", "EINVAL")
         if old_end > self.limit:  # the old range ends past user memory
-            return "EFAULT"
+            return self.by("mremap/past-limit", "EFAULT")
         if to_fixed and (new_address % PAGE or new + news > self.limit):  # the new one does, or is inside of a page
-            return "EINVAL"
+            return self.by("mremap/new-misplaced", "EINVAL")
         if to_fixed and new < self.min:
-            return "EPERM"
+            return self.by("mremap/below-min", "EPERM")
         if to_fixed and new < old_end and old < new + news:  # the two share a page
-            return "EINVAL"
+            return self.by("mremap/overlap", "EINVAL")
         area = area_at(self.areas, old)
         if area is None:  # nothing is mapped at the old address
-            return "EFAULT"
+            return self.by("mremap/not-mapped", "EFAULT")
         if (to_fixed or grows) and old + min(olds, news) > area.hi:  # what stays does not lie in one area
-            return "EFAULT"
+            return self.by("mremap/leaves-area", "EFAULT")
         if grows and area.object and index_of(area, old) + news > MOST_OBJECT_PAGES:  # past the end of all objects
-            return "EINVAL"
+            return self.by("mremap/object-overflows", "EINVAL")
         guarded = [(old, old_end)] + ([(new, new + news)] if to_fixed else [])
         if not to_fixed and not grows:  # shrinks in place
-            after = replaced(self.areas, old + news, old_end, []) if news < olds else self.areas
-            return self.unless_sealed(after, address, *guarded)
+            after = self.replaced(self.areas, old + news, old_end, []) if news < olds else self.areas
+            return self.unless_sealed(after, address, "mremap/shorter", *guarded)
         if not to_fixed and old + news <= self.limit and is_free(self.areas, old_end, old + news):  # grows in place
-            after = replaced(self.areas, old_end, old + news, [piece(area, old_end, old + news)])
-            return self.unless_sealed(after, address, *guarded)
+            after = self.replaced(self.areas, old_end, old + news, [piece(area, old_end, old + news)])
+            return self.unless_sealed(after, address, "mremap/longer-in-place", *guarded)
         if not to_fixed:
             new = self.place(news) if may_move else None
         if new is None:  # it may not move, or there is no room
-            return "ENOMEM"
+            return self.by("mremap/no-room", "ENOMEM")
         moved = area._replace(lo=new, hi=new + news, offset=index_of(area, old))
-        after = replaced(replaced(self.areas, new, new + news, [moved]), old, old_end, [])
-        return self.unless_sealed(after, new * PAGE, *guarded)
+        after = self.replaced(self.replaced(self.areas, new, new + news, [moved]), old, old_end, [])
+        return self.unless_sealed(after, new * PAGE, "mremap/to-place" if to_fixed else "mremap/longer-elsewhere", *guarded)
 
     def brk(self, address):
         """The break after the call. It stays where the call cannot be done."""
         if not self.heap or address < self.heap * PAGE:
-            return self.break_
+            return self.by("brk/no-heap" if not self.heap else "brk/below-heap", self.break_)
         old, new = pages_of(self.break_), pages_of(address)
+        if new == old:
+            self.break_ = address
+            return self.by("brk/same-page", address)
         if new < old:
-            after = replaced(self.areas, new, old, [])
-            is_done = not self.has_sealed(new, old) and len(after) <= self.most_areas
-        elif new > old:
-            # The page above the break has to be free as well.
-            heap = Area(old, new, READ | WRITE, ALL, False, False, False, True, 0, 0)
-            is_done = new + 1 <= self.limit and is_free(self.areas, old, new + 1)
-            after = replaced(self.areas, old, new, [heap]) if is_done else self.areas
-            is_done = is_done and len(after) <= self.most_areas
+            row, refusal = "brk/lower", "brk/lower-sealed" if self.has_sealed(new, old) else ""
+            after = self.replaced(self.areas, new, old, [])
         else:
-            after, is_done = self.areas, True
-        if is_done:
+            # The page above the break has to be free as well.
+            has_room = new + 1 <= self.limit and is_free(self.areas, old, new + 1)
+            row, refusal = "brk/higher", "" if has_room else "brk/higher-no-room"
+            heap = Area(old, new, READ | WRITE, ALL, False, False, False, True, 0, 0)
+            after = self.replaced(self.areas, old, new, [heap]) if has_room else self.areas
+        if not refusal and len(after) > self.most_areas:
+            refusal = f"{row}-too-many"
+        if not refusal:
             self.areas, self.break_ = after, address
-        return self.break_
+        return self.by(refusal or row, self.break_)
 
     def mseal(self, address, length, flags):
         start, end = address // PAGE, address // PAGE + pages_of(length)
-        if flags or address % PAGE or end * PAGE >= 2**64:
-            return "EINVAL"
+        if flags:
+            return self.by("mseal/flag", "EINVAL")
+        if address % PAGE:
+            return self.by("mseal/odd-address", "EINVAL")
+        if end * PAGE >= 2**64:
+            return self.by("mseal/past-all", "EINVAL")
         if length == 0:
-            return 0
+            return self.by("mseal/no-length", 0)
         if sum(min(area.hi, end) - max(area.lo, start) for area in areas_in(self.areas, start, end)) < end - start:
-            return "ENOMEM"  # a page is not mapped
-        return self.keep(changed(self.areas, start, end, sealed=True), 0)
+            return self.by("mseal/hole", "ENOMEM")  # a page is not mapped
+        return self.keep(self.changed(self.areas, start, end, sealed=True), 0, "mseal/done")
 
     # Faults and reads
 
@@ -329,6 +372,7 @@ class Space:
         area = self.grower(page)
         if area is None or not permits(area, access):
             return None
+        self.note("touch/grows")
         grown = area._replace(lo=page)
         self.areas = [grown if other is area else other for other in self.areas]
         return grown
@@ -338,13 +382,13 @@ class Space:
         page = address // PAGE
         area = area_at(self.areas, page)
         if area is None:
-            return "SIGSEGV SEGV_ACCERR" if self.grower(page) else "SIGSEGV SEGV_MAPERR"
+            return self.by("fault/grower-denies", "SIGSEGV SEGV_ACCERR") if self.grower(page) else self.by("fault/not-mapped", "SIGSEGV SEGV_MAPERR")
         if not permits(area, access):
-            return "SIGSEGV SEGV_ACCERR"
+            return self.by("fault/denied", "SIGSEGV SEGV_ACCERR")
         index, file = index_of(area, page), self.file_of.get(area.object)
         if file and index >= pages_of(file.size):  # past the end of the file
-            return "SIGBUS BUS_ADRERR"
-        return f"served {permissions(area)} page {index}"
+            return self.by("fault/past-end", "SIGBUS BUS_ADRERR")
+        return self.by("fault/served", f"served {permissions(area)} page {index}")
 
     def maps(self):
         """The list, as lines."""
