@@ -1,71 +1,54 @@
 //! Standard input and output, each with a count of its failures. A read or a write that a signal interrupted is tried again. A clause
 //! sees of their bytes what the reader and the writer below them tell: the system's own tell nothing.
-ghost use Rattle.std.specs.Prelude.{◌≡◌, ◌≢◌, ◌<◌, length, false, Some, IfOk, IfErr, OnOk, OnErr};
+ghost use Rattle.std.specs.Prelude.{◌≡◌, ◌↔◌, ◌<◌, ◌^◌, ◌-◌, length, false, true, Some, IfOk, IfErr, OnOk, OnErr, IsErr, IsErrAnd, IsTrue, MatchResult};
 ghost use Rattle.std.specs.Io.{ReadsAtMost, WritesAtMost};
 ghost use Rattle.std.specs.Io.KnownBytes.{ReadConsumes, WriteAppends};
 ghost use Rattle.std.specs.IoError.{error_kind};
 ghost use Rattle.io_edge.specs.Edge.{HasCause, HasGiveCause, TellsFault, TellsGiveFault, counted};
-ghost use Rattle.io_edge.specs.Standard.{IsNoInterruption};
+ghost use Rattle.io_edge.specs.Standard.{IsTriedOut};
 ghost use Rattle.io_edge.specs.declared.error.GiveError.TheVariants.{Failed as failed};
 
 use crate::{Failed, GiveError, Sink, Source};
 use std::io::{self, ErrorKind, Read, Write};
 use std::marker::Model;
 
-/// A reader as a source, as that of standard input. It reads as read(2) does, and keeps no buffer. A clause sees the
-/// reader, the count of its faults, the kind of the last error that was one, and whether the last call failed.
+/// How the calls of a reader or a writer ended so far.
 #[derive(Drop)]
-pub struct StdSource<I> {
-    input: I,
+struct Calls {
+    /// How many were a fault, up to 2^64 - 1.
     faults: u64,
+    /// The kind of the last fault.
     last_fault: Option<ErrorKind>,
+    /// Whether the last call was one.
     just_failed: bool,
+    /// How often a signal interrupted the last call.
+    interruptions: u64,
 }
 
-impl<I> Model for StdSource<I> {
-    ghost use Rattle.io_edge.specs.Standard.{Stream};
-
-    ghost Value = { Stream I };
-
-    ghost view = { λ source. record { end = source.input; faults = source.faults; last_fault = source.last_fault; just_failed = source.just_failed } };
-}
-
-impl<I: Read + Drop> StdSource<I> {
-    /// This reader as it is, with no fault so far.
-    pub fn new(input: I) -> StdSource<I>
-        ensures { result ≡ record { end = input; faults = 0; last_fault = None; just_failed = false } }
+impl Calls {
+    /// Before the first call.
+    fn new() -> Calls
+        ensures { result ≡ record { faults = 0; last_fault = None; just_failed = false; interruptions = 0 } }
     {
-        StdSource {
-            input,
+        Calls {
             faults: 0,
             last_fault: None,
             just_failed: false,
+            interruptions: 0,
         }
     }
 
-    /// The kind of the last error that was a fault.
-    pub fn last_fault(&self) -> Option<ErrorKind>
-        ensures { result ≡ self.now.last_fault }
-    {
-        self.last_fault
-    }
-}
-
-impl<I: Read + Drop> Source for StdSource<I> {
-    ghost seen = { λ source. record { left = I.remaining source.end; faults = source.faults; just_failed = Some source.just_failed } };
-
-    /// One read, which is tried again as often as a signal interrupts it. Each other error is one fault.
-    fn take(&mut self, into: &mut [u8]) -> Result<usize, Failed>
-        ensures bound { ReadsAtMost result into.new }
-        ensures bytes { ReadConsumes (I.remaining self.old.end) (I.remaining self.new.end) result into.new }
+    /// Counts a call. An error is one fault.
+    fn count(&mut self, tried: Tried) -> Result<usize, Failed>
+        ensures ended { MatchResult tried.ended (λ count. result ≡ Ok count)
+            (λ error. IsErr result × (self.new.last_fault ≡ Some (error_kind error))) }
         ensures cause { HasCause self.old.faults self.new.faults result }
         ensures told { TellsFault (Some self.new.just_failed) result }
-
-        ensures faults { OnErr result (self.new.faults ≡ counted self.old.faults) }
-        ensures retried { OnErr result (IsNoInterruption self.new.last_fault) }
         ensures last_fault { OnOk result (self.new.last_fault ≡ self.old.last_fault) }
+        ensures interruptions { self.new.interruptions ≡ tried.interruptions }
     {
-        match read_again(&mut self.input, into) {
+        self.interruptions = tried.interruptions;
+        match tried.ended {
             Ok(count) => {
                 self.just_failed = false;
                 Ok(count)
@@ -80,35 +63,31 @@ impl<I: Read + Drop> Source for StdSource<I> {
     }
 }
 
-/// A writer as a sink, as that of standard output. It writes as write(2) does, and keeps no buffer: what it took has
-/// left the program. A clause sees the writer, the count of its faults, the kind of the last error that was one, and whether the last call
-/// failed.
+/// A reader as a source, as that of standard input. It reads as read(2) does, and keeps no buffer. A clause sees the
+/// reader and how its calls ended: the count of faults, the kind of the last one, whether the last call failed, and how often a signal
+/// interrupted it.
 #[derive(Drop)]
-pub struct StdSink<W> {
-    output: W,
-    faults: u64,
-    last_fault: Option<ErrorKind>,
-    just_failed: bool,
+pub struct StdSource<I> {
+    input: I,
+    calls: Calls,
 }
 
-impl<W> Model for StdSink<W> {
-    ghost use Rattle.io_edge.specs.Standard.{Stream};
+impl<I> Model for StdSource<I> {
+    ghost use Rattle.io_edge.specs.Standard.{Stream, stream_of};
 
-    ghost Value = { Stream W };
+    ghost Value = { Stream I };
 
-    ghost view = { λ sink. record { end = sink.output; faults = sink.faults; last_fault = sink.last_fault; just_failed = sink.just_failed } };
+    ghost view = { λ source. stream_of source.input source.calls };
 }
 
-impl<W: Write + Drop> StdSink<W> {
-    /// This writer as it is, with no fault so far.
-    pub fn new(output: W) -> StdSink<W>
-        ensures { result ≡ record { end = output; faults = 0; last_fault = None; just_failed = false } }
+impl<I: Read + Drop> StdSource<I> {
+    /// This reader as it is, with no fault so far.
+    pub fn new(input: I) -> StdSource<I>
+        ensures { result ≡ record { end = input; faults = 0; last_fault = None; just_failed = false; interruptions = 0 } }
     {
-        StdSink {
-            output,
-            faults: 0,
-            last_fault: None,
-            just_failed: false,
+        StdSource {
+            input,
+            calls: Calls::new(),
         }
     }
 
@@ -116,15 +95,69 @@ impl<W: Write + Drop> StdSink<W> {
     pub fn last_fault(&self) -> Option<ErrorKind>
         ensures { result ≡ self.now.last_fault }
     {
-        self.last_fault
+        self.calls.last_fault
+    }
+}
+
+impl<I: Read + Drop> Source for StdSource<I> {
+    ghost seen = { λ source. record { left = I.remaining source.end; faults = source.faults; just_failed = Some source.just_failed } };
+
+    /// One read, which is tried again as often as a signal interrupts it, up to 2^64 - 1 times. Each other error is one fault.
+    fn take(&mut self, into: &mut [u8]) -> Result<usize, Failed>
+        ensures bound { ReadsAtMost result into.new }
+        ensures bytes { ReadConsumes (I.remaining self.old.end) (I.remaining self.new.end) result into.new }
+        ensures cause { HasCause self.old.faults self.new.faults result }
+        ensures told { TellsFault (Some self.new.just_failed) result }
+
+        ensures faults { OnErr result (self.new.faults ≡ counted self.old.faults) }
+        ensures retried { OnErr result (IsTriedOut self.new.last_fault self.new.interruptions) }
+        ensures last_fault { OnOk result (self.new.last_fault ≡ self.old.last_fault) }
+    {
+        let tried = read_again(&mut self.input, into);
+        self.calls.count(tried)
+    }
+}
+
+/// A writer as a sink, as that of standard output. It writes as write(2) does, and keeps no buffer: what it took has
+/// left the program. A clause sees the writer and how its calls ended, as of a source.
+#[derive(Drop)]
+pub struct StdSink<W> {
+    output: W,
+    calls: Calls,
+}
+
+impl<W> Model for StdSink<W> {
+    ghost use Rattle.io_edge.specs.Standard.{Stream, stream_of};
+
+    ghost Value = { Stream W };
+
+    ghost view = { λ sink. stream_of sink.output sink.calls };
+}
+
+impl<W: Write + Drop> StdSink<W> {
+    /// This writer as it is, with no fault so far.
+    pub fn new(output: W) -> StdSink<W>
+        ensures { result ≡ record { end = output; faults = 0; last_fault = None; just_failed = false; interruptions = 0 } }
+    {
+        StdSink {
+            output,
+            calls: Calls::new(),
+        }
+    }
+
+    /// The kind of the last error that was a fault.
+    pub fn last_fault(&self) -> Option<ErrorKind>
+        ensures { result ≡ self.now.last_fault }
+    {
+        self.calls.last_fault
     }
 }
 
 impl<W: Write + Drop> Sink for StdSink<W> {
     ghost seen = { λ sink. record { written = W.contents sink.end; faults = sink.faults; just_failed = Some sink.just_failed } };
 
-    /// One write, which is tried again as often as a signal interrupts it. Each other error, and a write of no byte of a
-    /// piece that is not empty, is one fault.
+    /// One write, which is tried again as often as a signal interrupts it, up to 2^64 - 1 times. Each other error, and a write of no
+    /// byte of a piece that is not empty, is one fault.
     fn give(&mut self, piece: &[u8]) -> Result<usize, GiveError>
         ensures bound { WritesAtMost result piece.now }
         ensures some { IfOk result (λ count. 0 < length piece.now → 0 < count) }
@@ -134,54 +167,89 @@ impl<W: Write + Drop> Sink for StdSink<W> {
 
         ensures error { IfErr result (λ fault. fault ≡ failed) }
         ensures faults { OnErr result (self.new.faults ≡ counted self.old.faults) }
-        ensures retried { OnErr result (IsNoInterruption self.new.last_fault) }
+        ensures retried { OnErr result (IsTriedOut self.new.last_fault self.new.interruptions) }
         ensures last_fault { OnOk result (self.new.last_fault ≡ self.old.last_fault) }
     {
-        match write_again(&mut self.output, piece) {
-            Ok(count) => {
-                self.just_failed = false;
-                Ok(count)
-            }
-            Err(error) => {
-                self.just_failed = true;
-                self.faults = self.faults.saturating_add(1);
-                self.last_fault = Some(error.kind());
-                Err(GiveError::Failed)
-            }
+        let tried = write_again(&mut self.output, piece);
+        match self.calls.count(tried) {
+            Ok(count) => Ok(count),
+            Err(Failed) => Err(GiveError::Failed),
         }
     }
 }
 
-/// One read, tried again as often as a signal interrupts it, up to 2^64 - 1 tries.
-fn read_again<I: Read>(input: &mut I, into: &mut [u8]) -> io::Result<usize>
-    ensures bound { ReadsAtMost result into.new }
-    ensures bytes { ReadConsumes (I.remaining input.old) (I.remaining input.new) result into.new }
-    ensures retried { IfErr result (λ error. error_kind error ≢ ErrorKind.Interrupted) }
+/// How a call ended, and how often a signal interrupted it before that.
+#[derive(Drop)]
+struct Tried {
+    ended: io::Result<usize>,
+    interruptions: u64,
+}
+
+/// Whether a signal interrupted a try. Only then is it tried again.
+fn is_interrupted(ended: &io::Result<usize>) -> bool
+    ensures { IsTrue result ↔ IsErrAnd ended.now (λ error. error_kind error ≡ ErrorKind.Interrupted) }
 {
-    'tries: for _ in 0..u64::MAX {
-        match input.read(into) {
-            Err(error) if error.kind() == ErrorKind::Interrupted => {}
-            ended => return ended,
-        }
+    match ended {
+        Ok(_) => false,
+        Err(error) => error.kind() == ErrorKind::Interrupted,
     }
-    Err(io::Error::from(ErrorKind::TimedOut))
+}
+
+/// One read, tried again as often as a signal interrupts it, up to 2^64 - 1 times.
+fn read_again<I: Read>(input: &mut I, into: &mut [u8]) -> Tried
+    ensures bound { ReadsAtMost result.ended into.new }
+    ensures bytes { ReadConsumes (I.remaining input.old) (I.remaining input.new) result.ended into.new }
+    ensures retried { IfErr result.ended (λ error. IsTriedOut (Some (error_kind error)) result.interruptions) }
+{
+    let mut ended = input.read(into);
+    for interruptions in 0..u64::MAX {
+        if !is_interrupted(&ended) {
+            return Tried {
+                ended,
+                interruptions,
+            };
+        }
+        ended = input.read(into);
+    }
+    Tried {
+        ended,
+        interruptions: u64::MAX,
+    }
 }
 
 /// One write, tried again in the same way. A write of no byte of a piece that is not empty is an error.
-fn write_again<W: Write>(output: &mut W, piece: &[u8]) -> io::Result<usize>
+fn write_again<W: Write>(output: &mut W, piece: &[u8]) -> Tried
+    ensures bound { WritesAtMost result.ended piece.now }
+    ensures some { IfOk result.ended (λ count. 0 < length piece.now → 0 < count) }
+    ensures bytes { WriteAppends (W.contents output.old) (W.contents output.new) result.ended piece.now }
+    ensures retried { IfErr result.ended (λ error. IsTriedOut (Some (error_kind error)) result.interruptions) }
+{
+    let mut ended = write_some(output, piece);
+    for interruptions in 0..u64::MAX {
+        if !is_interrupted(&ended) {
+            return Tried {
+                ended,
+                interruptions,
+            };
+        }
+        ended = write_some(output, piece);
+    }
+    Tried {
+        ended,
+        interruptions: u64::MAX,
+    }
+}
+
+/// One write. One of no byte of a piece that is not empty is an error.
+fn write_some<W: Write>(output: &mut W, piece: &[u8]) -> io::Result<usize>
     ensures bound { WritesAtMost result piece.now }
     ensures some { IfOk result (λ count. 0 < length piece.now → 0 < count) }
     ensures bytes { WriteAppends (W.contents output.old) (W.contents output.new) result piece.now }
-    ensures retried { IfErr result (λ error. error_kind error ≢ ErrorKind.Interrupted) }
 {
-    'tries: for _ in 0..u64::MAX {
-        match output.write(piece) {
-            Ok(0) if !piece.is_empty() => return Err(io::Error::from(ErrorKind::WriteZero)),
-            Err(error) if error.kind() == ErrorKind::Interrupted => {}
-            ended => return ended,
-        }
+    match output.write(piece) {
+        Ok(0) if !piece.is_empty() => Err(io::Error::from(ErrorKind::WriteZero)),
+        ended => ended,
     }
-    Err(io::Error::from(ErrorKind::TimedOut))
 }
 
 #[cfg(test)]
@@ -303,11 +371,11 @@ mod tests {
         assert_eq!(rt; source.take(&mut piece), Ok(1));
         assert_eq!(rt; piece, *b"v\0\0\0");
         assert_eq!(rt; source.input.calls, 1_001);
-        assert_eq!(rt; source.faults, 0);
+        assert_eq!(rt; source.calls.faults, 0);
         assert!(rt; source.last_fault().is_none());
         assert_eq!(rt; source.take(&mut piece), Err(Failed));
         assert_eq!(rt; source.input.calls, 1_002);
-        assert_eq!(rt; source.faults, 1);
+        assert_eq!(rt; source.calls.faults, 1);
         assert!(rt; source.last_fault() == Some(ErrorKind::BrokenPipe));
         Ok(())
     }
@@ -317,11 +385,11 @@ mod tests {
         let mut sink = StdSink::new(interrupted(1_000));
         assert_eq!(rt; sink.give(b"maps"), Ok(1));
         assert_eq!(rt; sink.output.calls, 1_001);
-        assert_eq!(rt; sink.faults, 0);
+        assert_eq!(rt; sink.calls.faults, 0);
         assert!(rt; sink.last_fault().is_none());
         assert_eq!(rt; sink.give(b"aps"), Err(GiveError::Failed));
         assert_eq!(rt; sink.output.calls, 1_002);
-        assert_eq!(rt; sink.faults, 1);
+        assert_eq!(rt; sink.calls.faults, 1);
         assert!(rt; sink.last_fault() == Some(ErrorKind::BrokenPipe));
         Ok(())
     }
@@ -333,12 +401,12 @@ mod tests {
         let mut piece = [0u8; 4];
         assert_eq!(rt; source.take(&mut piece), Err(Failed));
         assert_eq!(rt; source.input.calls, 1);
-        assert_eq!(rt; source.faults, 1);
+        assert_eq!(rt; source.calls.faults, 1);
         assert!(rt; source.last_fault() == Some(ErrorKind::WouldBlock));
         let mut sink = StdSink::new(blocked());
         assert_eq!(rt; sink.give(b"maps"), Err(GiveError::Failed));
         assert_eq!(rt; sink.output.calls, 1);
-        assert_eq!(rt; sink.faults, 1);
+        assert_eq!(rt; sink.calls.faults, 1);
         assert!(rt; sink.last_fault() == Some(ErrorKind::WouldBlock));
         Ok(())
     }
@@ -358,6 +426,18 @@ mod tests {
         Ok(())
     }
 
+    /// Nothing is taken or given at an empty piece, in one call.
+    #[test]
+    fn moves_an_empty_piece_in_one_call(rt: HostRuntime) -> Result<(), Fail> {
+        let mut source = StdSource::new(wide());
+        assert_eq!(rt; source.take(&mut []), Ok(0));
+        assert_eq!(rt; source.input.calls, 1);
+        let mut sink = StdSink::new(wide());
+        assert_eq!(rt; sink.give(b""), Ok(0));
+        assert_eq!(rt; sink.output.calls, 1);
+        Ok(())
+    }
+
     /// A writer that takes nothing of a piece is broken, and nothing is tried again.
     #[test]
     fn fails_where_nothing_is_taken(rt: HostRuntime) -> Result<(), Fail> {
@@ -367,7 +447,7 @@ mod tests {
         });
         assert_eq!(rt; sink.give(b"maps"), Err(GiveError::Failed));
         assert_eq!(rt; sink.output.calls, 1);
-        assert_eq!(rt; sink.faults, 1);
+        assert_eq!(rt; sink.calls.faults, 1);
         assert!(rt; sink.last_fault() == Some(ErrorKind::WriteZero));
         Ok(())
     }

@@ -1,6 +1,8 @@
--- The proof of `read_again`: a read that was interrupted moved no byte.
-use Rattle.std.specs.Io.KnownBytes.{Keeps}
+-- The proof of `read_again`: the last read is within its piece, and all before it moved no byte.
+use Rattle.std.specs.Io.{ReadsAtMost}
+use Rattle.std.specs.Io.KnownBytes.{ReadConsumes}
 use Rattle.io_edge.proofs.standard.read_again.Given as goal
 
-abbrev pub invariant-tries : goal.invariant-tries
-invariant-tries g l = Keeps (g.I.Read.remaining l.fn.input) (g.I.Read.remaining l.input)
+abbrev pub invariant-loop-interruptions : goal.invariant-loop-interruptions
+invariant-loop-interruptions g l =
+    ReadsAtMost l.ended l.into × ReadConsumes (g.I.Read.remaining l.fn.input) (g.I.Read.remaining l.input) l.ended l.into

@@ -1,6 +1,10 @@
--- The proof of `write_again`: a write that was interrupted moved no byte.
-use Rattle.std.specs.Io.KnownBytes.{Keeps}
+-- The proof of `write_again`: the last write is within its piece, and all before it moved no byte.
+use Rattle.std.specs.Prelude.{◌<◌, length, IfOk}
+use Rattle.std.specs.Io.{WritesAtMost}
+use Rattle.std.specs.Io.KnownBytes.{WriteAppends}
 use Rattle.io_edge.proofs.standard.write_again.Given as goal
 
-abbrev pub invariant-tries : goal.invariant-tries
-invariant-tries g l = Keeps (g.W.Write.contents l.fn.output) (g.W.Write.contents l.output)
+abbrev pub invariant-loop-interruptions : goal.invariant-loop-interruptions
+invariant-loop-interruptions g l =
+    WritesAtMost l.ended l.piece × IfOk l.ended (λ count. 0 < length l.piece → 0 < count)
+    × WriteAppends (g.W.Write.contents l.fn.output) (g.W.Write.contents l.output) l.ended l.piece
