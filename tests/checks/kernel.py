@@ -5,8 +5,8 @@ usage: check-kernel
 
 Each trace is one in which no row of docs/KERNEL.md has a part. What the kernel itself does is not tested here: where the output has the
 right form and another answer, a line says so, and no more. Where `cc` is missing, the kernel is older, or a sandbox or a setting of the
-machine forbids what on-kernel needs, a line says that nothing was run. Ends with status 1 where `cc` fails on on-kernel.c, at the first run
-that crashes or does not end, at the first output that is of no form, and at the first run that on-kernel should have refused.
+machine forbids what the command needs, a line says that nothing was run. Ends with status 1 where `cc` fails on the runner, at the first run
+that crashes or does not end, at the first output that is of no form, and at the first run that should have been refused.
 """
 import os, platform, re, subprocess, sys, tempfile
 
@@ -14,7 +14,7 @@ TOP = os.path.realpath(os.path.join(os.path.dirname(os.path.abspath(__file__)), 
 TOOL = os.path.join(TOP, "tools/vma")
 EXAMPLES = ["two-mappings", "readme", "tour", "faults", "fork"]
 OLDEST = (5, 4)
-CANNOT, FORBIDDEN = 4, 5  # statuses of on-kernel: what this machine cannot do for a trace, and cannot do at all
+CANNOT, FORBIDDEN = 4, 5  # statuses of `vma kernel`: what this machine cannot do for a trace, and cannot do at all
 FORM = re.compile(r"L\d+ t\d+ v\d+ = .+|maps \d+|child \d+ of L\d+ v\d+|[0-9a-f]{8,}-[0-9a-f]{8,} [rwxsp-]{4} .*")
 
 # A file below a name with blanks, a shared object of each side of a fork, an execution, and the list before and after.
@@ -51,7 +51,7 @@ maps 2
 00400000-00401000 r--s 00000000 00:01 3                                  /dev/zero (deleted)
 """
 
-# What on-kernel refuses: its name, its words, the trace, the status, and what the line on standard error has.
+# What it refuses: its name, its words, the trace, the status, and what the line on standard error has.
 REFUSED = [
     ("an option that is none", ["--fast"], "vmatrace 1\n", 2, "--fast"),
     ("a folder that is none", ["--folder", TOOL], "vmatrace 1\n", 2, "is no folder"),

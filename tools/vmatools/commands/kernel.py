@@ -1,5 +1,145 @@
-from ..systems import runner as whole
+"""Makes the calls of a trace for real on the running Linux, or on another system, and writes what was answered, in the form of
+`serial`.
 
-__doc__ = whole.__doc__
-SUMMARY = "make the calls of a trace on the Linux under you"
-add_arguments, run = whole.add_arguments, whole.main
+The trace is read from standard input; docs/TRACE.md has its form and that of the output. docs/KERNEL.md says where a kernel is known
+to differ from the program, and docs/SYSTEMS.md how emulators, sandboxes and machines of their own are put beside it. Nothing is put
+right here: where the system answers otherwise, the output says what it did, as `SIGSEGV SEGV_PKUERR`, an error that no page names,
+`hung`, or `killed by signal 11`.
+
+The calls are made by a small program, which a C compiler makes from tools/vmatools/systems/runner.c at first use into a cache
+(${XDG_CACHE_HOME:-~/.cache}/diltzekun, or a folder below that for temporary files where this cannot be written). It runs for this
+trace alone, with random addresses turned off; before the first line it unmaps all but itself. Lines run in their order, one after
+the other, whatever their threads; a fork is a real one, and the child runs its lines while the parent waits. Accesses are real
+too. Files are memory without contents, of the trace's sizes and opened in its modes; with --folder they are sparse files in that
+folder, so that its file system has its say. In the list, devices, inodes and names are put back to the trace's, and the inodes of
+shared anonymous memory to the numbers that the program gives.
+
+What differs from a run of the program by the nature of the thing:
+- The addresses from 0x7fffff000000 to 0x7fffff200000 are this tool's, and where the trace has `limit areas`, those from
+  0x2aaa90000000 to 0x2aaaa0000000 too: they are filled with as many areas as leave that number for the trace.
+- `top` is reached by the stack limit, so from 0x155555556000 to 0x7ffff7fff000.
+- The lowest address is the machine's vm.mmap_min_addr, also for root. A `min` in the trace has to be that.
+- A trace of version 2 runs on a processor without addresses of 57 bits where no line goes past 47 bits.
+- An area may grow up to 8 MiB (RLIMIT_STACK).
+
+With --system, --under or --window all else in the system stays mapped, and the trace keeps to the addresses of a window. With
+--batch many traces are read, each between a line `trace N SECONDS` and a line `end N`, and answered the same way: `vma compare
+--batch` and docs/SYSTEMS.md have the protocol.
+
+Exit statuses, each but 0 with a line on standard error:
+  0  the output was written
+  2  wrong words, or the trace cannot be read
+  3  the input is no trace: the first bad line and its cause, as the program names it
+  4  the trace asks for what this system cannot do: the line, and why
+  5  this system cannot run it at all: no compiler, another processor or system, an older kernel, or a sandbox that forbids it
+  6  the system did not come to the trace
+
+Example: vma kernel < examples/tour.trace | diff - examples/tour.out
+"""
+from __future__ import annotations
+
+import argparse
+import contextlib
+import os
+import re
+import sys
+from dataclasses import replace
+from pathlib import Path
+from typing import BinaryIO
+
+from .. import console
+from ..systems import batch, known, machines
+from ..systems.adapter import Adapter
+from ..systems.places import Refused, Window
+from ..traces import LIMITS, BadLine
+
+SUMMARY = "make the calls of a trace on the Linux under you, or on another system"
+
+
+def seconds_of(text: str) -> float:
+    if not re.fullmatch(r"[0-9]{1,6}(\.[0-9]{1,3})?", text) or float(text) <= 0:
+        raise argparse.ArgumentTypeError(f"{text} is no number of seconds")
+    return float(text)
+
+
+def number_of(text: str) -> int:
+    """An address, in hexadecimal behind 0x or in decimal digits, of whole pages."""
+    if not re.fullmatch("0x[0-9a-fA-F]{1,16}|[0-9]{1,20}", text) or int(text, 0) % 4096:
+        raise argparse.ArgumentTypeError(f"{text} is no address of a page")
+    return int(text, 0)
+
+
+def window_of(text: str) -> Window:
+    low, _, high = text.partition("-")
+    window = Window(number_of(low), number_of(high))
+    if window.low >= window.high:
+        raise argparse.ArgumentTypeError(f"{text} is no window: LO-HI, with LO below HI")
+    return window
+
+
+def add_arguments(parser: argparse.ArgumentParser) -> None:
+    told = "\n".join(f"  {system.name:13} {system.says}" for system in known.KNOWN.values())
+    parser.usage = "vma kernel [--system NAME | --under COMMAND] [--window LO-HI] [--shift N] [--link N] [--processor NAME]" \
+                   " [--folder FOLDER] [--seconds N] [--batch] < TRACE"
+    parser.epilog = f"systems:\n{told}\n\n`machine:IMAGE` takes that kernel, and otherwise the newest of {machines.IMAGES}."
+    systems = parser.add_mutually_exclusive_group()
+    systems.add_argument("--system", metavar="NAME", default="native", help="a system that is known (native)")
+    systems.add_argument("--under", metavar="COMMAND", help="a command that runs a static program in your system")
+    parser.add_argument("--window", metavar="LO-HI", type=window_of, help="keeps to these addresses (0x10000-0x2000000, but for a kernel)")
+    parser.add_argument("--shift", metavar="N", type=number_of, help="the window lies so much higher in the system (0)")
+    parser.add_argument("--link", metavar="N", type=number_of, help=f"the address of the program that makes the calls ({known.LOW_LINK:#x})")
+    parser.add_argument("--processor", choices=["x86_64", "aarch64"], help="that of the system (of this machine)")
+    parser.add_argument("--folder", metavar="FOLDER", help="makes the trace's files there (they are gone at the end)")
+    parser.add_argument("--seconds", metavar="N", type=seconds_of, help="gives a trace so long (60, in a window 5, in a machine 20)")
+    parser.add_argument("--batch", action="store_true", help="answers many traces, one after the other")
+
+
+def system_of(options: argparse.Namespace) -> known.System:
+    """The system that the options name, with what they change of it."""
+    system = known.system_under(options.under) if options.under else known.system_of(options.system)
+    window = options.window or system.window
+    if options.shift is not None and window is None:
+        raise Refused(2, "--shift is of a window: give --window too")
+    if options.window and system.window is None:
+        system = replace(known.KNOWN["window"], boots=system.boots, image=system.image)
+    if window and options.shift is not None:
+        window = replace(window, shift=options.shift)
+    return replace(system, window=window, link=options.link or system.link, processor=options.processor or system.processor,
+                   seconds=options.seconds or system.seconds)
+
+
+def folder_of(name: str | None) -> Path | None:
+    if name is not None and not os.path.isdir(name):
+        raise Refused(2, f"{name} is no folder")
+    return Path(name) if name is not None else None
+
+
+def run(options: argparse.Namespace) -> int:
+    """Answers a trace, or many."""
+    adapter = Adapter(system_of(options), options.batch, folder_of(options.folder))
+    with contextlib.closing(adapter):
+        if options.batch:
+            return serve(adapter, sys.stdin.buffer, sys.stdout.buffer)
+        try:
+            output = adapter.answer(sys.stdin.buffer.read(LIMITS["bytes"] + 1))
+        except BadLine as bad:
+            raise Refused(3, f"trace {bad}") from None
+        except OSError as error:
+            raise Refused(2, console.reason(error)) from None
+        sys.stdout.buffer.write(output.encode(errors="surrogateescape"))
+        sys.stdout.flush()
+    return 0
+
+
+def serve(adapter: Adapter, traces: BinaryIO, answers: BinaryIO) -> int:
+    """Answers traces until there are no more."""
+    for request in batch.requests(traces):
+        try:
+            output, status = adapter.answer(request.text, request.seconds), ""
+        except BadLine as bad:
+            output, status = "", f" 3 trace {bad}"
+        except console.Failure as failure:
+            output, status = "", f" {failure.status} {' '.join(str(failure).split())}"
+        answers.write(f"{output}end {request.number}{status}\n".encode(errors="surrogateescape"))
+        answers.flush()
+    return 0

@@ -1,5 +1,67 @@
-from ..systems import rows as whole
+"""Repeats the rows of docs/KERNEL.md: a trace of a few lines for each, what the program answers, and what a kernel does.
 
-__doc__ = whole.__doc__
-SUMMARY = "repeat the rows of docs/KERNEL.md, where a kernel answers otherwise"
-add_arguments, run = whole.add_arguments, whole.main
+examples/kernel-rows.txt has the rows, each under its name: the trace, the program's output, and that of `vma kernel` on
+Linux 6.18. Without a NAME all rows are run again, and a line is printed for each that answers otherwise than it stands there; with
+names, these rows are shown: the trace, and the lines in which the program (-) and the running kernel (+) differ. A row that this
+machine cannot run, as one with another lowest address, is named and passed.
+
+Exit status: 0 where all rows are as they stand, 1 where one is not, 2 on wrong use, or where a run fails that should not.
+
+Example: vma rows grow-far
+"""
+from __future__ import annotations
+
+import argparse
+import contextlib
+import os
+
+from .. import console, program
+from ..systems import rows
+
+SUMMARY = "repeat the rows in which a kernel answers otherwise"
+
+
+def add_arguments(parser: argparse.ArgumentParser) -> None:
+    program.add_arguments(parser)
+    parser.add_argument("--system", metavar="NAME", default="native", help="another kernel: machine, or machine:IMAGE (native)")
+    parser.add_argument("--here", action="store_true", help="runs the program alone, and not the kernel, which may be another one")
+    parser.add_argument("--write", action="store_true", help="makes the file anew from what both answer now (for those who keep this page)")
+    parser.add_argument("names", metavar="NAME", nargs="*", help="these rows alone, which are shown")
+
+
+def program_of(options: argparse.Namespace) -> str | None:
+    """The program, or None where none is named and the repository's is not built."""
+    if options.program or options.here or os.environ.get(program.VARIABLE) or os.access(program.DEFAULT_PROGRAM, os.X_OK):
+        return program.find(options.program, options.verbose)
+    console.say("the program is not there: its outputs were not run again")
+    return None
+
+
+def run_all(chosen: list[rows.Row], path: str | None, kernel: rows.Kernel | None) -> list[rows.Row]:
+    """The rows with what is answered now."""
+    again, progress = [], console.Progress()
+    for place, row in enumerate(chosen, 1):
+        progress.tell(f"{place} of {len(chosen)} rows: {row.name}")
+        again.append(rows.run_again(row, path, kernel))
+    progress.clear()
+    return again
+
+
+def run(options: argparse.Namespace) -> int:
+    path = program_of(options)
+    head, known = rows.read_rows()
+    unknown = [name for name in options.names if name not in {row.name for row in known}]
+    if unknown:
+        raise console.Failure(f"no row has the name {unknown[0]}; examples/kernel-rows.txt has them")
+    chosen = [row for row in known if not options.names or row.name in options.names]
+    kernel = None if options.here else rows.Kernel(options.system)
+    with contextlib.closing(kernel) if kernel else contextlib.nullcontext():
+        again = run_all(chosen, path, kernel)
+    if options.write:
+        made = {row.name: row for row in again}
+        rows.write_rows(head, [made.get(row.name, row) for row in known])
+    for row in again if options.names else []:
+        rows.show(row)
+    others = sum(not rows.check(row, now) for row, now in zip(chosen, again))
+    print(f"{len(chosen)} {'row' if len(chosen) == 1 else 'rows'}, {others} otherwise")
+    return 1 if others else 0

@@ -1,1 +1,1 @@
-"""Systems under test: the running Linux, and what runs them."""
+"""Runs traces for real on a system: the kernel of this machine, an emulator, a sandbox, or a machine of its own."""

@@ -1,0 +1,158 @@
+"""Many traces for one process, one after the other: the protocol of `--batch`, from both sides.
+
+To the adapter go a line `trace N SECONDS`, the lines of the trace, and a line `end N`. From it come the lines of the output, and a line
+`end N`; or `end N STATUS WHY` where it cannot run the trace. N counts the traces. SECONDS is how long the trace may take: an adapter
+that can end its system earlier does so, and answers `hung`.
+"""
+from __future__ import annotations
+
+import contextlib
+import select
+import signal
+import subprocess
+import tempfile
+import threading
+import time
+from collections.abc import Iterator, Sequence
+from dataclasses import dataclass
+from typing import IO
+
+from .running import end_group, ended, read_some, write_all
+
+GRACE = 5.0  # seconds that an adapter has beyond those of a trace, to end its system itself
+MOST_OUTPUT = 64 << 20
+DOES_NOT_END = "does not end"
+
+
+@dataclass(frozen=True)
+class Answer:
+    """What came of a trace: the output, how the adapter failed in words or None, and what it said."""
+
+    output: str
+    fault: str | None
+    message: str
+    is_told: bool = False  # whether the adapter itself says so, and runs on
+
+
+class Adapter:
+    """One process that answers traces. It is started at the first, and anew where it ended or was too slow."""
+
+    def __init__(self, command: Sequence[str]) -> None:
+        self.command, self.number = command, 0
+        self.process: subprocess.Popen[bytes] | None = None
+        self.errors: IO[bytes] | None = None
+
+    def run(self, text: bytes, seconds: float) -> Answer:
+        process = self.process or self.begin()
+        self.number += 1
+        request = b"trace %d %g\n%send %d\n" % (self.number, seconds, text, self.number)
+        answer = self.exchange(process, request, time.monotonic() + seconds + GRACE)
+        if answer.fault and not answer.is_told:
+            self.close()
+        return answer
+
+    def begin(self) -> subprocess.Popen[bytes]:
+        self.errors = tempfile.TemporaryFile()
+        self.process = subprocess.Popen(self.command, stdin=subprocess.PIPE, stdout=subprocess.PIPE, stderr=self.errors,
+                                        start_new_session=True)
+        return self.process
+
+    def said(self) -> str:
+        """The end of what the process wrote on standard error."""
+        if self.errors is None:
+            return ""
+        self.errors.seek(max(self.errors.seek(0, 2) - 10_000, 0))
+        return self.errors.read().decode("utf-8", "replace")
+
+    def exchange(self, process: subprocess.Popen[bytes], request: bytes, end: float) -> Answer:
+        assert process.stdin is not None and process.stdout is not None
+        sender = threading.Thread(target=send, args=(process.stdin.fileno(), request), daemon=True)
+        if len(request) > select.PIPE_BUF:  # the adapter may write before it has read all
+            sender.start()
+        else:
+            send(process.stdin.fileno(), request)
+        data, mark = bytearray(), f"end {self.number}".encode()
+        while True:
+            ready, _, _ = select.select([process.stdout], [], [], max(end - time.monotonic(), 0))
+            piece = read_some(process.stdout.fileno()) if ready else b""
+            data += piece
+            if not ready or len(data) > MOST_OUTPUT:
+                return Answer(text_of(data), DOES_NOT_END if not ready else "writes on and on", self.said())
+            last = data.rfind(b"\n", 0, len(data) - 1) + 1
+            if piece and data.endswith(b"\n") and data.startswith(mark, last):
+                return answer_of(data[:last], data[last:].decode("utf-8", "replace").split(maxsplit=3))
+            if not piece:
+                return Answer(text_of(data), fault_of(ended(process)), self.said())
+
+    def close(self) -> None:
+        if self.process is None:
+            return
+        end_group(self.process)
+        for stream in (self.process.stdin, self.process.stdout, self.errors):
+            if stream is not None:
+                with contextlib.suppress(OSError):
+                    stream.close()
+        self.process = self.errors = None
+
+
+def send(descriptor: int, request: bytes) -> None:
+    """Hands a request on. Where the process is gone, its output tells."""
+    with contextlib.suppress(OSError):
+        write_all(descriptor, request)
+
+
+def text_of(data: bytes | bytearray) -> str:
+    return bytes(data).decode("utf-8", "replace")
+
+
+def answer_of(output: bytes | bytearray, last: Sequence[str]) -> Answer:
+    """The answer that ends with a line of these words."""
+    if len(last) > 2 and last[2] != "0":
+        return Answer("", f"ends with status {last[2]}", last[3].strip() if len(last) > 3 else "", True)
+    return Answer(text_of(output), None, "", True)
+
+
+def fault_of(ending: str) -> str:
+    """The end of a process, in the words that a run of its own has for it."""
+    if ending.startswith("killed by signal "):
+        return f"ends by signal {signal.Signals(int(ending.rsplit(' ', 1)[1])).name}"
+    return ending.replace("ended", "ends")
+
+
+class Adapters:
+    """As many processes as run traces at the same time: each thread has one of its own."""
+
+    def __init__(self, command: Sequence[str]) -> None:
+        self.command, self.idle, self.lock = command, list[Adapter](), threading.Lock()
+
+    def run(self, text: bytes, seconds: float) -> Answer:
+        with self.lock:
+            adapter = self.idle.pop() if self.idle else Adapter(self.command)
+        try:
+            return adapter.run(text, seconds)
+        finally:
+            with self.lock:
+                self.idle.append(adapter)
+
+    def close(self) -> None:
+        with self.lock:
+            for adapter in self.idle:
+                adapter.close()
+
+
+@dataclass(frozen=True)
+class Request:
+    """A trace that an adapter is given: its number, how long it may take, and its bytes."""
+
+    number: str
+    seconds: float
+    text: bytes
+
+
+def requests(stream: IO[bytes]) -> Iterator[Request]:
+    """The traces that come on a stream, for an adapter."""
+    while head := stream.readline().split():
+        number = head[1].decode()
+        last = b"end %s\n" % head[1]
+        lines = list(iter(stream.readline, last))
+        yield Request(number, float(head[2]), b"".join(lines))
