@@ -6,8 +6,8 @@ from .traces import PAGE
 
 ITEM = re.compile(r"L(\d+) t(\d+) v(\d+) = (.*)")
 AREA = re.compile(r"([0-9a-f]{8,})-([0-9a-f]{8,}) ([r-][w-][x-][sp]) ([0-9a-f]{8,}) ([0-9a-f]{2,}:[0-9a-f]{2,}) (\d+) *(.*)")
-RESULT = re.compile(r"0|0x[0-9a-f]+|-1 E[A-Z0-9]+|SIG(SEGV|BUS) [A-Z_]+|served [0-9a-f]+-[0-9a-f]+ [rwxsp-]{4} page \d+|"
-                    r"child \d+ areas \d+|maps \d+")
+RESULT = re.compile(r"0|0x[0-9a-f]+|-1 E[A-Z0-9]+|SIG[A-Z]+ [A-Z_]+|signal \d+ code -?\d+|served( [0-9a-f]+-[0-9a-f]+ [rwxsp-]{4} page \d+)?|"
+                    r"child \d+ areas \d+|maps \d+|hung|killed by signal \d+|ended with status \d+")
 FACTS = ["permissions", "offset", "device", "inode", "name"]  # of a page in a list
 
 # A result, a list or the head of a child, with the lines below its first. `number` is a line of the trace, None for a last list.

@@ -87,7 +87,7 @@ def add_arguments(parser: argparse.ArgumentParser) -> None:
     systems.add_argument("--under", metavar="COMMAND", help="a command that runs a static program in your system")
     parser.add_argument("--window", metavar="LO-HI", type=window_of, help="keeps to these addresses (0x10000-0x2000000, but for a kernel)")
     parser.add_argument("--shift", metavar="N", type=number_of, help="the window lies so much higher in the system (0)")
-    parser.add_argument("--link", metavar="N", type=number_of, help=f"the address of the program that makes the calls ({known.LOW_LINK:#x})")
+    parser.add_argument("--link", metavar="N", type=number_of, help=f"where the program that makes the calls lies ({known.LOW_LINK:#x})")
     parser.add_argument("--processor", choices=["x86_64", "aarch64"], help="that of the system (of this machine)")
     parser.add_argument("--folder", metavar="FOLDER", help="makes the trace's files there (they are gone at the end)")
     parser.add_argument("--seconds", metavar="N", type=seconds_of, help="gives a trace so long (60, in a window 5, in a machine 20)")

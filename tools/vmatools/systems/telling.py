@@ -23,6 +23,9 @@ CODES = {
 SENT = {0: "SI_USER", 128: "SI_KERNEL", -1: "SI_QUEUE", -2: "SI_TIMER", -3: "SI_MESGQ", -4: "SI_ASYNCIO", -5: "SI_SIGIO", -6: "SI_TKILL"}
 
 
+WORDS = {"shift", "at", "reply", "fault", "list", "died"}  # of the runner, each with a number behind it
+
+
 def signal_text(number: int, code: int) -> str:
     """A signal and its code by their names, or by their numbers where they have none."""
     code = code - 2**32 if code >= 2**31 else code
@@ -161,6 +164,8 @@ class Output:
 
     def take(self, words: Sequence[str], answers: Answers) -> None:
         """Takes one line of the runner, with those that belong to it."""
+        if words[0] not in WORDS:  # the system itself says it, as it ends
+            return
         name, number, *rest = words
         line = self.lines.get(int(number, 16))
         if name == "at":
@@ -226,7 +231,7 @@ def told(trace: Trace, texts: Sequence[str], ending: str | None) -> list[str]:
         words = answers.next()
         if not words:
             output.end(ending or "ended with status 0")
-        elif words[0] == "stop":
+        elif words[0] == "stop" and len(words) > 2:
             raise Refused(int(words[1], 16), " ".join(words[2:]))
         else:
             output.take(words, answers)

@@ -1,0 +1,88 @@
+"""Says which systems `vma kernel --system` and `vma compare --system` know, whether they are installed here, and how far each answers as
+the program does.
+
+With --table random traces are run on each that is installed, or on those that are named, and on the program: of each profile so many
+traces, fitted to what the system can run. The table has the share of equal replies and of equal lists in percent, raw: what a system
+answers differently by its documents counts as different, and so does what follows from that. The last column has the same beside the
+running Linux, in the same window. With --write the table replaces that in docs/SYSTEMS.md.
+
+Exit status: 0, or 2 on wrong use or where the program is missing. A system that cannot be run is named and left out.
+
+Example: vma systems --table --runs 4 valgrind
+"""
+from __future__ import annotations
+
+import argparse
+import contextlib
+import datetime
+import os
+import platform
+import re
+import time
+from pathlib import Path
+
+from .. import console, program
+from ..systems import conformance, known
+from ..systems.places import Refused
+
+SUMMARY = "the systems that are known, and how far each answers as the program does"
+PAGE = program.TOP / "docs/SYSTEMS.md"
+BEGIN, END = "<!-- made by tools/vma systems --table --write -->", "<!-- end -->"
+
+
+def add_arguments(parser: argparse.ArgumentParser) -> None:
+    program.add_arguments(parser)
+    parser.add_argument("--table", action="store_true", help="runs traces on each, and prints the table of conformance")
+    parser.add_argument("--runs", metavar="N", type=int, default=10, help="traces of each profile (10)")
+    parser.add_argument("--seed", metavar="S", type=int, default=1, help="the same seed gives the same traces (1)")
+    parser.add_argument("--for", metavar="SECONDS", dest="most", type=float, default=600.0, help="for each system at most (600)")
+    parser.add_argument("--write", action="store_true", help="puts the table into docs/SYSTEMS.md (for those who keep that page)")
+    parser.add_argument("names", metavar="NAME", nargs="*", help="these systems alone; `machine:IMAGE` is one with that kernel")
+
+
+def run(options: argparse.Namespace) -> int:
+    systems = [known.system_of(name) for name in options.names] or list(known.KNOWN.values())
+    if not options.table:
+        for system in systems:
+            packages = conformance.missing(system)
+            state = f"apt-get install {packages}" if packages else f"installed, {conformance.version_of(system)}"
+            print(f"{system.name:13} {system.says}: {state}")
+        return 0
+    path = program.find(options.program, options.verbose)
+    results = [result for result in (measured(system, path, options) for system in systems) if result]
+    lines = heading() + conformance.table_of(results)
+    print("\n".join(lines))
+    if options.write:
+        write(PAGE, lines)
+    return 0
+
+
+def measured(system: known.System, path: str, options: argparse.Namespace) -> conformance.Result | None:
+    """What a system's traces gave, or None where it cannot be run here."""
+    packages = conformance.missing(system)
+    if packages:
+        console.say(f"{system.name} is not installed (Debian: apt-get install {packages}): left out")
+        return None
+    try:
+        progress = console.Progress()
+        with contextlib.closing(conformance.Measuring(system, path, options.runs, options.seed)) as measuring:
+            result = measuring.run(progress, time.monotonic() + options.most)
+        progress.clear()
+        return result
+    except Refused as refused:
+        console.say(f"{system.name} cannot be run here: {refused}")
+        return None
+
+
+def heading() -> list[str]:
+    day = datetime.date.fromtimestamp(float(os.environ.get("SOURCE_DATE_EPOCH", time.time()))).isoformat()
+    return [f"Made on {day}, on Linux {platform.release()}. Each cell has the equal replies and the equal lists, in percent.", ""]
+
+
+def write(page: Path, lines: list[str]) -> None:
+    """Puts lines between the marks of a page."""
+    text = page.read_text(encoding="utf-8")
+    if BEGIN not in text or END not in text:
+        raise console.Failure(f"{page}: the marks of the table are not there")
+    made = "\n".join([BEGIN, *lines, END])
+    page.write_text(re.sub(f"{re.escape(BEGIN)}.*?{re.escape(END)}", lambda _: made, text, flags=re.DOTALL), encoding="utf-8")
