@@ -205,7 +205,7 @@ def explained(data):
     try:
         traces.read_trace(data)
     except traces.BadLine as bad:
-        sentence, (text, span) = explanations.explain(data, bad), explanations.marked_span(data, bad)
+        sentence, (text, span) = explanations.explain(bad), explanations.marked_span(bad)
         if not sentence or not 0 <= span[0] < span[1]:
             fail(f"{bad}: no sentence or no mark for {text[:100]!r}")
         return f"trace {bad}\n"

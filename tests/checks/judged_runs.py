@@ -17,8 +17,7 @@ import argparse, collections, os, random, re, subprocess, sys, tempfile
 sys.dont_write_bytecode = True
 sys.path.insert(0, os.path.join(os.path.dirname(os.path.abspath(__file__)), "../../tools"))
 from checking import program_of
-from vmatools import program as programs
-from vmatools.commands import judge
+from vmatools import judging, traces
 
 
 PAGE = 4096
@@ -103,7 +102,7 @@ class Trace:
         return self.pick([1, 1, 1, 2, 2, 3, 4]) * PAGE - self.pick([0, 0, 1, 100])
 
     def prot(self):
-        names = [name for name in judge.PROT if self.often(50)]
+        names = [name for name in traces.PROT if self.often(50)]
         return "|".join(names) or self.pick(["PROT_NONE", "0"])
 
     def flags(self, table, weights):
@@ -118,10 +117,10 @@ class Trace:
         offset = self.pick([1, 2**64 - PAGE]) if self.often(2) else offset
         address = "0x0" if self.often(20) else self.address()
         descriptor = self.pick([*self.files * 4, -1, 9]) if self.files else -1
-        return f"mmap {address} {self.length(address)} {self.prot()} {self.flags(judge.MAP, weights)} {descriptor} {offset}"
+        return f"mmap {address} {self.length(address)} {self.prot()} {self.flags(traces.MAP, weights)} {descriptor} {offset}"
 
     def mremap(self):
-        flags = self.flags(judge.MREMAP, {"MREMAP_MAYMOVE": 70, "MREMAP_FIXED": 25})
+        flags = self.flags(traces.MREMAP, {"MREMAP_MAYMOVE": 70, "MREMAP_FIXED": 25})
         old, new = self.address(), self.address()
         last = f" {new}" if "MREMAP_FIXED" in flags else ""
         return f"mremap {old} {self.length(old)} {self.length(new if last else old)} {flags}{last}"
@@ -269,7 +268,8 @@ class Program:
 
 def judge_says(trace, output):
     """Nothing where `vma judge` accepts an output, else its first wrong line, and why."""
-    return judge.judge(trace.encode(), output.encode("utf-8", "surrogateescape"))
+    wrong = judging.first_wrong(traces.read_trace(trace.encode()), output.encode("utf-8", "surrogateescape"))
+    return wrong and wrong.args
 
 
 class Runs:
@@ -359,7 +359,7 @@ def main():
     while runs.runs < options.runs:
         try:
             runs.one(number)
-        except (Refused, judge.Unreadable, subprocess.TimeoutExpired) as why:
+        except (Refused, traces.BadLine, subprocess.TimeoutExpired) as why:
             fail(runs, number, why, options.keep)
         number += 1
     runs.summary()

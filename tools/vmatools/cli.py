@@ -3,6 +3,7 @@ from __future__ import annotations
 
 import argparse
 import difflib
+import gc
 import importlib
 import sys
 from dataclasses import dataclass
@@ -11,15 +12,17 @@ from typing import NoReturn
 
 from . import console
 
-ABOUT = """The tools around diltzekun, the replayer of the address space of Linux 6.13.
+ABOUT = """usage: vma COMMAND [WORDS]
 
-usage: vma COMMAND [WORDS]
+The tools around diltzekun, the replayer of the address space of Linux 6.13.
 """
+AFTER = "`vma COMMAND --help` has the words of each, with an example. The exit statuses are those of docs/COMPARE.md."
 
 
 @dataclass(frozen=True)
 class Command:
-    """A subcommand: its name, and its module below vmatools.commands."""
+    """A subcommand: its name, its module below vmatools.commands, and how it ends on wrong use."""
+
     name: str
     module: str = ""
     wrong_use: int = console.WRONG_USE
@@ -38,6 +41,7 @@ COMMANDS = {command.name: command for group in GROUPS.values() for command in gr
 
 class Parser(argparse.ArgumentParser):
     """A parser that ends wrong use with the status of its command."""
+
     wrong_use = console.WRONG_USE
 
     def error(self, message: str) -> NoReturn:
@@ -52,37 +56,73 @@ def whole_help() -> str:
         lines.append(f"{title}:")
         lines += [f"  {command.name:10}{command.load().SUMMARY}" for command in commands]
         lines.append("")
-    return "\n".join(lines + ["`vma COMMAND --help` has the words of each, with an example."])
+    return "\n".join([*lines, AFTER])
 
 
 def unknown(word: str) -> str:
     near = difflib.get_close_matches(word, COMMANDS, 1, 0.5)
-    return f"{word!r} is no command; " + (f"did you mean {near[0]}?" if near else "`vma --help` lists them")
+    return f"{word[:100]!r} is no command; " + (f"did you mean {near[0]}?" if near else "`vma --help` lists them")
 
 
 def parser_of(command: Command) -> tuple[Parser, ModuleType]:
     module = command.load()
-    parser = Parser(prog=f"vma {command.name}", description=module.__doc__, formatter_class=argparse.RawDescriptionHelpFormatter)
+    parser = Parser(
+        prog=f"vma {command.name}", description=module.__doc__, formatter_class=argparse.RawDescriptionHelpFormatter
+    )
     parser.wrong_use = command.wrong_use
+    parser.add_argument(
+        "--color", choices=console.WHEN, default="auto", metavar="WHEN", help="auto (on a terminal), always or never"
+    )
     module.add_arguments(parser)
     return parser, module
 
 
-def main(words: list[str]) -> int:
-    """Runs a subcommand, and returns the exit status."""
+def dispatch(words: list[str]) -> int:
+    """Runs the subcommand that these words name, and returns its exit status."""
     if not words or words[0] in ("-h", "--help", "help"):
         print(whole_help(), file=sys.stdout if words else sys.stderr)
-        return 0 if words else console.WRONG_USE
+        return console.DONE if words else console.WRONG_USE
     if words[0] not in COMMANDS:
-        console.say(unknown(words[0]))
-        return console.WRONG_USE
+        raise console.Failure(unknown(words[0]))
     command = COMMANDS[words[0]]
     console.TOOL = f"vma {command.name}"
     parser, module = parser_of(command)
     options = parser.parse_args(words[1:])
+    console.choose_colour(options.color)
+    status: int = module.run(options)
+    return status
+
+
+def main(words: list[str]) -> int:
+    """Runs a subcommand, writes what there is, and returns the exit status, whatever happens."""
+    gc.set_threshold(100_000, 50, 50)  # a large input is many small objects, of which none goes before the end
     try:
-        status: int = module.run(options)
-        return status
-    except console.Failure as failure:
+        console.open_output()
+        return finished(words)
+    except KeyboardInterrupt:
+        return ended_early(console.Failure("interrupted", console.INTERRUPTED))
+    except console.OutputFailure as failure:
         console.say(failure)
+        console.drop_output()
         return failure.status
+    except console.Failure as failure:
+        return ended_early(failure)
+
+
+def finished(words: list[str]) -> int:
+    try:
+        status = dispatch(words)
+    except SystemExit as end:  # of the parser: help, or wrong use
+        status = end.code if isinstance(end.code, int) else console.WRONG_USE
+    console.flush_output()
+    return status
+
+
+def ended_early(failure: console.Failure) -> int:
+    """Writes what there is until a failure, and says what it is."""
+    try:
+        console.flush_output()
+    except console.OutputFailure:
+        console.drop_output()
+    console.say(failure)
+    return failure.status

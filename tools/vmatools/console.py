@@ -1,11 +1,26 @@
-"""What a command says on the terminal: its failures in one plain line, and how far it is."""
+"""What a command says on the terminal: what it finds, in colour where that helps, its failures in one line, and how far it is."""
 from __future__ import annotations
 
+import io
+import os
 import sys
 import time
+from collections.abc import Iterator
+from contextlib import contextmanager
+from typing import Any
 
 TOOL = "vma"
-WRONG_USE = 2
+
+# Exit statuses. Their table is in docs/COMPARE.md.
+DONE, FOUND, WRONG_USE, NOT_WRITTEN, INTERRUPTED, NOT_READ_ON = 0, 1, 2, 74, 130, 141
+STATUSES = {
+    DONE: "the work is done, and nothing was found that differs, is wrong or is missing",
+    FOUND: "something was found: a difference, a bad line, an output that is not legal, a row that is answered otherwise",
+    WRONG_USE: "wrong use, or a file or program that is not there or cannot be read or run",
+    NOT_WRITTEN: "standard output could not be written, as on a full device",
+    INTERRUPTED: "interrupted by Ctrl-C; what there was until then is written",
+    NOT_READ_ON: "whoever read standard output has closed it",
+}
 
 
 class Failure(Exception):
@@ -16,16 +31,134 @@ class Failure(Exception):
         self.status = status
 
 
-def reason(error: OSError, name: str | None = None) -> str:
+class OutputFailure(Failure):
+    """Standard output cannot be written."""
+
+    def __init__(self, error: OSError) -> None:
+        is_closed = isinstance(error, BrokenPipeError)
+        text = "nobody reads on" if is_closed else error.strerror or str(error)
+        super().__init__(f"standard output: {text}", NOT_READ_ON if is_closed else NOT_WRITTEN)
+
+
+def reason(error: OSError, name: str | os.PathLike[str] | None = None) -> str:
     """A failure of the system as `FILE: cause`, without its number."""
-    front = name or error.filename
+    front = error.filename if name is None else name
     cause = error.strerror or str(error)
     return f"{front}: {cause}" if front else cause
 
 
 def say(text: object) -> None:
     """A line on standard error, behind the name of the command."""
-    print(f"{TOOL}: {text}", file=sys.stderr, flush=True)
+    try:
+        print(f"{TOOL}: {text}", file=sys.stderr, flush=True)
+    except (OSError, ValueError):
+        pass  # nobody can be told
+
+
+# Standard input and output
+
+
+class StandardOutput(io.FileIO):
+    """Descriptor 1, whose failures are no OSError, so that nobody takes them for those of another file."""
+
+    def write(self, data: Any) -> int:
+        try:
+            return super().write(data)
+        except OSError as error:
+            raise OutputFailure(error) from None
+
+
+def open_output() -> None:
+    """Makes standard output one that is UTF-8 everywhere, and whose failures are named."""
+    if sys.stdout is None:
+        raise Failure("standard output: it is closed", NOT_WRITTEN)
+    if sys.stdout.fileno() == 1:
+        raw = io.BufferedWriter(StandardOutput(1, "wb", closefd=False))
+        sys.stdout = io.TextIOWrapper(raw, encoding="utf-8", errors="backslashreplace", line_buffering=os.isatty(1))
+
+
+def flush_output() -> None:
+    if sys.stdout is not None:
+        sys.stdout.flush()
+
+
+def drop_output() -> None:
+    """Sends what is left of the output nowhere, since it could not be written."""
+    nowhere = os.open(os.devnull, os.O_WRONLY)
+    os.dup2(nowhere, 1)
+    os.close(nowhere)
+    flush_output()
+
+
+def open_input(path: str) -> io.BufferedReader:
+    """A file to be read, or standard input for `-`."""
+    if path == "-" and sys.stdin is None:
+        raise Failure("standard input: it is closed")
+    try:
+        return open(0 if path == "-" else path, "rb", closefd=path != "-")
+    except OSError as error:
+        raise Failure(reason(error, named(path))) from None
+    except ValueError as error:  # a zero byte in the name
+        raise Failure(f"{printable(path)}: {error}") from None
+
+
+def open_inputs(*paths: str) -> list[io.BufferedReader]:
+    """Files to be read, of which one may be standard input."""
+    if paths.count("-") > 1:
+        raise Failure("only one file can be standard input")
+    return [open_input(path) for path in paths]
+
+
+@contextmanager
+def reading(path: str) -> Iterator[None]:
+    """A read that fails within is told with the name of the file."""
+    try:
+        yield
+    except OSError as error:
+        raise Failure(reason(error, named(path))) from None
+
+
+def named(path: str) -> str:
+    return "standard input" if path == "-" else path
+
+
+# Words
+
+
+def printable(text: str, most: int = 200) -> str:
+    """A text for one line of a terminal: cut off, with controls, and bytes that are none of a text, by their number."""
+    cut = text[:most]
+    if cut.isprintable():
+        return cut
+    return "".join(letter if letter.isprintable() else shown_control(letter) for letter in cut)
+
+
+def shown_control(letter: str) -> str:
+    code = ord(letter) - 0xDC00 if 0xDC80 <= ord(letter) <= 0xDCFF else ord(letter)
+    return {"\t": "\\t", "\r": "\\r", "\n": "\\n"}.get(letter) or (f"\\x{code:02x}" if code < 256 else f"\\u{code:04x}")
+
+
+def counted(count: int, name: str, many: str | None = None) -> str:
+    return f"{count:,} {name if count == 1 else many or name + 's'}"
+
+
+# Colour
+
+STYLES = {"red": "31", "green": "32", "yellow": "33", "blue": "34", "bold": "1", "faint": "2"}
+WHEN = ("auto", "always", "never")
+has_colour = False
+
+
+def choose_colour(when: str) -> None:
+    """Whether standard output has colour: `auto` is on a terminal that has it, where NO_COLOR does not forbid it."""
+    global has_colour
+    is_wanted = "NO_COLOR" not in os.environ and os.environ.get("TERM") not in (None, "", "dumb")
+    has_colour = when == "always" or when == "auto" and is_wanted and sys.stdout is not None and sys.stdout.isatty()
+
+
+def painted(text: str, *styles: str) -> str:
+    """A text in these styles, where standard output has colour."""
+    return f"\x1b[{';'.join(STYLES[style] for style in styles)}m{text}\x1b[0m" if has_colour and text else text
 
 
 class Progress:
@@ -33,7 +166,7 @@ class Progress:
 
     def __init__(self) -> None:
         self.begin, self.last, self.shown = time.monotonic(), 0.0, False
-        self.is_wanted = sys.stderr.isatty()
+        self.is_wanted = sys.stderr is not None and sys.stderr.isatty()
 
     def tell(self, text: str) -> None:
         now = time.monotonic()

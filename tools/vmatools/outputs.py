@@ -1,31 +1,61 @@
 """Outputs of `serial` compared: where two part first, and in which way."""
+from __future__ import annotations
+
 import re
-from collections import namedtuple
+from itertools import pairwise
+from typing import NamedTuple
 
 from .traces import PAGE
 
-ITEM = re.compile(r"L(\d+) t(\d+) v(\d+) = (.*)")
-AREA = re.compile(r"([0-9a-f]{8,})-([0-9a-f]{8,}) ([r-][w-][x-][sp]) ([0-9a-f]{8,}) ([0-9a-f]{2,}:[0-9a-f]{2,}) (\d+) *(.*)")
-RESULT = re.compile(r"0|0x[0-9a-f]+|-1 E[A-Z0-9]+|SIG[A-Z]+ [A-Z_]+|signal \d+ code -?\d+|served( [0-9a-f]+-[0-9a-f]+ [rwxsp-]{4} page \d+)?|"
-                    r"child \d+ areas \d+|maps \d+|hung|killed by signal \d+|ended with status \d+")
+ITEM = re.compile(r"L([0-9]{1,20}) t([0-9]{1,20}) v([0-9]{1,20}) = (.*)")
+AREA = re.compile(
+    r"([0-9a-f]{8,16})-([0-9a-f]{8,16}) ([r-][w-][x-][sp]) ([0-9a-f]{8,16}) ([0-9a-f]{2,8}:[0-9a-f]{2,8}) "
+    r"([0-9]{1,20}) *(.*)"
+)
+RESULT = re.compile(
+    r"0|0x[0-9a-f]+|-1 E[A-Z0-9]+|SIG[A-Z]+ [A-Z_]+|signal [0-9]+ code -?[0-9]+|"
+    r"served( [0-9a-f]+-[0-9a-f]+ [rwxsp-]{4} page [0-9]+)?|child [0-9]+ areas [0-9]+|maps [0-9]+|"
+    r"hung|killed by signal [0-9]+|ended with status [0-9]+"
+)
 FACTS = ["permissions", "offset", "device", "inode", "name"]  # of a page in a list
 
-# A result, a list or the head of a child, with the lines below its first. `number` is a line of the trace, None for a last list.
-Part = namedtuple("Part", "number thread version result lines")
-# How two outputs part: the operation, what is answered here and there, the line of the trace, and the lines of both outputs.
-Difference = namedtuple("Difference", "operation here there number here_lines there_lines")
+# Of a difference: its operation, and what is answered here and there.
+Kind = tuple[str, str, str]
+# An area of a list: its first and last page, and the facts.
+ListedArea = tuple[int, int, tuple[str, int, str, str, str]]
 
 
-def kind_of(difference):
+class Part(NamedTuple):
+    """A result, a list or the head of a child, with its lines. `number` is a line of the trace, none for a last list."""
+
+    number: int | None
+    thread: int | None
+    version: int | None
+    result: str
+    lines: list[str]
+
+
+class Difference(NamedTuple):
+    """How two outputs part: the operation, what is answered here and there, the line of the trace, and the lines of both."""
+
+    operation: str
+    here: str
+    there: str
+    number: int | None
+    here_lines: list[str]
+    there_lines: list[str]
+
+
+def kind_of(difference: Difference) -> Kind:
     return difference[:3]
 
 
-def parts_of(output):
+def parts_of(output: str) -> list[Part]:
     """The parts of an output. A line that is of no form stands for itself."""
     lines = output.split("\n")
     if lines[-1] == "":
         lines.pop()
-    parts = []
+    parts: list[Part] = []
     for line in lines:
         item = ITEM.fullmatch(line)
         if item:
@@ -38,15 +68,18 @@ def parts_of(output):
     return parts
 
 
-def first_difference(here, there, words, last_lists=True):
-    """The first difference of two outputs, as texts. `words` has the operation of each line of the trace. The lists at the end are
-    compared where it is so wanted."""
+def first_difference(here: str, there: str, words: dict[int | None, str], last_lists: bool = True) -> Difference | None:
+    """The first difference of two outputs, as texts. `words` has the operation of each line of the trace. The lists at
+    the end are compared where it is so wanted.
+    """
     if here == there:
         return None
     heres, theres = parts_of(here), parts_of(there)
     for place, right in enumerate(heres):
         if place == len(theres):
-            return Difference(words.get(right.number, "list"), "an answer", "the output ends", right.number, right.lines, [])
+            return Difference(
+                words.get(right.number, "list"), "an answer", "the output ends", right.number, right.lines, []
+            )
         given = theres[place]
         if right == given or not last_lists and right.number is None and is_list(right) and is_list(given):
             continue
@@ -58,14 +91,14 @@ def first_difference(here, there, words, last_lists=True):
     return None  # no more than the lists at the end
 
 
-def is_list(part):
+def is_list(part: Part) -> bool:
     return part.result.startswith("maps ")
 
 
-def difference_of(right, given, words):
+def difference_of(right: Part, given: Part, words: dict[int | None, str]) -> Difference:
     operation = words.get(right.number, "list" if is_list(right) else "output")
 
-    def told(here, there):
+    def told(here: str, there: str) -> Difference:
         return Difference(operation, here, there, right.number, right.lines, given.lines)
 
     if given.number is None and (right.number is not None or is_list(right) != is_list(given)):
@@ -82,15 +115,15 @@ def difference_of(right, given, words):
     return told(*answers_of(right.result, given.result))
 
 
-def answers_of(here, there):
+def answers_of(here: str, there: str) -> tuple[str, str]:
     """Two results that are not equal, in words that do not depend on addresses."""
     short = [answer_of(result) for result in (here, there)]
     if short[0] == short[1] == "served":
         return "served", "served otherwise"
-    return (short[0], short[1] if short[0] != short[1] else short[1].replace("an ", "another ", 1))
+    return short[0], short[1] if short[0] != short[1] else short[1].replace("an ", "another ", 1)
 
 
-def answer_of(result):
+def answer_of(result: str) -> str:
     for start, short in (("0x", "an address"), ("served", "served"), ("child", "a child"), ("maps", "a list")):
         if result.startswith(start):
             return short
@@ -100,43 +133,56 @@ def answer_of(result):
 # Lists
 
 
-def areas_of(lines):
+def areas_of(lines: list[str]) -> list[ListedArea] | None:
     """The areas that lines of a list tell: first and last page and the facts, or None where they are no list."""
-    areas = []
+    areas: list[ListedArea] = []
     for line in lines:
         fields = AREA.fullmatch(line)
         if fields is None:
             return None
         lo, hi, permissions, offset, device, inode, name = fields.groups()
-        areas.append((int(lo, 16) // PAGE, int(hi, 16) // PAGE, (permissions, int(offset, 16) // PAGE, device, inode, name)))
+        areas.append(
+            (int(lo, 16) // PAGE, int(hi, 16) // PAGE, (permissions, int(offset, 16) // PAGE, device, inode, name))
+        )
     return areas
 
 
-def facts_at(area, page):
+def facts_at(area: ListedArea, page: int) -> tuple[str, int, str, str, str]:
     """What an area says of one of its pages. Its offset runs on where it maps an object."""
     permissions, offset, device, inode, name = area[2]
     is_plain = inode == "0" and name in ("", "[heap]")
     return permissions, offset if is_plain else offset + page - area[0], device, inode, name
 
 
-def list_difference(here, there):
+def list_difference(here: list[str], there: list[str]) -> tuple[str, str]:
     """How two lists part: by what a page is mapped to, or by the borders of areas alone."""
     count, *there = there
-    areas = areas_of(here), areas_of(there)
-    if areas[1] is None or count.split(" ")[-1] != str(len(there)):
+    ours, theirs = areas_of(here), areas_of(there)
+    if ours is None or theirs is None or count.split(" ")[-1] != str(len(there)):
         return "a list", "a list of no known form"
-    pages = sorted({page for side in areas for lo, hi, _ in side for page in (lo, hi)})
+    if any(lo >= hi for lo, hi, _ in theirs) or any(first[0] > second[0] for first, second in pairwise(theirs)):
+        return "a list", "list: out of order"
+    if any(first[1] > second[0] for first, second in pairwise(theirs)):
+        return "a list", "list: overlap"
+    pages = sorted({page for side in (ours, theirs) for lo, hi, _ in side for page in (lo, hi)})
     for page in pages:
-        found = [next((facts_at(area, page) for area in side if area[0] <= page < area[1]), None) for side in areas]
+        found = [
+            next((facts_at(area, page) for area in side if area[0] <= page < area[1]), None) for side in (ours, theirs)
+        ]
         if found[0] != found[1]:
             return fact_difference(*found)
-    if len(areas[0]) != len(areas[1]):
-        joined = len(areas[0]) < len(areas[1])
+    if len(ours) != len(theirs):
+        joined = len(ours) < len(theirs)
         return ("list: joined", "list: apart") if joined else ("list: apart", "list: joined")
-    return "list: a border", "list: another border" if areas[0] != areas[1] else "list: the same in other letters"
+    return (
+        ("list: a border", "list: another border") if ours != theirs else ("a list", "list: the same in other letters")
+    )
 
 
-def fact_difference(here, there):
+Facts = tuple[str, int, str, str, str]
+
+
+def fact_difference(here: Facts | None, there: Facts | None) -> tuple[str, str]:
     if here is None or there is None:
         return ("list: not mapped", "list: mapped") if here is None else ("list: mapped", "list: not mapped")
     fact = next(name for name, *facts in zip(FACTS, here, there) if facts[0] != facts[1])

@@ -27,6 +27,7 @@ BUILDS = f"`(cd {TOP}/crates/vma_main && rt run -- serial < ../../examples/readm
 @dataclass(frozen=True)
 class Ran:
     """What a run gave. `fault` is none, or in words how it failed."""
+
     output: str
     fault: str | None
     message: str
@@ -34,15 +35,23 @@ class Ran:
 
 def add_arguments(parser: argparse.ArgumentParser) -> None:
     """The words by which every command that runs the program finds it."""
-    parser.add_argument("--program", metavar="PATH",
-                        help=f"the program (${VARIABLE}, {ON_PATH} on the PATH, or the repository's crates/vma_main/out/vma_main)")
+    parser.add_argument(
+        "--program",
+        metavar="PATH",
+        help=f"the program (${VARIABLE}, {ON_PATH} on the PATH, or the repository's crates/vma_main/out/vma_main)",
+    )
     parser.add_argument("-v", "--verbose", action="store_true", help="says on standard error which program is taken")
 
 
 def find(given: str | os.PathLike[str] | None = None, verbose: bool = False) -> str:
     """The path of the program that is to be run, from the first place that names one."""
     on_path = shutil.which(ON_PATH)
-    places = [(given, "--program"), (os.environ.get(VARIABLE), f"${VARIABLE}"), (on_path, "the PATH"), (DEFAULT_PROGRAM, "the repository")]
+    places = [
+        (given, "--program"),
+        (os.environ.get(VARIABLE), f"${VARIABLE}"),
+        (on_path, "the PATH"),
+        (DEFAULT_PROGRAM, "the repository"),
+    ]
     place, source = next((place, source) for place, source in places if place)
     path = existing(place)
     if verbose:
@@ -65,7 +74,9 @@ def run(command: Sequence[str | os.PathLike[str]], text: bytes, seconds: float) 
     with tempfile.TemporaryFile() as source:
         source.write(text)
         source.seek(0)
-        with subprocess.Popen(command, stdin=source, stdout=subprocess.PIPE, stderr=subprocess.PIPE, start_new_session=True) as process:
+        with subprocess.Popen(
+            command, stdin=source, stdout=subprocess.PIPE, stderr=subprocess.PIPE, start_new_session=True
+        ) as process:
             output, message, fault = read_both(process, end)
             status = None
             try:

@@ -1,46 +1,84 @@
 """Says in a sentence what is wrong with a trace, prints the bad line, and marks the word.
 
-TRACE is a file, or - for standard input. The line and the cause are those of the program's own `trace line N cause K Name`, with which
-it ends with status 3; words are counted from 1, and the thread of an operation is the first.
+TRACE is a file, or - for standard input. The line and the cause are those of the program's own `trace line N cause K Name`,
+with which it ends with status 3; words are counted from 1, and the thread of an operation is the first. Of a maps text it
+says whether `retrace` takes it, and else why not. Example:
 
-Exit status: 0 where TRACE is a trace, 1 where a line is bad, 2 on wrong use, or where TRACE cannot be read.
+    vma explain bad.trace
+
+Exit status: 0 where TRACE is a trace, or a maps text that `retrace` takes, 1 where a line is bad, 2 on wrong use, or where TRACE
+cannot be read.
 """
-import sys
+from __future__ import annotations
 
-from .. import console, explanations, traces
+import argparse
+
+from .. import console, explanations, maps_texts, traces
 
 SUMMARY = "say in a sentence what is wrong with a trace, and mark the word"
-
 WIDTH = 110  # a longer line is shown in part
 
 
-def shown_line(text, start, end):
-    """A line and the marks below it, where it is long only what stands around them. A tab is a blank, other controls are dots."""
-    plain = "".join(" " if letter == "\t" else letter if letter.isprintable() else "·" for letter in text)
-    first = max(min(start - WIDTH // 2, len(plain) - WIDTH), 0)
-    part = plain[first:first + WIDTH]
-    front = "… " if first else ""
-    marks = " " * (len(front) + start - first) + "^" * min(max(end - start, 1), WIDTH)
-    return f"{front}{part}{' …' if first + WIDTH < len(plain) else ''}", marks
-
-
-def add_arguments(parser):
+def add_arguments(parser: argparse.ArgumentParser) -> None:
     parser.add_argument("trace", metavar="TRACE", help="the file of the trace, or - for standard input")
 
 
-def run(options):
+def run(options: argparse.Namespace) -> int:
+    with console.open_input(options.trace) as source, console.reading(options.trace):
+        if maps_texts.seems_one(source.peek(maps_texts.MOST_LINE)):
+            return explain_maps(source.read(traces.LIMITS["bytes"] + 1))
+        return explain_trace(traces.Reader(source))
+
+
+def explain_trace(reader: traces.Reader) -> int:
+    progress, count = console.Progress(), 0
     try:
-        data = sys.stdin.buffer.read() if options.trace == "-" else open(options.trace, "rb").read()
-    except OSError as error:
-        raise console.Failure(console.reason(error, options.trace)) from None
-    try:
-        trace = traces.read_trace(data)
+        for count, _ in enumerate(reader, 1):
+            if count % 4096 == 0:
+                progress.tell(f"{count:,} operations read")
     except traces.BadLine as bad:
         place = f"line {bad.line}" + (f", word {bad.word}" if bad.word else "")
-        print(f"{place}: {explanations.explain(data, bad)}")
-        text, span = explanations.marked_span(data, bad)
-        print("\n".join("    " + line for line in shown_line(text, *span)))
+        show(f"{place}: {explanations.explain(bad)}", *explanations.marked_span(bad))
         print(f"(cause {traces.CAUSES[bad.cause]}, {bad.cause}, in docs/TRACE.md)")
-        return 1
-    print(f"a trace of version {trace.version}, with {len(trace.lines)} operations: no line is bad")
-    return 0
+        return console.FOUND
+    finally:
+        progress.clear()
+    print(f"a trace of version {reader.trace.version}, with {count} operations: no line is bad")
+    return console.DONE
+
+
+def explain_maps(data: bytes) -> int:
+    """What `retrace` says of a maps text, and why."""
+    try:
+        rows = maps_texts.rows_of(data)
+        maps_texts.traced(rows)
+    except maps_texts.Refused as refused:
+        who = (
+            "`retrace` makes no trace of this maps text"
+            if refused.cause == "NotOurs"
+            else "this is a maps text with a bad line"
+        )
+        text = data.split(b"\n", refused.line)[refused.line - 1][: maps_texts.MOST_LINE].decode("utf-8", "replace")
+        show(f"line {refused.line}: {who}: {refused.why}", text, (0, max(len(text), 1)))
+        print(f"(cause {maps_texts.CAUSES[refused.cause]}, {refused.cause}, in docs/TRACE.md)")
+        return console.FOUND
+    print(f"a maps text with {len(rows)} areas, and no trace: `retrace` makes a trace of it, and `query` reads it")
+    return console.DONE
+
+
+def show(sentence: str, text: str, span: tuple[int, int]) -> None:
+    print(sentence)
+    line, marks = shown_line(text, *span)
+    print(f"    {line}")
+    print(f"    {console.painted(marks, 'red', 'bold')}")
+
+
+def shown_line(text: str, start: int, end: int) -> tuple[str, str]:
+    """A line and the marks below it, where it is long only what stands around them. A tab is a blank, other controls are dots."""
+    first = max(min(start - WIDTH // 2, len(text) - WIDTH), 0)
+    part = "".join(
+        " " if letter == "\t" else letter if letter.isprintable() else "·" for letter in text[first : first + WIDTH]
+    )
+    front = "… " if first else ""
+    marks = " " * (len(front) + start - first) + "^" * min(max(end - start, 1), WIDTH)
+    return f"{front}{part}{' …' if first + WIDTH < len(text) else ''}", marks
