@@ -1,8 +1,8 @@
--- For `scan_once`, `scan_for`, `wait_for_rows` and `SpanTree::scan`: what scans change, and what they leave as it is.
-use Rattle.std.proofs.Common.{ℕ, zero, suc, ◌≡◌, ◌<◌, ◌+◌, ◌%◌, ◌∙◌, ◌⊎◌, inl, inr, true, not, ◌&&◌, cond, nat_eq, nat_lt, List, [], ◌∷◌, ◌++◌, length, map, refl, sym, ap, subst, arith}
+-- For `scan_once`, `try_for_rows`, `wait_for_rows` and `SpanTree::scan`: what scans change, and what they leave as it is.
+use Rattle.std.proofs.Common.{ℕ, zero, suc, ◌≡◌, ◌<◌, ◌≤◌, ◌+◌, ◌*◌, ◌%◌, ◌∙◌, ◌⊎◌, inl, inr, true, not, ◌&&◌, cond, nat_eq, nat_lt, List, [], ◌∷◌, ◌++◌, length, map, refl, sym, ap, subst, arith}
 use Rattle.std.proofs.lemmas.Bool.{and_parts, and_from, ltb-true, lt-ltb}
 use Rattle.std.proofs.lemmas.Bool.Decides.{eqb_tells}
-use Rattle.std.proofs.lemmas.List.{length-map}
+use Rattle.std.proofs.lemmas.List.{length-map, length-append}
 use Rattle.std.proofs.lemmas.List.Sums.{sum_by-append}
 use Rattle.std.proofs.lemmas.Nat.{mod_below}
 use Rattle.grace_core.specs.declared.clearing.Clearing.{Clearing}
@@ -109,3 +109,20 @@ out_or_open (pin ∷ pins) = elim (even_or_odd pin) [
     | inr some ↦ inr (suc some.0, some.1)
   ]
 ]
+
+-- rows that become free come to the others
+pub more_free : (old rows new : List ℕ) → new ≡ old ++ rows → length old ≤ length new
+more_free old rows new is = omega (arith, ap (λ (l : List ℕ). length l) is, length-append old rows)
+
+-- one more of a number
+times_one : (tries n : ℕ) → (tries + 1) * n ≡ tries * n + n
+times_one tries n = grind arith
+
+-- one try more looks at each pin once more
+pub tries_more : (first mid last : NodeWriter) (tries : ℕ) → Scans first mid → IsScanned mid last
+    → (sight mid).scans ≡ (sight first).scans + tries * length (pins_of first)
+    → (sight last).scans ≡ (sight first).scans + (tries + 1) * length (pins_of first)
+tries_more first mid last tries scans scanned so_far =
+    let same = pins_same first mid scans in
+    let more = times_one tries (length (pins_of first)) in
+    omega (arith, same, scanned, so_far, more)

@@ -1,6 +1,7 @@
 -- What the rows of a writer's table are for, counted, and what stays so while pins are scanned.
-use Rattle.std.specs.Prelude.{ℕ, zero, suc, ◌≡◌, ◌≤◌, ◌+◌, ◌-◌, min, Bool, true, false, not, ◌&&◌, if◌then◌else◌, List, length}
+use Rattle.std.specs.Prelude.{ℕ, zero, suc, ◌≡◌, ◌<◌, ◌≤◌, ◌+◌, ◌-◌, min, Bool, true, false, not, ◌&&◌, if◌then◌else◌, List, length}
 use Rattle.grace_core.specs.Core.{since_at}
+use Rattle.grace_core.specs.Steps.{least}
 use Rattle.maple_node.specs.Levels.{at_of}
 use Rattle.maple_node.specs.Trees.{Pair, pairs_of, tree_of}
 use Rattle.node_slots.specs.declared.view.NodeView.{NodeView}
@@ -45,6 +46,10 @@ pub record IsSameTree (old new : NodeView) : Type 0 where
 -- a scan looked at the pin of each reader once
 abbrev pub IsScanned : NodeWriter → NodeWriter → Type 0
 IsScanned old new = (sight new).scans ≡ (sight old).scans + length (pins_of old)
+
+-- each row that waits is held: some reader is not cleared up to the tree that left it out
+abbrev pub AreHeld : NodeWriter → Type 0
+AreHeld writer = (row : ℕ) → is_waiting writer row ≡ true → least (desk writer).tree.number (desk writer).clearings < since_at (desk writer).since row
 
 -- no row waits
 abbrev pub NoneWaits : NodeWriter → Type 0

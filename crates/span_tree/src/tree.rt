@@ -1,5 +1,5 @@
 //! The tree of spans and slots.
-ghost use Rattle.std.specs.Prelude.{◌≡◌, ◌≤◌, ◌<◌, ◌+◌, ◌-◌, ◌^◌, true, false, nat_eq, [], length, IfOk};
+ghost use Rattle.std.specs.Prelude.{◌≡◌, ◌≤◌, ◌<◌, ◌+◌, ◌-◌, ◌*◌, ◌^◌, ℕ, true, false, nat_eq, [], length, IfOk};
 ghost use Rattle.mm_types.specs.declared.config.TheConstants.{MOST_AREAS};
 ghost use Rattle.mm_types.specs.Config.{slots_for};
 ghost use Rattle.maple_node.specs.Words.{slot_word};
@@ -79,14 +79,16 @@ impl SpanTree {
         })
     }
 
-    /// Scans until enough rows are free for all stores up to the next publish, which waits for readers alone: once none is inside,
-    /// enough are. Where tree 0 is present,
-    /// which has no entries, a tree of one gap is built.
+    /// Scans until enough rows are free for all stores up to the next publish, and no more then. It waits for readers alone: once
+    /// none is inside, enough are. Where tree 0 is present, which has no entries, a tree of one gap is built.
     pub fn prepare<R: Wait>(&mut self, rt: &R)
         requires { self.old.changed ≡ false }
         ensures view { self.new ≡ record self.old { changed = nat_eq self.old.number 0; roomy = true; settled = self.new.settled; scans = self.new.scans; pins = self.new.pins } }
         ensures settled { self.old.settled ≤ self.new.settled }
         ensures shown { self.old.shown ≡ self.old.pairs }
+        ensures readers { length self.new.pins ≡ length self.old.pins }
+        // each pin is looked at once, and once more for each try after the first
+        ensures scans { (more : ℕ) × (self.new.scans ≡ self.old.scans + (more + 1) * length self.old.pins) }
     {
         wait_for_rows(rt, &self.nodes, &mut self.writer, self.areas / 2 + 60);
         if self.number == 0 {

@@ -1,6 +1,7 @@
 -- For `scan_once`: what a scan frees was left first, and it looks at each pin.
 use Rattle.std.proofs.Common.{◌∙◌, sym, ap}
-use Rattle.span_tree.proofs.Scanning.{scan_scans, scan_looks}
+use Rattle.node_slots.specs.Seats.{free_of}
+use Rattle.span_tree.proofs.Scanning.{scan_scans, scan_looks, more_free}
 use Rattle.span_tree.proofs.waiting.scan_once.Goals as goal
 
 pub returns-clause-scans : goal.returns-clause-scans
@@ -15,3 +16,6 @@ returns-clause-scanned c =
     let writer = c.args.writer.now in
     scan_looks writer c.scan.new.writer view.0 view.2
     (view.1 ∙ sym (ap (λ s. s.readers) (writer.desk.kept.size_is ∙ c.requires.table.size_is)))
+
+pub returns-clause-more : goal.returns-clause-more
+returns-clause-more c = let freed = c.scan.ensures.freed in more_free (free_of c.args.writer.now) freed.0 (free_of c.scan.new.writer) freed.2

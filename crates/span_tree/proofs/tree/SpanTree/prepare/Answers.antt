@@ -1,10 +1,15 @@
 -- For `SpanTree::prepare`: the rows are there, and a tree is built.
-use Rattle.std.proofs.Common.{◌≡◌, ◌∙◌, true, false, arith, sym, ap, subst}
+use Rattle.std.proofs.Common.{◌≡◌, ◌+◌, ◌*◌, ◌∙◌, true, false, length, map, arith, sym, ap, subst}
 use Rattle.span_tree.specs.declared.tree.SpanTree.TheInside.{Inside}
+use Rattle.grace_core.specs.declared.clearing.Clearing.{Clearing}
+use Rattle.node_slots.specs.declared.view.NodeView.{NodeView}
+use Rattle.node_slots.specs.Seats.{sight, pins_of}
+use Rattle.span_tree.specs.SpanTrees.{SpanView}
 use Rattle.span_tree.specs.Kept.{IsSpanTree}
 use Rattle.span_tree.specs.Rows.{settled_of}
 use Rattle.span_tree.proofs.Counts.{writers_low}
 use Rattle.span_tree.proofs.Storing.{stored_settled}
+use Rattle.span_tree.proofs.Scanning.{pins_same}
 use Rattle.span_tree.proofs.Spans.{scanned_kept, scanned_settled, scanned_free}
 use Rattle.span_tree.proofs.Preparing.{later_kept, first_kept}
 use Rattle.span_tree.proofs.tree.SpanTree.prepare.Goals as goal
@@ -48,4 +53,29 @@ returns-clause-settled g c =
           let same = stored_settled c.wait_for_rows.new.writer w.store.new.writer w.store.ensures.same in
           omega (arith, more, was, same, ap (λ (f : Inside). settled_of f.writer) w.self-inside-is)
       | else-self-eq0 w ↦ omega (arith, more, was, ap (λ (f : Inside). settled_of f.writer) w.self-inside-is)
+    ]
+
+pub returns-clause-scans : goal.returns-clause-scans
+returns-clause-scans g c =
+    let tries = c.wait_for_rows.ensures.tries in
+    let was = ap (λ (v : SpanView). v.scans) c.self.view_is in
+    let pins = ap (λ (v : SpanView). (tries.0 + 1) * length v.pins) c.self.view_is in (
+      tries.0,
+      elim c.if-self-eq0.branch [
+        | then-self-eq0 w ↦
+            let looks = ap (λ (v : NodeView). v.scans) w.store.ensures.same.seen in
+            omega (arith, tries.1, was, pins, looks, ap (λ (f : Inside). (sight f.writer).scans) w.self-inside-is)
+        | else-self-eq0 w ↦ omega (arith, tries.1, was, pins, ap (λ (f : Inside). (sight f.writer).scans) w.self-inside-is)
+      ],
+    )
+
+pub returns-clause-readers : goal.returns-clause-readers
+returns-clause-readers g c =
+    let was = ap (λ (v : SpanView). length v.pins) c.self.view_is in
+    let same = pins_same c.self.inside.writer c.wait_for_rows.new.writer c.wait_for_rows.ensures.scans in
+    elim c.if-self-eq0.branch [
+      | then-self-eq0 w ↦
+          let looks = ap (λ (v : NodeView). length (map (λ (found : Clearing). found.pin) v.known.desk.clearings)) w.store.ensures.same.seen in
+          omega (arith, was, same, looks, ap (λ (f : Inside). length (pins_of f.writer)) w.self-inside-is)
+      | else-self-eq0 w ↦ omega (arith, was, same, ap (λ (f : Inside). length (pins_of f.writer)) w.self-inside-is)
     ]
