@@ -22,7 +22,9 @@ def write(folder: Path, made: dict[str, str]) -> None:
 
 def differences(folder: Path, made: dict[str, str]) -> list[str]:
     """The pages that are missing, too many, or others, each with its first other line."""
-    found = [f"{folder / path.name}: no crate has this page" for path in sorted(folder.glob("*.md")) if path.name not in made]
+    found = [
+        f"{folder / path.name}: no crate has this page" for path in sorted(folder.glob("*.md")) if path.name not in made
+    ]
     for name, text in sorted(made.items()):
         path = folder / name
         kept = path.read_text(encoding="utf-8") if path.is_file() else ""
@@ -35,8 +37,14 @@ def differences(folder: Path, made: dict[str, str]) -> list[str]:
 
 def main() -> int:
     parser = argparse.ArgumentParser(prog="make-reference", description=__doc__)
-    parser.add_argument("--check", action="store_true", help="change nothing; status 1 where a page is not what would be made")
-    parser.add_argument("--faults", action="store_true", help="list each public item and each definition without a comment; status 1 where there are")
+    parser.add_argument(
+        "--check", action="store_true", help="change nothing; status 1 where a page is not what would be made"
+    )
+    parser.add_argument(
+        "--faults",
+        action="store_true",
+        help="list each public item and each definition without a comment; status 1 where there are",
+    )
     options = parser.parse_args()
     folder = TOP / "docs" / "reference"
     if options.faults or options.check:

@@ -5,7 +5,9 @@ import re
 from dataclasses import dataclass
 from pathlib import Path
 
-HEAD = re.compile(r"^(?:(?:abbrev|unfoldable|pub|record|data|opaque)\s+)*(?:(?:abbrev|unfoldable|record|data)\s+)?([^\s:(]+)")
+HEAD = re.compile(
+    r"^(?:(?:abbrev|unfoldable|pub|record|data|opaque)\s+)*(?:(?:abbrev|unfoldable|record|data)\s+)?([^\s:(]+)"
+)
 BEGINS = ("pub ", "abbrev ", "unfoldable ", "record ", "data ", "opaque ")
 
 

@@ -101,7 +101,17 @@ def item_lines(crate: str, item: Item) -> list[str]:
 def definition_lines(crate: str, definition: Definition) -> list[str]:
     """One definition: its comment, its text, its place."""
     comment = [f"{definition.comment[:1].upper()}{definition.comment[1:]}", ""] if definition.comment else []
-    return [f"### {definition.name}", "", *comment, "```text", definition.text, "```", "", f"in {link_to(crate, definition.file, definition.line)}", ""]
+    return [
+        f"### {definition.name}",
+        "",
+        *comment,
+        "```text",
+        definition.text,
+        "```",
+        "",
+        f"in {link_to(crate, definition.file, definition.line)}",
+        "",
+    ]
 
 
 def topic_lines(crate: str, topic: Topic) -> list[str]:
@@ -111,7 +121,10 @@ def topic_lines(crate: str, topic: Topic) -> list[str]:
 
 def page_of(crate: Crate, known: set[str]) -> str:
     """The page of a crate."""
-    below = ", ".join(f"[{name}]({name}.md)" if name in known else f"`{name}`" for name in crate.stands_on) or "nothing but `std`"
+    below = (
+        ", ".join(f"[{name}]({name}.md)" if name in known else f"`{name}`" for name in crate.stands_on)
+        or "nothing but `std`"
+    )
     lines = [MADE, f"# {crate.name}", "", crate.docs, "", f"Stands on {below}.", ""]
     sections = (("Functions", crate.functions), ("Types", crate.types), ("Laws", crate.laws))
     for title, items in sections:
@@ -124,7 +137,10 @@ def page_of(crate: Crate, known: set[str]) -> str:
             lines += [f"## {title}", "", *(line for topic in topics for line in topic_lines(crate.name, topic))]
     if crate.planted_bugs:
         lines += ["## Planted bugs that the prover refuses", ""]
-        lines += [f"- [{name.replace('_', ' ')}](../../crates/{crate.name}/must-fail/{name}.edit)" for name in crate.planted_bugs] + [""]
+        lines += [
+            f"- [{name.replace('_', ' ')}](../../crates/{crate.name}/must-fail/{name}.edit)"
+            for name in crate.planted_bugs
+        ] + [""]
     return "\n".join(lines).rstrip() + "\n"
 
 
@@ -151,8 +167,11 @@ def index_page(crates: list[Crate]) -> str:
     }
     said = ", ".join(f"{number:,} {what}" for what, number in counted.items())
     lines = [
-        MADE, "# Reference", "",
-        f"Each crate with its public items, conditions, clauses and definitions, as the sources have them: {len(crates)} crates, {said}.",
+        MADE,
+        "# Reference",
+        "",
+        f"Each crate with its public items, conditions, clauses and definitions, as the sources have them: {len(crates)} crates,",
+        f"{said}.",
         "Look a name up in [names](names.md), [definitions](definitions.md) or [clauses](clauses.md).",
         "Each line is of the sources; how to read them is in [PROOF.md](../PROOF.md).",
         *index_lines(crates),
@@ -165,17 +184,29 @@ def listed(title: str, entries: list[tuple[str, str]]) -> str:
     together: dict[str, list[str]] = {}
     for name, place in sorted(set(entries)):
         together.setdefault(name, []).append(place)
-    return "\n".join([MADE, f"# {title}", "", *(f"- `{name}`: {', '.join(places)}" for name, places in together.items())]) + "\n"
+    return (
+        "\n".join([MADE, f"# {title}", "", *(f"- `{name}`: {', '.join(places)}" for name, places in together.items())])
+        + "\n"
+    )
 
 
 def names_page(crates: list[Crate]) -> str:
-    return listed("Names", [(item.name, f"[{crate.name}]({crate.name}.md#{anchor_of(item.name)})") for crate in crates for item in crate.items])
+    return listed(
+        "Names",
+        [
+            (item.name, f"[{crate.name}]({crate.name}.md#{anchor_of(item.name)})")
+            for crate in crates
+            for item in crate.items
+        ],
+    )
 
 
 def definitions_page(crates: list[Crate]) -> str:
     found = [
         (definition.name, f"[{crate.name}]({crate.name}.md#{anchor_of(definition.name)})")
-        for crate in crates for topic in crate.topics for definition in topic.definitions
+        for crate in crates
+        for topic in crate.topics
+        for definition in topic.definitions
     ]
     return listed("Definitions", found)
 
@@ -183,7 +214,10 @@ def definitions_page(crates: list[Crate]) -> str:
 def clauses_page(crates: list[Crate]) -> str:
     found = [
         (clause.name, f"[{item.name}]({crate.name}.md#{anchor_of(item.name)})")
-        for crate in crates for item in crate.items for clause in item.clauses if clause.name
+        for crate in crates
+        for item in crate.items
+        for clause in item.clauses
+        if clause.name
     ]
     return listed("Clauses", found)
 
@@ -203,7 +237,15 @@ def faults(top: Path) -> list[str]:
     for crate in read_crates(top):
         if not crate.docs:
             found.append(f"crates/{crate.name}: its root module has no comment")
-        found += [f"crates/{crate.name}/{item.file}:{item.line}: {item.name} has no comment" for item in crate.items if not item.docs]
+        found += [
+            f"crates/{crate.name}/{item.file}:{item.line}: {item.name} has no comment"
+            for item in crate.items
+            if not item.docs
+        ]
         for topic in crate.topics:
-            found += [f"crates/{crate.name}/{each.file}:{each.line}: {each.name} has no comment" for each in topic.definitions if not each.comment]
+            found += [
+                f"crates/{crate.name}/{each.file}:{each.line}: {each.name} has no comment"
+                for each in topic.definitions
+                if not each.comment
+            ]
     return found

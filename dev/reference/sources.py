@@ -10,7 +10,9 @@ from dataclasses import dataclass, field
 from pathlib import Path
 
 CLAUSE = re.compile(r"^\s+(requires|ensures)\b\*?\s*(?:([A-Za-z_]\w*)\s+)?\{")
-ITEM = re.compile(r"^(\s*)(?:pub(?:\(crate\))?\s+)?(?:const\s+|unsafe\s+)*(fn|struct|enum|trait|const|type|static)\s+([A-Za-z_]\w*)")
+ITEM = re.compile(
+    r"^(\s*)(?:pub(?:\(crate\))?\s+)?(?:const\s+|unsafe\s+)*(fn|struct|enum|trait|const|type|static)\s+([A-Za-z_]\w*)"
+)
 IMPL = re.compile(r"^impl(?:<.*?>)?\s+(?:(.+?)\s+for\s+)?([A-Za-z_]\w*)")
 EXPORT = re.compile(r"^pub use ([\w:]+?)(?:::\{(.*)\}|);$")
 # What of a type is no part of its declaration for a reader.
@@ -69,7 +71,11 @@ def exported_names(lib: list[str]) -> set[str]:
         if not found:
             continue
         path, listed = found.groups()
-        names.update((part.strip().split(" as ")[-1] for part in listed.split(",") if part.strip()) if listed else [path.rsplit("::", 1)[-1]])
+        names.update(
+            (part.strip().split(" as ")[-1] for part in listed.split(",") if part.strip())
+            if listed
+            else [path.rsplit("::", 1)[-1]]
+        )
     return names
 
 
@@ -202,7 +208,9 @@ def read_item(lines: list[str], at: int, file: str, owner: str) -> tuple[Item, i
         item.clauses = read_clauses(clause_lines)
     elif kind == "trait":
         ghosts = [line.strip() for line in block.lines if re.match(r"^    ghost (?!use)\w+:", line)]
-        item.declaration = "\n".join([lines[at].strip().removesuffix("{").rstrip(), *("    " + line for line in ghosts)])
+        item.declaration = "\n".join(
+            [lines[at].strip().removesuffix("{").rstrip(), *("    " + line for line in ghosts)]
+        )
     else:
         item.declaration = declaration_of(kind, block)
     return item, end
@@ -213,7 +221,12 @@ def read_methods(lines: list[str], start: int, end: int, file: str, owner: str, 
     methods = []
     for at in range(start, end):
         found = ITEM.match(lines[at])
-        if found and found.group(1) == "    " and found.group(2) in ("fn", "const") and (is_trait or lines[at].strip().startswith("pub ")):
+        if (
+            found
+            and found.group(1) == "    "
+            and found.group(2) in ("fn", "const")
+            and (is_trait or lines[at].strip().startswith("pub "))
+        ):
             methods.append(read_item(lines, at, file, owner)[0])
     return methods
 
@@ -235,7 +248,11 @@ def read_file(path: Path, name: str, exported: set[str]) -> list[Item]:
                 items += read_methods(lines, at + 1, end, name, item.name, True)
         elif line.startswith("impl"):
             found = IMPL.match(line)
-            if found and not found.group(1) and (is_lib or found.group(2) in exported or found.group(2) in {item.name for item in items}):
+            if (
+                found
+                and not found.group(1)
+                and (is_lib or found.group(2) in exported or found.group(2) in {item.name for item in items})
+            ):
                 items += read_methods(lines, at + 1, end_of(lines, at, ""), name, found.group(2), False)
     models = seen_as(lines)
     for item in items:

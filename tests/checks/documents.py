@@ -1,9 +1,10 @@
 #!/usr/bin/env python3
 """Checks the documents: names, paths, links, pictures, the reference, and the manual page. Takes a few seconds.
 
-Each name in `code` that can only be one of the sources is one. Each path in `code` and each link of a page leads somewhere, headings too. Each
-crate of crates.txt is in docs/ARCHITECTURE.md. docs/reference is what dev/make-reference makes. Each picture of docs/pictures is what dev/chart
-draws of the table beside it. The manual page passes `mandoc -T lint`, where that is installed.
+Each name in `code` that can only be one of the sources is one. Each path in `code` and each link of a page leads
+somewhere, headings too. Each crate of crates.txt is in docs/ARCHITECTURE.md. docs/reference is what dev/make-
+reference makes. Each picture of docs/pictures is what dev/chart draws of the table beside it. The manual page
+passes `mandoc -T lint`, where that is installed.
 
 Exit status: 0 where all is so, 1 where not, with a line for each, 2 on wrong use.
 """
@@ -63,7 +64,12 @@ def source_words() -> set[str]:
     words: set[str] = set()
     for folder, ends in (("crates", (".rt", ".antt")), ("tools", ("",)), ("tests", ("",)), ("dev", ("",))):
         for path in Path(folder).rglob("*"):
-            if path.is_file() and "out" not in path.parts and path.name.endswith(ends) and "__pycache__" not in path.parts:
+            if (
+                path.is_file()
+                and "out" not in path.parts
+                and path.name.endswith(ends)
+                and "__pycache__" not in path.parts
+            ):
                 words.update(re.findall(r"\w+", path.read_text(encoding="utf-8", errors="replace")))
     # The kernel's names are those of the glossary.
     words.update(re.findall(r"\w+", read(Path("docs/GLOSSARY.md"))))
@@ -117,14 +123,22 @@ def check_paths() -> Iterator[str]:
         for number, line, is_code in numbered(page):
             for code in [] if is_code else codes(line):
                 for path in PATH.findall(code):
-                    if not code.startswith(NOT_OURS) and not PLACEHOLDER.search(path) and not leads_somewhere(path, crates, files):
+                    if (
+                        not code.startswith(NOT_OURS)
+                        and not PLACEHOLDER.search(path)
+                        and not leads_somewhere(path, crates, files)
+                    ):
                         yield f"{page}:{number}: there is no {path}"
 
 
 def check_crates() -> Iterator[str]:
     """Crates that docs/ARCHITECTURE.md leaves out."""
     text = read(Path("docs/ARCHITECTURE.md"))
-    listed = [line.partition(":")[0].split()[0] for line in read(Path("crates.txt")).splitlines() if ":" in line and not line.startswith("#")]
+    listed = [
+        line.partition(":")[0].split()[0]
+        for line in read(Path("crates.txt")).splitlines()
+        if ":" in line and not line.startswith("#")
+    ]
     return (f"docs/ARCHITECTURE.md: {name} is not there" for name in listed if not re.search(rf"\b{name}\b", text))
 
 
@@ -157,11 +171,15 @@ def check_manual() -> Iterator[str]:
 
 
 def main() -> int:
-    argparse.ArgumentParser(prog="tests/run documents", description=__doc__, formatter_class=argparse.RawDescriptionHelpFormatter).parse_args()
+    argparse.ArgumentParser(
+        prog="tests/run documents", description=__doc__, formatter_class=argparse.RawDescriptionHelpFormatter
+    ).parse_args()
     os.chdir(TOP)
     checks = (check_names, check_links, check_paths, check_crates, check_pictures, check_manual)
     wrong = [line for check in checks for line in check()]
-    right = "documents: every name, path and link leads somewhere, the reference is that of the sources, and each picture is of its table"
+    right = (
+        "documents: every name, path and link leads somewhere, and the reference and each picture are of their sources"
+    )
     print("\n".join(wrong) if wrong else right)
     return 1 if wrong else 0
 

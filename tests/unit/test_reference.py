@@ -102,14 +102,19 @@ class Reading(unittest.TestCase):
     def test_clauses_have_their_name_text_and_note(self) -> None:
         add = sources.read_items(self.top / "crates/sheep")[1][1]
         self.assertEqual(add.declaration, "pub fn add(&mut self, name: u32) -> Result<(), NoMemory>")
-        self.assertEqual([(clause.kind, clause.name, clause.note) for clause in add.clauses],
-                         [("requires", "room", ""), ("ensures", "added", "it comes last")])
+        self.assertEqual(
+            [(clause.kind, clause.name, clause.note) for clause in add.clauses],
+            [("requires", "room", ""), ("ensures", "added", "it comes last")],
+        )
         self.assertEqual(add.clauses[1].text, "IfOk result (λ _.\n    self.new ≡ self.old ++ [ name ])")
 
     def test_definitions_have_the_comment_above_them(self) -> None:
         topic = definitions.read_topics(self.top / "crates/sheep")[0]
         self.assertEqual(topic.comment, "What a flock is.")
-        self.assertEqual([(each.name, each.comment) for each in topic.definitions], [("many", "as many as there are"), ("IsFlock", "")])
+        self.assertEqual(
+            [(each.name, each.comment) for each in topic.definitions],
+            [("many", "as many as there are"), ("IsFlock", "")],
+        )
         self.assertEqual(topic.definitions[0].text, "abbrev pub many : ℕ → ℕ\nmany sheep = sheep")
 
     def test_a_page_links_to_the_lines(self) -> None:

@@ -1,0 +1,91 @@
+"""The conformance suite: its cases are read, a run over one is judged, and what came of all is told in each form."""
+from __future__ import annotations
+
+import json
+import sys
+import tempfile
+import unittest
+import xml.etree.ElementTree as ElementTree
+from pathlib import Path
+
+sys.path.insert(0, str(Path(__file__).resolve().parents[2] / "tools"))
+
+from vmatools import conformance  # noqa: E402
+from vmatools.conformance import Case, Verdict  # noqa: E402
+from vmatools.program import Ran  # noqa: E402
+
+TRACE = "vmatrace 1\n# It maps a page: mmap(2).\n0 mmap 0 4096 PROT_READ MAP_PRIVATE|MAP_ANONYMOUS -1 0\n"
+CASE = Case("mmap", "page", "It maps a page: mmap(2).", TRACE, ("a\nb\n",))
+
+
+class Cases(unittest.TestCase):
+    def setUp(self) -> None:
+        folder = tempfile.TemporaryDirectory()
+        self.addCleanup(folder.cleanup)
+        self.top = Path(folder.name)
+        (self.top / "mmap").mkdir()
+        (self.top / "mmap/page.trace").write_text(TRACE)
+        (self.top / "mmap/page.out").write_text("a\nb\n")
+
+    def test_a_case_has_its_sentence_and_its_output(self) -> None:
+        self.assertEqual(conformance.read_suite(self.top), [CASE])
+
+    def test_cases_are_taken_by_group_and_by_name(self) -> None:
+        self.assertEqual(len(conformance.read_suite(self.top, ["mmap"])), 1)
+        self.assertEqual(len(conformance.read_suite(self.top, ["mmap/page"])), 1)
+        self.assertEqual(conformance.read_suite(self.top, ["munmap"]), [])
+
+    def test_as_linux_its_own_output_is_right(self) -> None:
+        (self.top / "mmap/page.linux").write_text("# grow-far: 6.18\nc\n")
+        self.assertEqual(conformance.read_suite(self.top, as_linux=True)[0].right, ("c\n",))
+        self.assertEqual(conformance.read_suite(self.top)[0].right, ("a\nb\n",))
+
+    def test_with_threads_each_legal_output_is_right(self) -> None:
+        (self.top / "mmap/page.legal").write_text("a\nb\n==\nb\na\n")
+        self.assertEqual(conformance.read_suite(self.top)[0].right, ("a\nb\n", "b\na\n"))
+
+
+class Judging(unittest.TestCase):
+    def verdict(self, output: str, fault: str | None = None) -> Verdict:
+        return conformance.judged(CASE, Ran(output, fault, "")).verdict
+
+    def test_what_is_right_passes(self) -> None:
+        self.assertIs(self.verdict("a\nb\n"), Verdict.PASSED)
+
+    def test_what_is_not_fails_at_its_first_line(self) -> None:
+        result = conformance.judged(CASE, Ran("a\nc\n", None, ""))
+        self.assertEqual((result.verdict, result.line, result.found, result.wanted), (Verdict.FAILED, 2, "c", "b"))
+
+    def test_what_is_missing_fails_behind_its_last_line(self) -> None:
+        self.assertEqual(conformance.judged(CASE, Ran("a\n", None, "")).found, "(nothing)")
+
+    def test_a_crash_and_a_hang_are_told_apart(self) -> None:
+        self.assertIs(self.verdict("", "ends by signal SIGSEGV"), Verdict.CRASHED)
+        self.assertIs(self.verdict("", "does not end"), Verdict.HUNG)
+
+
+class Forms(unittest.TestCase):
+    def setUp(self) -> None:
+        self.results = [conformance.judged(CASE, Ran(output, None, "")) for output in ("a\nb\n", "x\x01\n")]
+
+    def test_the_table_counts_by_group(self) -> None:
+        self.assertEqual(
+            [line.split() for line in conformance.table(self.results)][1], ["mmap", "2", "1", "1", "0", "0", "0"]
+        )
+
+    def test_tap(self) -> None:
+        lines = list(conformance.as_tap(self.results))
+        self.assertEqual(lines[1:4], ["1..2", "ok 1 - mmap/page", "not ok 2 - mmap/page"])
+
+    def test_json_has_a_line_a_case(self) -> None:
+        self.assertEqual(
+            [json.loads(line)["verdict"] for line in conformance.as_json(self.results)], ["passed", "failed"]
+        )
+
+    def test_junit_is_xml_whatever_a_system_writes(self) -> None:
+        root = ElementTree.fromstring("".join(conformance.as_junit(self.results)))
+        self.assertEqual((root.get("tests"), root.get("failures")), ("2", "1"))
+
+
+if __name__ == "__main__":
+    unittest.main()

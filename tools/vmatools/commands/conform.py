@@ -1,0 +1,124 @@
+"""Measures a system case by case: runs the conformance suite against it and prints a table by group, and each case
+that isn't as it should be.
+
+COMMAND is the system behind an adapter, as for `vma compare`: it reads a trace on standard input and writes what
+the system answers. Each case of suite/ is a trace of a few lines with the output that is right. A case with threads
+has several. A case on which COMMAND crashes or does not end is one failed case.
+
+    vma conform -- ./my-adapter
+    vma conform mremap brk/raise -- ./my-adapter
+    vma conform --as linux --junit report.xml -- tools/vma kernel
+
+Exit status: 0 where all cases pass, 1 where one doesn't, 2 on wrong use, or where the suite or COMMAND can't be
+read or run.
+"""
+from __future__ import annotations
+
+import argparse
+import os
+import shutil
+import sys
+from collections.abc import Callable, Iterator, Sequence
+from concurrent.futures import ThreadPoolExecutor
+from pathlib import Path
+
+from .. import conformance, console
+from ..conformance import Case, Result, Verdict
+from ..program import run as run_command
+
+SUMMARY = "measure a system case by case, by the conformance suite"
+FORMS: dict[str, Callable[[Sequence[Result]], Iterator[str]]] = {
+    "tap": conformance.as_tap,
+    "json": conformance.as_json,
+    "junit": conformance.as_junit,
+}
+
+
+def add_arguments(parser: argparse.ArgumentParser) -> None:
+    """The words of the command."""
+    parser.add_argument("names", metavar="GROUP[/NAME]", nargs="*", help="only these cases, before --")
+    parser.add_argument(
+        "--as",
+        dest="profile",
+        choices=("profile", "linux"),
+        default="profile",
+        help="what is right: this project's profile, or what Linux was seen to answer (profile)",
+    )
+    parser.add_argument(
+        "--seconds", type=float, default=10, metavar="T", help="how long COMMAND may take for a case (10)"
+    )
+    parser.add_argument(
+        "--jobs", type=int, default=os.cpu_count() or 1, metavar="N", help="cases at once (as many as processors)"
+    )
+    parser.add_argument("--suite", type=Path, default=conformance.SUITE, metavar="FOLDER", help="the suite (suite/)")
+    parser.add_argument("--list", action="store_true", help="print the cases and what each shows, and run none")
+    for form in FORMS:
+        parser.add_argument(
+            f"--{form}",
+            metavar="FILE",
+            help=f"write what came of each case there as {form.upper()}, or - for standard output",
+        )
+    parser.add_argument(
+        "command", metavar="COMMAND", nargs="*", help="the system under test and its arguments, behind --"
+    )
+
+
+def split(names: Sequence[str], command: Sequence[str], words: Sequence[str]) -> tuple[list[str], list[str]]:
+    """The names before `--` and the command behind it, which argparse doesn't part."""
+    given = [*names, *command]
+    behind = len(words) - words.index("--") - 1 if "--" in words else 0
+    return given[: len(given) - behind], given[len(given) - behind :]
+
+
+def all_results(cases: Sequence[Case], command: Sequence[str], seconds: float, jobs: int) -> list[Result]:
+    """What a system makes of each case, with a line that says how far it is."""
+    progress, results = console.Progress(), []
+    with ThreadPoolExecutor(max_workers=jobs) as pool:
+        for result in pool.map(
+            lambda case: conformance.judged(case, run_command(command, case.trace.encode(), seconds)), cases
+        ):
+            results.append(result)
+            progress.tell(f"{len(results)} of {len(cases)} cases")
+    progress.clear()
+    return results
+
+
+def report(results: Sequence[Result]) -> None:
+    """The table, and each case that isn't as it should be with the sentence that it shows."""
+    print("\n".join(conformance.table(results)))
+    for result in results:
+        if result.verdict not in (Verdict.PASSED, Verdict.LEFT_OUT):
+            print(f"\n{result.verdict.value}: {result.case.where}: {result.case.says}\n  {result.why}")
+
+
+def write_forms(options: argparse.Namespace, results: Sequence[Result]) -> bool:
+    """Writes the forms that were asked for; whether one of them is on standard output."""
+    is_shown = False
+    for form, lines in FORMS.items():
+        place = getattr(options, form)
+        text = "".join(f"{line}\n" for line in lines(results)) if place else ""
+        if place == "-":
+            sys.stdout.write(text)
+            is_shown = True
+        elif place:
+            Path(place).write_text(text, encoding="utf-8")
+    return is_shown
+
+
+def run(options: argparse.Namespace) -> int:
+    """Runs the suite."""
+    names, command = split(options.names, options.command, sys.argv)
+    cases = conformance.read_suite(options.suite, names, options.profile == "linux")
+    if not cases:
+        raise console.Failure(f"{options.suite} has no case{' of these names' if names else ''}")
+    if options.list:
+        print("\n".join(f"{case.where}: {case.says}" for case in cases))
+        return 0
+    if not command:
+        raise console.Failure("no COMMAND: give the system under test behind --")
+    if not shutil.which(command[0]):
+        raise console.Failure(f"{command[0]} cannot be run")
+    results = all_results(cases, command, options.seconds, options.jobs)
+    if not write_forms(options, results):
+        report(results)
+    return 0 if all(result.verdict in (Verdict.PASSED, Verdict.LEFT_OUT) for result in results) else 1

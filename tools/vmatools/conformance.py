@@ -1,0 +1,171 @@
+"""The conformance suite: its cases, how a system's answer to one is judged, and the table of what came of all."""
+from __future__ import annotations
+
+import json
+import xml.etree.ElementTree as ElementTree
+from collections.abc import Iterable, Iterator, Sequence
+from dataclasses import dataclass
+from enum import Enum
+from pathlib import Path
+
+from .program import TOP, Ran
+
+SUITE = TOP / "suite"
+# What parts the legal outputs of a case with threads.
+PART = "==\n"
+# What a case of Linux begins with: the row of docs/KERNEL.md and the versions that were seen to answer so.
+COMMENT = "#"
+
+
+class Verdict(Enum):
+    """What came of a case."""
+
+    PASSED = "passed"
+    FAILED = "failed"
+    CRASHED = "crashed"
+    HUNG = "hung"
+    LEFT_OUT = "left out"
+
+
+@dataclass(frozen=True)
+class Case:
+    """A case of the suite: its group and name, the sentence that it shows, its trace, and the outputs that are right."""
+
+    group: str
+    name: str
+    says: str
+    trace: str
+    right: tuple[str, ...]
+
+    @property
+    def where(self) -> str:
+        return f"{self.group}/{self.name}"
+
+
+@dataclass(frozen=True)
+class Result:
+    """What a system made of a case: the first line that is wrong, as it is and as it should be."""
+
+    case: Case
+    verdict: Verdict
+    line: int = 0
+    found: str = ""
+    wanted: str = ""
+    message: str = ""
+
+    @property
+    def why(self) -> str:
+        """In one line what is wrong."""
+        if self.verdict is Verdict.FAILED:
+            return f"line {self.line} is `{self.found[:120]}` and not `{self.wanted[:120]}`"
+        return self.message.strip().splitlines()[-1][:200] if self.message.strip() else self.verdict.value
+
+
+def sentence(trace: str) -> str:
+    """The sentence of a case: its first comment."""
+    return next((line[1:].strip() for line in trace.splitlines() if line.startswith(COMMENT)), "")
+
+
+def without_comments(text: str) -> str:
+    return "".join(line for line in text.splitlines(keepends=True) if not line.startswith(COMMENT))
+
+
+def read_case(path: Path, as_linux: bool = False) -> Case:
+    """The case of a trace of the suite. As Linux, where `NAME.linux` has another output, that is right."""
+    trace = path.read_text(encoding="utf-8")
+    legal, linux = path.with_suffix(".legal"), path.with_suffix(".linux")
+    if as_linux and linux.exists():
+        right: tuple[str, ...] = (without_comments(linux.read_text(encoding="utf-8")),)
+    elif legal.exists():
+        right = tuple(legal.read_text(encoding="utf-8").split(PART))
+    else:
+        right = (path.with_suffix(".out").read_text(encoding="utf-8"),)
+    return Case(path.parent.name, path.stem, sentence(trace), trace, right)
+
+
+def read_suite(folder: Path = SUITE, names: Sequence[str] = (), as_linux: bool = False) -> list[Case]:
+    """The cases of a suite, of these groups and names alone where some are given."""
+    paths = [
+        path
+        for path in sorted(folder.glob("*/*.trace"))
+        if not names or {path.parent.name, f"{path.parent.name}/{path.stem}"} & set(names)
+    ]
+    return [read_case(path, as_linux) for path in paths]
+
+
+def first_wrong(output: str, right: str) -> tuple[int, str, str]:
+    """The first line, from 1, at which two outputs differ, and what is there in each."""
+    one, other = output.splitlines(), right.splitlines()
+    line = next((place for place, pair in enumerate(zip(one, other)) if pair[0] != pair[1]), min(len(one), len(other)))
+    return line + 1, one[line] if line < len(one) else "(nothing)", other[line] if line < len(other) else "(nothing)"
+
+
+def judged(case: Case, ran: Ran) -> Result:
+    """What a run of a system over a case comes to."""
+    if ran.fault == "does not end":
+        return Result(case, Verdict.HUNG, message="does not end")
+    if ran.fault:
+        return Result(case, Verdict.CRASHED, message=f"{ran.message.strip()} ({ran.fault})".strip())
+    if ran.output in case.right:
+        return Result(case, Verdict.PASSED)
+    # Of several right outputs the one that goes along the longest.
+    line, found, wanted = max((first_wrong(ran.output, right) for right in case.right), key=lambda wrong: wrong[0])
+    return Result(case, Verdict.FAILED, line, found, wanted)
+
+
+def table(results: Iterable[Result]) -> list[str]:
+    """A line a group: how many cases, and how many of them passed, failed, crashed, hung and were left out."""
+    groups: dict[str, list[Verdict]] = {}
+    for result in results:
+        groups.setdefault(result.case.group, []).append(result.verdict)
+    everything = [verdict for verdicts in groups.values() for verdict in verdicts]
+    lines = [f"{'group':12}{'cases':>6}" + "".join(f"{verdict.value:>10}" for verdict in Verdict)]
+    for name, verdicts in [*groups.items(), ("all", everything)]:
+        lines.append(f"{name:12}{len(verdicts):6}" + "".join(f"{verdicts.count(verdict):10}" for verdict in Verdict))
+    return lines
+
+
+def as_tap(results: Sequence[Result]) -> Iterator[str]:
+    """The Test Anything Protocol, version 13."""
+    yield "TAP version 13"
+    yield f"1..{len(results)}"
+    for number, result in enumerate(results, 1):
+        passed = result.verdict in (Verdict.PASSED, Verdict.LEFT_OUT)
+        skip = " # SKIP left out" if result.verdict is Verdict.LEFT_OUT else ""
+        yield f"{'ok' if passed else 'not ok'} {number} - {result.case.where}{skip}"
+        if not passed:
+            yield f"  # {result.why}"
+
+
+def as_json(results: Sequence[Result]) -> Iterator[str]:
+    """A line a case."""
+    for result in results:
+        yield json.dumps(
+            {
+                "case": result.case.where,
+                "says": result.case.says,
+                "verdict": result.verdict.value,
+                "line": result.line,
+                "found": result.found,
+                "wanted": result.wanted,
+                "message": result.message,
+            }
+        )
+
+
+def as_junit(results: Sequence[Result]) -> Iterator[str]:
+    """JUnit's XML, as CI servers read it."""
+    failed = sum(result.verdict in (Verdict.FAILED, Verdict.CRASHED, Verdict.HUNG) for result in results)
+    suite = ElementTree.Element("testsuite", name="diltzekun", tests=str(len(results)), failures=str(failed))
+    for result in results:
+        case = ElementTree.SubElement(suite, "testcase", classname=result.case.group, name=result.case.name)
+        if result.verdict is Verdict.LEFT_OUT:
+            ElementTree.SubElement(case, "skipped")
+        elif result.verdict is not Verdict.PASSED:
+            ElementTree.SubElement(case, "failure", message=printable(result.why)).text = printable(result.case.trace)
+    yield ElementTree.tostring(suite, encoding="unicode")
+
+
+def printable(text: str) -> str:
+    """A text without the control bytes that XML can't have."""
+    return "".join(letter if letter.isprintable() or letter in "\t\n" else "?" for letter in text)
