@@ -6,6 +6,9 @@ traces, fitted to what the system can run. The table has the share of equal repl
 answers differently by its documents counts as different, and so does what follows from that. The last column has the same beside the
 running Linux, in the same window. With --write the table replaces that in docs/SYSTEMS.md.
 
+With --seen the traces of examples/systems run again: each is a bug of a system, with the version that was seen to have it. It says
+whether the version that is installed has it still.
+
 Exit status: 0, or 2 on wrong use or where the program is missing. A system that cannot be run is named and left out.
 
 Example: vma systems --table --runs 4 valgrind
@@ -22,7 +25,7 @@ import time
 from pathlib import Path
 
 from .. import console, program
-from ..systems import conformance, known
+from ..systems import conformance, known, seen
 from ..systems.places import Refused
 
 SUMMARY = "the systems that are known, and how far each answers as the program does"
@@ -33,6 +36,7 @@ BEGIN, END = "<!-- made by tools/vma systems --table --write -->", "<!-- end -->
 def add_arguments(parser: argparse.ArgumentParser) -> None:
     program.add_arguments(parser)
     parser.add_argument("--table", action="store_true", help="runs traces on each, and prints the table of conformance")
+    parser.add_argument("--seen", action="store_true", help="runs the traces of examples/systems again")
     parser.add_argument("--runs", metavar="N", type=int, default=10, help="traces of each profile (10)")
     parser.add_argument("--seed", metavar="S", type=int, default=1, help="the same seed gives the same traces (1)")
     parser.add_argument("--for", metavar="SECONDS", dest="most", type=float, default=600.0, help="for each system at most (600)")
@@ -42,6 +46,8 @@ def add_arguments(parser: argparse.ArgumentParser) -> None:
 
 def run(options: argparse.Namespace) -> int:
     systems = [known.system_of(name) for name in options.names] or list(known.KNOWN.values())
+    if options.seen:
+        return repeat({system.name for system in systems})
     if not options.table:
         for system in systems:
             packages = conformance.missing(system)
@@ -66,12 +72,30 @@ def measured(system: known.System, path: str, options: argparse.Namespace) -> co
     try:
         progress = console.Progress()
         with contextlib.closing(conformance.Measuring(system, path, options.runs, options.seed)) as measuring:
-            result = measuring.run(progress, time.monotonic() + options.most)
+            result = measuring.run(progress, options.most)
         progress.clear()
         return result
     except Refused as refused:
         console.say(f"{system.name} cannot be run here: {refused}")
         return None
+
+
+def repeat(names: set[str]) -> int:
+    """Says of each example and of each of these systems whether the answer is as it was seen."""
+    for example in seen.examples():
+        for told in (told for told in example.seen if told.system in names):
+            system = known.system_of(told.system)
+            packages = conformance.missing(system)
+            if packages:
+                print(f"{example.name}: {told.system} is not installed (Debian: apt-get install {packages})")
+                continue
+            with contextlib.closing(seen.adapter_of(told.system)) as adapter:
+                now = example.now(adapter)
+            state = f"line {now.line}: {now.answer}" if now else "as Linux"
+            is_same = now is not None and (now.line, now.answer) == (told.line, told.answer)
+            print(f"{example.name}: {told.system} {conformance.version_of(system)}: {state}"
+                  + ("" if is_same else f"; {told.version} was seen with line {told.line}: {told.answer}"))
+    return 0
 
 
 def heading() -> list[str]:

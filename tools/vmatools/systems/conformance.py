@@ -164,8 +164,10 @@ class Measuring:
         self.linux = Adapter(linux, is_served=True) if linux and system.name != "window" else None
         self.result = Result(system, version_of(system))
 
-    def run(self, progress: console.Progress, until: float) -> Result:
+    def run(self, progress: console.Progress, seconds: float) -> Result:
+        """Runs the traces, for so many seconds at most once the system has begun."""
         lacks = lacks_of(self.adapter)
+        until = time.monotonic() + seconds
         fitted = fit_of(self.system, None if self.system.window else self.system.kernel(), lacks)
         for number in range(self.runs * len(windows.PROFILES)):
             if time.monotonic() > until:

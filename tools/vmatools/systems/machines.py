@@ -14,6 +14,7 @@ from pathlib import Path
 from .places import Refused
 from .running import Port
 
+BURST = 2048  # bytes that a serial line takes at once; runner.c has the same
 IMAGES = "/boot/vmlinuz-*-cloud-amd64"
 
 
@@ -71,5 +72,5 @@ def starts(runner: Path, command: Callable[[str, int], Sequence[str]]) -> Callab
         with theirs:
             process = subprocess.Popen(words, stdin=subprocess.DEVNULL, stdout=errors, stderr=errors, pass_fds=[theirs.fileno()],
                                        start_new_session=True, env={**os.environ, "TMPDIR": folder.name})
-        return Port(process, ours.fileno(), ours.fileno(), errors, [ours, folder])
+        return Port(process, ours.fileno(), ours.fileno(), errors, [ours, folder], BURST)
     return start

@@ -18,8 +18,8 @@
    Otherwise all else stays as it is, and it keeps to a window of addresses.
 
    With the word `serve` it runs many scripts, each in a child of its own: on standard input comes the length of a script and then
-   the script, and behind the answers stands `done STATUS`. With the name of a device behind that word it does so as the first process
-   of a machine. It never executes itself anew, but as the first process of a machine: an emulator may be left by that. */
+   the script, and behind the answers stands `done STATUS`. With the name of a serial line it does so as the first process of a machine.
+   It never executes itself anew, but as the first process of a machine: an emulator may be left by that. */
 
 #pragma GCC visibility push(hidden) /* all names are of this one program: their addresses need no table */
 
@@ -28,7 +28,7 @@
 /* Kinds of operations: system calls by their numbers on x86-64, whatever the processor, and what is no system call. */
 enum { DO_MMAP = 9, DO_MPROTECT = 10, DO_MUNMAP = 11, DO_BRK = 12, DO_MREMAP = 25, DO_FORK = 57, DO_FAULT = 1000, DO_MAPS = 1001 };
 enum { CANNOT = 4, FORBIDDEN = 5, DIED = 6 }; /* statuses */
-enum { PAGE = 4096, GUARD = 256 * PAGE, MOST_FILES = 1024, AT_CWD = -100, NO_RANDOMISATION = 0x0040000 };
+enum { PAGE = 4096, GUARD = 256 * PAGE, BURST = 2048, MOST_FILES = 1024, AT_CWD = -100, NO_RANDOMISATION = 0x0040000 };
 enum { MAP_SHARED = 1, MAP_PRIVATE = 2, MAP_FIXED = 16, MAP_ANONYMOUS = 32, SIGILL = 4, SIGTRAP = 5, SIGBUS = 7, SIGFPE = 8,
        SIGKILL = 9, SIGSEGV = 11, SIGCHLD = 17, SI_KERNEL = 128, O_RDONLY = 0, O_WRONLY = 1, O_RDWR = 2, RLIMIT_STACK = 3,
        RLIMIT_NOFILE = 7 };
@@ -600,16 +600,24 @@ static int read_exactly(void *to, word length)
     return 1;
 }
 
-/* Copies so many bytes of standard input, or all, to a file in memory. */
+static int is_line; /* whether standard input is a serial line, which loses what comes too fast */
+
+/* Copies so many bytes of standard input, or all, to a file in memory. On a line they come in bursts, and each but the last is
+   answered by `more`. */
 static word copied(word length)
 {
-    static char some[1 << 14];
-    word file = CALL(SYS_MEMFD, "script", 0, 0), now = 1;
-    for (word left = length; left && now;) {
-        now = CALL(SYS_READ, 0, some, left < sizeof some ? left : sizeof some);
+    static char some[BURST];
+    word file = CALL(SYS_MEMFD, "script", 0, 0), now = 1, burst = 0;
+    for (word left = length; left && now; left -= now) {
+        word room = BURST - burst % BURST;
+        now = CALL(SYS_READ, 0, some, left < room ? left : room);
         if (failed(now) || failed(CALL(SYS_WRITE, file, some, now)))
             stop(FORBIDDEN, "the script cannot be read");
-        left -= now;
+        burst += now;
+        if (is_line && burst % BURST == 0 && left > now) {
+            put_text("more\n");
+            flush();
+        }
     }
     return file;
 }
@@ -692,6 +700,7 @@ static void begin_machine(const char *device)
     if (failed(port))
         stop(FORBIDDEN, "the machine's serial line cannot be opened");
     make_raw(port);
+    is_line = 1;
     CALL(SYS_DUP3, port, 0, 0);
     CALL(SYS_DUP3, port, 1, 0);
     serve(CALL(SYS_GETPID, 0, 0, 0) == 1);

@@ -127,6 +127,7 @@ class Port:
     output: int
     errors: IO[bytes]
     kept: list[object] = field(default_factory=list)
+    burst: int = 0  # how many bytes are sent at once, or all; the runner asks for `more`
 
 
 def started(command: Sequence[str]) -> Port:
@@ -150,11 +151,11 @@ class Served:
     def run(self, script: bytes, seconds: float) -> Ran:
         port = self.port or self.begin()
         try:
-            write_all(port.input, struct.pack("<Q", len(script)) + script)
+            self.send(port, script, seconds + self.grace)
         except OSError:  # it ended since the last script
             self.close()
             port = self.begin()
-            write_all(port.input, struct.pack("<Q", len(script)) + script)
+            self.send(port, script, seconds + self.grace)
         texts, ending = self.read_answers(port, seconds + self.grace)
         message = contents(port.errors).decode(errors="replace")[-10_000:] if ending else ""
         if texts and texts[-1].startswith("done "):
@@ -163,6 +164,17 @@ class Served:
         else:
             self.close()
         return Ran(texts, ending, message)
+
+    def send(self, port: Port, script: bytes, seconds: float) -> None:
+        """Hands a script on, in bursts where the way to the process is a serial line."""
+        write_all(port.input, struct.pack("<Q", len(script)))
+        step = port.burst or max(len(script), 1)
+        for start in range(0, len(script), step):
+            write_all(port.input, script[start:start + step])
+            if start + step < len(script):
+                _, ending = self.read_answers(port, seconds, "more")
+                if ending:
+                    raise OSError(f"the script is not taken: {ending}")
 
     def begin(self) -> Port:
         """Starts the process, and waits until it is ready."""

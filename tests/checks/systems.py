@@ -1,0 +1,130 @@
+#!/usr/bin/env python3
+"""Runs the batch protocol with the adapters of examples/batch, and random traces in each system that is installed here.
+
+What a system answers otherwise is no failure: how much of it is equal is printed, and the examples that a version was seen to answer
+otherwise are repeated. A system that is not installed is named and passed. Ends with status 1 where an adapter of examples/batch does
+not answer as it should, where a trace that was fitted to a window is refused for leaving it, or where the running kernel, in a window,
+answers an example otherwise than it stands there.
+
+usage: systems.py [--for SECONDS] [PROGRAM]      (at most so many seconds for all systems together: 60)
+"""
+from __future__ import annotations
+
+import argparse
+import contextlib
+import shutil
+import subprocess
+import sys
+import tempfile
+import time
+from collections.abc import Iterator
+from pathlib import Path
+
+from checking import TOOL, fail, passed, program_of
+from vmatools import console, generator
+from vmatools.program import TOP
+from vmatools.systems import batch, conformance, known, seen
+from vmatools.systems.places import Refused
+
+TRACES = 300
+WANTED = "L2 t0 v1 = -1 ENOSYS\nL3 t0 v1 = SIGSEGV SEGV_MAPERR\nmaps 0\n"
+TRACE = b"vmatrace 1\n0 munmap 0x10000 4096\n0 fault 0x10000 r\n"
+ADAPTERS = TOP / "examples/batch"
+
+
+def adapters(folder: Path) -> Iterator[tuple[str, list[str]]]:
+    """The adapters of examples/batch that can be run here, each with its language."""
+    yield "Python", [sys.executable, str(ADAPTERS / "adapter.py")]
+    compilers = {"C": ["cc", "-O2", "-Wall", "-Wextra", "-Werror", "-o", str(folder / "c"), str(ADAPTERS / "adapter.c")],
+                 "Go": ["go", "build", "-o", str(folder / "go"), str(ADAPTERS / "adapter.go")]}
+    for language, command in compilers.items():
+        if not shutil.which(command[0]):
+            print(f"{TOOL}: {command[0]} is not installed: the adapter in {language} was not run")
+            continue
+        done = subprocess.run(command, capture_output=True, text=True, cwd=folder)
+        if done.returncode:
+            fail(f"the adapter in {language}", f"does not compile: {done.stderr[:300]}")
+        yield language, [command[command.index("-o") + 1]]
+
+
+def check_batch() -> None:
+    texts = [generator.Generator("few", f"1 {number}", 30).draw().text().encode() for number in range(20)]
+    with tempfile.TemporaryDirectory() as folder:
+        for language, command in adapters(Path(folder)):
+            with contextlib.closing(batch.Adapter(command)) as adapter:
+                answer = adapter.run(TRACE, 30)
+                if answer.output != WANTED or answer.fault:
+                    fail(f"the adapter in {language}", f"answers {answer}")
+                begin = time.monotonic()
+                for number in range(TRACES):
+                    if adapter.run(texts[number % len(texts)], 30).fault:
+                        fail(f"the adapter in {language}", f"fails on trace {number}")
+                print(f"{TOOL}: the adapter in {language}: {TRACES / (time.monotonic() - begin):.0f} traces a second", flush=True)
+
+
+def check_ends() -> None:
+    """An adapter that ends, and one that does not answer: each is told, and a fresh one answers the next trace."""
+    cases = {"ends with status 3": "read line; exit 3", "ends by signal SIGKILL": "read line; kill -9 $$", batch.DOES_NOT_END: "sleep 100"}
+    for fault, script in cases.items():
+        with contextlib.closing(batch.Adapter(["sh", "-c", script])) as adapter:
+            told = [adapter.run(TRACE, 0.5 - batch.GRACE).fault for _ in range(2)] if fault == batch.DOES_NOT_END \
+                else [adapter.run(TRACE, 30).fault for _ in range(2)]
+        if told != [fault, fault]:
+            fail("an adapter that ends", f"is told as {told}, and not as {fault}")
+    passed("adapters that end, or do not answer")
+
+
+def check_examples(name: str) -> None:
+    """The running kernel answers the examples of other systems as Linux does."""
+    for example in seen.examples():
+        with contextlib.closing(seen.adapter_of(name)) as adapter:
+            now = example.now(adapter)
+        if now:
+            fail(f"examples/systems/{example.name}", f"Linux itself answers otherwise at line {now.line}: {now.answer}")
+    passed("the examples of systems, on the running kernel")
+
+
+def check_system(system: known.System, path: str, seconds: float) -> None:
+    packages = conformance.missing(system)
+    if packages:
+        print(f"{TOOL}: {system.name} is not installed (Debian: apt-get install {packages}): passed")
+        return
+    try:
+        with contextlib.closing(conformance.Measuring(system, path, 2, 1)) as measuring:
+            result = measuring.run(console.Progress(), seconds)
+    except Refused as refused:
+        if refused.status != 5:
+            raise
+        print(f"{TOOL}: {system.name} cannot be run here: {refused}")
+        return
+    whole = conformance.Score()
+    for score in result.profiles.values():
+        whole.add(score)
+    print(f"{TOOL}: {system.name} {result.version}: {result.traces} traces, {result.refused} refused, {whole.text()} % of replies and lists"
+          " as the program", flush=True)
+    if system.name == "window" and result.refused:
+        fail(system.name, "refuses traces that were fitted to it")
+
+
+def main() -> int:
+    parser = argparse.ArgumentParser(prog="systems.py", description=__doc__, formatter_class=argparse.RawDescriptionHelpFormatter)
+    parser.add_argument("--for", dest="most", type=float, default=60.0, help="seconds for all systems together (60)")
+    parser.add_argument("program", nargs="?")
+    options = parser.parse_args()
+    path = program_of(options.program)
+    check_batch()
+    check_ends()
+    systems = list(known.KNOWN.values())
+    until = time.monotonic() + options.most
+    for place, system in enumerate(systems):
+        try:
+            if system.name == "window" and not conformance.missing(system):
+                check_examples(system.name)
+            check_system(system, path, max((until - time.monotonic()) / (len(systems) - place), 3))
+        except Refused as refused:
+            print(f"{TOOL}: {system.name} cannot be run here: {refused}")
+    return 0
+
+
+if __name__ == "__main__":
+    sys.exit(main())
