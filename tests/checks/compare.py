@@ -1,8 +1,8 @@
 #!/usr/bin/env python3
 """Tries `vma compare` and `vma explain`: on the program itself, on systems that are wrong in one thing each, and on broken traces.
 
-PROGRAM is crates/vma_main/out/vma_main by default. The wrong systems are those of tools/vmatools/mutants.py. Each has to be found, and
-its smallest trace has at most five lines below the header. Of each broken trace the line and the cause that `vma explain` names have
+PROGRAM is crates/vma_main/out/vma_main by default. The wrong systems are those of tools/vmatools/mutants.py. Each has to be found, with
+--kernel and without, and the smallest trace has at most five lines below the header. Of each broken trace the line and the cause that `vma explain` names have
 to be those of the program. Takes less than a minute; --runs 2000 --broken 500 takes longer.
 
 Exit status: 0 where all is as it should be, 1 at the first thing that is not, 2 on wrong use, or where the program is missing.
@@ -20,15 +20,15 @@ HERE = os.path.dirname(os.path.abspath(__file__))
 TOOLS, DEV = (os.path.join(programs.TOP, name) for name in ("tools", "dev"))
 
 MOST_LINES = 5
-WRONG = {  # of each wrong system: runs, profiles, and a pattern of the kind that has to be found
+RUNS = 200  # of the wrong models
+WRONG = {  # of some wrong models: runs, profiles, and a pattern of the kind that has to be found
     "keeps-prefix": (30, "few,files,mremap", r"mprotect: list: .*"),
     "from-below": (12, "few,files", r"mmap: an address here, another address there"),
-    "forgets-to-merge": (30, "few,mremap", r"mprotect: list: joined here, list: apart there"),
-    "swaps-errors": (60, "few,edges", r"munmap: -1 EINVAL here, -1 ENOMEM there"),
+    "munmap-past-end": (60, "few,edges", r"munmap: -1 EINVAL here, -1 ENOMEM there"),
 }
 ENDS = {  # of those that are run as commands: runs, profiles, how many seconds each may take (more on a slow machine), kind
     "crashes-at-zero": (60, "few", ["60"], r"munmap: an output here, ends with status 1 there"),
-    "hangs-on-move": (4, "mremap", ["2", "10", "40"], r"run: an output here, does not end there"),
+    "hangs-on-move": (4, "mremap", ["2", "10", "40"], r"mremap: an output here, does not end there"),
 }
 
 
@@ -40,11 +40,11 @@ def told(name, began):
     print(f"check-compare: {name}, in {time.monotonic() - began:.1f} seconds", flush=True)
 
 
-class InProcess(comparison.Sides):
+class OfModel(comparison.Sides):
     """Sides whose system under test is a model in this process."""
 
     def there(self, trace, seconds=None):
-        return programs.Ran(serial.serial_output(trace, mutants.MODELS[self.command[0]]), None, "")
+        return programs.Ran(serial.serial_output(trace, (mutants.MUTANTS | mutants.ENDING)[self.command[0]]), None, "")
 
 
 def compared(words, sides_type=None):
@@ -55,7 +55,7 @@ def compared(words, sides_type=None):
     comparison.Sides = sides_type or kept
     try:
         with contextlib.redirect_stdout(text):
-            status = compare.compare(options)
+            status = compare.try_mutants(options) if options.mutants else compare.compare(options)
     finally:
         comparison.Sides = kept
     return status, text.getvalue()
@@ -91,23 +91,34 @@ def check_model(program, runs):
     began = time.monotonic()
     profiles = ",".join(generator.PROFILES)
     words = ["--runs", str(runs), "--program", program, "--profile", profiles, "--lines", "15", "--", "right"]
-    status, text = compared(words, InProcess)
+    status, text = compared(words, OfModel)
     if status:
-        fail(f"the model of tools/vmatools differs from the program:\n{text[-4000:]}")
+        fail(f"the model of vmatools differs from the program:\n{text[-4000:]}")
     told(f"the model against the program, {runs} traces", began)
+
+
+def check_mutants():
+    """Each wrong model is found by the options as they stand, and with --kernel, which hides none of them."""
+    for more in ([], ["--kernel"]):
+        began = time.monotonic()
+        status, text = compared(["--mutants", "--runs", str(RUNS), *more])
+        if status:
+            missed = re.findall(r"^(\S+) +not found", text, re.MULTILINE)
+            fail(f"--mutants {' '.join(more)}: {', '.join(missed)} not found in {RUNS} traces")
+        told(f"{text.splitlines()[-1]}{' with --kernel' if more else ''}", began)
 
 
 def check_wrong(program):
     for name, (runs, profiles, pattern) in WRONG.items():
         began = time.monotonic()
         words = ["--runs", str(runs), "--program", program, "--profile", profiles, "--", name]
-        wrong = wrong_report(name, *compared(words, InProcess), pattern)
+        wrong = wrong_report(name, *compared(words, OfModel), pattern)
         if wrong:
             fail(wrong)
         told(f"{name} found", began)
     for name, (runs, profiles, seconds, pattern) in ENDS.items():
         began = time.monotonic()
-        command = [sys.executable, os.path.join(TOOLS, "vmatools", "mutants.py"), name]
+        command = ["env", f"PYTHONPATH={TOOLS}", sys.executable, "-m", "vmatools.mutants", name]
         for limit in seconds:
             shrinks = str(float(limit) / 2)
             words = ["--runs", str(runs), "--lines", "12", "--seconds", limit, "--shrink-seconds", shrinks, "--program", program]
@@ -122,13 +133,13 @@ def check_wrong(program):
 def check_rules(program):
     """What is set aside is counted, and the rest of its trace is compared. --keep leaves traces and outputs."""
     began = time.monotonic()
-    words = ["--runs", "8", "--program", program, "--profile", "few"]
+    words = ["--runs", "24", "--program", program, "--profile", "few,edges"]
     for rule in ("munmap/-1 EINVAL/-1 ENOMEM", "errors"):
-        status, text = compared([*words, "--ignore", rule, "--", "swaps-errors"], InProcess)
+        status, text = compared([*words, "--ignore", rule, "--", "munmap-past-end"], OfModel)
         if status or not re.search(rf"^set aside: \d+ times --ignore {re.escape(rule)}$", text, re.MULTILINE):
             fail(f"--ignore {rule}: status {status}\n{text[-2000:]}")
     with tempfile.TemporaryDirectory() as folder:
-        compared([*words, "--keep", folder, "--", "from-below"], InProcess)
+        compared([*words, "--keep", folder, "--", "from-below"], OfModel)
         kept = sorted(os.listdir(folder))
         if kept[:3] != ["1-mmap.here", "1-mmap.there", "1-mmap.trace"]:
             fail(f"--keep leaves {kept}")
@@ -247,6 +258,7 @@ def main():
     program = program_of(options.program)
     check_itself(program, options.runs)
     check_model(program, 78)
+    check_mutants()
     check_wrong(program)
     check_rules(program)
     check_explanations(program, options.broken)

@@ -1,139 +1,296 @@
-"""One trace on both sides: whether they differ, and in which operation. And which differences are set aside."""
-from collections import Counter
-from fnmatch import fnmatchcase
+"""One trace on both sides: all differences of it, each by the operation that brings it about, and which of them are set
+aside."""
+from __future__ import annotations
 
-from .outputs import Difference, answer_of, first_difference, kind_of, parts_of
+from collections import Counter
+from collections.abc import Iterable, Iterator, Sequence
+from dataclasses import dataclass, field
+from fnmatch import fnmatchcase
+from typing import NamedTuple, Optional
+
+from . import linux_cases
+from .console import Failure
+from .linux_borders import History, part_name
+from .model import Space
+from .outputs import Difference, Part, answer_of, difference_of, is_list, kind_of, parts_of
+from .program import Ran, run
 from .serial import serial_output
-from .program import run
-from .traces import FORMS, LIMITS, PAGE, BadLine, Line, Trace, read_trace
+from .traces import FORMS, LIMITS, BadLine, Line, Trace, read_trace
 
 PROGRAM_SECONDS = 600
-KERNEL_TOPS = 0x155555556000, 0x7ffff7fff000  # where a kernel can begin its search, by its stack limit
+MOST_FINDINGS = 12  # of one trace
+NO_END = "does not end"
+CANNOT_RUN = "ends with status 4"
 
 
-class CannotRun(Exception):
-    """The program of this repository did not answer a trace, or the system under test says that it runs nowhere here."""
+class CannotRun(Failure):
+    """The program of this repository did not answer a trace, or the system under test says that it runs nowhere
+    here."""
+
+
+class Pair(NamedTuple):
+    """Two parts of the outputs of both sides that stand at the same place and differ, and the child whose space they
+    are of, if one."""
+
+    space: Optional[int]
+    here: Part
+    there: Part
+
+
+def pairs_of(here: str, there: str) -> Iterator[Pair]:
+    """All places at which two outputs differ, as far as both have a part there."""
+    space: Optional[int] = None
+    for right, given in zip(parts_of(here), parts_of(there)):
+        if right.number is None and right.result.startswith("child "):
+            space = int(right.result.split()[1])
+        if right != given:
+            yield Pair(space, right, given)
+
+
+def end_of(here: str, there: str, words: dict[Optional[int], str]) -> Optional[Difference]:
+    """How two outputs differ that are equal as far as both go."""
+    heres, theres = parts_of(here), parts_of(there)
+    if len(theres) < len(heres):
+        right = heres[len(theres)]
+        return Difference(
+            words.get(right.number, "list"), "an answer", "the output ends", right.number, right.lines, []
+        )
+    if len(theres) > len(heres):
+        return Difference("output", "the end", "the output goes on", None, [], theres[len(heres)].lines)
+    if not there.endswith("\n"):
+        return Difference(
+            "output", "a newline", "no newline at the end", None, [], theres[-1].lines[-1:] if theres else []
+        )
+    return None
+
+
+class Rules:
+    """Which differences are set aside, by the rules of --ignore and by the cases of --kernel."""
+
+    def __init__(self, patterns: Iterable[str] = (), cases: Sequence[linux_cases.Case] = ()) -> None:
+        patterns = list(patterns)
+        self.patterns = [pattern for pattern in patterns if pattern != "list"]
+        self.last_lists = "list" not in patterns
+        self.cases = cases
+
+    def pattern_of(self, difference: Difference) -> Optional[str]:
+        """The rule of --ignore by which a difference is set aside."""
+        for pattern in self.patterns:
+            both_refuse = difference.here.startswith("-1") and difference.there.startswith("-1")
+            if both_refuse if pattern == "errors" else fnmatchcase("/".join(kind_of(difference)), pattern):
+                return f"--ignore {pattern}"
+        return None
+
+    def name_of(self, trace: Trace, difference: Difference) -> Optional[str]:
+        """The rule or the case by which a difference is set aside, or None."""
+        pattern = self.pattern_of(difference)
+        if pattern or not self.cases:
+            return pattern
+        if difference.there == CANNOT_RUN:
+            return "cannot-run"
+        return linux_cases.case_of(self.cases, trace, History(trace), difference)
+
+
+class Compared(NamedTuple):
+    """The first difference of two outputs, and the cases by which parts above it differ in borders alone."""
+
+    difference: Optional[Difference]
+    passed: set[str]
 
 
 class Sides:
     """The program, here, and the system under test, there."""
 
-    def __init__(self, program, command, seconds, last_lists=True):
-        self.program, self.command, self.seconds, self.last_lists = program, command, seconds, last_lists
+    def __init__(self, program: str, command: Sequence[str], seconds: float, rules: Rules, short: float = 1) -> None:
+        self.program, self.command, self.seconds, self.rules = program, list(command), seconds, rules
+        self.short = min(short, seconds)  # how long a run may take while the end of a system is looked for
 
-    def here(self, trace):
+    def here(self, trace: Trace) -> str:
         ran = run([self.program, "serial"], trace.text().encode(), PROGRAM_SECONDS)
         if ran.fault:
             raise CannotRun(f"the program {ran.fault} on a trace, with `{ran.message.strip()[:200]}` on standard error")
         return ran.output
 
-    def test_machine(self):
-        """Ends the comparison where COMMAND cannot run any trace on this machine: tools/vma kernel says so with status 5."""
+    def there(self, trace: Trace, seconds: Optional[float] = None) -> Ran:
+        return run(self.command, trace.text().encode(), seconds or self.seconds)
+
+    def test_machine(self) -> None:
+        """Ends the comparison where COMMAND cannot run any trace on this machine: `vma kernel` says so with status
+        5."""
         ran = self.there(Trace())
         if ran.fault == "ends with status 5":
             raise CannotRun(f"COMMAND cannot run here: {ran.message.strip()[:300]}")
 
-    def there(self, trace, seconds=None):
-        return run(self.command, trace.text().encode(), seconds or self.seconds)
+    # The first difference
 
-    def raw_difference(self, trace, seconds=None):
-        """The first difference of the outputs as they are."""
+    def compared(self, trace: Trace, seconds: Optional[float] = None) -> Compared:
+        """The first difference of the outputs as they are, but for borders of areas that a case explains."""
         there = self.there(trace, seconds)
         if there.fault:
-            return Difference("run", "an output", there.fault, None, [], there.message.splitlines()[-3:])
-        return first_difference(self.here(trace), there.output, {line.number: line.word for line in trace.lines}, self.last_lists)
+            return Compared(
+                Difference("run", "an output", there.fault, None, [], there.message.splitlines()[-3:]), set()
+            )
+        here = self.here(trace)
+        passed: set[str] = set()
+        if here == there.output:
+            return Compared(None, passed)
+        for pair, name in self.named_pairs(trace, here, there.output):
+            if name is None:
+                return Compared(difference_of(pair.here, pair.there, words_of(trace)), passed)
+            passed.add(name)
+        return Compared(end_of(here, there.output, words_of(trace)), passed - {"list"})
 
-    def difference(self, trace, seconds=None):
-        """The first difference, by the operation that brings it about: after it a list is another one, or the system ends."""
-        found = self.raw_difference(trace, seconds)
-        if found and found.there.startswith("ends "):
+    def named_pairs(self, trace: Trace, here: str, there: str) -> Iterator[tuple[Pair, Optional[str]]]:
+        """All pairs that differ, each with the case that explains its borders, or `list` where last lists are not
+        compared."""
+        history = History(trace) if self.rules.cases else None
+        lines: dict[Optional[int], Line] = {line.number: line for line in trace.lines}
+        for pair in pairs_of(here, there):
+            is_last = pair.here.number is None and is_list(pair.here) and is_list(pair.there)
+            name = "list" if is_last and not self.rules.last_lists else None
+            if history and not name and (is_last or pair.here.number in lines):
+                name = part_name(history, lines.get(pair.here.number), pair.space, pair.here, pair.there)
+            yield pair, name
+
+    def raw_difference(self, trace: Trace, seconds: Optional[float] = None) -> Optional[Difference]:
+        return self.compared(trace, seconds).difference
+
+    def located(self, trace: Trace, found: Difference) -> Difference:
+        """A difference by the operation that brings it about: after it a list is another one, or the system ends."""
+        if found.operation == "run":
             return self.at_its_end(trace, found)
-        if found and self.last_lists and found.there != "does not end":
-            return self.with_lists(trace, found)
-        return found
+        return self.with_lists(trace, found) if self.rules.last_lists else found
 
-    def with_lists(self, trace, found):
-        """The operation after which the lists differ first, if they differ before the answers do: reads of the list are put behind
-        operations."""
-        places = [place for place, line in enumerate(trace.lines) if found and line.number == found.number and line.word != "maps"]
-        low, high = 0, places[0] if places else len(trace.lines)
+    def difference(self, trace: Trace, seconds: Optional[float] = None) -> Optional[Difference]:
+        """The first difference, by the operation that brings it about."""
+        found = self.raw_difference(trace, seconds)
+        return self.located(trace, found) if found else None
+
+    # The operation after which lists differ
+
+    def with_lists(self, trace: Trace, found: Difference) -> Difference:
+        """The operation after which the lists differ first, if they differ before the answers do: reads of the lists of
+        all spaces are put behind operations."""
+        return self.first_list(trace, found) or found
+
+    def first_list(self, trace: Trace, found: Optional[Difference]) -> Optional[Difference]:
+        places = [
+            place
+            for place, line in enumerate(trace.lines)
+            if found and line.number == found.number and line.word != "maps"
+        ]
+        low, high, there = 0, places[0] if places else len(trace.lines), None
+        spaces = 1 + sum(line.word == "fork" for line in trace.lines)
         while low < high:
-            step = -(-(high - low) // LIMITS["maps"])
-            marks = [*range(low + step, high, step), high]  # the list is read behind so many operations
+            step = -(-(high - low) // max(LIMITS["maps"] // spaces, 1))
+            marks = [*range(low + step, high, step), high]  # the lists are read behind so many operations
             told = self.read_behind(trace, marks)
             if told is None:
-                return found
+                return there
             place, there = told
             low, high = max(marks[place] - step, low), marks[place]
+            there = there._replace(
+                operation=trace.lines[high - 1].word,
+                number=trace.lines[high - 1].number,
+                here_lines=list_lines(there.here_lines),
+                there_lines=list_lines(there.there_lines),
+            )
             if step == 1:
-                return there._replace(operation=trace.lines[high - 1].word, number=trace.lines[high - 1].number)
-        return found
+                return there
+        return there
 
-    def read_behind(self, trace, marks):
-        """The first of these places behind which the lists are different ones, and the difference."""
-        lines, behind = [], {}
-        for place, line in enumerate(trace.lines[:marks[-1]], 1):
-            if line.word != "maps":
-                lines.append(line)
-            if place in marks:
-                lines.append(Line(0, line.thread, "maps", [], None))
-                behind[len(lines) - 1] = marks.index(place)
-        asked = trace.with_lines(lines).numbered()
-        found = self.raw_difference(asked)
-        numbers = {asked.lines[index].number: place for index, place in behind.items()}
-        return (numbers[found.number], found) if found and found.number in numbers else None
+    def read_behind(self, trace: Trace, marks: list[int]) -> Optional[tuple[int, Difference]]:
+        """The first of these places behind which a list is another one, and the difference."""
+        asked, behind = with_reads(trace, marks)
+        there = self.there(asked)
+        if there.fault:
+            return None
+        words, here = words_of(asked), self.here(asked)
+        found: dict[int, Difference] = {}
+        for pair, name in self.named_pairs(asked, here, there.output):
+            place = behind.get(pair.here.number)
+            if name is None and place is not None and place not in found and is_list(pair.here) and is_list(pair.there):
+                found[place] = difference_of(pair.here, pair.there, words)
+        return min(found.items(), key=lambda item: item[0]) if found else None
 
-    def at_its_end(self, trace, found):
-        """The same end of the system, by the operation that first brings it about."""
+    # The operation at which a system ends, or goes on for ever
+
+    def at_its_end(self, trace: Trace, found: Difference) -> Difference:
+        """The same end of the system, by the operation that first brings it about: found by halves, in a short time
+        each."""
         low, high = -1, len(trace.lines)
         while high - low > 1:
             middle = (low + high) // 2
-            ended = self.there(trace.with_lines(trace.lines[:middle])).fault == found.there
+            ended = self.there(trace.with_lines(trace.lines[:middle]), self.short).fault == found.there
             low, high = (low, middle) if ended else (middle, high)
-        return found._replace(operation=trace.lines[high - 1].word, number=trace.lines[high - 1].number) if high else found
+        last = trace.lines[high - 1] if high else None
+        return found._replace(operation=last.word, number=last.number) if last else found
 
-    def same_kind(self, trace, kind, seconds):
+    def same_kind(self, trace: Trace, kind: tuple[str, str, str], seconds: float) -> Optional[Difference]:
         """The first difference where it is of this kind, with no more runs than that takes."""
-        if kind[0] == "run" or kind[1] == "an output":
+        if kind[1] == "an output":
             there = self.there(trace, seconds)
             if not there.fault:
                 return None
-            last = trace.lines[-1] if trace.lines and kind[0] != "run" else Line(None, 0, "run", [], None)
-            return Difference(last.word, "an output", there.fault, last.number, [], there.message.splitlines()[-3:])
+            last = trace.lines[-1] if trace.lines and kind[0] != "run" else None
+            found = Difference("run", "an output", there.fault, None, [], there.message.splitlines()[-3:])
+            return found._replace(operation=last.word, number=last.number) if last else found
         if kind[1].startswith("list") and kind[0] != "list":
-            return self.with_lists(trace, None)
+            return self.first_list(trace, None)
         return self.difference(trace, seconds)
 
 
-def may_answer(trace, kind):
+def words_of(trace: Trace) -> dict[Optional[int], str]:
+    return {line.number: line.word for line in trace.lines}
+
+
+def list_lines(lines: list[str]) -> list[str]:
+    """The lines of a list without the start of the read that showed it, which no line of the trace is."""
+    return [lines[0].rsplit(" = ")[-1], *lines[1:]]
+
+
+def with_reads(trace: Trace, marks: list[int]) -> tuple[Trace, dict[Optional[int], int]]:
+    """The trace up to the last of some places, with a read of the list of each space behind each of them, and of each
+    read its place among these, by the number of its line."""
+    children = {line.arguments[0] for line in trace.lines if line.word == "fork"}
+    parents = [line.thread for line in trace.lines if line.thread not in children]
+    spaces = parents[:1]
+    lines: list[Line] = []
+    behind: dict[int, int] = {}
+    for place, line in enumerate(trace.lines[: marks[-1]], 1):
+        if line.word != "maps":
+            lines.append(line)
+        if line.word == "fork":
+            spaces.append(line.arguments[0])
+        if place in marks:
+            behind |= {len(lines) + count: marks.index(place) for count in range(len(spaces))}
+            lines += [Line(0, thread, "maps", [], None) for thread in spaces]
+    asked = trace.with_lines(lines).numbered()
+    return asked, {asked.lines[index].number: place for index, place in behind.items()}
+
+
+def may_answer(trace: Trace, kind: tuple[str, str, str]) -> bool:
     """Whether the model answers an operation of a trace so, as far as a kind says what is answered here."""
     operation, here, _ = kind
-    if operation not in FORMS or not (here.startswith(("-1", "SIG")) or here in ("0", "an address", "served", "a child")):
+    if operation not in FORMS or not (
+        here.startswith(("-1", "SIG")) or here in ("0", "an address", "served", "a child")
+    ):
         return True
     results = (part for part in parts_of(serial_output(trace)) if part.number is not None)
-    words = {line.number: line.word for line in trace.lines}
+    words = words_of(trace)
     return any(words[part.number] == operation and answer_of(part.result) == here for part in results)
 
 
-def without(trace, number):
-    """The trace without the line of a number."""
-    return trace.with_lines(line for line in trace.lines if line.number != number).numbered()
+def without(trace: Trace, number: int) -> Trace:
+    """The trace without the line of a number, and, where that forks, without the lines of the child."""
+    gone = next(line for line in trace.lines if line.number == number)
+    child = gone.arguments[0] if gone.word == "fork" else None
+    return trace.with_lines(
+        line for line in trace.lines if line is not gone and (child is None or line.thread != child)
+    ).numbered()
 
 
-def fitted(trace):
-    """The trace with settings that the running kernel can have: its own lowest address, and no `top` that is out of its reach."""
-    settings = dict(trace.settings)
-    try:
-        with open("/proc/sys/vm/mmap_min_addr", encoding="ascii") as file:
-            settings["min"] = max(int(file.read()), PAGE)
-    except (OSError, ValueError):
-        pass  # on such a machine the trace stays as it is
-    if not KERNEL_TOPS[0] <= settings.get("top", KERNEL_TOPS[0]) <= KERNEL_TOPS[1]:
-        del settings["top"]
-    return Trace(trace.version, settings, trace.files, trace.lines).numbered()
-
-
-def is_trace(trace):
+def is_trace(trace: Trace) -> bool:
     try:
         read_trace(trace.text().encode())
         return True
@@ -141,50 +298,81 @@ def is_trace(trace):
         return False
 
 
-class Rules:
-    """Which differences are set aside, by the rules of --ignore and by the cases of --kernel."""
-
-    def __init__(self, patterns=(), cases=()):
-        self.patterns = [pattern for pattern in patterns if pattern != "list"]
-        self.last_lists = "list" not in patterns
-        self.cases = cases
-
-    def name_of(self, trace, difference):
-        """The rule or the case by which a difference is set aside, or None."""
-        for pattern in self.patterns:
-            both_refuse = difference.here.startswith("-1") and difference.there.startswith("-1")
-            if both_refuse if pattern == "errors" else fnmatchcase("/".join(kind_of(difference)), pattern):
-                return f"--ignore {pattern}"
-        return next((case.name for case in self.cases if case.holds(trace, difference)), None)
+# All differences of a trace
 
 
-def named_difference(sides, rules, trace):
+class Found(NamedTuple):
+    """A difference that is not set aside, and the trace in which it is the first."""
+
+    difference: Difference
+    trace: Trace
+
+
+@dataclass
+class Examined:
+    """What there is to say of a trace."""
+
+    findings: list[Found] = field(default_factory=list)
+    aside: Counter[str] = field(default_factory=Counter)
+    has_more: bool = False  # it has more findings than are looked for
+
+
+def named_difference(sides: Sides, trace: Trace, passed: set[str]) -> tuple[Optional[Difference], Optional[str]]:
     """The first difference, and the rule or the case that sets it aside, or None.
 
-    With cases, an answer that is a case's is enough, which takes one run. Only where it is none, the lists are read behind the lines
-    above: both may have answered one of them alike, and only the list that it left shows there which case it is.
+    With cases, an answer that is a case's is enough, which takes one run. Only where it is none, the lists are read
+    behind the lines above: both may have answered one of them alike, and only the list that it left shows there which
+    case it is.
     """
-    if rules.cases:
-        found = sides.raw_difference(trace)
-        name = found and not found.there.startswith("ends ") and rules.name_of(trace, found)
-        if found is None or name:
+    first = sides.compared(trace)
+    passed |= first.passed
+    found = first.difference
+    if found is None or found.there == CANNOT_RUN and sides.rules.cases:
+        return found, found and sides.rules.name_of(trace, found)
+    if sides.rules.cases and found.operation != "run":
+        name = sides.rules.name_of(trace, found)
+        if name:
             return found, name
-        if not found.there.startswith(("ends ", "does not end")):
-            found = sides.with_lists(trace, found)
-            return found, rules.name_of(trace, found)
-    found = sides.difference(trace)
-    return found, found and rules.name_of(trace, found)
+    found = sides.located(trace, found)
+    return found, sides.rules.name_of(trace, found)
 
 
-def examine(sides, rules, trace):
-    """The first difference of a trace that is not set aside, the trace in which it is the first at all, and how often each rule or
-    case set one aside: the line of such a one is taken out, and the rest is run again."""
-    aside = Counter()
+def examine(sides: Sides, trace: Trace, most: int = MOST_FINDINGS) -> Examined:
+    """All differences of a trace: the line of each is taken out, and the rest is run again."""
+    told = Examined()
+    passed: set[str] = set()
     while True:
-        found, name = named_difference(sides, rules, trace)
-        if not name:
-            return found, trace, aside
-        aside[name] += 1
+        found, name = named_difference(sides, trace, passed)
+        if found is None:
+            break
+        if name:
+            told.aside[name] += 1
+        else:
+            told.findings.append(Found(found, trace))
         if found.number is None:
-            return None, trace, aside
+            break
+        if len(told.findings) == most:
+            told.has_more = True
+            break
         trace = without(trace, found.number)
+    told.aside.update(passed)
+    return told
+
+
+class InProcess(Sides):
+    """The model, here, and one of its kind that is wrong, there."""
+
+    def __init__(self, model: type[Space], rules: Rules) -> None:
+        super().__init__("", [], PROGRAM_SECONDS, rules)
+        self.model = model
+
+    def here(self, trace: Trace) -> str:
+        return serial_output(trace)
+
+    def there(self, trace: Trace, seconds: Optional[float] = None) -> Ran:
+        return Ran(serial_output(trace, self.model), None, "")
+
+
+def trace_of(text: str) -> Trace:
+    """The trace that a text is, as it was written here."""
+    return read_trace(text.encode())

@@ -77,6 +77,7 @@ def run(command: Sequence[str | os.PathLike[str]], text: bytes, seconds: float) 
         with subprocess.Popen(
             command, stdin=source, stdout=subprocess.PIPE, stderr=subprocess.PIPE, start_new_session=True
         ) as process:
+            RUNNING.add(process)
             output, message, fault = read_both(process, end)
             status = None
             try:
@@ -85,6 +86,7 @@ def run(command: Sequence[str | os.PathLike[str]], text: bytes, seconds: float) 
                 fault = "does not end"
             if fault:
                 stop(process)
+            RUNNING.discard(process)
     if fault is None and status:
         fault = f"ends with status {status}" if status > 0 else f"ends by signal {signal.Signals(-status).name}"
     return Ran(output.decode("utf-8", "replace"), fault, message.decode("utf-8", "replace"))
@@ -111,6 +113,15 @@ def read_both(process: subprocess.Popen[bytes], end: float) -> tuple[bytes, byte
             if size > MOST_OUTPUT:
                 fault = "writes on and on"
     return b"" if fault else b"".join(read[process.stdout]), b"".join(read[process.stderr])[-10_000:], fault
+
+
+RUNNING: set[subprocess.Popen[bytes]] = set()
+
+
+def end_all() -> None:
+    """Ends all that runs, where the command itself is ended."""
+    for process in list(RUNNING):
+        stop(process)
 
 
 def stop(process: subprocess.Popen[bytes]) -> None:

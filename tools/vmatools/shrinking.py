@@ -1,6 +1,11 @@
 """Makes a trace small: as few lines as can be, and as small and round numbers."""
-from .model import Space, answer
-from .traces import FORMS, MAP, MREMAP, PAGE, PROT, TABLES, USER_PAGES, File, Line
+from __future__ import annotations
+
+from collections.abc import Callable, Iterable, Iterator, Sequence
+from typing import Any, Optional
+
+from .model import Area, Space, answer
+from .traces import FORMS, MAP, MREMAP, PAGE, PROT, TABLES, USER_PAGES, File, Line, Trace
 
 BASE = 0x10  # the page at which the lowest range of a small trace begins
 HINT_COST = 1000  # a hint tells a reader less than a fixed place, or than none
@@ -14,16 +19,16 @@ FIXED, NOREPLACE, ANONYMOUS = MAP["MAP_FIXED"], MAP["MAP_FIXED_NOREPLACE"], MAP[
 # What a trace costs to read
 
 
-def number_cost(value):
+def number_cost(value: int) -> int:
     """Less for a number with fewer digits other than trailing zeros, in hexadecimal, and then for a smaller one."""
     return 64 * len(hex(value)[2:].rstrip("0")) + value.bit_length()
 
 
-def is_hint(line):
-    return line.word == "mmap" and line.arguments[0] > 0 and not line.arguments[3] & (FIXED | NOREPLACE)
+def is_hint(line: Line) -> bool:
+    return line.word == "mmap" and bool(line.arguments[0] > 0 and not line.arguments[3] & (FIXED | NOREPLACE))
 
 
-def cost(trace):
+def cost(trace: Trace) -> tuple[int, int, int, int]:
     """By this a trace is smaller than another one: by its lines, then its numbers, then its flags."""
     numbers, flags = 0, 0
     for line in trace.lines:
@@ -36,38 +41,60 @@ def cost(trace):
                 flags += "rwx".index(value)
             else:
                 numbers += number_cost(abs(value))
-        numbers += line.thread + (HINT_COST if is_hint(line) else 0)
+        numbers += line.thread + (HINT_COST if is_hint(line) else 0) + (HINT_COST if line.after is not None else 0)
     settings = sum(number_cost(value) for value in trace.settings.values())
-    files = sum(number_cost(file.size) + number_cost(file.inode) + file.major + file.minor + file.descriptor + len(file.name + file.mode)
-                for file in trace.files)
+    files = sum(
+        number_cost(file.size)
+        + number_cost(file.inode)
+        + file.major
+        + file.minor
+        + file.descriptor
+        + len(file.name + file.mode)
+        for file in trace.files
+    )
     return len(trace.lines), len(trace.settings) + len(trace.files), numbers + settings + files, flags
 
 
 # Places: the pages at which ranges begin and end
 
 
-def ranges_of(line):
-    """The ranges that a line names: for each the place of its address among the arguments, and that of its length or None."""
-    pairs = {"mmap": [(0, 1)], "munmap": [(0, 1)], "mprotect": [(0, 1)], "mseal": [(0, 1)], "fault": [(0, None)], "brk": [(0, None)],
-             "mremap": [(0, 1), (0, 2), (4, 2)]}.get(line.word, [])
-    return [(address, length) for address, length in pairs if address < len(line.arguments) and line.arguments[address] >= PAGE]
+def ranges_of(line: Line) -> list[tuple[int, Optional[int]]]:
+    """The ranges that a line names: for each the place of its address among the arguments, and that of its length or
+    None."""
+    named: dict[str, list[tuple[int, Optional[int]]]] = {
+        "mmap": [(0, 1)],
+        "munmap": [(0, 1)],
+        "mprotect": [(0, 1)],
+        "mseal": [(0, 1)],
+        "fault": [(0, None)],
+        "brk": [(0, None)],
+        "mremap": [(0, 1), (0, 2), (4, 2)],
+    }
+    return [
+        (address, length)
+        for address, length in named.get(line.word, [])
+        if address < len(line.arguments) and line.arguments[address] >= PAGE
+    ]
 
 
-def ends_of(line, address, length):
+def ends_of(line: Line, address: int, length: Optional[int]) -> tuple[int, int]:
     """First page of a range, and the page behind it."""
     start = line.arguments[address] // PAGE
     return start, start + (-(-line.arguments[length] // PAGE) if length is not None else 1)
 
 
-def points_of(trace):
+def points_of(trace: Trace) -> list[int]:
     points = {page for line in trace.lines for pair in ranges_of(line) for page in ends_of(line, *pair)}
     points |= {value // PAGE for name, value in trace.settings.items() if name != "limit"}
     return sorted(page for page in points if page <= LAST_PAGE)
 
 
-def moved(trace, to):
+def moved(trace: Trace, to: dict[int, int]) -> Trace:
     """The trace in which each range begins and ends at the page to which `to` maps its own."""
-    settings = {name: value if name == "limit" else to.get(value // PAGE, value // PAGE) * PAGE for name, value in trace.settings.items()}
+    settings = {
+        name: value if name == "limit" else to.get(value // PAGE, value // PAGE) * PAGE
+        for name, value in trace.settings.items()
+    }
     lines = []
     for line in trace.lines:
         arguments = list(line.arguments)
@@ -84,8 +111,8 @@ def moved(trace, to):
     return small
 
 
-def clusters_of(points):
-    clusters = []
+def clusters_of(points: list[int]) -> list[list[int]]:
+    clusters: list[list[int]] = []
     for point in points:
         if clusters and point - clusters[-1][-1] < CLUSTER:
             clusters[-1].append(point)
@@ -94,12 +121,12 @@ def clusters_of(points):
     return clusters
 
 
-def narrowed(points, base):
+def narrowed(points: list[int], base: int) -> dict[int, int]:
     """A map of points that lie one page apart, from a base on."""
     return {point: base + place for place, point in enumerate(points)}
 
 
-def moves_of(trace):
+def moves_of(trace: Trace) -> Iterator[dict[int, int]]:
     """Ways to move the places of a trace closer to each other, or lower."""
     points = points_of(trace)
     if not points:
@@ -121,7 +148,7 @@ def moves_of(trace):
 # Single words
 
 
-def plain_values(kind, value):
+def plain_values(kind: str, value: Any) -> Sequence[Any]:
     """Values that a word could have in place of this one, the plainest first."""
     if kind == "PROT":
         return PROTS
@@ -136,12 +163,24 @@ def plain_values(kind, value):
         return [1]
     if value <= LAST_PAGE * PAGE:  # a place or a length, which is moved with others: here it is only rounded
         powers = [1 << value.bit_length() - 1, 1 << value.bit_length()] if value > 1 << 32 else []
-        return [0, PAGE, *powers] + ([(value + PAGE - 1) & -PAGE, value & -PAGE] if value % PAGE else [])
+        smaller = [PAGE * pages for pages in (2, 3, 4, 8, 16)] + halves(value)
+        return [0, PAGE, *powers] + ([(value + PAGE - 1) & -PAGE, value & -PAGE] if value % PAGE else []) + smaller
     sizes = (1 << value.bit_length() - 1, 1 << 32, PAGE)
-    return [0, 1, PAGE, BASE * PAGE, *(value & -size for size in sizes), *((value + size - 1) & -size for size in sizes)]
+    rounded = [*(value & -size for size in sizes), *((value + size - 1) & -size for size in sizes)]
+    return [0, 1, PAGE, BASE * PAGE, *halves(value), *rounded]
 
 
-def plain_lines(line):
+def halves(value: int) -> list[int]:
+    """Numbers of pages on the way down from a large one, the smallest first: what a system does from some size on needs
+    no more."""
+    found = []
+    while value > 16 * PAGE:
+        value = (value // 2) & -PAGE
+        found.append(value)
+    return found[::-1]
+
+
+def plain_lines(line: Line) -> Iterator[Line]:
     """Lines with one word, or words that belong together, made plainer."""
     if line.word == "mmap" and not line.arguments[3] & ANONYMOUS:
         address, length, prot, flags, _, _ = line.arguments
@@ -152,16 +191,16 @@ def plain_lines(line):
     if line.word == "mremap" and len(line.arguments) == 5:
         *first, flags, _ = line.arguments
         yield line._replace(arguments=[*first, flags & ~MREMAP["MREMAP_FIXED"]])
-    for place, kind in enumerate(FORMS[line.word][:len(line.arguments)]):
+    for place, kind in enumerate(FORMS[line.word][: len(line.arguments)]):
         for value in plain_values(kind, line.arguments[place]):
             if value != line.arguments[place] and (kind == "ACCESS" or value < 2**64):
-                yield line._replace(arguments=[*line.arguments[:place], value, *line.arguments[place + 1:]])
+                yield line._replace(arguments=[*line.arguments[:place], value, *line.arguments[place + 1 :]])
 
 
-def fixed_lines(trace):
+def fixed_lines(trace: Trace) -> dict[int, Line]:
     """For each mapping without a fixed place, the line that maps at the place that is found for it."""
     space = Space(trace)
-    fixed = {}
+    fixed: dict[int, Line] = {}
     for place, line in enumerate(trace.lines):
         if line.word == "fork":
             return fixed  # lines of children are left as they are
@@ -172,7 +211,7 @@ def fixed_lines(trace):
     return fixed
 
 
-def rebuilt_prefixes(trace):
+def rebuilt_prefixes(trace: Trace) -> Iterator[tuple[int, list[Line]]]:
     """For each number of lines at the beginning, lines that map at once what these leave, where they can."""
     space = Space(trace)
     for place, line in enumerate(trace.lines, 1):
@@ -183,22 +222,30 @@ def rebuilt_prefixes(trace):
             yield place, [mapping_of(space, area) for area in space.areas]
 
 
-def mapping_of(space, area):
+def mapping_of(space: Space, area: Area) -> Line:
     """The line that maps an area."""
     file = space.file_of.get(area.object)
     sharing, grows = MAP["MAP_SHARED" if area.shared else "MAP_PRIVATE"], MAP["MAP_GROWSDOWN"] if area.grows else 0
     descriptor, offset, anonymous = (file.descriptor, area.offset, 0) if file else (-1, 0, ANONYMOUS)
-    arguments = [area.lo * PAGE, (area.hi - area.lo) * PAGE, area.prot, FIXED | sharing | grows | anonymous, descriptor, offset * PAGE]
+    arguments = [
+        area.lo * PAGE,
+        (area.hi - area.lo) * PAGE,
+        area.prot,
+        FIXED | sharing | grows | anonymous,
+        descriptor,
+        offset * PAGE,
+    ]
     return Line(0, 0, "mmap", arguments, None)
 
 
 class Shrinker:
-    """Shrinks a trace. `first_same` is given traces, and returns the place of the first that still differs in the same way, or None."""
+    """Shrinks a trace. `first_same` is given traces, and returns the place of the first that still differs in the same
+    way, or None."""
 
-    def __init__(self, trace, first_same):
+    def __init__(self, trace: Trace, first_same: Callable[[list[Trace]], Optional[int]]) -> None:
         self.trace, self.first_same = trace, first_same
 
-    def takes(self, candidates):
+    def takes(self, candidates: Iterable[Trace]) -> bool:
         """Goes on with the first smaller trace that differs in the same way, if there is one."""
         now = cost(self.trace)
         smaller = [candidate.numbered() for candidate in candidates if cost(candidate) < now]
@@ -207,23 +254,34 @@ class Shrinker:
             self.trace = smaller[found]
         return found is not None
 
-    def shrink(self):
+    def shrink(self) -> Trace:
+        """The smallest trace that was found."""
         self.without_lines()
         for _ in range(ROUNDS):
-            steps = (self.without_settings, self.one_thread, self.rebuilt, self.plain, self.fixed, self.closer, self.plain_files,
-                     self.single_lines)
+            steps = (
+                self.without_settings,
+                self.one_thread,
+                self.without_notes,
+                self.rebuilt,
+                self.plain,
+                self.same_ranges,
+                self.fixed,
+                self.closer,
+                self.plain_files,
+                self.single_lines,
+            )
             if not any([step() for step in steps]):
                 break
         return self.trace
 
-    def repeated(self, candidates_of):
+    def repeated(self, candidates_of: Callable[[Trace], Iterable[Trace]]) -> bool:
         """Takes what it can again and again. Says whether it took anything."""
         count = 0
         while self.takes(candidates_of(self.trace)):
             count += 1
         return count > 0
 
-    def without_lines(self):
+    def without_lines(self) -> None:
         """Leaves lines out: half of them, a quarter, and so on down to single ones."""
         size = len(self.trace.lines)
         while size > 1:
@@ -232,36 +290,36 @@ class Shrinker:
             while start < len(self.trace.lines):
                 lines = self.trace.lines
                 starts = range(start, len(lines), size)
-                candidates = [self.trace.with_lines(lines[:at] + lines[at + size:]).numbered() for at in starts]
+                candidates = [self.trace.with_lines(lines[:at] + lines[at + size :]).numbered() for at in starts]
                 found = self.first_same(candidates)
                 if found is None:
                     break
                 # What stands before the gap was tried.
                 self.trace, start = candidates[found], starts[found]
 
-    def single_lines(self):
+    def single_lines(self) -> bool:
         """Leaves single lines out again, alone or with one area less that is allowed."""
 
-        def candidates(trace):
+        def candidates(trace: Trace) -> Iterator[Trace]:
             for place in range(len(trace.lines)):
-                fewer = trace.with_lines(trace.lines[:place] + trace.lines[place + 1:])
+                fewer = trace.with_lines(trace.lines[:place] + trace.lines[place + 1 :])
                 yield fewer
                 if trace.settings.get("limit", 1) > 1:
                     yield with_settings(fewer, limit=trace.settings["limit"] - 1)
 
         return self.repeated(candidates)
 
-    def rebuilt(self):
+    def rebuilt(self) -> bool:
         """Mappings in place of the lines that made them: as many lines at the beginning as can be."""
 
-        def candidates(trace):
+        def candidates(trace: Trace) -> Iterator[Trace]:
             for place, mappings in reversed(list(rebuilt_prefixes(trace))):
                 yield trace.with_lines(mappings + trace.lines[place:])
 
         return self.repeated(candidates)
 
-    def without_settings(self):
-        def candidates(trace):
+    def without_settings(self) -> bool:
+        def candidates(trace: Trace) -> Iterator[Trace]:
             for name in trace.settings:
                 yield with_settings(trace, **{name: None})
             for file in trace.files:
@@ -275,23 +333,45 @@ class Shrinker:
 
         return self.repeated(candidates)
 
-    def one_thread(self):
+    def one_thread(self) -> bool:
         children = {line.arguments[0] for line in self.trace.lines if line.word == "fork"}
         lines = [line if line.thread in children else line._replace(thread=0) for line in self.trace.lines]
         return self.takes([self.trace.with_lines(lines)])
 
-    def plain(self):
-        def candidates(trace):
+    def without_notes(self) -> bool:
+        """Lines that name no line."""
+
+        def candidates(trace: Trace) -> Iterator[Trace]:
+            for place, line in enumerate(trace.lines):
+                if line.after is not None:
+                    yield trace.with_lines([*trace.lines[:place], line._replace(after=None), *trace.lines[place + 1 :]])
+
+        return self.repeated(candidates)
+
+    def same_ranges(self) -> bool:
+        """The range of a line in the place of that of another one."""
+
+        def candidates(trace: Trace) -> Iterator[Trace]:
+            ranges = {tuple(line.arguments[:2]) for line in trace.lines if (0, 1) in ranges_of(line)}
+            for place, line in enumerate(trace.lines):
+                for address, length in ranges if (0, 1) in ranges_of(line) else ():
+                    other = line._replace(arguments=[address, length, *line.arguments[2:]])
+                    yield trace.with_lines([*trace.lines[:place], other, *trace.lines[place + 1 :]])
+
+        return self.repeated(candidates)
+
+    def plain(self) -> bool:
+        def candidates(trace: Trace) -> Iterator[Trace]:
             for place, line in enumerate(trace.lines):
                 for plainer in plain_lines(line):
-                    yield trace.with_lines(trace.lines[:place] + [plainer] + trace.lines[place + 1:])
+                    yield trace.with_lines(trace.lines[:place] + [plainer] + trace.lines[place + 1 :])
             for name, value in trace.settings.items():
                 for number in range(1, min(value, 9)) if name == "limit" else ():
                     yield with_settings(trace, limit=number)
 
         return self.repeated(candidates)
 
-    def fixed(self):
+    def fixed(self) -> bool:
         """Mappings at places that were found, at fixed ones."""
         fixed = fixed_lines(self.trace)
         choices = [fixed] + [{place: line} for place, line in fixed.items()] if fixed else []
@@ -301,24 +381,30 @@ class Shrinker:
             candidates += [moved(there, to) for to in moves_of(there)]
         return self.takes(candidates)
 
-    def closer(self):
+    def closer(self) -> bool:
         return self.repeated(lambda trace: [moved(trace, to) for to in moves_of(trace)])
 
-    def plain_files(self):
-        def candidates(trace):
+    def plain_files(self) -> bool:
+        def candidates(trace: Trace) -> Iterator[Trace]:
             for place, file in enumerate(trace.files):
                 plain = File(file.descriptor, "rw", PAGE, 0, 0, 1, "/f")
                 modes = [file._replace(mode=mode) for mode in ("r", "rw")]
                 sizes = [file._replace(size=size) for size in (0, 1, PAGE, 2 * PAGE)]
-                for other in [plain, plain._replace(mode="r"), plain._replace(mode=file.mode, size=file.size), *modes, *sizes]:
+                for other in [
+                    plain,
+                    plain._replace(mode="r"),
+                    plain._replace(mode=file.mode, size=file.size),
+                    *modes,
+                    *sizes,
+                ]:
                     fewer = trace.with_lines(trace.lines)
-                    fewer.files = trace.files[:place] + [other] + trace.files[place + 1:]
+                    fewer.files = trace.files[:place] + [other] + trace.files[place + 1 :]
                     yield fewer
 
         return self.repeated(candidates)
 
 
-def with_settings(trace, **settings):
+def with_settings(trace: Trace, **settings: Optional[int]) -> Trace:
     other = trace.with_lines(trace.lines)
     other.settings = {name: value for name, value in (trace.settings | settings).items() if value is not None}
     return other

@@ -124,9 +124,13 @@ class Trace:
         return Trace(self.version, self.settings, self.files, lines)
 
     def numbered(self) -> Trace:
-        """The same trace with the numbers that its lines have in `text`, where no line names a line."""
+        """The same trace with the numbers that its lines have in `text`. A line that names one not there names none."""
         first = 2 + len(self.settings) + len(self.files)
-        return self.with_lines(line._replace(number=first + place) for place, line in enumerate(self.lines))
+        numbers = {line.number: first + place for place, line in enumerate(self.lines)}
+        return self.with_lines(
+            line._replace(number=first + place, after=None if line.after is None else numbers.get(line.after))
+            for place, line in enumerate(self.lines)
+        )
 
     def text(self) -> str:
         settings = [

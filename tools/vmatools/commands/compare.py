@@ -1,170 +1,58 @@
-"""Compares a system of yours with the program, on random traces, and shows the smallest trace of each kind of difference.
+"""Compares a system of yours with the program, on random traces, and shows the smallest trace of each kind of
+difference.
 
-COMMAND is the system behind an adapter: it reads a trace on standard input and writes on standard output what `serial` writes for
-it, both in the form of docs/TRACE.md. docs/COMPARE.md shows an adapter and a session.
+COMMAND is the system behind an adapter: it reads a trace on standard input and writes on standard output what `serial`
+writes for it, both in the form of docs/TRACE.md. docs/COMPARE.md shows an adapter, a session, and a run in a CI.
 
-Differences are of one kind where they are of the same operation and the same pair of answers. Lists are of one kind where the same
-operation leaves them different in the same way. A COMMAND that crashes, that does not end in time or that writes something else
-is a kind too. Of each kind the shortest trace is made as small as it can be while it differs in the same way.
+Differences are of one kind where they are of the same operation and the same pair of answers. Lists are of one kind
+where the same operation leaves them different in the same way. A COMMAND that crashes, that does not end in time or
+that writes something else is a kind too. All differences of a trace are found: the line of each is taken out, and the
+rest is run again. Of each kind the shortest trace is made as small as it can be while it differs in the same way.
 
-A difference that is set aside, by --ignore or by --kernel, is counted, its line is taken out of the trace, and the rest of the trace
-is run again. RULE is `list` (the lists at the end are not compared), `errors` (an error here and another one there), or a kind as it
-is printed, OPERATION/HERE/THERE, where `*` stands for anything.
+A difference that is set aside, by --ignore or by --kernel, is counted. RULE is `list` (the lists at the end are not
+compared), `errors` (an error here and another one there), or a kind as it is printed, OPERATION/HERE/THERE, where `*`
+stands for anything. A --baseline has such kinds too, each with a reason; those are counted, and only others fail.
 
-Exit status: 0 where no trace differs, 1 where one does, 2 on wrong use, or where the program or COMMAND cannot be run.
+Exit status: 0 where nothing differs that is not known, 1 where something does (with --strict also where a known
+difference does not come), 2 on wrong use, or where the program or COMMAND cannot be run; 130 and 143 where a signal
+ended the run, after its report.
+
+Example: vma compare --runs 1000 --seed 2 -- ./my-adapter
 """
-import argparse, os, shutil
-from collections import Counter
-from concurrent.futures import ThreadPoolExecutor
+from __future__ import annotations
 
-from .. import comparison, console, generator, linux_cases, outputs, program, shrinking
+import argparse
+import os
+import shlex
+import shutil
+import sys
+from contextlib import ExitStack
+from pathlib import Path
+from typing import Optional, TextIO
+
+from .. import (
+    comparison,
+    console,
+    coverage,
+    findings as found,
+    generator,
+    linux_cases,
+    mutants,
+    outputs,
+    program,
+    threaded,
+)
+from ..campaign import Campaign, Settings, sources
+from ..findings import Baseline, Findings, Journal, Kind
 
 SUMMARY = "run random traces on the program and on a system of yours, and shrink what differs"
-
-DOES_NOT_END = "does not end"
-
-
-class Kind:
-    """The differences of one kind: how many there are, and the shortest trace that has one."""
-
-    def __init__(self):
-        self.count, self.difference, self.trace = 0, None, None
-
-    def add(self, difference, trace):
-        self.count += 1
-        if self.trace is None or len(trace.lines) < len(self.trace.lines):
-            self.difference, self.trace = difference, trace
+SIGNALS = {"SIGINT": 130, "SIGTERM": 143}
 
 
-class Comparison:
-    """Runs all traces, groups what differs, and shrinks."""
-
-    def __init__(self, options):
-        self.options, self.progress = options, console.Progress()
-        cases = linux_cases.CASES if options.kernel else ()
-        self.rules = comparison.Rules(options.ignore, cases)
-        self.sides = comparison.Sides(options.program, options.command, options.seconds, self.rules.last_lists)
-        self.pool = ThreadPoolExecutor(max_workers=options.jobs)
-        self.kinds, self.aside, self.differing = {}, Counter(), 0
-
-    def examine(self, number):
-        profiles = self.options.profile
-        trace = generator.Generator(profiles[number % len(profiles)], f"{self.options.seed} {number}", self.options.lines).draw()
-        return comparison.examine(self.sides, self.rules, comparison.fitted(trace) if self.options.kernel else trace)
-
-    def run(self):
-        for number, (difference, trace, aside) in enumerate(self.pool.map(self.examine, range(self.options.runs)), 1):
-            self.aside.update(aside)
-            if difference:
-                self.differing += 1
-                self.kinds.setdefault(outputs.kind_of(difference), Kind()).add(difference, trace)
-            self.progress.tell(f"{number} of {self.options.runs} traces, {self.differing} differ in {len(self.kinds)} kinds")
-        self.progress.clear()
-
-    def in_order(self):
-        """The kinds, the most frequent first."""
-        return sorted(self.kinds.items(), key=lambda item: (-item[1].count, item[0]))
-
-    def shrunk(self, kind, found):
-        """The smallest trace of a kind that was found, and its difference."""
-        limits = [self.options.seconds]
-        if kind[2] == DOES_NOT_END and self.options.shrink_seconds < self.options.seconds:
-            limits.insert(0, self.options.shrink_seconds)
-        for seconds in limits:
-            small = self.shrunk_within(kind, found, seconds)
-            # With all the time that COMMAND may take it has to differ as well.
-            difference = self.sides.raw_difference(small)
-            if difference and (kind[2] == DOES_NOT_END) == (difference.there == DOES_NOT_END):
-                return small, difference
-        return found.trace, found.difference  # it differs now and then only
-
-    def shrunk_within(self, kind, found, seconds):
-        known = {}
-
-        def is_same(trace):
-            text = trace.text()
-            if text not in known:
-                known[text] = comparison.is_trace(trace) and comparison.may_answer(trace, kind) and self.is_same(trace, kind, seconds)
-            return known[text]
-
-        def first_same(traces):
-            for start in range(0, len(traces), self.options.jobs):
-                same = list(self.pool.map(is_same, traces[start:start + self.options.jobs]))
-                self.progress.tell(f"shrinking {kind_text(kind)}: {len(known)} traces tried")
-                if True in same:
-                    return start + same.index(True)
-            return None
-
-        trace = found.trace
-        places = [place for place, line in enumerate(trace.lines) if line.number == found.difference.number]
-        if places:
-            cut = trace.with_lines(trace.lines[:places[0] + 1])
-            trace = cut if is_same(cut) else trace
-        small = shrinking.Shrinker(trace, first_same).shrink()
-        self.progress.clear()
-        return small
-
-    def is_same(self, trace, kind, seconds):
-        difference = self.sides.same_kind(trace, kind, seconds)
-        return bool(difference) and outputs.kind_of(difference) == kind and self.rules.name_of(trace, difference) is None
+# Words
 
 
-def kind_text(kind):
-    operation, here, there = kind
-    return f"{operation}: {here} here, {there} there"
-
-
-def report(place, kind, count, trace, difference):
-    """What is printed of a kind."""
-    text = trace.text()
-    print(f"{place}. {kind_text(kind)} ({count} {'trace' if count == 1 else 'traces'}; --ignore '{'/'.join(kind)}')")
-    print("   the smallest trace:")
-    print("".join(f"     {line}\n" for line in text.splitlines()), end="")
-    for side, answer, lines in (("here", difference.here, difference.here_lines), ("there", difference.there, difference.there_lines)):
-        print(f"   {side}: {answer}")
-        print("".join(f"     {line[:300]}\n" for line in lines[:12]), end="")
-    print()
-
-
-def make_folder(folder):
-    """The folder of --keep, made before the first run, since a run is long."""
-    try:
-        os.makedirs(folder, exist_ok=True)
-    except OSError as error:
-        raise comparison.CannotRun(f"the folder {folder} cannot be made: {error.strerror}") from None
-    if not os.access(folder, os.W_OK | os.X_OK):
-        raise comparison.CannotRun(f"nothing can be written to the folder {folder}")
-
-
-def keep(folder, place, kind, trace, sides):
-    """Leaves a trace in a folder, with both outputs."""
-    name = os.path.join(folder, f"{place}-{kind[0]}")
-    for ending, text in ((".trace", trace.text()), (".here", sides.here(trace)), (".there", sides.there(trace).output)):
-        with open(name + ending, "w", encoding="utf-8") as file:
-            file.write(text)
-
-
-def compare(options):
-    """The whole comparison: prints what differs, and returns the exit status."""
-    whole = Comparison(options)
-    if options.kernel:
-        whole.sides.test_machine()
-    if options.keep:
-        make_folder(options.keep)
-    whole.run()
-    for place, (kind, found) in enumerate(whole.in_order(), 1):
-        trace, difference = whole.shrunk(kind, found)
-        report(place, kind, found.count, trace, difference)
-        if options.keep:
-            keep(options.keep, place, kind, trace, whole.sides)
-    for name, count in sorted(whole.aside.items()):
-        case = next((case for case in linux_cases.CASES if case.name == name), None)
-        print(f"set aside: {count} times {name}{': ' + case.says if case else ''}")
-    print(f"{options.runs} traces, {whole.differing} differ")
-    return 1 if whole.differing else 0
-
-
-def count(text):
+def count(text: str) -> int:
     """A number of at least 1."""
     value = int(text)
     if value < 1:
@@ -172,14 +60,14 @@ def count(text):
     return value
 
 
-def time_limit(text):
+def time_limit(text: str) -> float:
     value = float(text)
     if not 0 < value < 1e6:
         raise argparse.ArgumentTypeError(f"{text} is no number of seconds")
     return value
 
 
-def profiles_of(text):
+def profiles_of(text: str) -> list[str]:
     names = text.split(",")
     for name in names:
         if name not in generator.PROFILES:
@@ -187,38 +75,320 @@ def profiles_of(text):
     return names
 
 
-def rule(text):
-    if text not in ("list", "errors") and text.count("/") != 2 and not text.startswith("*"):
+def numbers_of(text: str) -> list[int]:
+    if not all(word.isdecimal() for word in text.split(",")):
+        raise argparse.ArgumentTypeError(f"{text} is no list of numbers of traces")
+    return [int(word) for word in text.split(",")]
+
+
+def rule(text: str) -> str:
+    if text not in ("list", "errors") and text.count("/") < 2 and not text.startswith("*"):
         raise argparse.ArgumentTypeError(f"{text} is neither `list` nor `errors` nor OPERATION/HERE/THERE")
     return text
 
 
-def add_arguments(parser):
-    told = "\n".join(f"  {name:8} {profile.says}" for name, profile in generator.PROFILES.items())
-    parser.epilog = f"profiles:\n{told}"
-    parser.add_argument("--runs", type=count, default=200, metavar="N", help="how many traces (200)")
+def shard_of(text: str) -> tuple[int, int]:
+    first, _, of = text.partition("/")
+    if not (first.isdecimal() and of.isdecimal() and 1 <= int(first) <= int(of)):
+        raise argparse.ArgumentTypeError(f"{text} is no I/N, with I from 1 to N")
+    return int(first), int(of)
+
+
+def thread_count(text: str) -> int:
+    value = count(text)
+    if not 2 <= value <= 64:
+        raise argparse.ArgumentTypeError(f"{text} is not from 2 to 64")
+    return value
+
+
+def add_traces(parser: argparse.ArgumentParser) -> None:
+    """The words that say which traces there are, for `emit` too."""
+    parser.add_argument("--runs", type=count, metavar="N", help="how many traces (200)")
     parser.add_argument("--lines", type=count, default=30, metavar="N", help="operations of a trace (30)")
     parser.add_argument("--seed", type=int, default=1, metavar="S", help="the same seed gives the same traces (1)")
-    parser.add_argument("--profile", type=profiles_of, default=generator.IN_TURN, metavar="NAME[,NAME..]",
-                        help="these profiles in turn (all but `wide`)")
-    parser.add_argument("--jobs", type=count, default=os.cpu_count() or 1, metavar="N", help="runs at once (as many as processors)")
-    parser.add_argument("--ignore", type=rule, action="append", default=[], metavar="RULE",
-                        help="set differences aside; may be given several times")
-    parser.add_argument("--kernel", action="store_true",
-                        help="set aside the cases in which the profile chose otherwise than Linux (docs/KERNEL.md)")
-    parser.add_argument("--keep", metavar="FOLDER", help="leave the smallest traces there, each with both outputs")
-    parser.add_argument("--seconds", type=time_limit, default=10, metavar="T", help="how long COMMAND may take for a trace (10)")
-    parser.add_argument("--shrink-seconds", type=time_limit, default=1, metavar="T",
-                        help="the same while a trace is shrunk on which it does not end (1)")
+    parser.add_argument(
+        "--profile",
+        type=profiles_of,
+        default=generator.IN_TURN,
+        metavar="NAME[,NAME..]",
+        help="these profiles in turn (all but `wide`)",
+    )
+    parser.add_argument(
+        "--threads", type=thread_count, default=0, metavar="N", help="traces of N threads, which COMMAND runs at once"
+    )
+    told = "\n".join(f"  {name:8} {profile.says}" for name, profile in generator.PROFILES.items())
+    parser.epilog = f"profiles:\n{told}"
+
+
+def add_arguments(parser: argparse.ArgumentParser) -> None:
+    traces = parser.add_argument_group("which traces")
+    add_traces(traces)  # type: ignore[arg-type]
+    parser.epilog = traces.epilog  # type: ignore[attr-defined]
+    traces.add_argument(
+        "--for",
+        type=time_limit,
+        dest="for_seconds",
+        metavar="SECONDS",
+        help="run traces for so long, without --runs any number",
+    )
+    traces.add_argument("--only", type=numbers_of, default=[], metavar="K[,K..]", help="only these traces of the seed")
+    traces.add_argument(
+        "--traces", type=Path, metavar="FOLDER", help="the files *.trace there, or one file, in place of random traces"
+    )
+    traces.add_argument(
+        "--shard", type=shard_of, default=(1, 1), metavar="I/N", help="the Ith of N parts of the traces"
+    )
+    aside = parser.add_argument_group("what is set aside")
+    aside.add_argument(
+        "--ignore",
+        type=rule,
+        action="append",
+        default=[],
+        metavar="RULE",
+        help="set differences aside; may be given several times",
+    )
+    aside.add_argument(
+        "--kernel",
+        action="store_true",
+        help="set aside what Linux is known to answer otherwise (docs/KERNEL.md), where COMMAND answers that",
+    )
+    aside.add_argument(
+        "--baseline", type=Path, metavar="FILE", help="known differences: lines `OPERATION/HERE/THERE # reason`"
+    )
+    aside.add_argument("--strict", action="store_true", help="fail where a known difference does not come")
+    report = parser.add_argument_group("the report")
+    report.add_argument(
+        "--json",
+        nargs="?",
+        const="-",
+        metavar="FILE",
+        help="lines of JSON, a finding as it comes; without FILE on standard output, " "in place of the text",
+    )
+    report.add_argument("--junit", type=Path, metavar="FILE", help="the report as JUnit's XML")
+    report.add_argument(
+        "--keep", type=Path, metavar="FOLDER", help="leave the smallest traces there, each with both outputs"
+    )
+    report.add_argument(
+        "--coverage", action="store_true", help="which rows of the tables of docs/MODEL.md the traces reached"
+    )
+    report.add_argument(
+        "--resume", type=Path, metavar="FILE", help="keep there how far the run is, and go on from there"
+    )
+    report.add_argument(
+        "--mutants",
+        action="store_true",
+        help="run wrong models in place of COMMAND, and print which a run of this size finds",
+    )
+    how = parser.add_argument_group("how it runs")
+    how.add_argument(
+        "--jobs", type=count, default=os.cpu_count() or 1, metavar="N", help="runs at once (as many as processors)"
+    )
+    how.add_argument(
+        "--seconds", type=time_limit, default=10, metavar="T", help="how long COMMAND may take for a trace (10)"
+    )
+    how.add_argument(
+        "--shrink-seconds",
+        type=time_limit,
+        default=1,
+        metavar="T",
+        help="the same while a trace is shrunk on which it does not end (1)",
+    )
+    how.add_argument(
+        "--most",
+        type=count,
+        default=comparison.MOST_FINDINGS,
+        metavar="N",
+        help="differences of one trace at most " f"({comparison.MOST_FINDINGS})",
+    )
     program.add_arguments(parser)
-    parser.add_argument("command", nargs="+", metavar="COMMAND", help="the system under test and its arguments, behind --")
+    parser.add_argument(
+        "command", nargs="*", metavar="COMMAND", help="the system under test and its arguments, behind --"
+    )
 
 
-def run(options):
+def settings_of(options: argparse.Namespace) -> Settings:
+    """What the words ask for."""
+    runs = options.runs or (None if options.for_seconds else 200)
+    settings = Settings(
+        options.command,
+        options.profile,
+        runs,
+        options.lines,
+        options.seed,
+        options.jobs,
+        options.kernel,
+        options.threads,
+        options.seconds,
+        options.shrink_seconds,
+        options.most,
+        options.for_seconds,
+        options.only,
+        options.traces,
+        options.shard,
+        options.coverage,
+    )
+    words: list[str] = []
+    for name, value, default in (
+        ("--seed", options.seed, 1),
+        ("--lines", options.lines, 30),
+        ("--threads", options.threads, 0),
+        ("--seconds", options.seconds, 10),
+        ("--program", options.program, None),
+    ):
+        words += [name, f"{value:g}" if isinstance(value, float) else str(value)] if value != default else []
+    words += ["--profile", ",".join(options.profile)] if options.profile != generator.IN_TURN else []
+    words += ["--kernel"] if options.kernel else []
+    settings.words = words + [word for pattern in options.ignore for word in ("--ignore", pattern)]
+    return settings
+
+
+# The report
+
+
+def write_kind(stream: TextIO, place: int, name: str, kind: Kind) -> None:
+    """What is printed of a kind."""
+    finding = kind.shortest
+    operation, here, there = outputs.kind_of(finding.difference)
+    traces = f"{kind.count} {'trace' if kind.count == 1 else 'traces'}"
+    print(f"{place}. {operation}: {here} here, {there} there ({traces}; --ignore '{name}')", file=stream)
+    print("   the smallest trace:" if kind.is_shrunk else "   a trace, which was not made small:", file=stream)
+    print("".join(f"     {line}\n" for line in finding.trace.splitlines()), end="", file=stream)
+    for side, answer, lines in (
+        ("here", here, finding.difference.here_lines),
+        ("there", there, finding.difference.there_lines),
+    ):
+        print(f"   {side}: {answer}", file=stream)
+        print("".join(f"     {line[:300]}\n" for line in lines[:12]), end="", file=stream)
+    print(f"   found in {finding.source}; again:\n     {finding.repeat}\n", file=stream)
+
+
+def write_report(stream: TextIO, findings: Findings, has_coverage: bool, stopped: Optional[str]) -> None:
+    """The whole report as text."""
+    for place, (name, kind) in enumerate(findings.in_order(), 1):
+        write_kind(stream, place, name, kind)
+    for name, number in sorted(findings.aside.items()):
+        says = linux_cases.SAYS.get(name)
+        print(f"set aside: {number} times {name}{': ' + says if says else ''}", file=stream)
+    for known in findings.baseline.known:
+        came = f"{known.count} traces" if known.count else "did not come"
+        print(f"known: {came}: {known.pattern} # {known.reason}", file=stream)
+    if has_coverage:
+        print("\n".join(coverage.report(findings.coverage)), file=stream)
+    if findings.is_cut:
+        print("some traces have more differences than --most allows", file=stream)
+    if stopped:
+        print(f"stopped by {stopped}", file=stream)
+    known_alone = f", {findings.known_alone} of them in known ways alone" if findings.known_alone else ""
+    print(f"{findings.traces} traces, {findings.differing} differ{known_alone}", file=stream)
+
+
+def status_of(findings: Findings, is_strict: bool, stopped: Optional[str]) -> int:
+    if stopped:
+        return SIGNALS[stopped]
+    return 1 if findings.has_new or is_strict and findings.baseline.stale else 0
+
+
+def make_folder(folder: Path) -> None:
+    """The folder of --keep, made before the first run, since a run is long."""
+    try:
+        folder.mkdir(parents=True, exist_ok=True)
+    except OSError as error:
+        raise comparison.CannotRun(f"the folder {folder} cannot be made: {error.strerror}") from None
+    if not os.access(folder, os.W_OK | os.X_OK):
+        raise comparison.CannotRun(f"nothing can be written to the folder {folder}")
+
+
+def keep(folder: Path, findings: Findings, sides: comparison.Sides) -> None:
+    """Leaves the smallest traces in a folder, each with both outputs."""
+    for place, (_, kind) in enumerate(findings.in_order(), 1):
+        name, trace = f"{place}-{kind.shortest.difference.operation}", comparison.trace_of(kind.shortest.trace)
+        for ending, text in (
+            ("trace", kind.shortest.trace),
+            ("here", sides.here(trace)),
+            ("there", sides.there(trace).output),
+        ):
+            (folder / f"{name}.{ending}").write_text(text, encoding="utf-8")
+
+
+# Running
+
+
+def make_sides(options: argparse.Namespace) -> comparison.Sides:
+    cases = linux_cases.CASES if options.kernel else ()
+    rules = comparison.Rules(options.ignore, cases)
+    words = (options.program, options.command, options.seconds, rules, options.shrink_seconds)
+    return threaded.Threads(*words) if options.threads else comparison.Sides(*words)
+
+
+def opened(path: str, stack: ExitStack) -> TextIO:
+    try:
+        return stack.enter_context(open(path, "w", encoding="utf-8"))
+    except OSError as error:
+        raise console.Failure(console.reason(error)) from None
+
+
+def compare(options: argparse.Namespace) -> int:
+    """The whole comparison: prints what differs, and returns the exit status."""
+    settings, sides = settings_of(options), make_sides(options)
+    findings = Findings(Baseline.read(options.baseline) if options.baseline else Baseline())
+    if options.kernel:
+        sides.test_machine()
+    if options.keep:
+        make_folder(options.keep)
+    with ExitStack() as stack:
+        journal = None
+        if options.json:
+            journal = Journal(sys.stdout if options.json == "-" else opened(options.json, stack))
+            journal.write({"event": "begin", "identity": settings.identity(), "runs": settings.runs})
+        campaign = Campaign(settings, sides, findings, journal)
+        if options.resume:
+            campaign.go_on(options.resume)
+        with campaign.stoppable():
+            campaign.run()
+            campaign.shrink()
+        if campaign.stopped:
+            program.end_all()
+        status = status_of(findings, options.strict, campaign.stopped)
+        if journal:
+            journal.write(findings.end_event(status, campaign.stopped))
+        if options.json != "-":
+            write_report(sys.stdout, findings, options.coverage, campaign.stopped)
+        if campaign.stopped and options.resume:
+            console.say(f"`--resume {shlex.quote(str(options.resume))}` goes on from here")
+        if options.junit:
+            opened(str(options.junit), stack).write(found.junit(findings, options.strict, campaign.stopped))
+        if options.keep:
+            keep(options.keep, findings, sides)
+    return status
+
+
+def try_mutants(options: argparse.Namespace) -> int:
+    """Puts each wrong model in the place of the system under test, and prints which a run of this size finds."""
+    settings = settings_of(options)
+    cases = linux_cases.CASES if options.kernel else ()
+    drawn = [(source, source.draw()) for source in sources(settings)]
+    missed = 0
+    for name, model in mutants.MUTANTS.items():
+        sides = comparison.InProcess(model, comparison.Rules(options.ignore, cases))
+        shown = next(
+            ((source, told) for source, trace in drawn if (told := comparison.examine(sides, trace, 1)).findings), None
+        )
+        missed += shown is None
+        if shown:
+            operation, here, there = outputs.kind_of(shown[1].findings[0].difference)
+            print(f"{name:22} trace {shown[0].number:4}  {operation}: {here} here, {there} there", flush=True)
+        else:
+            print(f"{name:22} not found: {model.__doc__}", flush=True)
+    print(f"{len(mutants.MUTANTS)} wrong models, {len(mutants.MUTANTS) - missed} found in {len(drawn)} traces")
+    return 1 if missed else 0
+
+
+def run(options: argparse.Namespace) -> int:
+    if options.mutants:
+        return try_mutants(options)
+    if not options.command:
+        raise console.Failure("COMMAND is missing: the system under test stands behind --")
     options.program = program.find(options.program, options.verbose)
     if shutil.which(options.command[0]) is None:
         raise console.Failure(f"COMMAND {options.command[0]} is not there or cannot be run")
-    try:
-        return compare(options)
-    except (comparison.CannotRun, OSError) as failure:
-        raise console.Failure(str(failure)) from None
+    return compare(options)

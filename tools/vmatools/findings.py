@@ -1,0 +1,261 @@
+"""What a comparison has found: kinds of differences, which of them are known, and all of it as lines of JSON and as
+JUnit's XML.
+
+A run that was stopped goes on from its lines of JSON, and `vma merge` makes one report of those of several machines.
+"""
+from __future__ import annotations
+
+import json
+from collections import Counter
+from collections.abc import Iterable, Iterator
+from dataclasses import dataclass, field
+from fnmatch import fnmatchcase
+from pathlib import Path
+from typing import Any, Optional
+from xml.etree import ElementTree
+
+from .console import Failure
+from .outputs import Difference
+
+Name = tuple[str, str, str]
+
+
+@dataclass
+class Finding:
+    """A difference as it was found: in which trace, by its number or its file, and the command that repeats it."""
+
+    name: str
+    difference: Difference
+    trace: str
+    source: str
+    repeat: str
+
+    def event(self, what: str, **more: Any) -> dict[str, Any]:
+        difference = self.difference
+        return {
+            "event": what,
+            "name": self.name,
+            "line": difference.number,
+            "here": difference.here_lines,
+            "there": difference.there_lines,
+            "trace": self.trace,
+            "source": self.source,
+            "repeat": self.repeat,
+            **more,
+        }
+
+    @classmethod
+    def of_event(cls, event: dict[str, Any]) -> Finding:
+        operation, here, there = event["name"].split("/", 2)
+        difference = Difference(operation, here, there, event["line"], event["here"], event["there"])
+        return cls(event["name"], difference, event["trace"], event["source"], event["repeat"])
+
+
+@dataclass
+class Kind:
+    """The differences of one kind: in how many traces there is one, and one of the shortest of these."""
+
+    shortest: Finding
+    count: int = 0
+    is_shrunk: bool = False
+
+    def add(self, finding: Finding, count: int = 1) -> None:
+        self.count += count
+        if not self.is_shrunk and finding.trace.count("\n") < self.shortest.trace.count("\n"):
+            self.shortest = finding
+
+
+# Known differences
+
+
+@dataclass
+class Known:
+    """A line of a baseline: a name, in which `*` stands for anything, the reason, and how often it came."""
+
+    pattern: str
+    reason: str
+    place: int
+    count: int = 0
+
+
+class Baseline:
+    """The differences that are known, by name, with a reason each."""
+
+    def __init__(self, lines: Iterable[Known] = ()) -> None:
+        self.known = list(lines)
+
+    @classmethod
+    def read(cls, path: Path) -> Baseline:
+        """Of a file whose lines are `NAME # REASON`, or empty, or begin with `#`."""
+        try:
+            text = path.read_text(encoding="utf-8")
+        except (OSError, UnicodeDecodeError) as error:
+            raise Failure(f"{path}: {getattr(error, 'strerror', None) or 'it is not UTF-8'}") from None
+        return cls(cls.lines(path, text))
+
+    @staticmethod
+    def lines(path: Path, text: str) -> Iterator[Known]:
+        for place, line in enumerate(text.splitlines(), 1):
+            pattern, mark, reason = line.partition(" #")
+            if not line.strip() or line.lstrip().startswith("#"):
+                continue
+            if pattern.count("/") < 2 and "*" not in pattern:
+                raise Failure(
+                    f"{path}: line {place}: `{pattern.strip()}` is no name of a difference, OPERATION/HERE/THERE"
+                )
+            if not mark or not reason.strip():
+                raise Failure(f"{path}: line {place}: a reason is missing behind ` # `")
+            yield Known(pattern.strip(), reason.strip(), place)
+
+    def of(self, name: str) -> Optional[Known]:
+        return next((known for known in self.known if fnmatchcase(name, known.pattern)), None)
+
+    @property
+    def stale(self) -> list[Known]:
+        """Those that did not come."""
+        return [known for known in self.known if not known.count]
+
+
+# All that a run has found
+
+
+@dataclass
+class Findings:
+    """What some traces have shown."""
+
+    baseline: Baseline = field(default_factory=Baseline)
+    kinds: dict[str, Kind] = field(default_factory=dict)
+    aside: Counter[str] = field(default_factory=Counter)
+    coverage: Counter[str] = field(default_factory=Counter)
+    traces: int = 0
+    differing: int = 0
+    known_alone: int = 0  # traces that differ in known ways alone
+    is_cut: bool = False  # a trace had more findings than were looked for
+
+    def add(self, findings: list[Finding], aside: Counter[str]) -> None:
+        """Counts a trace."""
+        self.traces += 1
+        self.aside.update(aside)
+        self.differing += bool(findings)
+        self.known_alone += bool(findings) and all(self.baseline.of(finding.name) for finding in findings)
+        for finding in {finding.name: finding for finding in reversed(findings)}.values():
+            self.count(finding)
+
+    def count(self, finding: Finding, count: int = 1) -> None:
+        self.kinds.setdefault(finding.name, Kind(finding)).add(finding, count)
+        known = self.baseline.of(finding.name)
+        if known:
+            known.count += count
+
+    def in_order(self) -> list[tuple[str, Kind]]:
+        """The kinds that are not known, the most frequent first."""
+        new = [(name, kind) for name, kind in self.kinds.items() if not self.baseline.of(name)]
+        return sorted(new, key=lambda item: (-item[1].count, item[0]))
+
+    @property
+    def has_new(self) -> bool:
+        return any(not self.baseline.of(name) for name in self.kinds)
+
+    def end_event(self, status: int, stopped: Optional[str]) -> dict[str, Any]:
+        known = {line.pattern: {"count": line.count, "reason": line.reason} for line in self.baseline.known}
+        return {
+            "event": "end",
+            "traces": self.traces,
+            "differ": self.differing,
+            "known_alone": self.known_alone,
+            "aside": dict(self.aside),
+            "coverage": dict(self.coverage),
+            "known": known,
+            "status": status,
+            "stopped": stopped,
+        }
+
+
+class Journal:
+    """Lines of JSON that are written as things come, each of them whole."""
+
+    def __init__(self, stream: Any) -> None:
+        self.stream = stream
+
+    def write(self, event: dict[str, Any]) -> None:
+        self.stream.write(json.dumps(event, ensure_ascii=False) + "\n")
+        self.stream.flush()
+
+
+def events_of(path: Path) -> Iterator[dict[str, Any]]:
+    """The lines of a file of JSON. A last line that is cut short, by a run that was killed, is left out."""
+    try:
+        lines = path.read_text(encoding="utf-8").splitlines()
+    except (OSError, UnicodeDecodeError) as error:
+        raise Failure(f"{path}: {getattr(error, 'strerror', None) or 'it is not UTF-8'}") from None
+    for place, line in enumerate(lines, 1):
+        try:
+            event = json.loads(line)
+        except json.JSONDecodeError:
+            if place == len(lines):
+                return
+            raise Failure(f"{path}: line {place}: it is no JSON") from None
+        if not isinstance(event, dict) or "event" not in event:
+            raise Failure(f"{path}: line {place}: it is no line of `vma compare --json`")
+        yield event
+
+
+# JUnit
+
+
+def junit(findings: Findings, is_strict: bool, stopped: Optional[str]) -> str:
+    """The report as JUnit's XML: a case for each kind, for each known difference, and for the run."""
+    suite = ElementTree.Element("testsuite", name="vma compare")
+    for name, kind in findings.in_order():
+        difference, finding = kind.shortest.difference, kind.shortest
+        failure = failed(
+            suite,
+            name,
+            f"{difference.operation}: {difference.here} here, {difference.there} there ({kind.count} traces)",
+        )
+        failure.text = clean(
+            "\n".join(
+                [finding.trace, "here:", *difference.here_lines, "there:", *difference.there_lines, finding.repeat]
+            )
+        )
+    for known in findings.baseline.known:
+        if known.count:
+            ElementTree.SubElement(
+                case(suite, f"known: {known.pattern}"),
+                "skipped",
+                message=clean(f"{known.reason} ({known.count} traces)"),
+            )
+        elif is_strict:
+            failed(suite, f"known: {known.pattern}", f"it did not come: {known.reason}")
+        else:
+            case(suite, f"known: {known.pattern}").set("status", "it did not come")
+    last = case(suite, f"{findings.traces} traces")
+    if stopped:
+        ElementTree.SubElement(last, "error", message=f"stopped by {stopped}")
+    counts = {what: sum(1 for _ in suite.iter(what)) for what in ("testcase", "failure", "skipped", "error")}
+    suite.attrib.update(
+        {
+            "tests": str(counts["testcase"]),
+            "failures": str(counts["failure"]),
+            "skipped": str(counts["skipped"]),
+            "errors": str(counts["error"]),
+        }
+    )
+    ElementTree.indent(suite)
+    return '<?xml version="1.0" encoding="UTF-8"?>\n' + ElementTree.tostring(suite, encoding="unicode") + "\n"
+
+
+def case(suite: ElementTree.Element, name: str) -> ElementTree.Element:
+    return ElementTree.SubElement(suite, "testcase", classname="vma.compare", name=clean(name))
+
+
+def failed(suite: ElementTree.Element, name: str, message: str) -> ElementTree.Element:
+    return ElementTree.SubElement(case(suite, name), "failure", message=clean(message))
+
+
+def clean(text: str) -> str:
+    """A text without the characters that XML may not have."""
+    return "".join(
+        letter if letter in "\t\n" or " " <= letter < "\ud800" or "\ue000" <= letter < "\ufffe" else "?"
+        for letter in text
+    )

@@ -1,0 +1,28 @@
+"""Traces that the running kernel can run: with the settings that it has."""
+from __future__ import annotations
+
+from typing import Optional
+
+from .traces import PAGE, Trace
+
+KERNEL_TOPS = 0x155555556000, 0x7FFFF7FFF000  # where a kernel can begin its search, by its stack limit
+
+
+def lowest_of_machine() -> Optional[int]:
+    """vm.mmap_min_addr, where it can be read."""
+    try:
+        with open("/proc/sys/vm/mmap_min_addr", encoding="ascii") as file:
+            return max(int(file.read()), PAGE)
+    except (OSError, ValueError):
+        return None
+
+
+def fitted(trace: Trace) -> Trace:
+    """The trace with settings that the running kernel can have: its own lowest address, and no `top` that is out of its
+    reach."""
+    settings, lowest = dict(trace.settings), lowest_of_machine()
+    if lowest is not None:
+        settings["min"] = lowest
+    if not KERNEL_TOPS[0] <= settings.get("top", KERNEL_TOPS[0]) <= KERNEL_TOPS[1]:
+        del settings["top"]
+    return Trace(trace.version, settings, trace.files, trace.lines).numbered()
