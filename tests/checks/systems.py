@@ -1,10 +1,10 @@
 #!/usr/bin/env python3
 """Runs the batch protocol with the adapters of examples/batch, and random traces in each system that is installed here.
 
-What a system answers otherwise is no failure: how much of it is equal is printed, and the examples that a version was seen to answer
-otherwise are repeated. A system that is not installed is named and passed. Ends with status 1 where an adapter of examples/batch does
-not answer as it should, where a trace that was fitted to a window is refused for leaving it, or where the running kernel, in a window,
-answers an example otherwise than it stands there.
+What a system answers otherwise is no failure: how much of it is equal is printed, and the examples that a version was
+seen to answer otherwise are repeated. A system that is not installed is named and passed. Ends with status 1 where an
+adapter of examples/batch does not answer as it should, where a trace that was fitted to a window is refused for leaving
+it, or where the running kernel, in a window, answers an example otherwise than it stands there.
 
 usage: systems.py [--for SECONDS] [PROGRAM]      (at most so many seconds for all systems together: 60)
 """
@@ -23,7 +23,7 @@ from pathlib import Path
 from checking import TOOL, fail, passed, program_of
 from vmatools import console, generator
 from vmatools.program import TOP
-from vmatools.systems import batch, conformance, known, seen
+from vmatools.systems import batch, known, measuring, seen
 from vmatools.systems.places import Refused
 
 TRACES = 300
@@ -35,8 +35,10 @@ ADAPTERS = TOP / "examples/batch"
 def adapters(folder: Path) -> Iterator[tuple[str, list[str]]]:
     """The adapters of examples/batch that can be run here, each with its language."""
     yield "Python", [sys.executable, str(ADAPTERS / "adapter.py")]
-    compilers = {"C": ["cc", "-O2", "-Wall", "-Wextra", "-Werror", "-o", str(folder / "c"), str(ADAPTERS / "adapter.c")],
-                 "Go": ["go", "build", "-o", str(folder / "go"), str(ADAPTERS / "adapter.go")]}
+    compilers = {
+        "C": ["cc", "-O2", "-Wall", "-Wextra", "-Werror", "-o", str(folder / "c"), str(ADAPTERS / "adapter.c")],
+        "Go": ["go", "build", "-o", str(folder / "go"), str(ADAPTERS / "adapter.go")],
+    }
     for language, command in compilers.items():
         if not shutil.which(command[0]):
             print(f"{TOOL}: {command[0]} is not installed: the adapter in {language} was not run")
@@ -59,16 +61,26 @@ def check_batch() -> None:
                 for number in range(TRACES):
                     if adapter.run(texts[number % len(texts)], 30).fault:
                         fail(f"the adapter in {language}", f"fails on trace {number}")
-                print(f"{TOOL}: the adapter in {language}: {TRACES / (time.monotonic() - begin):.0f} traces a second", flush=True)
+                print(
+                    f"{TOOL}: the adapter in {language}: {TRACES / (time.monotonic() - begin):.0f} traces a second",
+                    flush=True,
+                )
 
 
 def check_ends() -> None:
     """An adapter that ends, and one that does not answer: each is told, and a fresh one answers the next trace."""
-    cases = {"ends with status 3": "read line; exit 3", "ends by signal SIGKILL": "read line; kill -9 $$", batch.DOES_NOT_END: "sleep 100"}
+    cases = {
+        "ends with status 3": "read line; exit 3",
+        "ends by signal SIGKILL": "read line; kill -9 $$",
+        batch.DOES_NOT_END: "sleep 100",
+    }
     for fault, script in cases.items():
         with contextlib.closing(batch.Adapter(["sh", "-c", script])) as adapter:
-            told = [adapter.run(TRACE, 0.5 - batch.GRACE).fault for _ in range(2)] if fault == batch.DOES_NOT_END \
+            told = (
+                [adapter.run(TRACE, 0.5 - batch.GRACE).fault for _ in range(2)]
+                if fault == batch.DOES_NOT_END
                 else [adapter.run(TRACE, 30).fault for _ in range(2)]
+            )
         if told != [fault, fault]:
             fail("an adapter that ends", f"is told as {told}, and not as {fault}")
     passed("adapters that end, or do not answer")
@@ -85,29 +97,35 @@ def check_examples(name: str) -> None:
 
 
 def check_system(system: known.System, path: str, seconds: float) -> None:
-    packages = conformance.missing(system)
+    packages = measuring.missing(system)
     if packages:
         print(f"{TOOL}: {system.name} is not installed (Debian: apt-get install {packages}): passed")
         return
     try:
-        with contextlib.closing(conformance.Measuring(system, path, 2, 1)) as measuring:
-            result = measuring.run(console.Progress(), seconds)
+        with contextlib.closing(measuring.Measuring(system, path, 2, 1)) as run_of:
+            result = run_of.run(console.Progress(), seconds)
     except Refused as refused:
         if refused.status != 5:
             raise
         print(f"{TOOL}: {system.name} cannot be run here: {refused}")
         return
-    whole = conformance.Score()
+    whole = measuring.Score()
     for score in result.profiles.values():
         whole.add(score)
-    print(f"{TOOL}: {system.name} {result.version}: {result.traces} traces, {result.refused} refused, {whole.text()} % of replies and lists"
-          " as the program", flush=True)
+    print(
+        f"{TOOL}: {system.name} {result.version}: {result.traces} traces, {result.refused} refused, {whole.text()} %"
+        " of replies and lists"
+        " as the program",
+        flush=True,
+    )
     if system.name == "window" and result.refused:
         fail(system.name, "refuses traces that were fitted to it")
 
 
 def main() -> int:
-    parser = argparse.ArgumentParser(prog="systems.py", description=__doc__, formatter_class=argparse.RawDescriptionHelpFormatter)
+    parser = argparse.ArgumentParser(
+        prog="systems.py", description=__doc__, formatter_class=argparse.RawDescriptionHelpFormatter
+    )
     parser.add_argument("--for", dest="most", type=float, default=60.0, help="seconds for all systems together (60)")
     parser.add_argument("program", nargs="?")
     options = parser.parse_args()
@@ -118,7 +136,7 @@ def main() -> int:
     until = time.monotonic() + options.most
     for place, system in enumerate(systems):
         try:
-            if system.name == "window" and not conformance.missing(system):
+            if system.name == "window" and not measuring.missing(system):
                 check_examples(system.name)
             check_system(system, path, max((until - time.monotonic()) / (len(systems) - place), 3))
         except Refused as refused:

@@ -1,7 +1,8 @@
 """Traces for a system that is not empty: they keep to a window of addresses, and leave no place to be found.
 
-A trace that was drawn for an empty space is fitted line by line, beside the model of what its lines so far leave: a place that would be
-searched becomes a fixed one in the window, and a line that leaves the window is dropped, unless any system refuses it.
+A trace that was drawn for an empty space is fitted line by line, beside the model of what its lines so far leave: a
+place that would be searched becomes a fixed one in the window, and a line that leaves the window is dropped, unless any
+system refuses it.
 """
 from __future__ import annotations
 
@@ -14,7 +15,18 @@ from . import model
 from .systems.places import Window, finds_place, leaves
 from .traces import MAP, MREMAP, PAGE, PROT, Line, Trace
 
-PROFILES = ["few", "many", "files", "mremap", "faults", "growing", "brk", "mseal", "fork", "mix"]  # those that keep to a part of memory
+PROFILES = [
+    "few",
+    "many",
+    "files",
+    "mremap",
+    "faults",
+    "growing",
+    "brk",
+    "mseal",
+    "fork",
+    "mix",
+]  # those that keep to a part of memory
 FIXED = MAP["MAP_FIXED"]
 MOST_PAGES = 0x200  # of a mapping whose place is chosen here
 TRIES = 200
@@ -63,7 +75,7 @@ class Fitting:
         return self.fresh.with_lines([*lines, *self.touches(lines)]).numbered()
 
     def touches(self, lines: list[Line]) -> Iterator[Line]:
-        """Accesses to some of what is mapped at the end, in the parent: they show what a call did to pages and not to the list."""
+        """Accesses to what is mapped at the end, in the parent: they show what a call did to pages and not to the list."""
         thread = next((line.thread for line in lines if line.thread not in self.spaces), 0)
         areas = self.parent.areas
         for area in self.random.sample(areas, min(len(areas), MOST_TOUCHED)):

@@ -1,18 +1,19 @@
-"""Makes the calls of a trace for real on the running Linux, or on another system, and writes what was answered, in the form of
-`serial`.
+"""Makes the calls of a trace for real on the running Linux, or on another system, and writes what was answered, in the
+form of `serial`.
 
-The trace is read from standard input; docs/TRACE.md has its form and that of the output. docs/KERNEL.md says where a kernel is known
-to differ from the program, and docs/SYSTEMS.md how emulators, sandboxes and machines of their own are put beside it. Nothing is put
-right here: where the system answers otherwise, the output says what it did, as `SIGSEGV SEGV_PKUERR`, an error that no page names,
-`hung`, or `killed by signal 11`.
+The trace is read from standard input; docs/TRACE.md has its form and that of the output. docs/KERNEL.md says where a
+kernel is known to differ from the program, and docs/SYSTEMS.md how emulators, sandboxes and machines of their own are
+put beside it. Nothing is put right here: where the system answers otherwise, the output says what it did, as `SIGSEGV
+SEGV_PKUERR`, an error that no page names, `hung`, or `killed by signal 11`.
 
-The calls are made by a small program, which a C compiler makes from tools/vmatools/systems/runner.c at first use into a cache
-(${XDG_CACHE_HOME:-~/.cache}/diltzekun, or a folder below that for temporary files where this cannot be written). It runs for this
-trace alone, with random addresses turned off; before the first line it unmaps all but itself. Lines run in their order, one after
-the other, whatever their threads; a fork is a real one, and the child runs its lines while the parent waits. Accesses are real
-too. Files are memory without contents, of the trace's sizes and opened in its modes; with --folder they are sparse files in that
-folder, so that its file system has its say. In the list, devices, inodes and names are put back to the trace's, and the inodes of
-shared anonymous memory to the numbers that the program gives.
+The calls are made by a small program, which a C compiler makes from tools/vmatools/systems/runner.c at first use into a
+cache (${XDG_CACHE_HOME:-~/.cache}/diltzekun, or a folder below that for temporary files where this cannot be written).
+It runs for this trace alone, with random addresses turned off; before the first line it unmaps all but itself. Lines
+run in their order, one after the other, whatever their threads; a fork is a real one, and the child runs its lines
+while the parent waits. Accesses are real too. Files are memory without contents, of the trace's sizes and opened in its
+modes; with --folder they are sparse files in that folder, so that its file system has its say. In the list, devices,
+inodes and names are put back to the trace's, and the inodes of shared anonymous memory to the numbers that the program
+gives.
 
 What differs from a run of the program by the nature of the thing:
 - The addresses from 0x7fffff000000 to 0x7fffff200000 are this tool's, and where the trace has `limit areas`, those from
@@ -22,16 +23,17 @@ What differs from a run of the program by the nature of the thing:
 - A trace of version 2 runs on a processor without addresses of 57 bits where no line goes past 47 bits.
 - An area may grow up to 8 MiB (RLIMIT_STACK).
 
-With --system, --under or --window all else in the system stays mapped, and the trace keeps to the addresses of a window. With
---batch many traces are read, each between a line `trace N SECONDS` and a line `end N`, and answered the same way: `vma compare
---batch` and docs/SYSTEMS.md have the protocol.
+With --system, --under or --window all else in the system stays mapped, and the trace keeps to the addresses of a
+window. With --batch many traces are read, each between a line `trace N SECONDS` and a line `end N`, and answered the
+same way: `vma compare --batch` and docs/SYSTEMS.md have the protocol.
 
 Exit statuses, each but 0 with a line on standard error:
   0  the output was written
   2  wrong words, or the trace cannot be read
   3  the input is no trace: the first bad line and its cause, as the program names it
   4  the trace asks for what this system cannot do: the line, and why
-  5  this system cannot run it at all: no compiler, another processor or system, an older kernel, or a sandbox that forbids it
+  5  this system cannot run it at all: no compiler, another processor or system, an older kernel, or a sandbox that
+  forbids it
   6  the system did not come to the trace
 
 Example: vma kernel < examples/tour.trace | diff - examples/tour.out
@@ -79,18 +81,31 @@ def window_of(text: str) -> Window:
 
 def add_arguments(parser: argparse.ArgumentParser) -> None:
     told = "\n".join(f"  {system.name:13} {system.says}" for system in known.KNOWN.values())
-    parser.usage = "vma kernel [--system NAME | --under COMMAND] [--window LO-HI] [--shift N] [--link N] [--processor NAME]" \
-                   " [--folder FOLDER] [--seconds N] [--batch] < TRACE"
-    parser.epilog = f"systems:\n{told}\n\n`machine:IMAGE` takes that kernel, and otherwise the newest of {machines.IMAGES}."
+    parser.usage = (
+        "vma kernel [--system NAME | --under COMMAND] [--window LO-HI] [--shift N] [--link N] [--processor NAME]"
+        " [--folder FOLDER] [--seconds N] [--batch] < TRACE"
+    )
+    parser.epilog = (
+        f"systems:\n{told}\n\n`machine:IMAGE` takes that kernel, and otherwise the newest of {machines.IMAGES}."
+    )
     systems = parser.add_mutually_exclusive_group()
     systems.add_argument("--system", metavar="NAME", default="native", help="a system that is known (native)")
     systems.add_argument("--under", metavar="COMMAND", help="a command that runs a static program in your system")
-    parser.add_argument("--window", metavar="LO-HI", type=window_of, help="keeps to these addresses (0x10000-0x2000000, but for a kernel)")
+    parser.add_argument(
+        "--window",
+        metavar="LO-HI",
+        type=window_of,
+        help="keeps to these addresses (0x10000-0x2000000, but for a kernel)",
+    )
     parser.add_argument("--shift", metavar="N", type=number_of, help="the window lies so much higher in the system (0)")
-    parser.add_argument("--link", metavar="N", type=number_of, help=f"where the program that makes the calls lies ({known.LOW_LINK:#x})")
+    parser.add_argument(
+        "--link", metavar="N", type=number_of, help=f"where the program that makes the calls lies ({known.LOW_LINK:#x})"
+    )
     parser.add_argument("--processor", choices=["x86_64", "aarch64"], help="that of the system (of this machine)")
     parser.add_argument("--folder", metavar="FOLDER", help="makes the trace's files there (they are gone at the end)")
-    parser.add_argument("--seconds", metavar="N", type=seconds_of, help="gives a trace so long (60, in a window 5, in a machine 20)")
+    parser.add_argument(
+        "--seconds", metavar="N", type=seconds_of, help="gives a trace so long (60, in a window 5, in a machine 20)"
+    )
     parser.add_argument("--batch", action="store_true", help="answers many traces, one after the other")
 
 
@@ -104,8 +119,13 @@ def system_of(options: argparse.Namespace) -> known.System:
         system = replace(known.KNOWN["window"], boots=system.boots, image=system.image)
     if window and options.shift is not None:
         window = replace(window, shift=options.shift)
-    return replace(system, window=window, link=options.link or system.link, processor=options.processor or system.processor,
-                   seconds=options.seconds or system.seconds)
+    return replace(
+        system,
+        window=window,
+        link=options.link or system.link,
+        processor=options.processor or system.processor,
+        seconds=options.seconds or system.seconds,
+    )
 
 
 def folder_of(name: str | None) -> Path | None:

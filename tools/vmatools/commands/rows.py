@@ -1,11 +1,13 @@
-"""Repeats the rows of docs/KERNEL.md: a trace of a few lines for each, what the program answers, and what a kernel does.
+"""Repeats the rows of docs/KERNEL.md: a trace of a few lines for each, what the program answers, and what a kernel
+does.
 
 examples/kernel-rows.txt has the rows, each under its name: the trace, the program's output, and that of `vma kernel` on
-Linux 6.18. Without a NAME all rows are run again, and a line is printed for each that answers otherwise than it stands there; with
-names, these rows are shown: the trace, and the lines in which the program (-) and the running kernel (+) differ. A row that this
-machine cannot run, as one with another lowest address, is named and passed.
+Linux 6.18. Without a NAME all rows are run again, and a line is printed for each that answers otherwise than it stands
+there; with names, these rows are shown: the trace, and the lines in which the program (-) and the running kernel (+)
+differ. A row that this machine cannot run, as one with another lowest address, is named and passed.
 
-Exit status: 0 where all rows are as they stand, 1 where one is not, 2 on wrong use, or where a run fails that should not.
+Exit status: 0 where all rows are as they stand, 1 where one is not, 2 on wrong use, or where a run fails that should
+not.
 
 Example: vma rows grow-far
 """
@@ -23,15 +25,28 @@ SUMMARY = "repeat the rows in which a kernel answers otherwise"
 
 def add_arguments(parser: argparse.ArgumentParser) -> None:
     program.add_arguments(parser)
-    parser.add_argument("--system", metavar="NAME", default="native", help="another kernel: machine, or machine:IMAGE (native)")
-    parser.add_argument("--here", action="store_true", help="runs the program alone, and not the kernel, which may be another one")
-    parser.add_argument("--write", action="store_true", help="makes the file anew from what both answer now (for those who keep this page)")
+    parser.add_argument(
+        "--system", metavar="NAME", default="native", help="another kernel: machine, or machine:IMAGE (native)"
+    )
+    parser.add_argument(
+        "--here", action="store_true", help="runs the program alone, and not the kernel, which may be another one"
+    )
+    parser.add_argument(
+        "--write",
+        action="store_true",
+        help="makes the file anew from what both answer now (for those who keep this page)",
+    )
     parser.add_argument("names", metavar="NAME", nargs="*", help="these rows alone, which are shown")
 
 
 def program_of(options: argparse.Namespace) -> str | None:
     """The program, or None where none is named and the repository's is not built."""
-    if options.program or options.here or os.environ.get(program.VARIABLE) or os.access(program.DEFAULT_PROGRAM, os.X_OK):
+    if (
+        options.program
+        or options.here
+        or os.environ.get(program.VARIABLE)
+        or os.access(program.DEFAULT_PROGRAM, os.X_OK)
+    ):
         return program.find(options.program, options.verbose)
     console.say("the program is not there: its outputs were not run again")
     return None

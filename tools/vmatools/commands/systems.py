@@ -1,13 +1,14 @@
-"""Says which systems `vma kernel --system` and `vma compare --system` know, whether they are installed here, and how far each answers as
-the program does.
+"""Says which systems `vma kernel --system` and `vma compare --system` know, whether they are installed here, and how
+far each answers as the program does.
 
-With --table random traces are run on each that is installed, or on those that are named, and on the program: of each profile so many
-traces, fitted to what the system can run. The table has the share of equal replies and of equal lists in percent, raw: what a system
-answers differently by its documents counts as different, and so does what follows from that. The last column has the same beside the
-running Linux, in the same window. With --write the table replaces that in docs/SYSTEMS.md.
+With --table random traces are run on each that is installed, or on those that are named, and on the program: of each
+profile so many traces, fitted to what the system can run. The table has the share of equal replies and of equal lists
+in percent, raw: what a system answers differently by its documents counts as different, and so does what follows from
+that. The last column has the same beside the running Linux, in the same window. With --write the table replaces that in
+docs/SYSTEMS.md.
 
-With --seen the traces of examples/systems run again: each is a bug of a system, with the version that was seen to have it. It says
-whether the version that is installed has it still.
+With --seen the traces of examples/systems run again: each is a bug of a system, with the version that was seen to have
+it. It says whether the version that is installed has it still.
 
 Exit status: 0, or 2 on wrong use or where the program is missing. A system that cannot be run is named and left out.
 
@@ -25,7 +26,7 @@ import time
 from pathlib import Path
 
 from .. import console, program
-from ..systems import conformance, known, seen
+from ..systems import known, measuring, seen
 from ..systems.places import Refused
 
 SUMMARY = "the systems that are known, and how far each answers as the program does"
@@ -39,9 +40,15 @@ def add_arguments(parser: argparse.ArgumentParser) -> None:
     parser.add_argument("--seen", action="store_true", help="runs the traces of examples/systems again")
     parser.add_argument("--runs", metavar="N", type=int, default=10, help="traces of each profile (10)")
     parser.add_argument("--seed", metavar="S", type=int, default=1, help="the same seed gives the same traces (1)")
-    parser.add_argument("--for", metavar="SECONDS", dest="most", type=float, default=600.0, help="for each system at most (600)")
-    parser.add_argument("--write", action="store_true", help="puts the table into docs/SYSTEMS.md (for those who keep that page)")
-    parser.add_argument("names", metavar="NAME", nargs="*", help="these systems alone; `machine:IMAGE` is one with that kernel")
+    parser.add_argument(
+        "--for", metavar="SECONDS", dest="most", type=float, default=600.0, help="for each system at most (600)"
+    )
+    parser.add_argument(
+        "--write", action="store_true", help="puts the table into docs/SYSTEMS.md (for those who keep that page)"
+    )
+    parser.add_argument(
+        "names", metavar="NAME", nargs="*", help="these systems alone; `machine:IMAGE` is one with that kernel"
+    )
 
 
 def run(options: argparse.Namespace) -> int:
@@ -50,29 +57,29 @@ def run(options: argparse.Namespace) -> int:
         return repeat({system.name for system in systems})
     if not options.table:
         for system in systems:
-            packages = conformance.missing(system)
-            state = f"apt-get install {packages}" if packages else f"installed, {conformance.version_of(system)}"
+            packages = measuring.missing(system)
+            state = f"apt-get install {packages}" if packages else f"installed, {measuring.version_of(system)}"
             print(f"{system.name:13} {system.says}: {state}")
         return 0
     path = program.find(options.program, options.verbose)
     results = [result for result in (measured(system, path, options) for system in systems) if result]
-    lines = heading() + conformance.table_of(results)
+    lines = heading() + measuring.table_of(results)
     print("\n".join(lines))
     if options.write:
         write(PAGE, lines)
     return 0
 
 
-def measured(system: known.System, path: str, options: argparse.Namespace) -> conformance.Result | None:
+def measured(system: known.System, path: str, options: argparse.Namespace) -> measuring.Result | None:
     """What a system's traces gave, or None where it cannot be run here."""
-    packages = conformance.missing(system)
+    packages = measuring.missing(system)
     if packages:
         console.say(f"{system.name} is not installed (Debian: apt-get install {packages}): left out")
         return None
     try:
         progress = console.Progress()
-        with contextlib.closing(conformance.Measuring(system, path, options.runs, options.seed)) as measuring:
-            result = measuring.run(progress, options.most)
+        with contextlib.closing(measuring.Measuring(system, path, options.runs, options.seed)) as run_of:
+            result = run_of.run(progress, options.most)
         progress.clear()
         return result
     except Refused as refused:
@@ -85,7 +92,7 @@ def repeat(names: set[str]) -> int:
     for example in seen.examples():
         for told in (told for told in example.seen if told.system in names):
             system = known.system_of(told.system)
-            packages = conformance.missing(system)
+            packages = measuring.missing(system)
             if packages:
                 print(f"{example.name}: {told.system} is not installed (Debian: apt-get install {packages})")
                 continue
@@ -93,14 +100,19 @@ def repeat(names: set[str]) -> int:
                 now = example.now(adapter)
             state = f"line {now.line}: {now.answer}" if now else "as Linux"
             is_same = now is not None and (now.line, now.answer) == (told.line, told.answer)
-            print(f"{example.name}: {told.system} {conformance.version_of(system)}: {state}"
-                  + ("" if is_same else f"; {told.version} was seen with line {told.line}: {told.answer}"))
+            print(
+                f"{example.name}: {told.system} {measuring.version_of(system)}: {state}"
+                + ("" if is_same else f"; {told.version} was seen with line {told.line}: {told.answer}")
+            )
     return 0
 
 
 def heading() -> list[str]:
     day = datetime.date.fromtimestamp(float(os.environ.get("SOURCE_DATE_EPOCH", time.time()))).isoformat()
-    return [f"Made on {day}, on Linux {platform.release()}. Each cell has the equal replies and the equal lists, in percent.", ""]
+    return [
+        f"Made on {day}, on Linux {platform.release()}. Each cell has the equal replies and the equal lists, in percent.",
+        "",
+    ]
 
 
 def write(page: Path, lines: list[str]) -> None:
@@ -109,4 +121,6 @@ def write(page: Path, lines: list[str]) -> None:
     if BEGIN not in text or END not in text:
         raise console.Failure(f"{page}: the marks of the table are not there")
     made = "\n".join([BEGIN, *lines, END])
-    page.write_text(re.sub(f"{re.escape(BEGIN)}.*?{re.escape(END)}", lambda _: made, text, flags=re.DOTALL), encoding="utf-8")
+    page.write_text(
+        re.sub(f"{re.escape(BEGIN)}.*?{re.escape(END)}", lambda _: made, text, flags=re.DOTALL), encoding="utf-8"
+    )

@@ -92,7 +92,9 @@ def open_file(place: int, file: File, folder: Path) -> int:
             os.close(made)
             path.unlink()
     except OSError as error:
-        raise Refused(4, f"the file of descriptor {file.descriptor}, of {file.size} bytes, cannot be made: {error.strerror}") from None
+        raise Refused(
+            4, f"the file of descriptor {file.descriptor}, of {file.size} bytes, cannot be made: {error.strerror}"
+        ) from None
 
 
 def check_begun(ran: Ran) -> None:

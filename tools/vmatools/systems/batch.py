@@ -1,8 +1,8 @@
 """Many traces for one process, one after the other: the protocol of `--batch`, from both sides.
 
-To the adapter go a line `trace N SECONDS`, the lines of the trace, and a line `end N`. From it come the lines of the output, and a line
-`end N`; or `end N STATUS WHY` where it cannot run the trace. N counts the traces. SECONDS is how long the trace may take: an adapter
-that can end its system earlier does so, and answers `hung`.
+To the adapter go a line `trace N SECONDS`, the lines of the trace, and a line `end N`. From it come the lines of the
+output, and a line `end N`; or `end N STATUS WHY` where it cannot run the trace. N counts the traces. SECONDS is how
+long the trace may take: an adapter that can end its system earlier does so, and answers `hung`.
 """
 from __future__ import annotations
 
@@ -53,8 +53,9 @@ class Adapter:
 
     def begin(self) -> subprocess.Popen[bytes]:
         self.errors = tempfile.TemporaryFile()
-        self.process = subprocess.Popen(self.command, stdin=subprocess.PIPE, stdout=subprocess.PIPE, stderr=self.errors,
-                                        start_new_session=True)
+        self.process = subprocess.Popen(
+            self.command, stdin=subprocess.PIPE, stdout=subprocess.PIPE, stderr=self.errors, start_new_session=True
+        )
         return self.process
 
     def said(self) -> str:

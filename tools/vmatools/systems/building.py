@@ -14,8 +14,10 @@ from .places import Refused
 
 FOLDER = Path(__file__).resolve().parent
 SOURCES = [FOLDER / "runner.c", FOLDER / "processor.h"]
-FLAGS = ("-O2 -static -nostdlib -ffreestanding -fno-builtin -fno-stack-protector -fPIE -no-pie -fno-asynchronous-unwind-tables"
-         " -fno-tree-loop-distribute-patterns -Wl,-z,max-page-size=4096 -Wl,-z,noexecstack -Wl,--build-id=none").split()
+FLAGS = (
+    "-O2 -static -nostdlib -ffreestanding -fno-builtin -fno-stack-protector -fPIE -no-pie -fno-asynchronous-unwind-tables"
+    " -fno-tree-loop-distribute-patterns -Wl,-z,max-page-size=4096 -Wl,-z,noexecstack -Wl,--build-id=none"
+).split()
 COMPILERS = {"x86_64": ["cc", "-fcf-protection=none"], "aarch64": ["aarch64-linux-gnu-gcc"]}
 
 
@@ -38,17 +40,22 @@ def is_ours(folder: Path) -> bool:
 def compiler_of(processor: str) -> list[str]:
     """The compiler and its first words for a processor."""
     if platform.system() != "Linux" or platform.machine() not in COMPILERS:
-        raise Refused(5, f"it runs on Linux on x86-64 or aarch64 alone, and this is {platform.system()} on {platform.machine()}")
+        raise Refused(
+            5, f"it runs on Linux on x86-64 or aarch64 alone, and this is {platform.system()} on {platform.machine()}"
+        )
     words = ["cc"] if processor == platform.machine() == "aarch64" else COMPILERS[processor]
     if not shutil.which(words[0]):
         package = "gcc" if words[0] == "cc" else "gcc-aarch64-linux-gnu"
-        raise Refused(5, f"`{words[0]}` is missing: a C compiler makes the program that makes the calls"
-                         f" (Debian: apt-get install {package})")
+        raise Refused(
+            5,
+            f"`{words[0]}` is missing: a C compiler makes the program that makes the calls"
+            f" (Debian: apt-get install {package})",
+        )
     return words
 
 
 def built(processor: str, link: int) -> Path:
-    """The path of the runner, linked at an address. Its name has a sum of its sources and flags, so that an old one is not taken."""
+    """The runner, linked at an address. Its name has a sum of its sources and flags, so that no old one is taken."""
     folder = next(filter(is_ours, cache_folders()), None)
     words = [*FLAGS, f"-Wl,-Ttext-segment={link:#x}"]
     compiler = compiler_of(processor)
@@ -65,7 +72,9 @@ def compile_to(path: Path, command: list[str]) -> None:
     handle, fresh = tempfile.mkstemp(dir=path.parent)
     os.close(handle)
     try:
-        done = subprocess.run([*command, "-o", fresh, str(SOURCES[0])], stdin=subprocess.DEVNULL, capture_output=True, text=True)
+        done = subprocess.run(
+            [*command, "-o", fresh, str(SOURCES[0])], stdin=subprocess.DEVNULL, capture_output=True, text=True
+        )
         if done.returncode:
             raise Refused(5, f"`{command[0]}` fails on {SOURCES[0]}: {done.stderr.strip()[:400]}")
         os.chmod(fresh, 0o755)

@@ -7,10 +7,10 @@ from dataclasses import dataclass
 from ..traces import MAP, PAGE, USER_PAGES, Line, Trace
 from .places import USER_END, WIDE_END, Refused, end_of, ranges
 
-TOP, LOWEST_TOP = 0x7ffff7fff000, 0x155555556000
-OWN, OWN_END = 0x7fffff000000, 0x7fffff200000  # the runner, and above it as much as stays free below an area that grows
+TOP, LOWEST_TOP = 0x7FFFF7FFF000, 0x155555556000
+OWN, OWN_END = 0x7FFFFF000000, 0x7FFFFF200000  # the runner, and above it as much as stays free below an area that grows
 LINK = OWN + 0x10000  # where the runner is linked: what lies below stays free
-FILLER, FILLER_END = 0x2aaa90000000, 0x2aaaa0000000
+FILLER, FILLER_END = 0x2AAA90000000, 0x2AAAA0000000
 STACK_BYTES = 8 << 20
 GUARD_BYTES = 1 << 20  # the kernel keeps this below the stack, and so above the first search
 MOST_POPULATED = 1 << 30  # bytes of memory that a trace asks to be made at once
@@ -29,8 +29,12 @@ class Kernel:
 def running_kernel() -> Kernel:
     """The kernel that this runs on."""
     _, hard = resource.getrlimit(resource.RLIMIT_STACK)
-    return Kernel(setting_of_machine("mmap_min_addr"), setting_of_machine("max_map_count"), has_wide_addresses(),
-                  USER_END if hard == resource.RLIM_INFINITY else hard)
+    return Kernel(
+        setting_of_machine("mmap_min_addr"),
+        setting_of_machine("max_map_count"),
+        has_wide_addresses(),
+        USER_END if hard == resource.RLIM_INFINITY else hard,
+    )
 
 
 def setting_of_machine(name: str) -> int:
@@ -54,8 +58,9 @@ def own_addresses(trace: Trace) -> list[tuple[int, int]]:
 
 
 def own_touched(line: Line, trace: Trace, limit: int) -> tuple[int, int] | None:
-    """The addresses of the runner that a line names, if it does. What ends past user memory is refused by the kernel, and changes of
-    protections and seals that begin below stop before them, since the first of these pages are never mapped."""
+    """The addresses of the runner that a line names, if it does. What ends past user memory is refused by the kernel,
+    and changes of protections and seals that begin below stop before them, since the first of these pages are never
+    mapped."""
     heap = trace.settings.get("heap", 0)
     for address, length in ranges(line):
         if line.word == "brk" and 0 < heap < address:
@@ -76,14 +81,24 @@ def check_empty(trace: Trace, kernel: Kernel) -> None:
     for line in trace.lines:
         own = own_touched(line, trace, limit)
         if own:
-            raise Refused(4, f"line {line.number}: it touches the addresses from {own[0]:#x} to {own[1]:#x}, which are this tool's own")
-        if limit != USER_PAGES[trace.version] * PAGE and any(address + length > USER_END for address, length in ranges(line)):
+            raise Refused(
+                4,
+                f"line {line.number}: it touches the addresses from {own[0]:#x} to {own[1]:#x}, which are this tool's own",
+            )
+        if limit != USER_PAGES[trace.version] * PAGE and any(
+            address + length > USER_END for address, length in ranges(line)
+        ):
             bits = "57 bits, as version 2 has them" if limit == WIDE_END else "47 bits, as version 1 has them"
-            raise Refused(4, f"line {line.number}: it goes past 47 bits, and user memory has addresses of {bits}, on this processor")
+            raise Refused(
+                4,
+                f"line {line.number}: it goes past 47 bits, and user memory has addresses of {bits}, on this processor",
+            )
         if line.word == "mmap" and line.arguments[3] & MAP["MAP_POPULATE"]:
             populated += line.arguments[1]
             if populated > MOST_POPULATED:
-                raise Refused(4, f"line {line.number}: MAP_POPULATE of more than 1 GiB in all would take the machine's memory")
+                raise Refused(
+                    4, f"line {line.number}: MAP_POPULATE of more than 1 GiB in all would take the machine's memory"
+                )
 
 
 def check_settings(trace: Trace, kernel: Kernel) -> None:
@@ -99,8 +114,11 @@ def check_settings(trace: Trace, kernel: Kernel) -> None:
     if settings.get("limit", 0) > kernel.most_areas:
         raise Refused(4, f"`limit areas {settings['limit']}`: vm.max_map_count is lower here")
     if stack_limit(trace) > kernel.most_stack:
-        raise Refused(4, f"`top {top:#x}` takes a stack limit of {stack_limit(trace)} bytes, and no more than {kernel.most_stack} are"
-                         " allowed here")
+        raise Refused(
+            4,
+            f"`top {top:#x}` takes a stack limit of {stack_limit(trace)} bytes, and no more than {kernel.most_stack} are"
+            " allowed here",
+        )
 
 
 def stack_limit(trace: Trace) -> int:

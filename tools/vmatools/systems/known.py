@@ -14,7 +14,9 @@ from .running import Once, Runner, Served, started
 WINDOW = Window(0x10000, 0x2000000)
 LOW_LINK = 0x38000000  # above the window, and below what an emulator has of its own
 BEGIN_SECONDS, MACHINE_SECONDS, MACHINE_GRACE = 60.0, 300.0, 60.0
-GUEST = empty.Kernel(lowest=4096, most_areas=2000, is_wide=False)  # as the runner sets it up, as the first process of a machine
+GUEST = empty.Kernel(
+    lowest=4096, most_areas=2000, is_wide=False
+)  # as the runner sets it up, as the first process of a machine
 EMPTY_SECONDS = 60.0
 
 
@@ -37,7 +39,11 @@ class System:
         """What runs scripts in this system: in a process for all of them, or in one for each."""
         program = built(self.processor or platform.machine(), self.link)
         if self.boots:
-            command = machines.user_mode_linux if self.boots == "uml" else machines.qemu_system(self.image or machines.newest_image())
+            command = (
+                machines.user_mode_linux
+                if self.boots == "uml"
+                else machines.qemu_system(self.image or machines.newest_image())
+            )
             return Served(machines.starts(program, command), MACHINE_SECONDS, MACHINE_GRACE)
         words = [*self.under, str(program)]
         if self.window and is_served:
@@ -49,18 +55,56 @@ class System:
         return GUEST if self.boots else empty.running_kernel()
 
 
-KNOWN = {system.name: system for system in (
-    System("native", "the kernel of this machine, in an empty space", link=empty.LINK, window=None, seconds=EMPTY_SECONDS),
-    System("window", "the kernel of this machine, in a window"),
-    System("qemu-x86_64", "QEMU's emulation of x86-64 for programs", "qemu-user-static", ("qemu-x86_64-static",), "x86_64"),
-    System("qemu-aarch64", "QEMU's emulation of aarch64 for programs", "qemu-user-static gcc-aarch64-linux-gnu", ("qemu-aarch64-static",),
-           "aarch64"),
-    System("valgrind", "valgrind without a tool", "valgrind", ("valgrind", "-q", "--tool=none"), window=replace(WINDOW, shift=1 << 32)),
-    System("gvisor", "gVisor's kernel in user space", "runsc", ("runsc", "--rootless", "--network=none", "--platform=ptrace", "do")),
-    System("uml", "user-mode Linux", "user-mode-linux", boots="uml", seconds=20),
-    System("machine", "a kernel of Debian under qemu-system", "qemu-system-x86 linux-image-cloud-amd64", link=empty.LINK, window=None,
-           boots="kernel", seconds=20),
-)}
+KNOWN = {
+    system.name: system
+    for system in (
+        System(
+            "native",
+            "the kernel of this machine, in an empty space",
+            link=empty.LINK,
+            window=None,
+            seconds=EMPTY_SECONDS,
+        ),
+        System("window", "the kernel of this machine, in a window"),
+        System(
+            "qemu-x86_64",
+            "QEMU's emulation of x86-64 for programs",
+            "qemu-user-static",
+            ("qemu-x86_64-static",),
+            "x86_64",
+        ),
+        System(
+            "qemu-aarch64",
+            "QEMU's emulation of aarch64 for programs",
+            "qemu-user-static gcc-aarch64-linux-gnu",
+            ("qemu-aarch64-static",),
+            "aarch64",
+        ),
+        System(
+            "valgrind",
+            "valgrind without a tool",
+            "valgrind",
+            ("valgrind", "-q", "--tool=none"),
+            window=replace(WINDOW, shift=1 << 32),
+        ),
+        System(
+            "gvisor",
+            "gVisor's kernel in user space",
+            "runsc",
+            ("runsc", "--rootless", "--network=none", "--platform=ptrace", "do"),
+        ),
+        System("uml", "user-mode Linux", "user-mode-linux", boots="uml", seconds=20),
+        System(
+            "machine",
+            "a kernel of Debian under qemu-system",
+            "qemu-system-x86 linux-image-cloud-amd64",
+            link=empty.LINK,
+            window=None,
+            boots="kernel",
+            seconds=20,
+        ),
+    )
+}
 
 
 def system_of(name: str) -> System:

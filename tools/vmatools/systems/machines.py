@@ -37,29 +37,71 @@ def padded(data: bytes) -> bytes:
 
 def newest_image() -> str:
     """The newest kernel for machines in a cloud that is installed here."""
-    found = sorted(glob.glob(IMAGES), key=lambda name: [int(part) if part.isdigit() else 0 for part in name.replace("-", ".").split(".")])
+    found = sorted(
+        glob.glob(IMAGES),
+        key=lambda name: [int(part) if part.isdigit() else 0 for part in name.replace("-", ".").split(".")],
+    )
     if not found:
         raise Refused(5, f"no kernel is there as {IMAGES} (Debian: apt-get install linux-image-cloud-amd64)")
     return found[-1]
 
 
 def user_mode_linux(initramfs: str, serial: int) -> Sequence[str]:
-    return ["linux.uml", "mem=256M", f"initrd={initramfs}", "rdinit=/init", "con=null", "con0=null,fd:2", "ssl=null", f"ssl0=fd:{serial}",
-            "quiet", "panic=1", f"umid=vma{os.getpid()}-{serial}", f"uml_dir={os.path.dirname(initramfs)}", "--", "/dev/ttyS0"]
+    return [
+        "linux.uml",
+        "mem=256M",
+        f"initrd={initramfs}",
+        "rdinit=/init",
+        "con=null",
+        "con0=null,fd:2",
+        "ssl=null",
+        f"ssl0=fd:{serial}",
+        "quiet",
+        "panic=1",
+        f"umid=vma{os.getpid()}-{serial}",
+        f"uml_dir={os.path.dirname(initramfs)}",
+        "--",
+        "/dev/ttyS0",
+    ]
 
 
 def qemu_system(image: str) -> Callable[[str, int], Sequence[str]]:
     """The command of a machine with a kernel, which runs on any host: all is emulated. Its addresses have 47 bits."""
+
     def command(initramfs: str, serial: int) -> Sequence[str]:
-        return ["qemu-system-x86_64", "-M", "q35", "-accel", "tcg,thread=single", "-cpu", "max,la57=off", "-m", "1024", "-nodefaults",
-                "-no-user-config", "-display", "none", "-no-reboot", "-kernel", image, "-initrd", initramfs, "-append",
-                "panic=-1 quiet no_timer_check mitigations=off nokaslr rdinit=/init -- /dev/ttyS0",
-                "-chardev", f"socket,id=line,fd={serial}", "-serial", "chardev:line"]
+        return [
+            "qemu-system-x86_64",
+            "-M",
+            "q35",
+            "-accel",
+            "tcg,thread=single",
+            "-cpu",
+            "max,la57=off",
+            "-m",
+            "1024",
+            "-nodefaults",
+            "-no-user-config",
+            "-display",
+            "none",
+            "-no-reboot",
+            "-kernel",
+            image,
+            "-initrd",
+            initramfs,
+            "-append",
+            "panic=-1 quiet no_timer_check mitigations=off nokaslr rdinit=/init -- /dev/ttyS0",
+            "-chardev",
+            f"socket,id=line,fd={serial}",
+            "-serial",
+            "chardev:line",
+        ]
+
     return command
 
 
 def starts(runner: Path, command: Callable[[str, int], Sequence[str]]) -> Callable[[], Port]:
     """What starts a machine with the runner as its first process."""
+
     def start() -> Port:
         folder = tempfile.TemporaryDirectory(prefix="vma-machine-")
         initramfs = Path(folder.name, "initramfs")
@@ -70,7 +112,15 @@ def starts(runner: Path, command: Callable[[str, int], Sequence[str]]) -> Callab
         if not shutil.which(words[0]):
             raise Refused(5, f"`{words[0]}` is not there")
         with theirs:
-            process = subprocess.Popen(words, stdin=subprocess.DEVNULL, stdout=errors, stderr=errors, pass_fds=[theirs.fileno()],
-                                       start_new_session=True, env={**os.environ, "TMPDIR": folder.name})
+            process = subprocess.Popen(
+                words,
+                stdin=subprocess.DEVNULL,
+                stdout=errors,
+                stderr=errors,
+                pass_fds=[theirs.fileno()],
+                start_new_session=True,
+                env={**os.environ, "TMPDIR": folder.name},
+            )
         return Port(process, ours.fileno(), ours.fileno(), errors, [ours, folder], BURST)
+
     return start

@@ -29,7 +29,7 @@ class Window:
     shift: int = 0
 
     def of(self, trace: Trace) -> tuple[int, int]:
-        """The addresses that a trace may use. With a heap these are around it, since the window lies where the system's break is."""
+        """The addresses that a trace may use. With a heap they lie around it, as the window does around the break."""
         heap = trace.settings.get("heap")
         if not heap:
             return self.low, self.high
@@ -67,7 +67,13 @@ def leaves(line: Line, low: int, high: int) -> bool:
 def finds_place(line: Line) -> bool:
     """Whether a line may leave it to the system where memory comes to lie."""
     values = line.arguments
-    return line.word == "mmap" and not values[3] & ANY_FIXED or line.word == "mremap" and len(values) == 4 and values[3] & 1 == 1
+    return (
+        line.word == "mmap"
+        and not values[3] & ANY_FIXED
+        or line.word == "mremap"
+        and len(values) == 4
+        and values[3] & 1 == 1
+    )
 
 
 def check_window(trace: Trace, window: Window) -> None:
@@ -77,7 +83,9 @@ def check_window(trace: Trace, window: Window) -> None:
         raise Refused(4, "`limit areas` counts the areas of the system itself too, so it cannot be set in a window")
     for line in trace.lines:
         if line.word == "mmap" and not line.arguments[3] & ANY_FIXED and line.arguments[0] < PAGE:
-            raise Refused(4, f"line {line.number}: it leaves the place to the system, which is not empty outside of the window")
+            raise Refused(
+                4, f"line {line.number}: it leaves the place to the system, which is not empty outside of the window"
+            )
         if line.word == "brk" and "heap" not in trace.settings:
             raise Refused(4, f"line {line.number}: brk in a window takes a `heap`")
         if leaves(line, low, high):

@@ -99,5 +99,7 @@ def check(row: Row, now: Row) -> bool:
     """Prints what is answered otherwise than it stands in the file. Returns whether all is as there."""
     for side, old, new in (("the program", row.here, now.here), ("the kernel", row.there, now.there)):
         if old != new:
-            print("\n".join([f"{row.name}: {side} answers otherwise now", *(f"  {line}" for line in differing(old, new))]))
+            print(
+                "\n".join([f"{row.name}: {side} answers otherwise now", *(f"  {line}" for line in differing(old, new))])
+            )
     return row == now

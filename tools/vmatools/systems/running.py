@@ -45,7 +45,7 @@ def turn_randomisation_off() -> None:
     """What is executed from now on has the same addresses in each run. Where that is forbidden, the runner says so."""
     with contextlib.suppress(OSError, AttributeError):
         library = ctypes.CDLL(None)
-        now = library.personality(ctypes.c_ulong(0xffffffff))
+        now = library.personality(ctypes.c_ulong(0xFFFFFFFF))
         if now >= 0:
             library.personality(ctypes.c_ulong(now | NO_RANDOMISATION))
 
@@ -93,8 +93,15 @@ class Once:
             source.write(script)
             source.seek(0)
             try:
-                process = subprocess.Popen(self.command, stdin=source, stdout=output, stderr=errors, start_new_session=True,
-                                           env=self.environment, pass_fds=self.descriptors)
+                process = subprocess.Popen(
+                    self.command,
+                    stdin=source,
+                    stdout=output,
+                    stderr=errors,
+                    start_new_session=True,
+                    env=self.environment,
+                    pass_fds=self.descriptors,
+                )
             except OSError as error:
                 raise Refused(5, f"{self.command[0]} cannot be run: {error.strerror}") from None
             ending = HUNG if not has_ended(process, seconds) else ending_of(process.returncode)
@@ -119,8 +126,8 @@ def has_ended(process: subprocess.Popen[bytes], seconds: float) -> bool:
 
 @dataclass
 class Port:
-    """A process that serves scripts, the descriptors of the bytes to it and from it, what it says on standard error, and what has to
-    stay as long as it runs."""
+    """A process that serves scripts, the descriptors of the bytes to it and from it, what it says on standard error,
+    and what has to stay as long as it runs."""
 
     process: subprocess.Popen[bytes]
     input: int
@@ -134,7 +141,9 @@ def started(command: Sequence[str]) -> Port:
     """Starts a process that serves scripts on its standard input and output."""
     errors = tempfile.TemporaryFile()
     try:
-        process = subprocess.Popen(command, stdin=subprocess.PIPE, stdout=subprocess.PIPE, stderr=errors, start_new_session=True)
+        process = subprocess.Popen(
+            command, stdin=subprocess.PIPE, stdout=subprocess.PIPE, stderr=errors, start_new_session=True
+        )
     except OSError as error:
         raise Refused(5, f"{command[0]} cannot be run: {error.strerror}") from None
     assert process.stdin is not None and process.stdout is not None
@@ -160,7 +169,9 @@ class Served:
         message = contents(port.errors).decode(errors="replace")[-10_000:] if ending else ""
         if texts and texts[-1].startswith("done "):
             status = int(texts.pop().split()[1], 16)
-            ending = HUNG if status & 127 == signal.SIGALRM else ending_of(-(status & 127) if status & 127 else status >> 8)
+            ending = (
+                HUNG if status & 127 == signal.SIGALRM else ending_of(-(status & 127) if status & 127 else status >> 8)
+            )
         else:
             self.close()
         return Ran(texts, ending, message)
@@ -170,7 +181,7 @@ class Served:
         write_all(port.input, struct.pack("<Q", len(script)))
         step = port.burst or max(len(script), 1)
         for start in range(0, len(script), step):
-            write_all(port.input, script[start:start + step])
+            write_all(port.input, script[start : start + step])
             if start + step < len(script):
                 _, ending = self.read_answers(port, seconds, "more")
                 if ending:
@@ -223,7 +234,7 @@ def read_some(descriptor: int) -> bytes:
 def write_all(descriptor: int, data: bytes) -> None:
     view = memoryview(data)
     while view:
-        view = view[os.write(descriptor, view):]
+        view = view[os.write(descriptor, view) :]
 
 
 def ended(process: subprocess.Popen[bytes]) -> str:

@@ -1,4 +1,4 @@
-"""What the runner reads: where it has to work, the files of a trace, and its operations. runner.c has the same three structures."""
+"""What the runner reads: where it works, the files of a trace and its operations. runner.c has the same structures."""
 from __future__ import annotations
 
 import struct
@@ -9,17 +9,35 @@ from . import empty
 from .places import Window
 
 MAGIC = int.from_bytes(b"vmarun2", "little")
-KINDS = {"mmap": 9, "mprotect": 10, "munmap": 11, "brk": 12, "mremap": 25, "fork": 57, "mseal": 462, "fault": 1000, "maps": 1001}
+KINDS = {
+    "mmap": 9,
+    "mprotect": 10,
+    "munmap": 11,
+    "brk": 12,
+    "mremap": 25,
+    "fork": 57,
+    "mseal": 462,
+    "fault": 1000,
+    "maps": 1001,
+}
 MODES = {"r": 0, "w": 1, "rw": 2}
 WORD = 2**64
 
 
-def script_of(trace: Trace, window: Window | None, most_areas: int = 0, seconds: int = 0,
-              descriptors: Mapping[int, int] | None = None) -> bytes:
-    """The script of a trace for a window, or for an empty space of a kernel with at most so many areas. `descriptors` has the files
-    that are open already, by their place; `seconds` is for a machine that runs it."""
+def script_of(
+    trace: Trace,
+    window: Window | None,
+    most_areas: int = 0,
+    seconds: int = 0,
+    descriptors: Mapping[int, int] | None = None,
+) -> bytes:
+    """The script of a trace for a window, or for an empty space of a kernel with at most so many areas. `descriptors`
+    has the files that are open already, by their place; `seconds` is for a machine that runs it."""
     open_files = descriptors or {}
-    files = [struct.pack("<3Q", MODES[file.mode], file.size, open_files.get(place, -1) % WORD) for place, file in enumerate(trace.files)]
+    files = [
+        struct.pack("<3Q", MODES[file.mode], file.size, open_files.get(place, -1) % WORD)
+        for place, file in enumerate(trace.files)
+    ]
     places = {file.descriptor: place for place, file in enumerate(trace.files)}
     children = {line.arguments[0] for line in trace.lines if line.word == "fork"}
     operations = [operation_of(line, places, children) for line in trace.lines]
@@ -30,9 +48,26 @@ def start_of(trace: Trace, window: Window | None, most_areas: int, seconds: int)
     settings = trace.settings
     low, high = window.of(trace) if window else (0, 0)
     room = most_areas - settings["limit"] if "limit" in settings else 0
-    return struct.pack("<17Q", MAGIC, window is None, low, high, window.shift if window else 0, settings.get("top", empty.TOP),
-                       settings.get("heap", 0), room, empty.FILLER, empty.FILLER_END, empty.OWN, empty.OWN_END, empty.STACK_BYTES,
-                       empty.stack_limit(trace), seconds, len(trace.files), len(trace.lines))
+    return struct.pack(
+        "<17Q",
+        MAGIC,
+        window is None,
+        low,
+        high,
+        window.shift if window else 0,
+        settings.get("top", empty.TOP),
+        settings.get("heap", 0),
+        room,
+        empty.FILLER,
+        empty.FILLER_END,
+        empty.OWN,
+        empty.OWN_END,
+        empty.STACK_BYTES,
+        empty.stack_limit(trace),
+        seconds,
+        len(trace.files),
+        len(trace.lines),
+    )
 
 
 def operation_of(line: Line, places: Mapping[int, int], children: set[int]) -> bytes:

@@ -1,4 +1,4 @@
-"""Answers that a system which is not empty cannot give as an empty one would: places that it searched beside memory of its own."""
+"""Answers that an empty system would give otherwise: places that were searched beside memory of the system's own."""
 from __future__ import annotations
 
 from collections.abc import Sequence
@@ -22,9 +22,14 @@ def check_searches(trace: Trace, texts: Sequence[str], window: Window | None) ->
             continue
         asked = asked or answers_of_model(trace)
         if window and is_place_of_search(line, asked[line.number]):
-            raise Refused(4, f"line {line.number}: it leaves the place to the system, which is not empty outside of the window")
+            raise Refused(
+                4, f"line {line.number}: it leaves the place to the system, which is not empty outside of the window"
+            )
         if window is None and reaches_own(line, asked[line.number], int(words[2], 16)):
-            raise Refused(4, f"line {line.number}: a search for a place comes to the addresses from {OWN:#x} on, which are this tool's own")
+            raise Refused(
+                4,
+                f"line {line.number}: a search for a place comes to the addresses from {OWN:#x} on, which are this tool's own",
+            )
 
 
 def is_doubtful(line: Line, value: int, window: Window | None) -> bool:

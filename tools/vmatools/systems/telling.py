@@ -13,14 +13,43 @@ OUR_FILE = re.compile(r"vmatrace-([0-9]+)(?: \(deleted\))?$")
 ERRORS = {**errno.errorcode, errno.EOPNOTSUPP: "EOPNOTSUPP"}
 SIGNALS = {4: "SIGILL", 5: "SIGTRAP", 7: "SIGBUS", 8: "SIGFPE", 11: "SIGSEGV"}
 CODES = {
-    4: ["ILL_ILLOPC", "ILL_ILLOPN", "ILL_ILLADR", "ILL_ILLTRP", "ILL_PRVOPC", "ILL_PRVREG", "ILL_COPROC", "ILL_BADSTK", "ILL_BADIADDR"],
+    4: [
+        "ILL_ILLOPC",
+        "ILL_ILLOPN",
+        "ILL_ILLADR",
+        "ILL_ILLTRP",
+        "ILL_PRVOPC",
+        "ILL_PRVREG",
+        "ILL_COPROC",
+        "ILL_BADSTK",
+        "ILL_BADIADDR",
+    ],
     5: ["TRAP_BRKPT", "TRAP_TRACE", "TRAP_BRANCH", "TRAP_HWBKPT", "TRAP_UNK", "TRAP_PERF"],
     7: ["BUS_ADRALN", "BUS_ADRERR", "BUS_OBJERR", "BUS_MCEERR_AR", "BUS_MCEERR_AO"],
     8: ["FPE_INTDIV", "FPE_INTOVF", "FPE_FLTDIV", "FPE_FLTOVF", "FPE_FLTUND", "FPE_FLTRES", "FPE_FLTINV", "FPE_FLTSUB"],
-    11: ["SEGV_MAPERR", "SEGV_ACCERR", "SEGV_BNDERR", "SEGV_PKUERR", "SEGV_ACCADI", "SEGV_ADIDERR", "SEGV_ADIPERR", "SEGV_MTEAERR",
-         "SEGV_MTESERR", "SEGV_CPERR"],
+    11: [
+        "SEGV_MAPERR",
+        "SEGV_ACCERR",
+        "SEGV_BNDERR",
+        "SEGV_PKUERR",
+        "SEGV_ACCADI",
+        "SEGV_ADIDERR",
+        "SEGV_ADIPERR",
+        "SEGV_MTEAERR",
+        "SEGV_MTESERR",
+        "SEGV_CPERR",
+    ],
 }
-SENT = {0: "SI_USER", 128: "SI_KERNEL", -1: "SI_QUEUE", -2: "SI_TIMER", -3: "SI_MESGQ", -4: "SI_ASYNCIO", -5: "SI_SIGIO", -6: "SI_TKILL"}
+SENT = {
+    0: "SI_USER",
+    128: "SI_KERNEL",
+    -1: "SI_QUEUE",
+    -2: "SI_TIMER",
+    -3: "SI_MESGQ",
+    -4: "SI_ASYNCIO",
+    -5: "SI_SIGIO",
+    -6: "SI_TKILL",
+}
 
 
 WORDS = {"shift", "at", "reply", "fault", "list", "died"}  # of the runner, each with a number behind it

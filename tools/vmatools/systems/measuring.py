@@ -1,4 +1,4 @@
-"""How much of what a system answers is as the program answers, and as the running kernel does, by profile: a table in Markdown."""
+"""How much of what a system answers is as the program, and as the running kernel, answer: a table in Markdown."""
 from __future__ import annotations
 
 import shutil
@@ -20,8 +20,13 @@ from .places import Refused
 LINES = 30
 READS = 8  # lists that are read on the way, of each trace
 PROGRAM_SECONDS = 600.0
-VERSIONS = {"uml": ["linux.uml", "--version"], "valgrind": ["valgrind", "--version"], "gvisor": ["runsc", "--version"],
-            "qemu-x86_64": ["qemu-x86_64-static", "--version"], "qemu-aarch64": ["qemu-aarch64-static", "--version"]}
+VERSIONS = {
+    "uml": ["linux.uml", "--version"],
+    "valgrind": ["valgrind", "--version"],
+    "gvisor": ["runsc", "--version"],
+    "qemu-x86_64": ["qemu-x86_64-static", "--version"],
+    "qemu-aarch64": ["qemu-aarch64-static", "--version"],
+}
 
 
 def missing(system: System) -> str | None:
@@ -136,9 +141,14 @@ def fit_of(system: System, kernel: empty.Kernel | None, lacks: Sequence[str]) ->
     lowest = max(kernel.lowest if kernel else PAGE, PAGE)
 
     def fitted(trace: Trace) -> Trace:
-        settings = {name: value for name, value in trace.settings.items() if name != "top" or empty.LOWEST_TOP <= value <= empty.TOP}
+        settings = {
+            name: value
+            for name, value in trace.settings.items()
+            if name != "top" or empty.LOWEST_TOP <= value <= empty.TOP
+        }
         lines = [line for line in trace.lines if line.word not in lacks]
         return Trace(trace.version, settings | {"min": lowest}, trace.files, lines).numbered()
+
     return fitted
 
 
@@ -209,5 +219,14 @@ def table_of(results: Sequence[Result]) -> list[str]:
         for score in result.profiles.values():
             whole.add(score)
         cells = [result.profiles.get(profile, Score()).text() for profile in windows.PROFILES]
-        rows.append([result.system.name, result.version, str(result.traces - result.refused), whole.text(), *cells, result.as_linux.text()])
+        rows.append(
+            [
+                result.system.name,
+                result.version,
+                str(result.traces - result.refused),
+                whole.text(),
+                *cells,
+                result.as_linux.text(),
+            ]
+        )
     return ["| " + " | ".join(row) + " |" for row in rows]
