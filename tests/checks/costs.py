@@ -41,6 +41,21 @@ def leaving(count):
     return ["vmatrace 1", f"limit areas {half}", *made, *(f"0 munmap {place(area * 7919 % half):#x} 4096" for area in range(half))]
 
 
+def moving(count):
+    """A page that moves from below many areas to above them and back, past all of them."""
+    half = count // 2
+    ends = place(-1), place(half)
+    made = (f"0 mmap {at:#x} 4096 PROT_READ {ANONYMOUS} -1 0" for at in (ends[0], *map(place, range(half))))
+    return ["vmatrace 1", *made, *(
+        f"0 mremap {ends[turn % 2]:#x} 4096 4096 MREMAP_MAYMOVE|MREMAP_FIXED {ends[1 - turn % 2]:#x}" for turn in range(half))]
+
+
+def placed(count):
+    """Calls that name no place. Each area has other access than the one above it, so that no two become one."""
+    accesses = ("PROT_READ", "PROT_READ|PROT_WRITE")
+    return ["vmatrace 1", *(f"0 mmap 0 4096 {accesses[area % 2]} MAP_PRIVATE|MAP_ANONYMOUS -1 0" for area in range(count))]
+
+
 def maps(count):
     return [f"{place(area):08x}-{place(area) + 4096:08x} r--p 00000000 00:00 0 " for area in range(count)]
 
@@ -84,9 +99,12 @@ TIME = [
     ("calls", ["serial"], given(calls), 100_000),
     ("faults", ["serial"], given(faults), 100_000),
     ("areas that come and leave", ["serial"], given(leaving), 32_000),
+    ("an area that moves past others", ["serial"], given(moving), 25_000),
     ("a load", ["generate", "{}", "1"], nothing, 100_000),
     ("a text of calls", ["check"], judged(calls), 50_000),
+    ("a text of an area that moves past others", ["check"], judged(moving), 25_000),
     ("a text of areas that come and leave", ["check"], judged(leaving), 32_000),
+    ("a text of areas that name no place", ["check"], judged(placed), 16_000),
     ("an address in a list", ["query", "0x10000000"], given(maps), 250_000),
 ]
 
