@@ -1,5 +1,6 @@
 //! Changes of a list of areas.
 ghost use Rattle.std.specs.Prelude.{◌≡◌, ◌≢◌, ◌<◌, ◌+◌, ◌-◌, ◌^◌, ◌++◌, All, IfOk, OnOk, map};
+ghost use Rattle.std.specs.Option.{option_to_list};
 ghost use Rattle.area_list.specs.Changes.{IsSmall, piece, parts_outside, cut, merge, insert_area, put};
 ghost use Rattle.area_list.specs.Attributes.{with_attr};
 ghost use Rattle.area_list.specs.Changes.{parts_changed, changed_list};
@@ -9,18 +10,30 @@ use crate::attributes::{AttrChange, with_attr};
 use mm_types::{NoMemory, Record, Span};
 use std::alloc::Global;
 
-/// Adds the part of an area from `lo` up to `hi`, if it has a page.
+/// The part of an area from the page `lo` up to `hi`, if it has a page.
 #[tactic(auto, unfolding(crate::specs::Changes::piece))]
+pub fn piece(area: &Record, lo: u64, hi: u64) -> Option<Record>
+    requires { area.now.object ≢ 0 → area.now.offset + (hi - area.now.span.lo) < 2 ^ 64 }
+    ensures { option_to_list result ≡ piece area.now lo hi }
+{
+    if lo < hi {
+        Some(Record {
+            span: Span { lo, hi },
+            offset: index_of(area, lo),
+            ..*area
+        })
+    } else {
+        None
+    }
+}
+
+/// Adds the part of an area from `lo` up to `hi`, if it has a page.
 fn push_piece(parts: &mut Vec<Record>, area: &Record, lo: u64, hi: u64) -> Result<(), NoMemory>
     requires { area.now.object ≢ 0 → area.now.offset + (hi - area.now.span.lo) < 2 ^ 64 }
     ensures { OnOk result (parts.new.items ≡ parts.old.items ++ piece area.now lo hi) }
 {
-    if lo < hi {
-        parts.push(Record {
-            span: Span { lo, hi },
-            offset: index_of(area, lo),
-            ..*area
-        })?;
+    if let Some(part) = piece(area, lo, hi) {
+        parts.push(part)?;
     }
     Ok(())
 }
