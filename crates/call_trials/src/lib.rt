@@ -2,8 +2,6 @@
 #![tactic(auto)]
 
 #[cfg(test)]
-mod generator;
-#[cfg(test)]
 mod loads;
 #[cfg(test)]
 mod rows;

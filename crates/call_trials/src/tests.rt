@@ -1,16 +1,16 @@
 //! Generated calls by plans and in the plain model, and faults between them.
 ghost use Rattle.std.specs.Prelude.{◌≤◌};
 
-use crate::generator::Generator;
 use area_model::{Stepped, grows, is_ready, model_step, model_verdict};
+use call_draws::Generator;
 use mm_types::{
     ADDRESS_LIMIT, Access, AreaList, Call, Config, Counters, FileRow, Files, NoMemory, Page, Reply,
     Text, WIDE_LIMIT,
 };
+use plain_space::PlainSpace;
 use std::alloc::{AllocError, Global};
 use std::process::Abort;
 use std::test::Fail;
-use sys_calls::PlainSpace;
 
 /// How many calls one space is given: after so many, most of its few pages are sealed.
 const CALLS: u32 = 200;

@@ -2,6 +2,5 @@
 
 mod bench;
 mod calls;
-mod generator;
 mod kinds;
 mod runs;

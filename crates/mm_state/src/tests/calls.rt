@@ -1,8 +1,8 @@
 //! Generated calls by plans on the table and in the plain model, and faults between them.
 
 use super::bench::{Bench, SLOTS, config};
-use super::generator::Generator;
 use area_model::{grows, is_ready, model_step, model_verdict};
+use call_draws::Generator;
 use mm_types::{AreaList, Call, Config, Counters, NoMemory, Page, Record, unpack};
 use std::alloc::Global;
 use std::process::Abort;

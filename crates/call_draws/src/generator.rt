@@ -1,24 +1,40 @@
-//! Generated calls of every kind on few pages, so that areas split, touch, join, move, grow and are sealed.
+//! What makes the calls.
 
 use draws::Draws;
 use mm_types::{Access, Call, MmapArgs, Page, Prot};
 
-/// What makes the calls, by numbers that follow from a seed.
+/// The address of the lowest page that is used: the heap and most areas begin at it or above.
+const BASE: u64 = 0xe000;
+
+/// The address of the last page of user memory where addresses are not wide.
+const HIGH: u64 = 0x7fff_ffff_e000;
+
+/// Makes calls and faults, by numbers that follow from a seed.
 #[derive(Drop)]
-pub(super) struct Generator {
+pub struct Generator {
     draws: Draws,
 }
 
 impl Generator {
-    pub(super) fn new(seed: u64) -> Generator {
+    /// The calls of a seed.
+    pub fn new(seed: u64) -> Generator {
         Generator {
             draws: Draws::new(seed),
         }
     }
 
-    /// An address on few pages: the heap and most areas begin at the lowest or above.
+    /// An address on few pages, or now and then at the end of the window.
     fn address(&mut self) -> u64 {
-        4096 * (14 + self.draws.below(28))
+        if self.draws.below(12) == 0 {
+            HIGH + 4096 * self.draws.below(4)
+        } else {
+            BASE + 4096 * self.draws.below(28)
+        }
+    }
+
+    /// An address that may not be aligned.
+    fn any_address(&mut self) -> u64 {
+        self.address() | if self.draws.below(8) == 0 { 1 } else { 0 }
     }
 
     fn length(&mut self) -> u64 {
@@ -62,15 +78,18 @@ impl Generator {
         }
     }
 
-    /// A page, and an access to it.
-    pub(super) fn fault(&mut self) -> (Page, Access) {
-        let page = Page(self.address() / 4096);
-        let access = match self.draws.below(3) {
+    fn access(&mut self) -> Access {
+        match self.draws.below(3) {
             0 => Access::Read,
             1 => Access::Write,
             _ => Access::Exec,
-        };
-        (page, access)
+        }
+    }
+
+    /// A page, and an access to it, as a fault has them.
+    pub fn fault(&mut self) -> (Page, Access) {
+        let page = Page(self.address() / 4096);
+        (page, self.access())
     }
 
     fn touch(&mut self) -> Call {
@@ -79,20 +98,20 @@ impl Generator {
     }
 
     /// A call: one in 32 seals.
-    pub(super) fn call(&mut self) -> Call {
+    pub fn call(&mut self) -> Call {
         match self.draws.below(32) {
             0 => Call::Mseal {
-                addr: self.address(),
+                addr: self.any_address(),
                 len: self.length(),
-                flags: 0,
+                flags: if self.draws.below(8) == 0 { 1 } else { 0 },
             },
             1..=7 => self.mmap(),
             8..=13 => Call::Munmap {
-                addr: self.address(),
+                addr: self.any_address(),
                 len: self.length(),
             },
             14..=18 => Call::Mprotect {
-                addr: self.address(),
+                addr: self.any_address(),
                 len: self.length(),
                 prot: self.prot(),
             },
