@@ -3,10 +3,10 @@
 use crate::tests::{compare_call, compare_fault, opened};
 use gen_load::load;
 use mm_types::NoMemory;
+use plain_space::PlainSpace;
 use std::alloc::Global;
 use std::process::Abort;
 use std::test::Fail;
-use sys_calls::PlainSpace;
 use trace_reader::{Op, Trace, read};
 
 /// The lines of a trace without files, one after another on a space and in the model.

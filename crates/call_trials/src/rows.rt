@@ -5,9 +5,9 @@ use mm_types::{
     ADDRESS_LIMIT, Access, Call, Config, Errno, Files, MAP_ANONYMOUS, MAP_FIXED, MAP_GROWSDOWN,
     MAP_PRIVATE, MAP_SHARED, MmapArgs, NoMemory, Page, Prot, Reply, Verdict, WIDE_LIMIT,
 };
+use plain_space::PlainSpace;
 use std::process::Abort;
 use std::test::Fail;
-use sys_calls::PlainSpace;
 
 const READ: Prot = Prot {
     read: true,

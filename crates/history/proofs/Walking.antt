@@ -16,7 +16,7 @@ use Rattle.area_rules.specs.Tables.{AddressSpace}
 use Rattle.area_rules.specs.Steps.{step, opening, after}
 use Rattle.area_rules.specs.Verdicts.{verdict}
 use Rattle.area_rules.proofs.Journals.{after-nil, after-push}
-use Rattle.sys_calls.specs.Plain.{PlainView}
+use Rattle.plain_space.specs.Plain.{PlainView}
 use Rattle.history.specs.declared.answers.Answer.{Answer}
 use Rattle.history.specs.declared.answers.Answer.TheVariants as answers
 use Rattle.history.specs.declared.answers.BadEntry.{BadEntry}

@@ -6,8 +6,8 @@ ghost use Rattle.history.specs.Internal.Walks.{shown};
 use crate::items::Content;
 use crate::same::{same_call, same_list, same_reply, same_verdict};
 use mm_types::{AreaList, Call, NoMemory, Record, Reply, Verdict};
+use plain_space::PlainSpace;
 use std::alloc::Global;
-use sys_calls::PlainSpace;
 
 /// What an item answers, or what was expected of it: a call with its reply, the verdict on a fault, a list of areas, or nothing where there
 /// is no item or no line.

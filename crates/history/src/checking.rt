@@ -15,8 +15,8 @@ use crate::items::{Content, History, Item};
 use crate::made::made_call;
 use crate::progress::Progress;
 use mm_types::{Call, Config, Entry, NoMemory};
+use plain_space::PlainSpace;
 use std::alloc::Global;
-use sys_calls::PlainSpace;
 use trace_reader::{Op, Trace, TraceLine};
 
 /// What is judged: the items of a history, against the lines of a space of this configuration, which began with some entries.

@@ -3,7 +3,7 @@ ghost use Rattle.std.specs.Prelude.{◌≡◌};
 ghost use Rattle.history.specs.Histories.{call_of};
 
 use mm_types::Call;
-use sys_calls::PlainSpace;
+use plain_space::PlainSpace;
 use trace_reader::Op;
 
 /// The call that an operation makes over an address space, if it makes one: a fault that grows touches its page.

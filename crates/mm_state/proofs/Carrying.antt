@@ -9,8 +9,8 @@ use Rattle.mm_types.specs.declared.area.Record.{Record}
 use Rattle.split_merge.specs.declared.plan.Change.{Change}
 use Rattle.split_merge.specs.Plans.{olds_of, news_of, without, IsPlanOf}
 use Rattle.split_merge.proofs.Replacing.{news_of-append}
-use Rattle.area_chunks.proofs.Editing.{news_from}
-use Rattle.area_chunks.proofs.Leaving.{there_in}
+use Rattle.split_merge.proofs.Editing.{news_from}
+use Rattle.split_merge.proofs.Leaving.{there_in}
 use Rattle.vma_lock.specs.Seats.{slots_of}
 use Rattle.area_tree.specs.declared.shown.ShownArea.{ShownArea}
 use Rattle.area_tree.specs.AreaTrees.{AreaTreeView, shown_of, areas_of, areas_shown}

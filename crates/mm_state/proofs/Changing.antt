@@ -18,7 +18,7 @@ use Rattle.split_merge.specs.declared.plan.Change.{Change}
 use Rattle.split_merge.specs.declared.plan.Change.TheVariants.{Detach, Alter, Add}
 use Rattle.split_merge.specs.Plans.{olds_of, news_of, starts_alike, without}
 use Rattle.split_merge.proofs.Counting.{contains_cases}
-use Rattle.area_chunks.proofs.Going.{without_swap}
+use Rattle.split_merge.proofs.Going.{without_swap}
 use Rattle.area_slots.specs.declared.leaving.Leaving.{Leaving}
 use Rattle.area_slots.specs.Slots.{SlotSet, one_at, times, times_left}
 use Rattle.vma_lock.specs.declared.view.View.{View}

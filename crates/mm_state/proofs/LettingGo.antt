@@ -13,8 +13,8 @@ use Rattle.split_merge.specs.declared.plan.Change.TheVariants.{Detach}
 use Rattle.split_merge.specs.Plans.{olds_of, without, IsPlanOf}
 use Rattle.split_merge.proofs.Counting.{contains_cases}
 use Rattle.split_merge.proofs.Replacing.{olds_of-append}
-use Rattle.area_chunks.proofs.Going.{without-append, without_swap}
-use Rattle.area_chunks.proofs.Leaving.{there_in}
+use Rattle.split_merge.proofs.Going.{without-append, without_swap}
+use Rattle.split_merge.proofs.Leaving.{there_in}
 use Rattle.area_slots.specs.Slots.{SlotSet, IsTaken}
 use Rattle.vma_lock.specs.Seats.{slots_of, Writes, sight, slots}
 use Rattle.area_tree.specs.declared.shown.ShownArea.{ShownArea}

@@ -12,8 +12,8 @@ use Rattle.split_merge.specs.declared.plan.Change.{Change}
 use Rattle.split_merge.specs.declared.plan.Change.TheVariants.{Detach, Alter, Add}
 use Rattle.split_merge.specs.Plans.{olds_of, news_of, without, with_all, applied, Makes}
 use Rattle.split_merge.proofs.Replacing.{each_contained}
-use Rattle.area_chunks.specs.Internal.BinarySearch.{begins_below}
-use Rattle.area_chunks.proofs.Going.{insert_is}
+use Rattle.split_merge.specs.Internal.Sorted.{begins_below}
+use Rattle.split_merge.proofs.Going.{insert_is}
 use Rattle.mm_state.specs.Internal.Boards.{IsPackable, IsSane}
 
 -- the areas of a list before which a step may be taken can be packed

@@ -15,8 +15,8 @@ use Rattle.lock_core.specs.Core.{slot_at}
 use Rattle.split_merge.specs.declared.plan.Change.{Change}
 use Rattle.split_merge.specs.Plans.{olds_of, news_of, starts_alike, without, with_all, applied, IsPlanOf, IsReal}
 use Rattle.split_merge.proofs.Counting.{contains_cases}
-use Rattle.area_chunks.specs.Internal.BinarySearch.{begins_below, BeginsAscend}
-use Rattle.area_chunks.proofs.Going.{insert_is, contains_without}
+use Rattle.split_merge.specs.Internal.Sorted.{begins_below, BeginsAscend}
+use Rattle.split_merge.proofs.Going.{insert_is, contains_without}
 use Rattle.area_slots.specs.Slots.{SlotSet, one_at}
 use Rattle.vma_lock.specs.Seats.{slots}
 use Rattle.area_tree.specs.declared.shown.ShownArea.{ShownArea}

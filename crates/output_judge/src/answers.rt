@@ -5,7 +5,7 @@ ghost use Rattle.output_judge.specs.Internal.Printed.{shown};
 
 use history::made_call;
 use mm_types::{Access, Call, Page, Reply, Verdict};
-use sys_calls::PlainSpace;
+use plain_space::PlainSpace;
 use trace_reader::Op;
 
 /// An answer, where a list is that of the address space.

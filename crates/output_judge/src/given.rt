@@ -14,8 +14,8 @@ use crate::stop::Stop;
 use maps_print::push_line;
 use mm_types::{Files, NoMemory, Record};
 use output_text::{push_count, push_forked, push_reply, push_start, push_verdict};
+use plain_space::PlainSpace;
 use std::alloc::Global;
-use sys_calls::PlainSpace;
 use trace_reader::{Op, TraceLine, decimal_of};
 
 /// A text that was compared up to the end of a line.

@@ -10,8 +10,8 @@ use crate::judgement::Judgement;
 use crate::stop::Stop;
 use history::Progress;
 use mm_types::NoMemory;
+use plain_space::PlainSpace;
 use std::alloc::Global;
-use sys_calls::PlainSpace;
 use trace_reader::{Trace, TraceLine};
 
 /// A walk over a text: how far the callers are and the address space, after the items that were compared.

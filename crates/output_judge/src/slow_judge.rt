@@ -5,10 +5,10 @@ use crate::answers::{Answer, run_op};
 use history::{Content, Item};
 use mm_types::{AreaList, NoMemory, Record};
 use output_text::{push_item, push_maps};
+use plain_space::PlainSpace;
 use std::alloc::Global;
 use std::process::Abort;
 use std::test::Fail;
-use sys_calls::PlainSpace;
 use trace_reader::{Trace, TraceLine};
 
 /// How many orders there are of four lines that are each of the thread 0 or 1.

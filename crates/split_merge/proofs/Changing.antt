@@ -15,9 +15,9 @@ use Rattle.area_list.specs.Changes.{joined_area}
 use Rattle.area_list.proofs.Elements.{Pairs, Each-append, Each-weaker, Each-also}
 use Rattle.split_merge.specs.declared.plan.Change.{Change}
 use Rattle.split_merge.specs.declared.plan.Change.TheVariants.{Alter}
-use Rattle.split_merge.specs.declared.planner.Run.{Run}
+use Rattle.split_merge.specs.declared.planner.Merging.{Merging}
 use Rattle.split_merge.specs.Plans.{olds_of}
-use Rattle.split_merge.specs.Internal.Planner.{Event, page_at, same_area, detaching, replacing, closing, taken, left, spare, covered, left_over, settled, unsettled, run_with, planned_with, along, come, come_in, weight}
+use Rattle.split_merge.specs.Internal.Planner.{Event, page_at, same_area, detaching, replacing, closing, taken, left, spare, covered, left_over, settled, unsettled, merging_with, planned_with, along, come, come_in, weight}
 use Rattle.split_merge.proofs.Replacing.{olds_of-append}
 use Rattle.split_merge.proofs.Counting.{contains_cases}
 use Rattle.split_merge.proofs.Turning.{Unlike, IsRealChange}
@@ -45,8 +45,8 @@ area_alike a = all a.span.lo a.span.hi a.object a.offset (same_attr a.attr a.att
     all lo hi object offset alike is = grind (arith, nat_tests)
 
 -- an old area that begins where the new one does is the one whose place that takes
-abbrev IsRealRun : List Record → Option Record → Record → Type 0
-IsRealRun areas old new = Each (λ area. new.span.lo ≡ area.span.lo → old ≡ Some area) areas
+abbrev IsRealMerging : List Record → Option Record → Record → Type 0
+IsRealMerging areas old new = Each (λ area. new.span.lo ≡ area.span.lo → old ≡ Some area) areas
 
 some_same : (a b : Record) → Some a ≡ Some b → a ≡ b
 some_same a b is = cc
@@ -58,7 +58,7 @@ real_detaching : (areas : List Record) (old : Option Record) → Each (IsRealCha
 real_detaching areas None = tt
 real_detaching areas (Some old) = (tt, tt)
 
-real_replacing : (areas : List Record) (old : Option Record) (new : Record) → IsRealRun areas old new → Each (IsRealChange areas) (replacing old new)
+real_replacing : (areas : List Record) (old : Option Record) (new : Record) → IsRealMerging areas old new → Each (IsRealChange areas) (replacing old new)
 real_replacing areas None new real =
     (Each-weaker (λ area. new.span.lo ≡ area.span.lo → None ≡ Some area) (Unlike new) (λ area begins same. none_some area (begins same)) areas real, tt)
 real_replacing areas (Some old) new real = by (same_area old new) refl
@@ -74,60 +74,60 @@ real_replacing areas (Some old) new real = by (same_area old new) refl
       tt,
     )
 
-abbrev pub RunIsReal : List Record → Option Run → Type 0
-RunIsReal areas run = IfSome run (λ r. IsRealRun areas r.old r.new)
+abbrev pub MergingIsReal : List Record → Option Merging → Type 0
+MergingIsReal areas merging = IfSome merging (λ m. IsRealMerging areas m.replaces m.area)
 
-real_closing : (areas : List Record) (run : Option Run) → RunIsReal areas run → Each (IsRealChange areas) (closing run)
+real_closing : (areas : List Record) (merging : Option Merging) → MergingIsReal areas merging → Each (IsRealChange areas) (closing merging)
 real_closing areas None real = tt
-real_closing areas (Some run) real = real_replacing areas run.old run.new real
+real_closing areas (Some merging) real = real_replacing areas merging.replaces merging.area real
 
 -- where a part begins, the area that begins there is the pending one, which is taken
 abbrev Fits : List Record → Option Record → List Event → Type 0
 Fits areas pending [] = Unit {0}
 Fits areas pending (Event.Begins area ∷ events) = Fits areas (Some area) events
-Fits areas pending (Event.Comes part ∷ events) = IsRealRun areas (taken pending part) part × Fits areas (left pending part) events
+Fits areas pending (Event.Comes part ∷ events) = IsRealMerging areas (taken pending part) part × Fits areas (left pending part) events
 Fits areas pending (Event.Passed area ∷ events) = Fits areas None events
 
--- a run that is real stays so where it takes an area that it has not yet
-real_sharing : (areas : List Record) (partner old : Option Record) (new : Record) → IsRealRun areas partner new → IsRealRun areas (option_or partner old) new
+-- a merging that is real stays so where it takes an area that it has not yet
+real_sharing : (areas : List Record) (partner old : Option Record) (new : Record) → IsRealMerging areas partner new → IsRealMerging areas (option_or partner old) new
 real_sharing areas None old new real = Each-weaker (λ area. new.span.lo ≡ area.span.lo → None ≡ Some area) (λ area. new.span.lo ≡ area.span.lo → old ≡ Some area)
     (λ area begins same. absurd (none_some area (begins same))) areas real
 real_sharing areas (Some partner) old new real = real
 
-real_part : (areas : List Record) (pending : Option Record) (run : Option Run) (part : Record) → RunIsReal areas run
-    → IsRealRun areas (taken pending part) part
-    → Each (IsRealChange areas) (planned_with pending run part) × RunIsReal areas (Some (run_with pending run part))
+real_part : (areas : List Record) (pending : Option Record) (merging : Option Merging) (part : Record) → MergingIsReal areas merging
+    → IsRealMerging areas (taken pending part) part
+    → Each (IsRealChange areas) (planned_with pending merging part) × MergingIsReal areas (Some (merging_with pending merging part))
 real_part areas pending None part real fits = (tt, fits)
-real_part areas pending (Some run) part real fits = by (joins run.new part)
+real_part areas pending (Some merging) part real fits = by (joins merging.area part)
   where
     by : (join : Bool)
-        → Each (IsRealChange areas) (if join then detaching (spare run.old (taken pending part)) else replacing run.old run.new)
-        × RunIsReal areas (Some (if join then record { old = option_or run.old (taken pending part); new = joined_area run.new part }
-        else record { old = taken pending part; new = part }))
-    by true = (real_detaching areas (spare run.old (taken pending part)), real_sharing areas run.old (taken pending part) run.new real)
-    by false = (real_replacing areas run.old run.new real, fits)
+        → Each (IsRealChange areas) (if join then detaching (spare merging.replaces (taken pending part)) else replacing merging.replaces merging.area)
+        × MergingIsReal areas (Some (if join then record { replaces = option_or merging.replaces (taken pending part); area = joined_area merging.area part }
+        else record { replaces = taken pending part; area = part }))
+    by true = (real_detaching areas (spare merging.replaces (taken pending part)), real_sharing areas merging.replaces (taken pending part) merging.area real)
+    by false = (real_replacing areas merging.replaces merging.area real, fits)
 
-real_settled : (areas : List Record) (pending : Option Record) (run : Option Run) → RunIsReal areas run → RunIsReal areas (settled pending run)
+real_settled : (areas : List Record) (pending : Option Record) (merging : Option Merging) → MergingIsReal areas merging → MergingIsReal areas (settled pending merging)
 real_settled areas pending None real = tt
-real_settled areas pending (Some run) real = real_sharing areas run.old (covered pending run.new) run.new real
+real_settled areas pending (Some merging) real = real_sharing areas merging.replaces (covered pending merging.area) merging.area real
 
-real_end : (areas : List Record) (pending : Option Record) (run : Option Run) → RunIsReal areas run
-    → Each (IsRealChange areas) (detaching (unsettled pending run) ++ closing (settled pending run))
-real_end areas pending run real = Each-append (IsRealChange areas) (detaching (unsettled pending run)) (closing (settled pending run))
-    (real_detaching areas (unsettled pending run)) (real_closing areas (settled pending run) (real_settled areas pending run real))
+real_end : (areas : List Record) (pending : Option Record) (merging : Option Merging) → MergingIsReal areas merging
+    → Each (IsRealChange areas) (detaching (unsettled pending merging) ++ closing (settled pending merging))
+real_end areas pending merging real = Each-append (IsRealChange areas) (detaching (unsettled pending merging)) (closing (settled pending merging))
+    (real_detaching areas (unsettled pending merging)) (real_closing areas (settled pending merging) (real_settled areas pending merging real))
 
-real_along : (areas : List Record) (pending : Option Record) (run : Option Run) (events : List Event) → RunIsReal areas run → Fits areas pending events
-    → Each (IsRealChange areas) (along pending run events)
-real_along areas pending run [] real fits = real_end areas pending run real
-real_along areas pending run (Event.Begins area ∷ events) real fits =
-    Each-append (IsRealChange areas) (detaching (unsettled pending run)) (along (Some area) (settled pending run) events) (real_detaching areas (unsettled pending run))
-    (real_along areas (Some area) (settled pending run) events (real_settled areas pending run real) fits)
-real_along areas pending run (Event.Comes part ∷ events) real fits =
-    let here = real_part areas pending run part real fits.0 in
-    Each-append (IsRealChange areas) (planned_with pending run part) (along (left pending part) (Some (run_with pending run part)) events) here.0
-    (real_along areas (left pending part) (Some (run_with pending run part)) events here.1 fits.1)
-real_along areas pending run (Event.Passed area ∷ events) real fits =
-    Each-append (IsRealChange areas) (detaching (unsettled pending run) ++ closing (settled pending run)) (along None None events) (real_end areas pending run real)
+real_along : (areas : List Record) (pending : Option Record) (merging : Option Merging) (events : List Event) → MergingIsReal areas merging → Fits areas pending events
+    → Each (IsRealChange areas) (along pending merging events)
+real_along areas pending merging [] real fits = real_end areas pending merging real
+real_along areas pending merging (Event.Begins area ∷ events) real fits =
+    Each-append (IsRealChange areas) (detaching (unsettled pending merging)) (along (Some area) (settled pending merging) events) (real_detaching areas (unsettled pending merging))
+    (real_along areas (Some area) (settled pending merging) events (real_settled areas pending merging real) fits)
+real_along areas pending merging (Event.Comes part ∷ events) real fits =
+    let here = real_part areas pending merging part real fits.0 in
+    Each-append (IsRealChange areas) (planned_with pending merging part) (along (left pending part) (Some (merging_with pending merging part)) events) here.0
+    (real_along areas (left pending part) (Some (merging_with pending merging part)) events here.1 fits.1)
+real_along areas pending merging (Event.Passed area ∷ events) real fits =
+    Each-append (IsRealChange areas) (detaching (unsettled pending merging) ++ closing (settled pending merging)) (along None None events) (real_end areas pending merging real)
     (real_along areas None None events tt fits)
 
 -- an old area is below all that comes, is the pending one, or comes
@@ -229,8 +229,8 @@ begun_in (Event.Begins area ∷ events) = area ∷ begun_in events
 begun_in (Event.Comes part ∷ events) = begun_in events
 begun_in (Event.Passed area ∷ events) = begun_in events
 
-abbrev RunHas : (Record → Type 0) → Option Run → Type 0
-RunHas P run = IfSome run (λ r. IfSome r.old P)
+abbrev MergingHas : (Record → Type 0) → Option Merging → Type 0
+MergingHas P merging = IfSome merging (λ m. IfSome m.replaces P)
 
 olds_of-detaching : (P : Record → Type 0) (old : Option Record) → IfSome old P → Each P (olds_of (detaching old))
 olds_of-detaching P None has = tt
@@ -244,9 +244,9 @@ olds_of-replacing P (Some old) new has = by (same_area old new)
     by true = tt
     by false = (has, tt)
 
-olds_of-closing : (P : Record → Type 0) (run : Option Run) → RunHas P run → Each P (olds_of (closing run))
+olds_of-closing : (P : Record → Type 0) (merging : Option Merging) → MergingHas P merging → Each P (olds_of (closing merging))
 olds_of-closing P None has = tt
-olds_of-closing P (Some run) has = olds_of-replacing P run.old run.new has
+olds_of-closing P (Some merging) has = olds_of-replacing P merging.replaces merging.area has
 
 each_olds : (P : Record → Type 0) (xs ys : List Change) → Each P (olds_of xs) → Each P (olds_of ys) → Each P (olds_of (xs ++ ys))
 each_olds P xs ys first second = subst (Each P) (sym (olds_of-append xs ys)) (Each-append P (olds_of xs) (olds_of ys) first second)
@@ -267,19 +267,19 @@ shared_has : (P : Record → Type 0) (partner old : Option Record) → IfSome pa
 shared_has P None old first second = second
 shared_has P (Some partner) old first second = first
 
-part_has : (P : Record → Type 0) (pending : Option Record) (run : Option Run) (part : Record) → IfSome pending P → RunHas P run
-    → Each P (olds_of (planned_with pending run part)) × RunHas P (Some (run_with pending run part))
-part_has P pending None part has of_run = (tt, (taken_has P pending part has).0)
-part_has P pending (Some run) part has of_run = by (joins run.new part)
+part_has : (P : Record → Type 0) (pending : Option Record) (merging : Option Merging) (part : Record) → IfSome pending P → MergingHas P merging
+    → Each P (olds_of (planned_with pending merging part)) × MergingHas P (Some (merging_with pending merging part))
+part_has P pending None part has of_merging = (tt, (taken_has P pending part has).0)
+part_has P pending (Some merging) part has of_merging = by (joins merging.area part)
   where
-    by : (join : Bool) → Each P (olds_of (if join then detaching (spare run.old (taken pending part)) else replacing run.old run.new))
-        × RunHas P (Some (if join then record { old = option_or run.old (taken pending part); new = joined_area run.new part }
-        else record { old = taken pending part; new = part }))
+    by : (join : Bool) → Each P (olds_of (if join then detaching (spare merging.replaces (taken pending part)) else replacing merging.replaces merging.area))
+        × MergingHas P (Some (if join then record { replaces = option_or merging.replaces (taken pending part); area = joined_area merging.area part }
+        else record { replaces = taken pending part; area = part }))
     by true = (
-      olds_of-detaching P (spare run.old (taken pending part)) (spare_has P run.old (taken pending part) (taken_has P pending part has).0),
-      shared_has P run.old (taken pending part) of_run (taken_has P pending part has).0,
+      olds_of-detaching P (spare merging.replaces (taken pending part)) (spare_has P merging.replaces (taken pending part) (taken_has P pending part has).0),
+      shared_has P merging.replaces (taken pending part) of_merging (taken_has P pending part has).0,
     )
-    by false = (olds_of-replacing P run.old run.new of_run, (taken_has P pending part has).0)
+    by false = (olds_of-replacing P merging.replaces merging.area of_merging, (taken_has P pending part has).0)
 
 covered_has : (P : Record → Type 0) (partner pending : Option Record) (new : Record) → IfSome pending P
     → IfSome (left_over partner pending new) P × IfSome (covered pending new) P
@@ -296,32 +296,32 @@ covered_has P None (Some old) new has = by (nat_lt old.span.lo new.span.hi)
     by true = (tt, has)
     by false = (has, tt)
 
-settled_has : (P : Record → Type 0) (pending : Option Record) (run : Option Run) → IfSome pending P → RunHas P run
-    → IfSome (unsettled pending run) P × RunHas P (settled pending run)
-settled_has P pending None has of_run = (has, tt)
-settled_has P pending (Some run) has of_run = let parts = covered_has P run.old pending run.new has in
-    (parts.0, shared_has P run.old (covered pending run.new) of_run parts.1)
+settled_has : (P : Record → Type 0) (pending : Option Record) (merging : Option Merging) → IfSome pending P → MergingHas P merging
+    → IfSome (unsettled pending merging) P × MergingHas P (settled pending merging)
+settled_has P pending None has of_merging = (has, tt)
+settled_has P pending (Some merging) has of_merging = let parts = covered_has P merging.replaces pending merging.area has in
+    (parts.0, shared_has P merging.replaces (covered pending merging.area) of_merging parts.1)
 
-end_olds : (P : Record → Type 0) (pending : Option Record) (run : Option Run) → IfSome pending P → RunHas P run
-    → Each P (olds_of (detaching (unsettled pending run) ++ closing (settled pending run)))
-end_olds P pending run has of_run = let here = settled_has P pending run has of_run in
-    each_olds P (detaching (unsettled pending run)) (closing (settled pending run)) (olds_of-detaching P (unsettled pending run) here.0)
-    (olds_of-closing P (settled pending run) here.1)
+end_olds : (P : Record → Type 0) (pending : Option Record) (merging : Option Merging) → IfSome pending P → MergingHas P merging
+    → Each P (olds_of (detaching (unsettled pending merging) ++ closing (settled pending merging)))
+end_olds P pending merging has of_merging = let here = settled_has P pending merging has of_merging in
+    each_olds P (detaching (unsettled pending merging)) (closing (settled pending merging)) (olds_of-detaching P (unsettled pending merging) here.0)
+    (olds_of-closing P (settled pending merging) here.1)
 
 -- only they go
-along_olds : (P : Record → Type 0) (pending : Option Record) (run : Option Run) (events : List Event) → IfSome pending P → RunHas P run → Each P (begun_in events)
-    → Each P (olds_of (along pending run events))
-along_olds P pending run [] has of_run each = end_olds P pending run has of_run
-along_olds P pending run (Event.Begins area ∷ events) has of_run each =
-    let here = settled_has P pending run has of_run in
-    each_olds P (detaching (unsettled pending run)) (along (Some area) (settled pending run) events) (olds_of-detaching P (unsettled pending run) here.0)
-    (along_olds P (Some area) (settled pending run) events each.0 here.1 each.1)
-along_olds P pending run (Event.Comes part ∷ events) has of_run each =
-    let here = part_has P pending run part has of_run in
-    each_olds P (planned_with pending run part) (along (left pending part) (Some (run_with pending run part)) events) here.0
-    (along_olds P (left pending part) (Some (run_with pending run part)) events (taken_has P pending part has).1 here.1 each)
-along_olds P pending run (Event.Passed area ∷ events) has of_run each =
-    each_olds P (detaching (unsettled pending run) ++ closing (settled pending run)) (along None None events) (end_olds P pending run has of_run)
+along_olds : (P : Record → Type 0) (pending : Option Record) (merging : Option Merging) (events : List Event) → IfSome pending P → MergingHas P merging → Each P (begun_in events)
+    → Each P (olds_of (along pending merging events))
+along_olds P pending merging [] has of_merging each = end_olds P pending merging has of_merging
+along_olds P pending merging (Event.Begins area ∷ events) has of_merging each =
+    let here = settled_has P pending merging has of_merging in
+    each_olds P (detaching (unsettled pending merging)) (along (Some area) (settled pending merging) events) (olds_of-detaching P (unsettled pending merging) here.0)
+    (along_olds P (Some area) (settled pending merging) events each.0 here.1 each.1)
+along_olds P pending merging (Event.Comes part ∷ events) has of_merging each =
+    let here = part_has P pending merging part has of_merging in
+    each_olds P (planned_with pending merging part) (along (left pending part) (Some (merging_with pending merging part)) events) here.0
+    (along_olds P (left pending part) (Some (merging_with pending merging part)) events (taken_has P pending part has).1 here.1 each)
+along_olds P pending merging (Event.Passed area ∷ events) has of_merging each =
+    each_olds P (detaching (unsettled pending merging) ++ closing (settled pending merging)) (along None None events) (end_olds P pending merging has of_merging)
     (along_olds P None None events tt tt each)
 
 pub changes_olds : (P : Record → Type 0) (events : List Event) → Each P (begun_in events) → Each P (olds_of (along None None events))
@@ -349,38 +349,38 @@ pub begun_comes : (P : Record → Type 0) (parts : List Record) → Each P (begu
 begun_comes P [] = tt
 begun_comes P (part ∷ parts) = begun_comes P parts
 
-end_short : (pending : Option Record) (run : Option Run)
-    → length (detaching (unsettled pending run) ++ closing (settled pending run)) ≤ option_len pending + option_len run
-end_short pending run = omega (
+end_short : (pending : Option Record) (merging : Option Merging)
+    → length (detaching (unsettled pending merging) ++ closing (settled pending merging)) ≤ option_len pending + option_len merging
+end_short pending merging = omega (
   arith,
-  length-append (detaching (unsettled pending run)) (closing (settled pending run)),
-  length-detaching (unsettled pending run),
-  length-closing (settled pending run),
-  settled_short pending run,
+  length-append (detaching (unsettled pending merging)) (closing (settled pending merging)),
+  length-detaching (unsettled pending merging),
+  length-closing (settled pending merging),
+  settled_short pending merging,
 )
 
 -- at most so many changes are planned
-along_short : (pending : Option Record) (run : Option Run) (events : List Event)
-    → length (along pending run events) ≤ option_len pending + (option_len run + weight events)
-along_short pending run [] = omega (arith, end_short pending run)
-along_short pending run (Event.Begins area ∷ events) =
+along_short : (pending : Option Record) (merging : Option Merging) (events : List Event)
+    → length (along pending merging events) ≤ option_len pending + (option_len merging + weight events)
+along_short pending merging [] = omega (arith, end_short pending merging)
+along_short pending merging (Event.Begins area ∷ events) =
     omega (
       arith,
-      length-append (detaching (unsettled pending run)) (along (Some area) (settled pending run) events),
-      length-detaching (unsettled pending run),
-      settled_short pending run,
-      along_short (Some area) (settled pending run) events,
+      length-append (detaching (unsettled pending merging)) (along (Some area) (settled pending merging) events),
+      length-detaching (unsettled pending merging),
+      settled_short pending merging,
+      along_short (Some area) (settled pending merging) events,
     )
-along_short pending run (Event.Comes part ∷ events) = omega (
+along_short pending merging (Event.Comes part ∷ events) = omega (
   arith,
-  length-append (planned_with pending run part) (along (left pending part) (Some (run_with pending run part)) events),
-  laid_short pending run part,
-  along_short (left pending part) (Some (run_with pending run part)) events,
+  length-append (planned_with pending merging part) (along (left pending part) (Some (merging_with pending merging part)) events),
+  laid_short pending merging part,
+  along_short (left pending part) (Some (merging_with pending merging part)) events,
 )
-along_short pending run (Event.Passed area ∷ events) = omega (
+along_short pending merging (Event.Passed area ∷ events) = omega (
   arith,
-  length-append (detaching (unsettled pending run) ++ closing (settled pending run)) (along None None events),
-  end_short pending run,
+  length-append (detaching (unsettled pending merging) ++ closing (settled pending merging)) (along None None events),
+  end_short pending merging,
   along_short None None events,
 )
 

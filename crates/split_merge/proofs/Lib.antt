@@ -25,3 +25,6 @@ pub mod Moving
 pub mod OneChange
 pub mod Growers
 pub mod Scanning
+pub mod Editing
+pub mod Going
+pub mod Leaving

@@ -11,8 +11,8 @@ use Rattle.area_list.proofs.Elements.{Pairs, Each-weaker}
 use Rattle.area_list.proofs.Merging.{joins_true}
 use Rattle.split_merge.specs.declared.plan.Change.{Change}
 use Rattle.split_merge.specs.declared.plan.Change.TheVariants.{Alter}
-use Rattle.split_merge.specs.declared.planner.Run.{Run}
-use Rattle.split_merge.specs.Internal.Planner.{Event, same_area, detaching, replacing, closing, taken, left, spare, covered, left_over, settled, unsettled, run_with, planned_with, along}
+use Rattle.split_merge.specs.declared.planner.Merging.{Merging}
+use Rattle.split_merge.specs.Internal.Planner.{Event, same_area, detaching, replacing, closing, taken, left, spare, covered, left_over, settled, unsettled, merging_with, planned_with, along}
 use Rattle.split_merge.proofs.Joining.{joins-joined_area}
 use Rattle.split_merge.proofs.Turning.{Turns}
 use Rattle.split_merge.proofs.Steps.{same_areas}
@@ -27,14 +27,14 @@ made None (Event.Comes part ∷ events) = made (Some part) events
 made (Some new) (Event.Comes part ∷ events) = if joins new part then made (Some (joined_area new part)) events else new ∷ made (Some part) events
 made new (Event.Passed area ∷ events) = option_to_list new ++ area ∷ made None events
 
--- the area that a run makes, and the old one that it takes the place of
-abbrev pub new_of_run : Option Run → Option Record
-new_of_run None = None
-new_of_run (Some run) = Some run.new
+-- the area that a merging makes, and the old one that it takes the place of
+abbrev pub new_of_merging : Option Merging → Option Record
+new_of_merging None = None
+new_of_merging (Some merging) = Some merging.area
 
-abbrev pub old_of_run : Option Run → List Record
-old_of_run None = []
-old_of_run (Some run) = option_to_list run.old
+abbrev pub old_of_merging : Option Merging → List Record
+old_of_merging None = []
+old_of_merging (Some merging) = option_to_list merging.replaces
 
 turns_detaching : (front : List Record) (old : Option Record) (areas : List Record) {plan : List Change} {list : List Record} → Turns plan (front ++ areas) list
     → Turns (detaching old ++ plan) (front ++ (option_to_list old ++ areas)) list
@@ -51,10 +51,10 @@ turns_replacing (Some old) new {plan = plan} {areas = areas} {list = list} t = b
     by true is = subst (λ other. Turns plan (old ∷ areas) (other ∷ list)) (same_areas old new is) (Turns.stays old t)
     by false is = Turns.becomes old new t
 
-turns_closing : (run : Option Run) {plan : List Change} {areas list : List Record} → Turns plan areas list
-    → Turns (closing run ++ plan) (old_of_run run ++ areas) (option_to_list (new_of_run run) ++ list)
+turns_closing : (merging : Option Merging) {plan : List Change} {areas list : List Record} → Turns plan areas list
+    → Turns (closing merging ++ plan) (old_of_merging merging ++ areas) (option_to_list (new_of_merging merging) ++ list)
 turns_closing None t = t
-turns_closing (Some run) t = turns_replacing run.old run.new t
+turns_closing (Some merging) t = turns_replacing merging.replaces merging.area t
 
 -- the pending area is taken or left
 pending_split : (pending : Option Record) (part : Record) (areas : List Record)
@@ -66,52 +66,52 @@ pending_split (Some old) part areas = by (nat_lt part.span.lo old.span.hi)
     by true = refl
     by false = refl
 
--- a run that has an old area leaves another over, and else takes it
+-- a merging that has an old area leaves another over, and else takes it
 turns_sharing : (partner old : Option Record) (areas : List Record) {plan : List Change} {list : List Record}
     → Turns plan (option_to_list (option_or partner old) ++ areas) list
     → Turns (detaching (spare partner old) ++ plan) (option_to_list partner ++ (option_to_list old ++ areas)) list
 turns_sharing None old areas t = t
 turns_sharing (Some partner) old areas t = turns_detaching (partner ∷ []) old areas t
 
-turns_part : (run : Run) (pending : Option Record) (part : Record) (events : List Event)
-    → ((next : Run) → Turns (along (left pending part) (Some next) events) (option_to_list next.old ++ (option_to_list (left pending part) ++ olds_in events))
-    (made (Some next.new) events))
-    → Turns (planned_with pending (Some run) part ++ along (left pending part) (Some (run_with pending (Some run) part)) events)
-    (option_to_list run.old ++ (option_to_list pending ++ olds_in events)) (made (Some run.new) (Event.Comes part ∷ events))
-turns_part run pending part events goes_on = by (joins run.new part)
+turns_part : (merging : Merging) (pending : Option Record) (part : Record) (events : List Event)
+    → ((next : Merging) → Turns (along (left pending part) (Some next) events) (option_to_list next.replaces ++ (option_to_list (left pending part) ++ olds_in events))
+    (made (Some next.area) events))
+    → Turns (planned_with pending (Some merging) part ++ along (left pending part) (Some (merging_with pending (Some merging) part)) events)
+    (option_to_list merging.replaces ++ (option_to_list pending ++ olds_in events)) (made (Some merging.area) (Event.Comes part ∷ events))
+turns_part merging pending part events goes_on = by (joins merging.area part)
   where
     joined : Record
-    joined = joined_area run.new part
+    joined = joined_area merging.area part
 
     rest : List Record
     rest = option_to_list (left pending part) ++ olds_in events
 
     by : (join : Bool)
-        → Turns ((if join then detaching (spare run.old (taken pending part)) else replacing run.old run.new)
-        ++ along (left pending part) (Some (if join then record { old = option_or run.old (taken pending part); new = joined }
-        else record { old = taken pending part; new = part })) events)
-        (option_to_list run.old ++ (option_to_list pending ++ olds_in events))
-        (if join then made (Some joined) events else run.new ∷ made (Some part) events)
-    by true = subst (λ areas. Turns (detaching (spare run.old (taken pending part))
-        ++ along (left pending part) (Some (record { old = option_or run.old (taken pending part); new = joined })) events)
-        (option_to_list run.old ++ areas) (made (Some joined) events)) (pending_split pending part (olds_in events))
-        (turns_sharing run.old (taken pending part) rest (goes_on (record { old = option_or run.old (taken pending part); new = joined })))
-    by false = turns_replacing run.old run.new
-        (subst (λ areas. Turns (along (left pending part) (Some (record { old = taken pending part; new = part })) events) areas (made (Some part) events))
-        (pending_split pending part (olds_in events)) (goes_on (record { old = taken pending part; new = part })))
+        → Turns ((if join then detaching (spare merging.replaces (taken pending part)) else replacing merging.replaces merging.area)
+        ++ along (left pending part) (Some (if join then record { replaces = option_or merging.replaces (taken pending part); area = joined }
+        else record { replaces = taken pending part; area = part })) events)
+        (option_to_list merging.replaces ++ (option_to_list pending ++ olds_in events))
+        (if join then made (Some joined) events else merging.area ∷ made (Some part) events)
+    by true = subst (λ areas. Turns (detaching (spare merging.replaces (taken pending part))
+        ++ along (left pending part) (Some (record { replaces = option_or merging.replaces (taken pending part); area = joined })) events)
+        (option_to_list merging.replaces ++ areas) (made (Some joined) events)) (pending_split pending part (olds_in events))
+        (turns_sharing merging.replaces (taken pending part) rest (goes_on (record { replaces = option_or merging.replaces (taken pending part); area = joined })))
+    by false = turns_replacing merging.replaces merging.area
+        (subst (λ areas. Turns (along (left pending part) (Some (record { replaces = taken pending part; area = part })) events) areas (made (Some part) events))
+        (pending_split pending part (olds_in events)) (goes_on (record { replaces = taken pending part; area = part })))
 
--- what is settled: the run takes the pending old area, or that goes
-turns_settling : (pending : Option Record) (run : Option Run) (areas : List Record) {plan : List Change} {list : List Record}
-    → Turns plan (old_of_run (settled pending run) ++ areas) list
-    → Turns (detaching (unsettled pending run) ++ plan) (old_of_run run ++ (option_to_list pending ++ areas)) list
+-- what is settled: the merging takes the pending old area, or that goes
+turns_settling : (pending : Option Record) (merging : Option Merging) (areas : List Record) {plan : List Change} {list : List Record}
+    → Turns plan (old_of_merging (settled pending merging) ++ areas) list
+    → Turns (detaching (unsettled pending merging) ++ plan) (old_of_merging merging ++ (option_to_list pending ++ areas)) list
 turns_settling pending None areas t = turns_detaching [] pending areas t
-turns_settling pending (Some run) areas {plan = plan} {list = list} t = by run.old pending t
+turns_settling pending (Some merging) areas {plan = plan} {list = list} t = by merging.replaces pending t
   where
-    by : (partner old : Option Record) → Turns plan (option_to_list (option_or partner (covered old run.new)) ++ areas) list
-        → Turns (detaching (left_over partner old run.new) ++ plan) (option_to_list partner ++ (option_to_list old ++ areas)) list
+    by : (partner old : Option Record) → Turns plan (option_to_list (option_or partner (covered old merging.area)) ++ areas) list
+        → Turns (detaching (left_over partner old merging.area) ++ plan) (option_to_list partner ++ (option_to_list old ++ areas)) list
     by (Some partner) old t = turns_detaching (partner ∷ []) old areas t
     by None None t = t
-    by None (Some old) t = test (nat_lt old.span.lo run.new.span.hi) t
+    by None (Some old) t = test (nat_lt old.span.lo merging.area.span.hi) t
       where
         test : (within : Bool) → Turns plan (option_to_list (if within then Some old else None) ++ areas) list
             → Turns (detaching (if within then None else Some old) ++ plan) (old ∷ areas) list
@@ -119,39 +119,39 @@ turns_settling pending (Some run) areas {plan = plan} {list = list} t = by run.o
         test false t = Turns.goes [] old areas t
 
 -- and makes the same area
-new_settled : (pending : Option Record) (run : Option Run) → new_of_run (settled pending run) ≡ new_of_run run
+new_settled : (pending : Option Record) (merging : Option Merging) → new_of_merging (settled pending merging) ≡ new_of_merging merging
 new_settled pending None = refl
-new_settled pending (Some run) = refl
+new_settled pending (Some merging) = refl
 
-turns_end : (pending : Option Record) (run : Option Run)
-    → Turns (detaching (unsettled pending run) ++ closing (settled pending run)) (old_of_run run ++ (option_to_list pending ++ [])) (option_to_list (new_of_run run))
-turns_end pending run = turns_settling pending run [] (subst (λ plan. Turns plan (old_of_run last ++ []) (option_to_list (new_of_run run))) (append-nil (closing last))
-    (subst (λ list. Turns (closing last ++ []) (old_of_run last ++ []) list) (append-nil (option_to_list (new_of_run last)) ∙ ap option_to_list (new_settled pending run))
+turns_end : (pending : Option Record) (merging : Option Merging)
+    → Turns (detaching (unsettled pending merging) ++ closing (settled pending merging)) (old_of_merging merging ++ (option_to_list pending ++ [])) (option_to_list (new_of_merging merging))
+turns_end pending merging = turns_settling pending merging [] (subst (λ plan. Turns plan (old_of_merging last ++ []) (option_to_list (new_of_merging merging))) (append-nil (closing last))
+    (subst (λ list. Turns (closing last ++ []) (old_of_merging last ++ []) list) (append-nil (option_to_list (new_of_merging last)) ∙ ap option_to_list (new_settled pending merging))
     (turns_closing last Turns.done)))
   where
-    last : Option Run
-    last = settled pending run
+    last : Option Merging
+    last = settled pending merging
 
 -- the plan along these events turns the old areas into those that are made
-pub turns_along : (pending : Option Record) (run : Option Run) (events : List Event)
-    → Turns (along pending run events) (old_of_run run ++ (option_to_list pending ++ olds_in events)) (made (new_of_run run) events)
-turns_along pending run [] = turns_end pending run
-turns_along pending run (Event.Begins area ∷ events) =
-    turns_settling pending run (area ∷ olds_in events)
-    (subst (λ new. Turns (along (Some area) (settled pending run) events) (old_of_run (settled pending run) ++ area ∷ olds_in events) (made new events))
-    (new_settled pending run) (turns_along (Some area) (settled pending run) events))
+pub turns_along : (pending : Option Record) (merging : Option Merging) (events : List Event)
+    → Turns (along pending merging events) (old_of_merging merging ++ (option_to_list pending ++ olds_in events)) (made (new_of_merging merging) events)
+turns_along pending merging [] = turns_end pending merging
+turns_along pending merging (Event.Begins area ∷ events) =
+    turns_settling pending merging (area ∷ olds_in events)
+    (subst (λ new. Turns (along (Some area) (settled pending merging) events) (old_of_merging (settled pending merging) ++ area ∷ olds_in events) (made new events))
+    (new_settled pending merging) (turns_along (Some area) (settled pending merging) events))
 turns_along pending None (Event.Comes part ∷ events) =
-    subst (λ areas. Turns (along (left pending part) (Some (record { old = taken pending part; new = part })) events) areas (made (Some part) events))
-    (pending_split pending part (olds_in events)) (turns_along (left pending part) (Some (record { old = taken pending part; new = part })) events)
-turns_along pending (Some run) (Event.Comes part ∷ events) =
-    turns_part run pending part events (λ next. turns_along (left pending part) (Some next) events)
-turns_along pending run (Event.Passed area ∷ events) =
-    subst (λ plan. Turns plan (old_of_run run ++ (option_to_list pending ++ area ∷ olds_in events)) (option_to_list (new_of_run run) ++ area ∷ made None events))
-    (sym (append_assoc (detaching (unsettled pending run)) (closing (settled pending run)) (along None None events)))
-    (turns_settling pending run (area ∷ olds_in events)
-    (subst (λ new. Turns (closing (settled pending run) ++ along None None events) (old_of_run (settled pending run) ++ area ∷ olds_in events)
-    (option_to_list new ++ area ∷ made None events)) (new_settled pending run)
-    (turns_closing (settled pending run) (Turns.stays area (turns_along None None events)))))
+    subst (λ areas. Turns (along (left pending part) (Some (record { replaces = taken pending part; area = part })) events) areas (made (Some part) events))
+    (pending_split pending part (olds_in events)) (turns_along (left pending part) (Some (record { replaces = taken pending part; area = part })) events)
+turns_along pending (Some merging) (Event.Comes part ∷ events) =
+    turns_part merging pending part events (λ next. turns_along (left pending part) (Some next) events)
+turns_along pending merging (Event.Passed area ∷ events) =
+    subst (λ plan. Turns plan (old_of_merging merging ++ (option_to_list pending ++ area ∷ olds_in events)) (option_to_list (new_of_merging merging) ++ area ∷ made None events))
+    (sym (append_assoc (detaching (unsettled pending merging)) (closing (settled pending merging)) (along None None events)))
+    (turns_settling pending merging (area ∷ olds_in events)
+    (subst (λ new. Turns (closing (settled pending merging) ++ along None None events) (old_of_merging (settled pending merging) ++ area ∷ olds_in events)
+    (option_to_list new ++ area ∷ made None events)) (new_settled pending merging)
+    (turns_closing (settled pending merging) (Turns.stays area (turns_along None None events)))))
 
 -- parts have pages
 abbrev pub HasPages : Event → Type 0

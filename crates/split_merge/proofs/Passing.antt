@@ -10,11 +10,11 @@ use Rattle.mm_types.specs.Records.{IsValid}
 use Rattle.area_list.proofs.Elements.{Each-weaker, Each-also}
 use Rattle.area_list.proofs.Order.{Before}
 use Rattle.split_merge.specs.declared.becoming.Becoming.{Becoming}
-use Rattle.split_merge.specs.declared.planner.Run.{Run}
+use Rattle.split_merge.specs.declared.planner.Merging.{Merging}
 use Rattle.split_merge.specs.declared.planner.Planner.{Planner}
 use Rattle.split_merge.specs.Plans.{is_near_either}
 use Rattle.split_merge.specs.Internal.Becoming.{low_of, high_of, parts_left, AreInOrder, BeginsOne}
-use Rattle.split_merge.specs.Internal.Planner.{Event, page_at, detaching, closing, settled, unsettled, planned_with, left, run_with, along, come, come_in, planned, reached, reached_with, laid, weight, events_at, events_along}
+use Rattle.split_merge.specs.Internal.Planner.{Event, page_at, detaching, closing, settled, unsettled, planned_with, left, merging_with, along, come, come_in, planned, reached, reached_with, laid, weight, events_at, events_along}
 use Rattle.split_merge.proofs.Lists.{filter_all, Each-filter, length-filter_at_most}
 use Rattle.split_merge.proofs.Ascending.{Pairs-filter}
 use Rattle.split_merge.proofs.Steps.{weight-append}
@@ -80,13 +80,13 @@ skipped_weight becoming page (area ∷ areas) =
     (λ below. omega (arith, weight-append (events_at becoming area) (events_along becoming areas), skipped_weight becoming page areas))
 
 -- at the end all are passed over
-all_passed : (becoming : Becoming) (pending : Option Record) (run : Option Run) (areas : List Record) → Each (λ area. is_close becoming area ≡ false) areas
-    → along pending run (events_along becoming areas) ≡ along pending run []
-all_passed becoming pending run [] far = refl
-all_passed becoming pending run (area ∷ areas) far =
-    ap (λ events. along pending run (events ++ events_along becoming areas)) (events_far becoming area far.0)
-    ∙ ap (λ rest. (detaching (unsettled pending run) ++ closing (settled pending run)) ++ rest) (all_passed becoming None None areas far.1)
-    ∙ append-nil (detaching (unsettled pending run) ++ closing (settled pending run))
+all_passed : (becoming : Becoming) (pending : Option Record) (merging : Option Merging) (areas : List Record) → Each (λ area. is_close becoming area ≡ false) areas
+    → along pending merging (events_along becoming areas) ≡ along pending merging []
+all_passed becoming pending merging [] far = refl
+all_passed becoming pending merging (area ∷ areas) far =
+    ap (λ events. along pending merging (events ++ events_along becoming areas)) (events_far becoming area far.0)
+    ∙ ap (λ rest. (detaching (unsettled pending merging) ++ closing (settled pending merging)) ++ rest) (all_passed becoming None None areas far.1)
+    ∙ append-nil (detaching (unsettled pending merging) ++ closing (settled pending merging))
 
 pub last_planned : (becoming : Becoming) (planner : Planner) (areas : List Record)
     → Each (λ area. (is_close becoming area ≡ false) × IfSome planner.coming (λ new. new.span.lo < area.span.lo)) areas
@@ -102,15 +102,15 @@ last_planned becoming planner (area ∷ areas) each = by planner.coming each.0.1
         (λ next both. both.0) (area ∷ areas) each
 
     by : (coming : Option Record) → IfSome coming (λ new. new.span.lo < area.span.lo)
-        → along planner.pending planner.run (come coming (events_along becoming (area ∷ areas))) ≡ along planner.pending planner.run (come coming [])
-    by None before = all_passed becoming planner.pending planner.run (area ∷ areas) far
+        → along planner.pending planner.merging (come coming (events_along becoming (area ∷ areas))) ≡ along planner.pending planner.merging (come coming [])
+    by None before = all_passed becoming planner.pending planner.merging (area ∷ areas) far
     by (Some new) before =
-        ap (λ events. along planner.pending planner.run (come_in new (events ++ rest))) (events_far becoming area each.0.0)
-        ∙ ap (along planner.pending planner.run) (cond-true (nat_lt new.span.lo area.span.lo) (Event.Comes new ∷ (Event.Passed area ∷ rest)) (Event.Passed area ∷ come_in new rest)
+        ap (λ events. along planner.pending planner.merging (come_in new (events ++ rest))) (events_far becoming area each.0.0)
+        ∙ ap (along planner.pending planner.merging) (cond-true (nat_lt new.span.lo area.span.lo) (Event.Comes new ∷ (Event.Passed area ∷ rest)) (Event.Passed area ∷ come_in new rest)
         (lt-ltb new.span.lo area.span.lo before))
-        ∙ ap (λ changes. planned_with planner.pending planner.run new ++ changes)
-        (ap (λ events. along (left planner.pending new) (Some (run_with planner.pending planner.run new)) (events ++ rest)) (sym (events_far becoming area each.0.0))
-        ∙ all_passed becoming (left planner.pending new) (Some (run_with planner.pending planner.run new)) (area ∷ areas) far)
+        ∙ ap (λ changes. planned_with planner.pending planner.merging new ++ changes)
+        (ap (λ events. along (left planner.pending new) (Some (merging_with planner.pending planner.merging new)) (events ++ rest)) (sym (events_far becoming area each.0.0))
+        ∙ all_passed becoming (left planner.pending new) (Some (merging_with planner.pending planner.merging new)) (area ∷ areas) far)
 
 -- a filter by a higher page
 pub ending_higher : (page from : ℕ) (areas : List Record) → page ≤ from → ending_above from (ending_above page areas) ≡ ending_above from areas

@@ -9,7 +9,7 @@ use Rattle.area_list.specs.Areas.{joins, same_attr}
 use Rattle.area_list.proofs.Merging.{joins_true}
 use Rattle.split_merge.specs.declared.plan.Change.{Change}
 use Rattle.split_merge.specs.declared.plan.Change.TheVariants.{Alter}
-use Rattle.split_merge.specs.declared.planner.Run.{Run}
+use Rattle.split_merge.specs.declared.planner.Merging.{Merging}
 use Rattle.split_merge.specs.declared.planner.Planner.{Planner}
 use Rattle.split_merge.specs.Plans.{PlanView}
 use Rattle.split_merge.specs.Internal.Planner.{Event, page_at, same_area, detaching, replacing, closing, taken, left, spare, left_over, settled, unsettled, planned_with, along, come, come_in, laid, reached, reached_with, reaching, reaching_with, held, weight, GoesAlong}
@@ -51,9 +51,9 @@ length-replacing (Some old) new = by (same_area old new)
     by true = omega arith
     by false = omega arith
 
-pub length-closing : (run : Option Run) → length (closing run) ≤ option_len run
+pub length-closing : (merging : Option Merging) → length (closing merging) ≤ option_len merging
 length-closing None = omega arith
-length-closing (Some run) = length-replacing run.old run.new
+length-closing (Some merging) = length-replacing merging.replaces merging.area
 
 taken_or_left : (pending : Option Record) (part : Record) → option_len (taken pending part) + option_len (left pending part) ≡ option_len pending
 taken_or_left None part = refl
@@ -68,15 +68,15 @@ spare_short None old = omega arith
 spare_short (Some other) old = omega arith
 
 -- a part brings at most one change more
-pub laid_short : (pending : Option Record) (run : Option Run) (part : Record)
-    → length (planned_with pending run part) + option_len (left pending part) ≤ option_len pending + option_len run
+pub laid_short : (pending : Option Record) (merging : Option Merging) (part : Record)
+    → length (planned_with pending merging part) + option_len (left pending part) ≤ option_len pending + option_len merging
 laid_short pending None part = omega (arith, taken_or_left pending part)
-laid_short pending (Some run) part = by (joins run.new part)
+laid_short pending (Some merging) part = by (joins merging.area part)
   where
-    by : (join : Bool) → length (if join then detaching (spare run.old (taken pending part)) else replacing run.old run.new) + option_len (left pending part)
+    by : (join : Bool) → length (if join then detaching (spare merging.replaces (taken pending part)) else replacing merging.replaces merging.area) + option_len (left pending part)
         ≤ option_len pending + 1
-    by true = omega (arith, length-detaching (spare run.old (taken pending part)), spare_short run.old (taken pending part), taken_or_left pending part)
-    by false = omega (arith, length-replacing run.old run.new, taken_or_left pending part)
+    by true = omega (arith, length-detaching (spare merging.replaces (taken pending part)), spare_short merging.replaces (taken pending part), taken_or_left pending part)
+    by false = omega (arith, length-replacing merging.replaces merging.area, taken_or_left pending part)
 
 left_over_short : (partner pending : Option Record) (new : Record) → option_len (left_over partner pending new) ≤ option_len pending
 left_over_short (Some partner) pending new = omega arith
@@ -88,10 +88,10 @@ left_over_short None (Some old) new = by (nat_lt old.span.lo new.span.hi)
     by false = omega arith
 
 -- what is settled brings no change more
-pub settled_short : (pending : Option Record) (run : Option Run)
-    → option_len (unsettled pending run) + option_len (settled pending run) ≤ option_len pending + option_len run
+pub settled_short : (pending : Option Record) (merging : Option Merging)
+    → option_len (unsettled pending merging) + option_len (settled pending merging) ≤ option_len pending + option_len merging
 settled_short pending None = omega arith
-settled_short pending (Some run) = omega (arith, left_over_short run.old pending run.new)
+settled_short pending (Some merging) = omega (arith, left_over_short merging.replaces pending merging.area)
 
 -- where the planner reaches a page, it holds no more
 pub reach_short : (planner : Planner) (page : ℕ) → length (reaching planner page) + held (reached planner page) ≤ held planner
@@ -103,9 +103,9 @@ reach_short planner page = by planner.coming refl
     by (Some new) is = test (nat_lt new.span.lo page)
       where
         test : (below : Bool)
-            → length (if below then planned_with planner.pending planner.run new else [])
+            → length (if below then planned_with planner.pending planner.merging new else [])
             + held (if below then laid (record planner { coming = None }) new else planner) ≤ held planner
-        test true = omega (arith, laid_short planner.pending planner.run new, ap (λ (c : Option Record). option_len c) is)
+        test true = omega (arith, laid_short planner.pending planner.merging new, ap (λ (c : Option Record). option_len c) is)
         test false = omega arith
 
 pub reach_coming : (planner : Planner) (page : ℕ) → ((reached planner page).coming ≡ None) ⊎ ((reached planner page).coming ≡ planner.coming)
@@ -123,36 +123,36 @@ reach_coming planner page = by planner.coming
 
 -- and then plans what it would have planned with the new area in its place
 pub reach_planned : (planner : Planner) (event : Event) (later : List Event)
-    → reaching planner (page_at event) ++ along (reached planner (page_at event)).pending (reached planner (page_at event)).run
+    → reaching planner (page_at event) ++ along (reached planner (page_at event)).pending (reached planner (page_at event)).merging
     (event ∷ come (reached planner (page_at event)).coming later)
-    ≡ along planner.pending planner.run (come planner.coming (event ∷ later))
+    ≡ along planner.pending planner.merging (come planner.coming (event ∷ later))
 reach_planned planner event later = by planner.coming refl
   where
     page : ℕ
     page = page_at event
 
     by : (coming : Option Record) → planner.coming ≡ coming
-        → reaching_with coming planner page ++ along (reached_with coming planner page).pending (reached_with coming planner page).run
+        → reaching_with coming planner page ++ along (reached_with coming planner page).pending (reached_with coming planner page).merging
         (event ∷ come (reached_with coming planner page).coming later)
-        ≡ along planner.pending planner.run (come coming (event ∷ later))
-    by None is = ap (λ (c : Option Record). along planner.pending planner.run (event ∷ come c later)) is
+        ≡ along planner.pending planner.merging (come coming (event ∷ later))
+    by None is = ap (λ (c : Option Record). along planner.pending planner.merging (event ∷ come c later)) is
     by (Some new) is = test (nat_lt new.span.lo page)
       where
         after : Bool → Planner
         after below = if below then laid (record planner { coming = None }) new else planner
 
         test : (below : Bool)
-            → (if below then planned_with planner.pending planner.run new else [])
+            → (if below then planned_with planner.pending planner.merging new else [])
             ++ along (if below then laid (record planner { coming = None }) new else planner).pending
-            (if below then laid (record planner { coming = None }) new else planner).run
+            (if below then laid (record planner { coming = None }) new else planner).merging
             (event ∷ come (if below then laid (record planner { coming = None }) new else planner).coming later)
-            ≡ along planner.pending planner.run (if below then Event.Comes new ∷ (event ∷ later) else event ∷ come_in new later)
+            ≡ along planner.pending planner.merging (if below then Event.Comes new ∷ (event ∷ later) else event ∷ come_in new later)
         test true = refl
-        test false = ap (λ (c : Option Record). along planner.pending planner.run (event ∷ come c later)) is
+        test false = ap (λ (c : Option Record). along planner.pending planner.merging (event ∷ come c later)) is
 
 -- a step: the page of what comes is reached, and then this is planned
 step : (event : Event) (planner : Planner) (rest : Planner → Planner) (more : Planner → List Change) (old : PlanView)
-    → ((q : Planner) (later : List Event) → more q ++ along (rest q).pending (rest q).run (come (rest q).coming later) ≡ along q.pending q.run (event ∷ come q.coming later))
+    → ((q : Planner) (later : List Event) → more q ++ along (rest q).pending (rest q).merging (come (rest q).coming later) ≡ along q.pending q.merging (event ∷ come q.coming later))
     → ((q : Planner) → length (more q) + held (rest q) ≤ held q + weight (event ∷ []))
     → ((q : Planner) → (rest q).coming ≡ q.coming)
     → GoesAlong (event ∷ []) planner (rest (reached planner (page_at event))) old
@@ -161,9 +161,9 @@ step event planner rest more old plans holds keeps =
     let page : ℕ = page_at event in
     let next : Planner = reached planner page in
     record {
-      planned = λ later. append_assoc (old.changes ++ reaching planner page) (more next) (along (rest next).pending (rest next).run (come (rest next).coming later))
+      planned = λ later. append_assoc (old.changes ++ reaching planner page) (more next) (along (rest next).pending (rest next).merging (come (rest next).coming later))
           ∙ ap (λ tail. (old.changes ++ reaching planner page) ++ tail) (plans next later)
-          ∙ append_assoc old.changes (reaching planner page) (along next.pending next.run (event ∷ come next.coming later))
+          ∙ append_assoc old.changes (reaching planner page) (along next.pending next.merging (event ∷ come next.coming later))
           ∙ ap (λ tail. old.changes ++ tail) (reach_planned planner event later);
       within = omega (
         arith,
@@ -182,56 +182,56 @@ step event planner rest more old plans holds keeps =
     kept (inr same) = inr (keeps (reached planner (page_at event)) ∙ same)
 
 pub begin_goes : (planner next last : Planner) (area : Record) (old mid new : PlanView) → next ≡ reached planner area.span.lo
-    → mid ≡ record old { changes = old.changes ++ reaching planner area.span.lo } → last ≡ record next { pending = None; run = settled next.pending next.run }
-    → new ≡ record mid { changes = mid.changes ++ detaching (unsettled next.pending next.run) }
+    → mid ≡ record old { changes = old.changes ++ reaching planner area.span.lo } → last ≡ record next { pending = None; merging = settled next.pending next.merging }
+    → new ≡ record mid { changes = mid.changes ++ detaching (unsettled next.pending next.merging) }
     → GoesAlong (Event.Begins area ∷ []) planner (record last { pending = Some area }) old new
 begin_goes planner next last area old mid new reach first settle second =
     subst (GoesAlong (Event.Begins area ∷ []) planner (record last { pending = Some area }) old)
-    (sym (second ∙ ap (λ (plan : PlanView). record plan { changes = plan.changes ++ detaching (unsettled next.pending next.run) }) first))
+    (sym (second ∙ ap (λ (plan : PlanView). record plan { changes = plan.changes ++ detaching (unsettled next.pending next.merging) }) first))
     (subst (λ (q : Planner). GoesAlong (Event.Begins area ∷ []) planner (record q { pending = Some area }) old
-    (record old { changes = (old.changes ++ reaching planner area.span.lo) ++ detaching (unsettled next.pending next.run) })) (sym settle)
-    (subst (λ (q : Planner). GoesAlong (Event.Begins area ∷ []) planner (record q { pending = Some area; run = settled q.pending q.run }) old
-    (record old { changes = (old.changes ++ reaching planner area.span.lo) ++ detaching (unsettled q.pending q.run) })) (sym reach)
-    (step (Event.Begins area) planner (λ q. record q { pending = Some area; run = settled q.pending q.run }) (λ q. detaching (unsettled q.pending q.run)) old
-    (λ q later. refl) (λ q. omega (arith, length-detaching (unsettled q.pending q.run), settled_short q.pending q.run)) (λ q. refl))))
+    (record old { changes = (old.changes ++ reaching planner area.span.lo) ++ detaching (unsettled next.pending next.merging) })) (sym settle)
+    (subst (λ (q : Planner). GoesAlong (Event.Begins area ∷ []) planner (record q { pending = Some area; merging = settled q.pending q.merging }) old
+    (record old { changes = (old.changes ++ reaching planner area.span.lo) ++ detaching (unsettled q.pending q.merging) })) (sym reach)
+    (step (Event.Begins area) planner (λ q. record q { pending = Some area; merging = settled q.pending q.merging }) (λ q. detaching (unsettled q.pending q.merging)) old
+    (λ q later. refl) (λ q. omega (arith, length-detaching (unsettled q.pending q.merging), settled_short q.pending q.merging)) (λ q. refl))))
 
 pub come_to_goes : (planner next last : Planner) (part : Record) (old mid new : PlanView) → next ≡ reached planner part.span.lo
     → mid ≡ record old { changes = old.changes ++ reaching planner part.span.lo } → last ≡ laid next part
-    → new ≡ record mid { changes = mid.changes ++ planned_with next.pending next.run part }
+    → new ≡ record mid { changes = mid.changes ++ planned_with next.pending next.merging part }
     → GoesAlong (Event.Comes part ∷ []) planner last old new
 come_to_goes planner next last part old mid new reach first lay second =
     subst (GoesAlong (Event.Comes part ∷ []) planner last old)
-    (sym (second ∙ ap (λ (plan : PlanView). record plan { changes = plan.changes ++ planned_with next.pending next.run part }) first))
+    (sym (second ∙ ap (λ (plan : PlanView). record plan { changes = plan.changes ++ planned_with next.pending next.merging part }) first))
     (subst (λ (q : Planner). GoesAlong (Event.Comes part ∷ []) planner q old
-    (record old { changes = (old.changes ++ reaching planner part.span.lo) ++ planned_with next.pending next.run part })) (sym lay)
+    (record old { changes = (old.changes ++ reaching planner part.span.lo) ++ planned_with next.pending next.merging part })) (sym lay)
     (subst (λ (q : Planner). GoesAlong (Event.Comes part ∷ []) planner (laid q part) old
-    (record old { changes = (old.changes ++ reaching planner part.span.lo) ++ planned_with q.pending q.run part })) (sym reach)
-    (step (Event.Comes part) planner (λ q. laid q part) (λ q. planned_with q.pending q.run part) old
-    (λ q later. refl) (λ q. omega (arith, laid_short q.pending q.run part)) (λ q. refl))))
+    (record old { changes = (old.changes ++ reaching planner part.span.lo) ++ planned_with q.pending q.merging part })) (sym reach)
+    (step (Event.Comes part) planner (λ q. laid q part) (λ q. planned_with q.pending q.merging part) old
+    (λ q later. refl) (λ q. omega (arith, laid_short q.pending q.merging part)) (λ q. refl))))
 
 pub pass_goes : (planner next last : Planner) (area : Record) (old mid more new : PlanView) → next ≡ reached planner area.span.lo
-    → mid ≡ record old { changes = old.changes ++ reaching planner area.span.lo } → last ≡ record next { pending = None; run = settled next.pending next.run }
-    → more ≡ record mid { changes = mid.changes ++ detaching (unsettled next.pending next.run) }
-    → new ≡ record more { changes = more.changes ++ closing last.run }
-    → GoesAlong (Event.Passed area ∷ []) planner (record last { run = None }) old new
+    → mid ≡ record old { changes = old.changes ++ reaching planner area.span.lo } → last ≡ record next { pending = None; merging = settled next.pending next.merging }
+    → more ≡ record mid { changes = mid.changes ++ detaching (unsettled next.pending next.merging) }
+    → new ≡ record more { changes = more.changes ++ closing last.merging }
+    → GoesAlong (Event.Passed area ∷ []) planner (record last { merging = None }) old new
 pass_goes planner next last area old mid more new reach first settle second third =
-    subst (GoesAlong (Event.Passed area ∷ []) planner (record last { run = None }) old)
-    (sym (third ∙ ap (λ (plan : PlanView). record plan { changes = plan.changes ++ closing last.run })
-    (second ∙ ap (λ (plan : PlanView). record plan { changes = plan.changes ++ detaching (unsettled next.pending next.run) }) first)
-    ∙ ap (λ changes. record old { changes = changes }) (append_assoc (old.changes ++ reaching planner area.span.lo) (detaching (unsettled next.pending next.run)) (closing last.run))))
-    (subst (λ (q : Planner). GoesAlong (Event.Passed area ∷ []) planner (record q { run = None }) old
-    (record old { changes = (old.changes ++ reaching planner area.span.lo) ++ (detaching (unsettled next.pending next.run) ++ closing q.run) })) (sym settle)
-    (subst (λ (q : Planner). GoesAlong (Event.Passed area ∷ []) planner (record q { pending = None; run = None }) old
-    (record old { changes = (old.changes ++ reaching planner area.span.lo) ++ (detaching (unsettled q.pending q.run) ++ closing (settled q.pending q.run)) })) (sym reach)
-    (step (Event.Passed area) planner (λ q. record q { pending = None; run = None })
-    (λ q. detaching (unsettled q.pending q.run) ++ closing (settled q.pending q.run)) old
+    subst (GoesAlong (Event.Passed area ∷ []) planner (record last { merging = None }) old)
+    (sym (third ∙ ap (λ (plan : PlanView). record plan { changes = plan.changes ++ closing last.merging })
+    (second ∙ ap (λ (plan : PlanView). record plan { changes = plan.changes ++ detaching (unsettled next.pending next.merging) }) first)
+    ∙ ap (λ changes. record old { changes = changes }) (append_assoc (old.changes ++ reaching planner area.span.lo) (detaching (unsettled next.pending next.merging)) (closing last.merging))))
+    (subst (λ (q : Planner). GoesAlong (Event.Passed area ∷ []) planner (record q { merging = None }) old
+    (record old { changes = (old.changes ++ reaching planner area.span.lo) ++ (detaching (unsettled next.pending next.merging) ++ closing q.merging) })) (sym settle)
+    (subst (λ (q : Planner). GoesAlong (Event.Passed area ∷ []) planner (record q { pending = None; merging = None }) old
+    (record old { changes = (old.changes ++ reaching planner area.span.lo) ++ (detaching (unsettled q.pending q.merging) ++ closing (settled q.pending q.merging)) })) (sym reach)
+    (step (Event.Passed area) planner (λ q. record q { pending = None; merging = None })
+    (λ q. detaching (unsettled q.pending q.merging) ++ closing (settled q.pending q.merging)) old
     (λ q later. refl)
     (λ q. omega (
       arith,
-      length-append (detaching (unsettled q.pending q.run)) (closing (settled q.pending q.run)),
-      length-detaching (unsettled q.pending q.run),
-      length-closing (settled q.pending q.run),
-      settled_short q.pending q.run,
+      length-append (detaching (unsettled q.pending q.merging)) (closing (settled q.pending q.merging)),
+      length-detaching (unsettled q.pending q.merging),
+      length-closing (settled q.pending q.merging),
+      settled_short q.pending q.merging,
     )) (λ q. refl))))
 
 pub weight-append : (xs ys : List Event) → weight (xs ++ ys) ≡ weight xs + weight ys
@@ -249,7 +249,7 @@ pub goes_on : (xs ys : List Event) {planner next last : Planner} {old new newest
     → GoesAlong ys next last new newest → GoesAlong (xs ++ ys) planner last old newest
 goes_on xs ys {planner = planner} {next = next} {last = last} {old = old} first second = record {
   planned = λ later. second.planned later ∙ first.planned (ys ++ later)
-      ∙ ap (λ events. old.changes ++ along planner.pending planner.run (come planner.coming events)) (sym (append_assoc xs ys later));
+      ∙ ap (λ events. old.changes ++ along planner.pending planner.merging (come planner.coming events)) (sym (append_assoc xs ys later));
   within = omega (arith, first.within, second.within, weight-append xs ys);
   room = second.room ∙ first.room;
   coming = kept second.coming first.coming;
@@ -276,44 +276,44 @@ reach_room planner next page old mid reach first more room = omega (
 )
 
 -- the room that is left where the pending old area was settled
-pub settle_room : (planner next : Planner) (mid new : PlanView) (more : ℕ) → next ≡ record planner { pending = None; run = settled planner.pending planner.run }
-    → new ≡ record mid { changes = mid.changes ++ detaching (unsettled planner.pending planner.run) }
-    → length mid.changes + (option_len planner.pending + (option_len planner.run + more)) ≤ mid.room → length new.changes + (option_len next.run + more) ≤ new.room
+pub settle_room : (planner next : Planner) (mid new : PlanView) (more : ℕ) → next ≡ record planner { pending = None; merging = settled planner.pending planner.merging }
+    → new ≡ record mid { changes = mid.changes ++ detaching (unsettled planner.pending planner.merging) }
+    → length mid.changes + (option_len planner.pending + (option_len planner.merging + more)) ≤ mid.room → length new.changes + (option_len next.merging + more) ≤ new.room
 settle_room planner next mid new more settle is room = omega (
   arith,
   ap (λ (plan : PlanView). length plan.changes) is,
   ap (λ (plan : PlanView). plan.room) is,
-  length-append mid.changes (detaching (unsettled planner.pending planner.run)),
-  length-detaching (unsettled planner.pending planner.run),
-  settled_short planner.pending planner.run,
-  ap (λ (p : Planner). option_len p.run) settle,
+  length-append mid.changes (detaching (unsettled planner.pending planner.merging)),
+  length-detaching (unsettled planner.pending planner.merging),
+  settled_short planner.pending planner.merging,
+  ap (λ (p : Planner). option_len p.merging) settle,
   room,
 )
 
 -- the room that is left at the end, after the new area if that is still to come
 pub last_room : (planner next : Planner) (new : Record) (old mid : PlanView) → planner.coming ≡ Some new → next ≡ laid planner new
-    → mid ≡ record old { changes = old.changes ++ planned_with planner.pending planner.run new } → length old.changes + held planner ≤ old.room
-    → length mid.changes + (option_len next.pending + option_len next.run) ≤ mid.room
+    → mid ≡ record old { changes = old.changes ++ planned_with planner.pending planner.merging new } → length old.changes + held planner ≤ old.room
+    → length mid.changes + (option_len next.pending + option_len next.merging) ≤ mid.room
 last_room planner next new old mid coming lay is room = omega (
   arith,
   ap (λ (plan : PlanView). length plan.changes) is,
   ap (λ (plan : PlanView). plan.room) is,
-  length-append old.changes (planned_with planner.pending planner.run new),
-  laid_short planner.pending planner.run new,
+  length-append old.changes (planned_with planner.pending planner.merging new),
+  laid_short planner.pending planner.merging new,
   ap (λ (c : Option Record). option_len c) coming,
   ap (λ (p : Planner). option_len p.pending) lay,
-  ap (λ (p : Planner). option_len p.run) lay,
+  ap (λ (p : Planner). option_len p.merging) lay,
   room,
 )
 
 pub same_room : (planner next : Planner) (old mid : PlanView) → next ≡ planner → mid ≡ old → length old.changes + held planner ≤ old.room
-    → length mid.changes + (option_len next.pending + option_len next.run) ≤ mid.room
+    → length mid.changes + (option_len next.pending + option_len next.merging) ≤ mid.room
 same_room planner next old mid same is room = omega (
   arith,
   ap (λ (plan : PlanView). length plan.changes) is,
   ap (λ (plan : PlanView). plan.room) is,
   ap (λ (p : Planner). option_len p.pending) same,
-  ap (λ (p : Planner). option_len p.run) same,
+  ap (λ (p : Planner). option_len p.merging) same,
   room,
 )
 

@@ -23,7 +23,7 @@ module _ (becoming : Becoming) (spans : AreInOrder (low_of becoming) (high_of be
   rest_from page = events_along becoming (ending_above page areas)
 
   -- at the begin nothing is planned
-  pub first_planned : (new : Option Record) (planner : Planner) (page : ℕ) → BeginsOne becoming new → planner ≡ record { coming = new; pending = None; run = None }
+  pub first_planned : (new : Option Record) (planner : Planner) (page : ℕ) → BeginsOne becoming new → planner ≡ record { coming = new; pending = None; merging = None }
       → page ≡ (low_of becoming).lo - 1 → planned planner (rest_from page) ≡ all_planned becoming new areas
   first_planned new planner page begins is low =
       ap (λ (p : Planner). planned p (rest_from page)) is
@@ -58,13 +58,13 @@ module _ (becoming : Becoming) (spans : AreInOrder (low_of becoming) (high_of be
       ∙ ap (λ events. events ++ rest_from area.span.hi) (events_far becoming area (is_far becoming area (inr low) (inl high)))
 
   -- and then all are passed over up to the upper one
-  pub passed_planned : (area : Record) (from : ℕ) (planner : Planner) → IsValid area → Each (Spares area.span.hi) areas → planner.pending ≡ None → planner.run ≡ None
+  pub passed_planned : (area : Record) (from : ℕ) (planner : Planner) → IsValid area → Each (Spares area.span.hi) areas → planner.pending ≡ None → planner.merging ≡ None
       → IfSome planner.coming (λ new. new.span.lo ≡ (high_of becoming).lo) → (low_of becoming).hi < area.span.lo → area.span.hi < (high_of becoming).lo
       → from ≡ (high_of becoming).lo - 1 → planned planner (rest_from from) ≡ planned planner (rest_from area.span.hi)
-  passed_planned area from planner valid spares pending run begins low high is =
+  passed_planned area from planner valid spares pending merging begins low high is =
       let above = ending_above area.span.hi areas in
       let settled : (events : List Event) → planned planner events ≡ along None None (come planner.coming events) =
-      λ events. ap (λ p. along p planner.run (come planner.coming events)) pending ∙ ap (λ r. along None r (come planner.coming events)) run in
+      λ events. ap (λ p. along p planner.merging (come planner.coming events)) pending ∙ ap (λ r. along None r (come planner.coming events)) merging in
       settled (rest_from from)
       ∙ ap (λ list. along None None (come planner.coming (events_along becoming list))) (sym (ending_higher area.span.hi from areas (omega arith)))
       ∙ sym (skipped becoming planner.coming from above (in_order_above area.span.hi areas order)
@@ -120,7 +120,7 @@ weight_along becoming (area ∷ areas) = by (is_close becoming area) refl (weigh
 
 -- the room that the walk wants
 pub first_within : (becoming : Becoming) (areas : List Record) (new : Option Record) (planner : Planner) (page : ℕ) → AreInOrder (low_of becoming) (high_of becoming) → InOrder areas
-    → planner ≡ record { coming = new; pending = None; run = None }
+    → planner ≡ record { coming = new; pending = None; merging = None }
     → held planner + weight (events_along becoming (ending_above page areas)) ≤ 2 * length areas + 3
 first_within becoming areas new planner page spans order is = omega (
   arith,

@@ -7,7 +7,6 @@ mod becoming;
 mod cut;
 mod growth;
 mod lookups;
-mod parts;
 mod plan;
 mod planned;
 mod planner;

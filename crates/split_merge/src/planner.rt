@@ -8,16 +8,15 @@ ghost use Rattle.split_merge.specs.Internal.Becoming.{parts_outside_both, parts_
 ghost use Rattle.split_merge.specs.Internal.Planner.{Event, detaching, replacing, closing, taken, left, spare, settled, unsettled, planned_with, laid, reached, reaching, planned, held, weight, GoesAlong};
 
 use crate::becoming::Becoming;
-use crate::parts::piece;
 use crate::plan::{Change, Plan};
-use area_list::{AttrChange, joins, with_attr};
+use area_list::{AttrChange, joins, piece, with_attr};
 use mm_types::{Record, Span};
 
-/// An area of the new list that is being made, and the old area that it takes the place of, if there is one.
+/// An area of the new list that is being made, and the old area that it replaces, if there is one.
 #[derive(Clone, Copy)]
-pub(crate) struct Run {
-    old: Option<Record>,
-    new: Record,
+pub(crate) struct Merging {
+    replaces: Option<Record>,
+    area: Record,
 }
 
 /// The plan of a call along a list. Of the old list and the new one, each by ascending page, it plans the difference: an old area
@@ -30,7 +29,7 @@ pub(crate) struct Planner {
     /// The last old area, until a part of it comes.
     pending: Option<Record>,
     /// The area that is being made.
-    run: Option<Run>,
+    merging: Option<Merging>,
 }
 
 /// Plans that the old area goes, if there is one.
@@ -62,12 +61,12 @@ fn replace(old: &Option<Record>, new: &Record, plan: &mut Plan)
 }
 
 /// Plans the area that was made, if there is one.
-fn close(run: &Option<Run>, plan: &mut Plan)
-    requires { length plan.old.changes + option_len run.now ≤ plan.old.room }
-    ensures { plan.new ≡ record plan.old { changes = plan.old.changes ++ closing run.now } }
+fn close(merging: &Option<Merging>, plan: &mut Plan)
+    requires { length plan.old.changes + option_len merging.now ≤ plan.old.room }
+    ensures { plan.new ≡ record plan.old { changes = plan.old.changes ++ closing merging.now } }
 {
-    if let Some(run) = run {
-        replace(&run.old, &run.new, plan);
+    if let Some(merging) = merging {
+        replace(&merging.replaces, &merging.area, plan);
     }
 }
 
@@ -82,7 +81,7 @@ fn take_pending(pending: &mut Option<Record>, part: &Record) -> Option<Record>
     }
 }
 
-impl Run {
+impl Merging {
     ghost use Rattle.std.specs.Prelude.{◌≡◌, ◌≤◌, ◌+◌, ◌++◌, length};
     ghost use Rattle.std.specs.Option.{option_len, option_or};
     ghost use Rattle.area_list.specs.Changes.{joined_area};
@@ -91,14 +90,14 @@ impl Run {
     /// Goes on with a part that joins, and takes the place of the old area, if it has none yet.
     fn go_on(&mut self, part: &Record, old: Option<Record>, plan: &mut Plan)
         requires { length plan.old.changes + 1 ≤ plan.old.room }
-        ensures run { self.exit.now ≡ record { old = option_or self.entry.now.old old; new = joined_area self.entry.now.new part.now } }
-        ensures plan { plan.new ≡ record plan.old { changes = plan.old.changes ++ detaching (spare self.entry.now.old old) } }
+        ensures merging { self.new ≡ record { replaces = option_or self.old.replaces old; area = joined_area self.old.area part.now } }
+        ensures plan { plan.new ≡ record plan.old { changes = plan.old.changes ++ detaching (spare self.old.replaces old) } }
     {
-        self.new.span.hi = part.span.hi;
-        if self.old.is_some() {
+        self.area.span.hi = part.span.hi;
+        if self.replaces.is_some() {
             detach(&old, plan);
         } else {
-            self.old = old;
+            self.replaces = old;
         }
     }
 }
@@ -114,12 +113,12 @@ impl Planner {
 
     /// A planner at the begin of a list, with at most one new area to come.
     pub(crate) fn new(coming: Option<Record>) -> Planner
-        ensures { result ≡ record { coming = coming; pending = None; run = None } }
+        ensures { result ≡ record { coming = coming; pending = None; merging = None } }
     {
         Planner {
             coming,
             pending: None,
-            run: None,
+            merging: None,
         }
     }
 
@@ -128,31 +127,34 @@ impl Planner {
     fn lay(&mut self, part: &Record, plan: &mut Plan)
         requires { length plan.old.changes + 1 ≤ plan.old.room }
         ensures planner { self.new ≡ laid self.old part.now }
-        ensures plan { plan.new ≡ record plan.old { changes = plan.old.changes ++ planned_with self.old.pending self.old.run part.now } }
+        ensures plan { plan.new ≡ record plan.old { changes = plan.old.changes ++ planned_with self.old.pending self.old.merging part.now } }
     {
         let old = take_pending(&mut self.pending, part);
-        if let Some(run) = &mut self.run {
-            if joins(&run.new, part) {
-                run.go_on(part, old, plan);
+        if let Some(merging) = &mut self.merging {
+            if joins(&merging.area, part) {
+                merging.go_on(part, old, plan);
                 return;
             }
-            replace(&run.old, &run.new, plan);
+            replace(&merging.replaces, &merging.area, plan);
         }
-        self.run = Some(Run { old, new: *part });
+        self.merging = Some(Merging {
+            replaces: old,
+            area: *part,
+        });
     }
 
     /// Settles what becomes of the pending old area, of which no more parts come: the area that is being made takes its place, if it
     /// has its first page and no old area yet, and else it goes.
     fn settle(&mut self, plan: &mut Plan)
         requires { length plan.old.changes + option_len self.old.pending ≤ plan.old.room }
-        ensures planner { self.new ≡ record self.old { pending = None; run = settled self.old.pending self.old.run } }
-        ensures plan { plan.new ≡ record plan.old { changes = plan.old.changes ++ detaching (unsettled self.old.pending self.old.run) } }
+        ensures planner { self.new ≡ record self.old { pending = None; merging = settled self.old.pending self.old.merging } }
+        ensures plan { plan.new ≡ record plan.old { changes = plan.old.changes ++ detaching (unsettled self.old.pending self.old.merging) } }
     {
         if let Some(pending) = self.pending {
             self.pending = None;
-            if let Some(run) = &mut self.run {
-                if run.old.is_none() && pending.span.lo < run.new.span.hi {
-                    run.old = Some(pending);
+            if let Some(merging) = &mut self.merging {
+                if merging.replaces.is_none() && pending.span.lo < merging.area.span.hi {
+                    merging.replaces = Some(pending);
                     return;
                 }
             }
@@ -264,24 +266,24 @@ impl Planner {
         requires { length plan.old.changes + held self.old ≤ plan.old.room }
         ensures along { GoesAlong (Event.Passed area.now ∷ []) self.old self.new plan.old plan.new }
         ensures pending { self.new.pending ≡ None }
-        ensures run { self.new.run ≡ None }
+        ensures merging { self.new.merging ≡ None }
         ensures coming { self.new.coming ≡ (reached self.old area.now.span.lo).coming }
     {
         self.reach(area.span.lo, plan);
         self.settle(plan);
-        close(&self.run, plan);
-        self.run = None;
+        close(&self.merging, plan);
+        self.merging = None;
     }
 
     /// Comes to the end of the list.
-    pub(crate) fn finish(&mut self, plan: &mut Plan)
-        requires { length plan.old.changes + held self.old ≤ plan.old.room }
-        ensures { plan.new ≡ record plan.old { changes = plan.old.changes ++ planned self.old [] } }
+    pub(crate) fn finish(mut self, plan: &mut Plan)
+        requires { length plan.old.changes + held self ≤ plan.old.room }
+        ensures { plan.new ≡ record plan.old { changes = plan.old.changes ++ planned self [] } }
     {
         if let Some(new) = self.coming {
             self.lay(&new, plan);
         }
         self.settle(plan);
-        close(&self.run, plan);
+        close(&self.merging, plan);
     }
 }

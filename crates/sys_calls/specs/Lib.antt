@@ -1,3 +1,1 @@
 pub mod Touches
-pub mod Plain
-pub mod Kept

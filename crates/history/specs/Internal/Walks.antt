@@ -7,7 +7,7 @@ use Rattle.trace_reader.specs.declared.trace.TraceLine.{TraceLine}
 use Rattle.trace_reader.specs.Values.{AreNumbered}
 use Rattle.area_rules.specs.Tables.{AddressSpace}
 use Rattle.area_rules.specs.Steps.{after}
-use Rattle.sys_calls.specs.Plain.{PlainView}
+use Rattle.plain_space.specs.Plain.{PlainView}
 use Rattle.history.specs.declared.answers.Answer.{Answer}
 use Rattle.history.specs.declared.answers.Answer.TheVariants as answers
 use Rattle.history.specs.declared.answers.CheckError.{CheckError}

@@ -9,13 +9,13 @@ use super::playing::{Step, drive, judge};
 use super::{READ, config};
 use crate::{Closed, Ready, Space, SpaceName};
 use mm_types::{Access, Call, Config, DEFAULT_TOP, Entry, NoMemory, Page, Reply};
+use plain_space::PlainSpace;
 use std::alloc::{AllocError, Global};
 use std::marker::Brand;
 use std::process::Abort;
 use std::sync::Wait;
 use std::test::Fail;
 use std::thread::Threads;
-use sys_calls::PlainSpace;
 
 /// How many entries were made before.
 const BEFORE: u64 = 1000;

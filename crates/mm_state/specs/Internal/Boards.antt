@@ -15,7 +15,7 @@ use Rattle.lock_core.specs.Core.{slot_at, detached_row}
 use Rattle.split_merge.specs.declared.plan.Change.{Change}
 use Rattle.split_merge.specs.declared.plan.Change.TheVariants.{Detach, Alter, Add}
 use Rattle.split_merge.specs.Plans.{olds_of, news_of, without, applied, IsPlanOf, IsReal}
-use Rattle.area_chunks.specs.Internal.BinarySearch.{BeginsAscend}
+use Rattle.split_merge.specs.Internal.Sorted.{BeginsAscend}
 use Rattle.area_slots.specs.declared.leaving.Leaving.{Leaving}
 use Rattle.area_slots.specs.Slots.{SlotSet, gone_by, gone_after, times, times_left}
 use Rattle.vma_lock.specs.declared.view.View.{View}

@@ -7,7 +7,7 @@ use Rattle.area_list.specs.Changes.{joined_area}
 use Rattle.split_merge.specs.declared.plan.Change.{Change}
 use Rattle.split_merge.specs.declared.plan.Change.TheVariants.{Detach, Alter, Add}
 use Rattle.split_merge.specs.declared.becoming.Becoming.{Becoming}
-use Rattle.split_merge.specs.declared.planner.Run.{Run}
+use Rattle.split_merge.specs.declared.planner.Merging.{Merging}
 use Rattle.split_merge.specs.declared.planner.Planner.{Planner}
 use Rattle.split_merge.specs.Internal.Becoming.{low_of, high_of, parts_left}
 use Rattle.split_merge.specs.Plans.{PlanView, is_near_either}
@@ -38,10 +38,10 @@ abbrev pub replacing : Option Record → Record → List Change
 replacing None new = Add new ∷ []
 replacing (Some old) new = if same_area old new then [] else Alter old new ∷ []
 
--- what is planned where a run ends, if there is one
-abbrev pub closing : Option Run → List Change
+-- what is planned for the area that is being made, if there is one, where nothing more joins it
+abbrev pub closing : Option Merging → List Change
 closing None = []
-closing (Some run) = replacing run.old run.new
+closing (Some merging) = replacing merging.replaces merging.area
 
 -- the pending old area, where a part begins below its end
 abbrev pub taken : Option Record → Record → Option Record
@@ -53,7 +53,7 @@ abbrev pub left : Option Record → Record → Option Record
 left None part = None
 left (Some old) part = if nat_lt part.span.lo old.span.hi then None else Some old
 
--- an old area for a run that has another already, which leaves it over
+-- an old area that is left over, since the area that is being made takes the place of another already
 abbrev pub spare : Option Record → Option Record → Option Record
 spare None old = None
 spare (Some partner) old = old
@@ -69,32 +69,32 @@ left_over (Some partner) pending new = pending
 left_over None None new = None
 left_over None (Some old) new = if nat_lt old.span.lo new.span.hi then None else Some old
 
--- the run where no more parts of the pending old area come: it takes the place of that, if it has its first page and no old area yet
-abbrev pub settled : Option Record → Option Run → Option Run
+-- the area that is being made, where no more parts of the pending old area come: it takes the place of that, if it has its first page and no old area yet
+abbrev pub settled : Option Record → Option Merging → Option Merging
 settled pending None = None
-settled pending (Some run) = Some (record { old = option_or run.old (covered pending run.new); new = run.new })
+settled pending (Some merging) = Some (record { replaces = option_or merging.replaces (covered pending merging.area); area = merging.area })
 
 -- the old area that goes then
-abbrev pub unsettled : Option Record → Option Run → Option Record
+abbrev pub unsettled : Option Record → Option Merging → Option Record
 unsettled pending None = pending
-unsettled pending (Some run) = left_over run.old pending run.new
+unsettled pending (Some merging) = left_over merging.replaces pending merging.area
 
--- the run with a part: it goes on where the part joins, with the pending old area if it has none yet, and else another begins
-abbrev pub run_with : Option Record → Option Run → Record → Run
-run_with pending None part = record { old = taken pending part; new = part }
-run_with pending (Some run) part = if joins run.new part then record { old = option_or run.old (taken pending part); new = joined_area run.new part } else record { old = taken pending part; new = part }
+-- the area that is being made after a part: it goes on where the part joins, with the pending old area if it has none yet, and else another begins
+abbrev pub merging_with : Option Record → Option Merging → Record → Merging
+merging_with pending None part = record { replaces = taken pending part; area = part }
+merging_with pending (Some merging) part = if joins merging.area part then record { replaces = option_or merging.replaces (taken pending part); area = joined_area merging.area part } else record { replaces = taken pending part; area = part }
 
--- what is planned then: an old area goes where its part joins a run that has another already, and the run ends where the part does not join
-abbrev pub planned_with : Option Record → Option Run → Record → List Change
+-- what is planned then: an old area goes where its part joins an area that takes the place of another, and the area is done where the part does not join
+abbrev pub planned_with : Option Record → Option Merging → Record → List Change
 planned_with pending None part = []
-planned_with pending (Some run) part = if joins run.new part then detaching (spare run.old (taken pending part)) else replacing run.old run.new
+planned_with pending (Some merging) part = if joins merging.area part then detaching (spare merging.replaces (taken pending part)) else replacing merging.replaces merging.area
 
--- what is planned for what comes, with this old area pending and this run
-abbrev pub along : Option Record → Option Run → List Event → List Change
-along pending run [] = detaching (unsettled pending run) ++ closing (settled pending run)
-along pending run (Event.Begins area ∷ events) = detaching (unsettled pending run) ++ along (Some area) (settled pending run) events
-along pending run (Event.Comes part ∷ events) = planned_with pending run part ++ along (left pending part) (Some (run_with pending run part)) events
-along pending run (Event.Passed area ∷ events) = (detaching (unsettled pending run) ++ closing (settled pending run)) ++ along None None events
+-- what is planned for what comes, with this old area pending and this area being made
+abbrev pub along : Option Record → Option Merging → List Event → List Change
+along pending merging [] = detaching (unsettled pending merging) ++ closing (settled pending merging)
+along pending merging (Event.Begins area ∷ events) = detaching (unsettled pending merging) ++ along (Some area) (settled pending merging) events
+along pending merging (Event.Comes part ∷ events) = planned_with pending merging part ++ along (left pending part) (Some (merging_with pending merging part)) events
+along pending merging (Event.Passed area ∷ events) = (detaching (unsettled pending merging) ++ closing (settled pending merging)) ++ along None None events
 
 -- the new area in its place among what comes
 abbrev pub come_in : Record → List Event → List Event
@@ -108,11 +108,11 @@ come (Some new) events = come_in new events
 
 -- what a planner still plans
 abbrev pub planned : Planner → List Event → List Change
-planned planner events = along planner.pending planner.run (come planner.coming events)
+planned planner events = along planner.pending planner.merging (come planner.coming events)
 
 -- the planner after a part
 abbrev pub laid : Planner → Record → Planner
-laid planner part = record { coming = planner.coming; pending = left planner.pending part; run = Some (run_with planner.pending planner.run part) }
+laid planner part = record { coming = planner.coming; pending = left planner.pending part; merging = Some (merging_with planner.pending planner.merging part) }
 
 -- the planner where it reaches a page: the new area is laid if it begins below that
 abbrev pub reached_with : Option Record → Planner → ℕ → Planner
@@ -126,7 +126,7 @@ reached planner page = reached_with planner.coming planner page
 -- what is planned then
 abbrev pub reaching_with : Option Record → Planner → ℕ → List Change
 reaching_with None planner page = []
-reaching_with (Some new) planner page = if nat_lt new.span.lo page then planned_with planner.pending planner.run new else []
+reaching_with (Some new) planner page = if nat_lt new.span.lo page then planned_with planner.pending planner.merging new else []
 
 -- and with the new area that is to come, if there is one
 abbrev pub reaching : Planner → ℕ → List Change
@@ -134,7 +134,7 @@ reaching planner page = reaching_with planner.coming planner page
 
 -- for how many areas a planner may still plan a change
 abbrev pub held : Planner → ℕ
-held planner = option_len planner.coming + (option_len planner.pending + option_len planner.run)
+held planner = option_len planner.coming + (option_len planner.pending + option_len planner.merging)
 
 -- at most how many changes are planned for what comes
 abbrev pub weight : List Event → ℕ

@@ -57,7 +57,7 @@ loop-area-preserved-then-area-high g c = let areas : List Record = g.A.Areas.lis
         c.loop-area.invariant.within,
       );
       planned = ap (λ changes. c.pass.new.plan.changes ++ changes)
-          (passed_planned becoming c.requires.spans areas order area (c.high-high.result.lo - 1) c.pass.new.self next.valid next.spares c.pass.ensures.pending c.pass.ensures.run
+          (passed_planned becoming c.requires.spans areas order area (c.high-high.result.lo - 1) c.pass.new.self next.valid next.spares c.pass.ensures.pending c.pass.ensures.merging
           (subst (λ coming. IfSome coming (λ (new : Record). new.span.lo ≡ (high_of becoming).lo)) (sym c.pass.ensures.coming) begins) low high after)
           ∙ next_planned becoming c.requires.spans areas order c.loop-area.page area.span.hi (Event.Passed area ∷ []) c.pass.ensures.along far
           ∙ c.loop-area.invariant.planned;

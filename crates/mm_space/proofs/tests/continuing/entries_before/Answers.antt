@@ -6,7 +6,7 @@ use Rattle.mm_types.specs.declared.config.Config.{Config}
 use Rattle.area_rules.specs.Steps.{step, after, IsLegalJournal}
 use Rattle.area_rules.specs.Tables.{AddressSpace}
 use Rattle.area_rules.proofs.Journals.{after-nil, after-push, legal-push}
-use Rattle.sys_calls.specs.Plain.{PlainView}
+use Rattle.plain_space.specs.Plain.{PlainView}
 use Rattle.mm_state.proofs.Entering.{legal_nil}
 use Rattle.mm_space.specs.Names.{AreStrangers}
 use Rattle.mm_space.proofs.tests.continuing.entries_before.Goals as goal

@@ -1,9 +1,0 @@
--- For `AreaChunks::place` of chunks.rt: its goals.
-use Rattle.std.proofs.Common.{subst, sym}
-use Rattle.area_chunks.specs.Internal.Chunks.{AreApart}
-use Rattle.area_chunks.proofs.InOrder.{apart}
-use Rattle.area_chunks.proofs.chunks.AreaChunksAreas.place.Goals as goal
-
-pub place_low-requires : goal.place_low-requires
-place_low-requires c = subst AreApart (sym c.as_slice.ensures.value)
-    (apart _ c.self.inside.store.chunks.items c.self.invariant.sane.filled c.self.invariant.kept.canonical)

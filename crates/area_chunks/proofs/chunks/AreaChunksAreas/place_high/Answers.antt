@@ -1,9 +1,0 @@
--- For `AreaChunks::place_high` of chunks.rt: its goals.
-use Rattle.std.proofs.Common.{subst, sym}
-use Rattle.area_chunks.specs.Internal.Chunks.{AreApart}
-use Rattle.area_chunks.proofs.InOrder.{apart}
-use Rattle.area_chunks.proofs.chunks.AreaChunksAreas.place_high.Goals as goal
-
-pub place_high-requires : goal.place_high-requires
-place_high-requires c = subst AreApart (sym c.as_slice.ensures.value)
-    (apart _ c.self.inside.store.chunks.items c.self.invariant.sane.filled c.self.invariant.kept.canonical)

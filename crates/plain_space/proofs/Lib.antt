@@ -1,0 +1,12 @@
+pub mod Fronting
+pub mod Coming
+pub mod Unsealed
+pub mod Ranging
+pub mod InOrder
+pub mod Searching
+pub mod Parting
+pub mod Skipping
+pub mod Locating
+pub mod Among
+pub mod Rooms
+pub mod Filling

@@ -1,0 +1,4 @@
+pub mod Stored
+pub mod Plain
+pub mod Kept
+pub mod Internal
