@@ -11,14 +11,14 @@ import time
 from collections import Counter, deque
 from collections.abc import Callable, Iterator
 from concurrent.futures import Future, ThreadPoolExecutor, TimeoutError as NotYet
-from contextlib import contextmanager
+from contextlib import contextmanager, suppress
 from dataclasses import dataclass, field
 from pathlib import Path
 from types import FrameType
 from typing import Any, NamedTuple, Optional
 
 from . import coverage, generator, outputs, program, shrinking
-from .comparison import NO_END, Examined, Sides, examine, is_trace, may_answer
+from .comparison import NO_END, Examined, Sides, Stopped, examine, is_trace, may_answer
 from .console import Failure, Progress, say
 from .fitting import fitted
 from .findings import Finding, Findings, Journal, Kind, events_of
@@ -125,6 +125,7 @@ class Campaign:
         self.settings, self.sides, self.findings, self.journal = settings, sides, findings, journal
         self.progress, self.pool = Progress(), ThreadPoolExecutor(max_workers=settings.jobs)
         self.stopped: Optional[str] = None  # the signal that ended the run
+        self.stopped_at = 0.0
         self.done: set[int] = set()
         self.state: Optional[Journal] = None
         self.begin = self.last_told = time.monotonic()
@@ -133,7 +134,7 @@ class Campaign:
 
     @contextmanager
     def stoppable(self) -> Iterator[None]:
-        """A first signal ends the run with a report of what was found; a second one ends it at once."""
+        """A first signal ends the run with a report of what was found; another one after it ends it at once."""
         kept = {name: signal.signal(name, self.stop) for name in (signal.SIGINT, signal.SIGTERM)}
         try:
             yield
@@ -142,10 +143,11 @@ class Campaign:
                 signal.signal(name, handler)
 
     def stop(self, number: int, _: Optional[FrameType]) -> None:
-        if self.stopped:
+        now = time.monotonic()
+        if self.stopped and now - self.stopped_at > 1:  # a first one may come twice, to the process and to its group
             program.end_all()
             os._exit(128 + number)
-        self.stopped = signal.Signals(number).name
+        self.stopped, self.stopped_at = signal.Signals(number).name, now
 
     @property
     def is_over(self) -> bool:
@@ -196,9 +198,19 @@ class Campaign:
             except NotYet:
                 pass
             self.tell()
-        for _, future in waiting:
-            future.cancel()
+        self.give_up([future for _, future in waiting])
         self.progress.clear()
+
+    def give_up(self, running: list[Future[tuple[Examined, Counter[str]]]]) -> None:
+        """Ends what still runs: it is run again where the run goes on."""
+        self.sides.is_stopped = True
+        if self.stopped:
+            program.end_all()
+        for future in running:
+            if not future.cancel():
+                with suppress(Stopped, Failure):  # what was ended failed
+                    future.result()
+        self.sides.is_stopped = False
 
     def examined(self, source: Source) -> tuple[Examined, Counter[str]]:
         trace = source.draw()
@@ -265,8 +277,11 @@ class Campaign:
         for name, kind in self.findings.in_order():
             if self.is_stopping:
                 break
-            kind.shortest = self.shrunk(name, kind)
-            kind.is_shrunk = True
+            try:
+                kind.shortest, kind.is_shrunk = self.shrunk(name, kind), not self.is_stopping
+            except Failure:
+                if not self.is_stopping:  # what was ended failed
+                    raise
             if self.journal:
                 self.journal.write(kind.shortest.event("smallest", count=kind.count))
 

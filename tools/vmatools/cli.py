@@ -32,7 +32,15 @@ class Command:
 
 
 GROUPS = {
-    "Compare a system with the program": (Command("compare"), Command("conform"), Command("kernel"), Command("rows"), Command("systems")),
+    "Compare a system with the program": (
+        Command("compare"),
+        Command("merge"),
+        Command("emit"),
+        Command("conform"),
+        Command("kernel"),
+        Command("rows"),
+        Command("systems"),
+    ),
     "Make traces of real programs": (Command("record", wrong_use=125), Command("import", "import_")),
     "Look at a trace or an output": (Command("draw"), Command("explain"), Command("judge")),
 }

@@ -28,6 +28,10 @@ class CannotRun(Failure):
     here."""
 
 
+class Stopped(Exception):
+    """The comparison of a trace was given up, since the whole run ends."""
+
+
 class Pair(NamedTuple):
     """Two parts of the outputs of both sides that stand at the same place and differ, and the child whose space they
     are of, if one."""
@@ -103,6 +107,7 @@ class Sides:
 
     def __init__(self, program: str, command: Sequence[str], seconds: float, rules: Rules, short: float = 1) -> None:
         self.program, self.command, self.seconds, self.rules = program, list(command), seconds, rules
+        self.is_stopped = False
         self.short = min(short, seconds)  # how long a run may take while the end of a system is looked for
 
     def here(self, trace: Trace) -> str:
@@ -121,10 +126,16 @@ class Sides:
         if ran.fault == "ends with status 5":
             raise CannotRun(f"COMMAND cannot run here: {ran.message.strip()[:300]}")
 
+    def go_on(self) -> None:
+        """Ends the comparison of a trace where the whole run ends."""
+        if self.is_stopped:
+            raise Stopped
+
     # The first difference
 
     def compared(self, trace: Trace, seconds: Optional[float] = None) -> Compared:
         """The first difference of the outputs as they are, but for borders of areas that a case explains."""
+        self.go_on()
         there = self.there(trace, seconds)
         if there.fault:
             return Compared(
@@ -201,6 +212,7 @@ class Sides:
 
     def read_behind(self, trace: Trace, marks: list[int]) -> Optional[tuple[int, Difference]]:
         """The first of these places behind which a list is another one, and the difference."""
+        self.go_on()
         asked, behind = with_reads(trace, marks)
         there = self.there(asked)
         if there.fault:
@@ -220,6 +232,7 @@ class Sides:
         each."""
         low, high = -1, len(trace.lines)
         while high - low > 1:
+            self.go_on()
             middle = (low + high) // 2
             ended = self.there(trace.with_lines(trace.lines[:middle]), self.short).fault == found.there
             low, high = (low, middle) if ended else (middle, high)

@@ -147,6 +147,12 @@ class Findings:
         if known:
             known.count += count
 
+    def shrunk(self, finding: Finding) -> None:
+        """Takes the smallest trace of a kind that a part has found."""
+        kind = self.kinds.get(finding.name)
+        if kind and (not kind.is_shrunk or len(finding.trace) < len(kind.shortest.trace)):
+            kind.shortest, kind.is_shrunk = finding, True
+
     def in_order(self) -> list[tuple[str, Kind]]:
         """The kinds that are not known, the most frequent first."""
         new = [(name, kind) for name, kind in self.kinds.items() if not self.baseline.of(name)]
@@ -198,6 +204,39 @@ def events_of(path: Path) -> Iterator[dict[str, Any]]:
         if not isinstance(event, dict) or "event" not in event:
             raise Failure(f"{path}: line {place}: it is no line of `vma compare --json`")
         yield event
+
+
+@dataclass
+class Part:
+    """What a file of `vma compare --json FILE` says."""
+
+    identity: dict[str, Any]
+    events: list[dict[str, Any]]
+    has_ended: bool
+
+    @classmethod
+    def read(cls, path: Path) -> Part:
+        events = list(events_of(path))
+        if not events or events[0]["event"] != "begin":
+            raise Failure(f"{path}: it is none of `vma compare --json`")
+        end = events[-1] if events[-1]["event"] == "end" else {}
+        return cls(events[0]["identity"], events, bool(end) and not end["stopped"])
+
+    def add_to(self, whole: Findings) -> None:
+        """Counts all of it."""
+        by_trace: dict[int, list[Finding]] = {}
+        for event in self.events:
+            if event["event"] == "finding":
+                by_trace.setdefault(event["number"], []).append(Finding.of_event(event))
+            elif event["event"] == "end":
+                whole.aside.update(event["aside"])
+                whole.coverage.update(event["coverage"])
+                whole.traces += event["traces"] - event["differ"]
+        for found in by_trace.values():
+            whole.add(found, Counter())
+        for event in self.events:
+            if event["event"] == "smallest":
+                whole.shrunk(Finding.of_event(event))
 
 
 # JUnit

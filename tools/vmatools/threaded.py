@@ -21,6 +21,7 @@ class Threads(Sides):
     def compared(self, trace: Trace, seconds: Optional[float] = None) -> Compared:
         """The first output of some runs that is not legal, by its first bad line."""
         for _ in range(REPEATS):
+            self.go_on()
             there = self.there(trace, seconds)
             if there.fault:
                 return Compared(

@@ -1,0 +1,68 @@
+"""Writes random traces into a folder, for fuzzers and tests of others: those that `vma compare` runs, or those of the
+program's mode `generate`.
+
+Each trace is a file, PROFILE-SEED-NUMBER.trace, or generate-COUNT-SEED.trace. The same words give the same files.
+
+Example: vma emit --runs 1000 --profile few,mremap seeds/
+"""
+from __future__ import annotations
+
+import argparse
+from collections.abc import Iterator
+from pathlib import Path
+
+from .. import console, loads
+from ..campaign import Settings, sources
+from .compare import add_traces, count
+
+SUMMARY = "write random traces into a folder, for fuzzers of others"
+MOST_COUNT = 400_000  # operations of a generated trace
+
+
+def generated_count(text: str) -> int:
+    value = count(text)
+    if value > MOST_COUNT:
+        raise argparse.ArgumentTypeError(f"{text} is more than {MOST_COUNT:,}")
+    return value
+
+
+def add_arguments(parser: argparse.ArgumentParser) -> None:
+    add_traces(parser)
+    parser.add_argument(
+        "--generate",
+        type=generated_count,
+        metavar="COUNT",
+        help="the traces of `generate COUNT SEED`, for as many seeds as --runs from --seed on, in place of those of profiles",
+    )
+    parser.add_argument(
+        "folder", type=Path, metavar="FOLDER", help="where the files come; it is made where it is not there"
+    )
+
+
+def traces_of(options: argparse.Namespace) -> Iterator[tuple[str, str]]:
+    """The name of each file, and the trace."""
+    runs = options.runs or 200
+    if options.generate:
+        for seed in range(options.seed, options.seed + runs):
+            yield f"generate-{options.generate}-{seed}", "\n".join(loads.load(options.generate, seed)) + "\n"
+        return
+    settings = Settings([], options.profile, runs, options.lines, options.seed, threads=options.threads)
+    for source in sources(settings):
+        name = settings.profiles[source.number % len(settings.profiles)]
+        yield f"{name}-{options.seed}-{source.number}", source.draw().text()
+
+
+def run(options: argparse.Namespace) -> int:
+    written, progress = 0, console.Progress()
+    try:
+        options.folder.mkdir(parents=True, exist_ok=True)
+        for name, text in traces_of(options):
+            (options.folder / f"{name}.trace").write_text(text, encoding="utf-8")
+            written += 1
+            progress.tell(f"{written} traces written")
+    except OSError as error:
+        raise console.Failure(console.reason(error)) from None
+    finally:
+        progress.clear()
+    print(f"{written} traces in {options.folder}")
+    return 0
