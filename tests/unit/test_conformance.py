@@ -63,6 +63,9 @@ class Judging(unittest.TestCase):
         self.assertIs(self.verdict("", "ends by signal SIGSEGV"), Verdict.CRASHED)
         self.assertIs(self.verdict("", "does not end"), Verdict.HUNG)
 
+    def test_what_the_adapter_cannot_run_is_left_out(self) -> None:
+        self.assertIs(self.verdict("", "ends with status 4"), Verdict.LEFT_OUT)
+
 
 class Forms(unittest.TestCase):
     def setUp(self) -> None:

@@ -13,6 +13,8 @@ from .program import TOP, Ran
 SUITE = TOP / "suite"
 # What parts the legal outputs of a case with threads.
 PART = "==\n"
+# How an adapter ends that can't make its system run a case, as one that asks for addresses that the system has itself.
+CANNOT_RUN = "ends with status 4"
 # What a case of Linux begins with: the row of docs/KERNEL.md and the versions that were seen to answer so.
 COMMENT = "#"
 
@@ -63,7 +65,8 @@ class Result:
 
 def sentence(trace: str) -> str:
     """The sentence of a case: its first comment."""
-    return next((line[1:].strip() for line in trace.splitlines() if line.startswith(COMMENT)), "")
+    comments = [line[1:].strip() for line in trace.splitlines() if line.startswith(COMMENT)]
+    return comments[0] if comments else ""
 
 
 def without_comments(text: str) -> str:
@@ -104,6 +107,8 @@ def judged(case: Case, ran: Ran) -> Result:
     """What a run of a system over a case comes to."""
     if ran.fault == "does not end":
         return Result(case, Verdict.HUNG, message="does not end")
+    if ran.fault == CANNOT_RUN:
+        return Result(case, Verdict.LEFT_OUT, message=ran.message)
     if ran.fault:
         return Result(case, Verdict.CRASHED, message=f"{ran.message.strip()} ({ran.fault})".strip())
     if ran.output in case.right:

@@ -3,10 +3,11 @@ that isn't as it should be.
 
 COMMAND is the system behind an adapter, as for `vma compare`: it reads a trace on standard input and writes what
 the system answers. Each case of suite/ is a trace of a few lines with the output that is right. A case with threads
-has several. A case on which COMMAND crashes or does not end is one failed case.
+has several. A case on which COMMAND crashes or does not end is one failed case; one that it ends with status 4 is left
+out: the system can't run it.
 
     vma conform -- ./my-adapter
-    vma conform mremap brk/raise -- ./my-adapter
+    vma conform --only mremap --only brk/raise -- ./my-adapter
     vma conform --as linux --junit report.xml -- tools/vma kernel
 
 Exit status: 0 where all cases pass, 1 where one doesn't, 2 on wrong use, or where the suite or COMMAND can't be
@@ -36,7 +37,13 @@ FORMS: dict[str, Callable[[Sequence[Result]], Iterator[str]]] = {
 
 def add_arguments(parser: argparse.ArgumentParser) -> None:
     """The words of the command."""
-    parser.add_argument("names", metavar="GROUP[/NAME]", nargs="*", help="only these cases, before --")
+    parser.add_argument(
+        "--only",
+        metavar="GROUP[/NAME]",
+        action="append",
+        default=[],
+        help="these cases alone; may be given several times",
+    )
     parser.add_argument(
         "--as",
         dest="profile",
@@ -61,13 +68,6 @@ def add_arguments(parser: argparse.ArgumentParser) -> None:
     parser.add_argument(
         "command", metavar="COMMAND", nargs="*", help="the system under test and its arguments, behind --"
     )
-
-
-def split(names: Sequence[str], command: Sequence[str], words: Sequence[str]) -> tuple[list[str], list[str]]:
-    """The names before `--` and the command behind it, which argparse doesn't part."""
-    given = [*names, *command]
-    behind = len(words) - words.index("--") - 1 if "--" in words else 0
-    return given[: len(given) - behind], given[len(given) - behind :]
 
 
 def all_results(cases: Sequence[Case], command: Sequence[str], seconds: float, jobs: int) -> list[Result]:
@@ -107,18 +107,17 @@ def write_forms(options: argparse.Namespace, results: Sequence[Result]) -> bool:
 
 def run(options: argparse.Namespace) -> int:
     """Runs the suite."""
-    names, command = split(options.names, options.command, sys.argv)
-    cases = conformance.read_suite(options.suite, names, options.profile == "linux")
+    cases = conformance.read_suite(options.suite, options.only, options.profile == "linux")
     if not cases:
-        raise console.Failure(f"{options.suite} has no case{' of these names' if names else ''}")
+        raise console.Failure(f"{options.suite} has no case{' of these names' if options.only else ''}")
     if options.list:
         print("\n".join(f"{case.where}: {case.says}" for case in cases))
         return 0
-    if not command:
+    if not options.command:
         raise console.Failure("no COMMAND: give the system under test behind --")
-    if not shutil.which(command[0]):
-        raise console.Failure(f"{command[0]} cannot be run")
-    results = all_results(cases, command, options.seconds, options.jobs)
+    if not shutil.which(options.command[0]):
+        raise console.Failure(f"{options.command[0]} cannot be run")
+    results = all_results(cases, options.command, options.seconds, options.jobs)
     if not write_forms(options, results):
         report(results)
     return 0 if all(result.verdict in (Verdict.PASSED, Verdict.LEFT_OUT) for result in results) else 1
