@@ -6,6 +6,8 @@ from .cases import Case, read_cases
 TEXT = """
 no-heap | Without a heap the break is 0 and stays
   brk 0; brk 0x100000
+no-heap-greatest | Nor does the greatest address move it
+  brk 0xffffffffffffffff
 ask | An address of 0 asks where the break is
   heap 0x100000; brk 0
 raise | A higher break maps the pages between

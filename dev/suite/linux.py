@@ -12,7 +12,7 @@ ROWS = {
     "brk-limit": "brk/at-the-end-of-user-memory",
     "brk-moved": "mremap/heap-part-moves",
     "brk-name": "brk/limit-lower-splits brk/limit-lower-splits-one-of-two",
-    "brk-none": "brk/no-heap",
+    "brk-none": "brk/no-heap brk/no-heap-greatest",
     "error-growing-file": "order/mmap-growth-not-private-memory-before-access-file-denies",
     "error-move-below-min": "order/mremap-new-place-below-lowest-before-old-address-not-mapped",
     "error-noreplace-access": "order/mmap-access-file-denies-before-range-not-replaced",

@@ -46,6 +46,8 @@ file-above-runs-on | A part below joins one above that runs on from it
   file 3 r 65536 08:01 77 /a; mmap 0x21000 4096 R PF 3 0x1000; mmap 0x20000 4096 R PF 3 0
 file-shared-and-private | A shared and a private part of a file stay apart
   file 3 r 65536 08:01 77 /a; mmap 0x20000 4096 R PF 3 0; mmap 0x21000 4096 R SF 3 0x1000
+file-shared-and-private-to-write | Also of a file that may be written either way
+  file 3 rw 65536 08:01 77 /a; mmap 0x20000 4096 RW PF 3 0; mmap 0x21000 4096 RW SF 3 0x1000
 later-protection | What mprotect may allow later keeps parts apart, even if they look alike
   file 3 r 65536 08:01 77 /a; file 4 rw 65536 08:01 77 /a; mmap 0x20000 4096 R SF 3 0; mmap 0x21000 4096 R SF 4 0x1000
 fills-a-hole-of-a-file | The missing part of a file joins both sides

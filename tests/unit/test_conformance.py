@@ -40,6 +40,11 @@ class Cases(unittest.TestCase):
         self.assertEqual(conformance.read_suite(self.top, as_linux=True)[0].right, ("c\n",))
         self.assertEqual(conformance.read_suite(self.top)[0].right, ("a\nb\n",))
 
+    def test_what_depends_on_the_process_is_left_out(self) -> None:
+        (self.top / "mmap/page.linux").write_text("# brk-none: it depends on the process\n")
+        case = conformance.read_suite(self.top, as_linux=True)[0]
+        self.assertIs(conformance.judged(case, Ran("x\n", None, "")).verdict, Verdict.LEFT_OUT)
+
     def test_with_threads_each_legal_output_is_right(self) -> None:
         (self.top / "mmap/page.legal").write_text("a\nb\n==\nb\na\n")
         self.assertEqual(conformance.read_suite(self.top)[0].right, ("a\nb\n", "b\na\n"))

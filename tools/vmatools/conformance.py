@@ -74,11 +74,13 @@ def without_comments(text: str) -> str:
 
 
 def read_case(path: Path, as_linux: bool = False) -> Case:
-    """The case of a trace of the suite. As Linux, where `NAME.linux` has another output, that is right."""
+    """The case of a trace of the suite. As Linux, where `NAME.linux` has another output, that is right; where it has none,
+    what Linux answers depends on the process, and nothing is right or wrong."""
     trace = path.read_text(encoding="utf-8")
     legal, linux = path.with_suffix(".legal"), path.with_suffix(".linux")
     if as_linux and linux.exists():
-        right: tuple[str, ...] = (without_comments(linux.read_text(encoding="utf-8")),)
+        output = without_comments(linux.read_text(encoding="utf-8"))
+        right: tuple[str, ...] = (output,) if output else ()
     elif legal.exists():
         right = tuple(legal.read_text(encoding="utf-8").split(PART))
     else:
@@ -107,7 +109,7 @@ def judged(case: Case, ran: Ran) -> Result:
     """What a run of a system over a case comes to."""
     if ran.fault == "does not end":
         return Result(case, Verdict.HUNG, message="does not end")
-    if ran.fault == CANNOT_RUN:
+    if ran.fault == CANNOT_RUN or not case.right:
         return Result(case, Verdict.LEFT_OUT, message=ran.message)
     if ran.fault:
         return Result(case, Verdict.CRASHED, message=f"{ran.message.strip()} ({ran.fault})".strip())
