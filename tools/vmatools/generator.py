@@ -77,17 +77,19 @@ PROFILES = {
     "files": Profile("files and shared objects", FILES, files=3),
     "mremap": Profile("areas that shrink, grow and move", {**BASIC, "resize": 12, "move": 8}, files=1),
     "faults": Profile("page faults, of two threads", {**FILES, "map_fixed": 4, "touch": 20}, files=3),
-    "edges": Profile("the edges of memory, and huge lengths", {**BASIC, "huge": 4, "map_last": 2}, EDGES),
+    "edges": Profile("the edges of memory, and huge lengths", {**BASIC, "huge": 4, "map_last": 2, "brk": 1}, EDGES),
     "limits": Profile(
         "a limit of areas, and a top and a lowest address of their own",
-        BASIC,
+        {**BASIC, "seal": 1},
         [LOW, FLOOR - 3],
         settings=("limit", "top", "min"),
     ),
     "growing": Profile(
         "areas that grow downwards", {**BASIC, "map_growing": 8, "touch_below": 16}, settings=("lowest",)
     ),
-    "brk": Profile("the break of a heap", {**BASIC, "brk": 14}, settings=("heap",)),
+    "brk": Profile(
+        "the break of a heap", {**BASIC, "brk": 14, "map_over_break": 2, "seal_heap": 1}, settings=("heap", "few")
+    ),
     "mseal": Profile("sealed pages", {**BASIC, "seal": 4, "protect_to_sealed": 2, "cut_sealed": 2}),
     "fork": Profile(
         "child spaces, with a heap, seals and stacks",
@@ -144,6 +146,8 @@ class Generator:
             settings["top"] = PAGE * self.pick([1, DEFAULT_MIN + 1, LOW + 6, FLOOR + 2, DEFAULT_TOP - 5, USER_PAGES[1]])
         if "min" in self.profile.settings and self.often(50):
             settings["min"] = PAGE * self.pick([1, DEFAULT_MIN - 1, LOW + 2, FLOOR + 1])
+        if "few" in self.profile.settings and self.often(20):
+            settings["limit"] = self.pick([4, 5, 6, 8])
         if "lowest" in self.profile.settings and self.often(40):
             settings["min"] = PAGE * (self.base + 3)
         if "heap" in self.profile.settings:
@@ -364,6 +368,20 @@ class Generator:
         odd = now + self.pick([-100, 100, 3 * PAGE - 1])
         return "brk", [max(self.pick([higher] * 4 + [lower] * 3 + [low, now, 0, now + 8, odd]), 0)]
 
+    def map_over_break(self) -> Drawn:
+        """At a fixed place from below the break to above it, so that a lower break leaves both ends."""
+        end = -(-self.space.break_ // PAGE)
+        start = end - self.pick([1, 2, 3])
+        if not self.space.heap or start < self.space.min:
+            return self.map_fixed()
+        pages = end - start + self.pick([1, 1, 2])
+        return "mmap", [start * PAGE, pages * PAGE, self.prot(), PRIVATE | ANONYMOUS | FIXED, -1, 0]
+
+    def seal_heap(self) -> Drawn:
+        """The last page of the heap."""
+        end = -(-self.space.break_ // PAGE)
+        return ("mseal", [(end - 1) * PAGE, PAGE, 0]) if end > self.space.heap else self.brk()
+
     def maps(self) -> Drawn:
         is_full = sum(line.word == "maps" for line in self.trace.lines) >= LIMITS["maps"]
         return self.touch() if is_full else ("maps", [])
@@ -433,7 +451,7 @@ class Generator:
         if word == "mprotect":
             read_only = [area for area in self.space.areas if not area.most & WRITE]
             choices += [[area.lo * PAGE, (area.hi - area.lo) * PAGE, READ | WRITE] for area in read_only[:2]] * 3
-        return self.pick(choices + ([[address, length, 1]] if word == "mseal" else []))
+        return self.pick(choices + ([[address, length, 1]] * 2 if word == "mseal" else []))
 
     def spoil_mremap(self, _: str, arguments: Arguments) -> Arguments:
         address, olds, news, flags, *new = arguments

@@ -12,11 +12,12 @@ from collections.abc import Callable, Iterator, Sequence
 from typing import NamedTuple, Optional
 
 from .linux_borders import History, State, is_moved, list_name, overlaps, parsed, served_name
-from .linux_model import GUARD, HUGE, MUCH, STACK_PAGES, Prediction, predictions
+from .linux_model import GUARD, HINT_MIN, HUGE, MUCH, STACK_PAGES, Prediction, predictions
 from .model import MOST_OBJECT_PAGES, Area, Space, area_at, areas_in, index_of, pages_of
 from .outputs import ITEM, Difference
 from .traces import MAP, MREMAP, PAGE, PROT, Line, Trace
 
+VSYSCALL = 0xFFFFFFFFFF600  # the page of [vsyscall], which is none of the process
 SPARE = 6  # areas that a moving mremap wants to be left, and one
 SHARED, PRIVATE, FIXED, ANONYMOUS = (MAP[f"MAP_{name}"] for name in ("SHARED", "PRIVATE", "FIXED", "ANONYMOUS"))
 
@@ -165,6 +166,16 @@ def is_exec_only(seen: Seen) -> bool:
     return area is not None and area.prot == PROT["PROT_EXEC"] and seen.there == "SIGSEGV SEGV_PKUERR"
 
 
+def is_vsyscall(seen: Seen) -> bool:
+    return seen.is_of("fault") and bool(seen.arguments[0] // PAGE == VSYSCALL)
+
+
+def vsyscall_answers(seen: Seen) -> list[str]:
+    """It may be executed, or also read, as the kernel was started; and the list has it, or not."""
+    listed = [f"served {VSYSCALL * PAGE:x}-{(VSYSCALL + 1) * PAGE:x} {rights} page 0" for rights in ("--xp", "r-xp")]
+    return ["served", *listed] if seen.arguments[1] in "rx" else []
+
+
 def is_shared_grown(seen: Seen) -> bool:
     area = area_of_fault(seen)
     return area is not None and area.object > len(seen.space.files) and seen.there == "SIGBUS BUS_ADRERR"
@@ -211,6 +222,10 @@ def has_none_below(found: Growth) -> bool:
     return below is not None and below.hi == found.above.lo - found.distance and (below.prot == 0 or below.grows)
 
 
+def is_below_hints(found: Growth) -> bool:
+    return found.above.lo - found.distance < HINT_MIN
+
+
 def is_large(found: Growth) -> bool:
     return found.above.hi - found.above.lo + found.distance > STACK_PAGES
 
@@ -237,6 +252,11 @@ def is_grow_search(seen: Seen) -> bool:
 
 def is_brk(seen: Seen) -> bool:
     return seen.is_of("brk", "an address", "another address")
+
+
+def is_brk_none(seen: Seen) -> bool:
+    """Every process has a break, which may be anywhere."""
+    return is_brk(seen) and not seen.space.heap
 
 
 def is_grow_brk(seen: Seen) -> bool:
@@ -274,115 +294,107 @@ def is_limit(seen: Seen) -> bool:
     return is_brk(seen) if seen.word == "brk" else "-1 ENOMEM" in (seen.here, seen.there) or seen.lists_differ
 
 
-CASES = [
-    Case(*row)
-    for row in (
-        ("seal-split", "a call that a seal refuses leaves the first area split", is_seal_split),
-        (
-            "mremap-dontunmap",
-            "MREMAP_DONTUNMAP",
-            is_mremap(lambda seen: bool(seen.arguments[3] & MREMAP["MREMAP_DONTUNMAP"])),
-        ),
-        ("mremap-old-zero", "mremap with an old length of 0", is_mremap(lambda seen: bool(seen.arguments[1] == 0))),
-        (
-            "mremap-old-wraps",
-            "mremap with an old length that wraps",
-            is_mremap(lambda seen: bool(pages_of(seen.arguments[1]) * PAGE >= 2**64)),
-        ),
-        (
-            "mremap-past-limit",
-            "mremap whose old range passes the limit",
-            is_mremap(lambda seen: seen.pages()[1] > seen.space.limit, "-1 EFAULT"),
-        ),
-        (
-            "mremap-too-long",
-            "mremap to a length above user memory",
-            is_mremap(lambda seen: seen.new_pages > seen.space.limit, "-1 ENOMEM"),
-        ),
-        ("mremap-object-end", "mremap of a file past page 2^51 - 1", is_mremap(is_past_object, "-1 EINVAL")),
-        (
-            "seal-other-error",
-            "mremap of a sealed area that fails for another reason too",
-            lambda seen: seen.is_of("mremap", "-1 E", "-1 EPERM") and seen.has_sealed(),
-        ),
-        (
-            "mremap-several",
-            "mremap of several areas, or of one and a hole behind it, to a fixed place",
-            is_mremap(has_several, "-1 EFAULT"),
-        ),
-        (
-            "seal-fixed-cut",
-            "mremap to a fixed place with a smaller size, a sealed page in what is cut",
-            lambda seen: seen.lists_differ and is_moved(seen.line) and seen.has_sealed(),
-        ),
-        ("mremap-cut-first", "mremap to a fixed place with a smaller size, refused", is_cut_first),
-        (
-            "seal-kept",
-            "mremap with a sealed page in what stays",
-            lambda seen: seen.is_of("mremap", "-1 EPERM", "an address") and seen.has_sealed(),
-        ),
-        ("border-refused", "mremap over a border that only the kernel has", is_border_refused),
-        (
-            "seal-hole",
-            "mprotect of a range with a hole or a refused area before the sealed one",
-            lambda seen: seen.is_of("mprotect", "-1 EPERM", "-1 E") and seen.has_sealed(),
-        ),
-        (
-            "seal-prefix",
-            "mprotect of several areas, a later one sealed",
-            lambda seen: seen.is_of("mprotect") and seen.lists_differ and seen.has_sealed(),
-        ),
-        ("limit", "a call at the greatest number of areas", is_limit),
-        ("overcommit", "more memory than there is", is_overcommit),
-        ("grow-hint", "a hint within 256 pages below a growing area", is_grow_hint),
-        ("hint-min", "a hint below 0x10000", is_hint_min),
-        ("hint-47", "a hint at or over the end of 47 bits, under version 2", is_hint_crossing),
-        ("grow-search", "a place within 256 pages below a growing area, or one that is full of them", is_grow_search),
-        ("aligned", "a place that is aligned to 2 MiB", is_aligned),
-        ("shared-validate", "a file with MAP_SHARED and MAP_PRIVATE together", is_shared_validate),
-        ("near-end", "a fixed address in the last page of all addresses", is_near_end),
-        ("below-min", "a fixed address below the lowest", is_below_min),
-        ("error", "two tests hold, and each side tells the other's error", is_two_errors),
-        ("fault-exec-only", "an access to an area that may only be executed", is_exec_only),
-        (
-            "fault-exec-past-end",
-            "an execution past a file's end",
-            lambda seen: seen.is_of("fault", "SIGSEGV SEGV_ACCERR", "SIGBUS BUS_ADRERR") and seen.arguments[1] == "x",
-        ),
-        (
-            "fault-not-canonical",
-            "an access at an address that is not canonical",
-            lambda seen: seen.is_of("fault", "", "SIGSEGV SI_KERNEL"),
-        ),
-        (
-            "fault-vsyscall",
-            "an access to the page of [vsyscall]",
-            lambda seen: seen.is_of("fault") and seen.arguments[0] >= 2**64 - 2**47,
-        ),
-        ("fault-shared-grown", "a page past the first size of shared anonymous memory", is_shared_grown),
-        ("grow-large", "an area that grows past the stack limit", is_growth(is_large)),
-        ("grow-near", "an area that can be accessed within 256 pages below a growing one", is_growth(is_near)),
-        (
-            "grow-none",
-            "an area without access, or one that grows, right below a growing one",
-            is_growth(has_none_below),
-        ),
-        ("grow-far", "an access two or more pages below a growing area", is_growth(lambda found: found.distance > 1)),
-        (
-            "grow-moved",
-            "a growing area that was written at a low address and moved up",
-            lambda seen: growth(seen) is not None and seen.there == "SIGSEGV SEGV_MAPERR",
-        ),
-        (
-            "grow-denied",
-            "an access that a growing area's protection does not allow",
-            lambda seen: growth(seen) is not None and seen.lists_differ,
-        ),
-        ("brk-none", "a break without `heap`", lambda seen: seen.word == "brk" and not seen.space.heap),
-        ("grow-brk", "a break within 256 pages below a growing area", is_grow_brk),
-        ("brk-unmapped", "a break that goes back over pages that are not mapped", is_brk_unmapped),
-        ("brk-limit", "a break at the end of user memory", is_brk_limit),
-    )
+CASES: list[Case] = [
+    Case("seal-split", "a call that a seal refuses leaves the first area split", is_seal_split),
+    Case(
+        "mremap-dontunmap",
+        "MREMAP_DONTUNMAP",
+        is_mremap(lambda seen: bool(seen.arguments[3] & MREMAP["MREMAP_DONTUNMAP"])),
+    ),
+    Case("mremap-old-zero", "mremap with an old length of 0", is_mremap(lambda seen: bool(seen.arguments[1] == 0))),
+    Case(
+        "mremap-old-wraps",
+        "mremap with an old length that wraps",
+        is_mremap(lambda seen: bool(pages_of(seen.arguments[1]) * PAGE >= 2**64)),
+    ),
+    Case(
+        "mremap-past-limit",
+        "mremap whose old range passes the limit",
+        is_mremap(lambda seen: seen.pages()[1] > seen.space.limit, "-1 EFAULT"),
+    ),
+    Case(
+        "mremap-too-long",
+        "mremap to a length above user memory",
+        is_mremap(lambda seen: seen.new_pages > seen.space.limit, "-1 ENOMEM"),
+    ),
+    Case("mremap-object-end", "mremap of a file past page 2^51 - 1", is_mremap(is_past_object, "-1 EINVAL")),
+    Case(
+        "seal-other-error",
+        "mremap of a sealed area that fails for another reason too",
+        lambda seen: seen.is_of("mremap", "-1 E", "-1 EPERM") and seen.has_sealed(),
+    ),
+    Case(
+        "mremap-several",
+        "mremap of several areas, or of one and a hole behind it, to a fixed place",
+        is_mremap(has_several, "-1 EFAULT"),
+    ),
+    Case(
+        "seal-fixed-cut",
+        "mremap to a fixed place with a smaller size, a sealed page in what is cut",
+        lambda seen: seen.lists_differ and is_moved(seen.line) and seen.has_sealed(),
+    ),
+    Case("mremap-cut-first", "mremap to a fixed place with a smaller size, refused", is_cut_first),
+    Case(
+        "seal-kept",
+        "mremap with a sealed page in what stays",
+        lambda seen: seen.is_of("mremap", "-1 EPERM", "an address") and seen.has_sealed(),
+    ),
+    Case("border-refused", "mremap over a border that only the kernel has", is_border_refused),
+    Case(
+        "seal-hole",
+        "mprotect of a range with a hole or a refused area before the sealed one",
+        lambda seen: seen.is_of("mprotect", "-1 EPERM", "-1 E") and seen.has_sealed(),
+    ),
+    Case(
+        "seal-prefix",
+        "mprotect of several areas, a later one sealed",
+        lambda seen: seen.is_of("mprotect") and seen.lists_differ and seen.has_sealed(),
+    ),
+    Case("limit", "a call at the greatest number of areas", is_limit),
+    Case("overcommit", "more memory than there is", is_overcommit),
+    Case("grow-hint", "a hint within 256 pages below a growing area", is_grow_hint),
+    Case("hint-min", "a hint below 0x10000", is_hint_min),
+    Case("hint-47", "a hint at or over the end of 47 bits, under version 2", is_hint_crossing),
+    Case("grow-search", "a place within 256 pages below a growing area, or one that is full of them", is_grow_search),
+    Case("aligned", "a place that is aligned to 2 MiB", is_aligned),
+    Case("shared-validate", "a file with MAP_SHARED and MAP_PRIVATE together", is_shared_validate),
+    Case("near-end", "a fixed address in the last page of all addresses", is_near_end),
+    Case("below-min", "a fixed address below the lowest", is_below_min),
+    Case("error", "two tests hold, and each side tells the other's error", is_two_errors),
+    Case("fault-exec-only", "an access to an area that may only be executed", is_exec_only),
+    Case(
+        "fault-exec-past-end",
+        "an execution past a file's end",
+        lambda seen: seen.is_of("fault", "SIGSEGV SEGV_ACCERR", "SIGBUS BUS_ADRERR") and seen.arguments[1] == "x",
+    ),
+    Case(
+        "fault-not-canonical",
+        "an access at an address that is not canonical",
+        lambda seen: seen.is_of("fault", "", "SIGSEGV SI_KERNEL"),
+    ),
+    Case("fault-vsyscall", "an access to the page of [vsyscall]", is_vsyscall, vsyscall_answers),
+    Case("fault-shared-grown", "a page past the first size of shared anonymous memory", is_shared_grown),
+    Case("grow-large", "an area that grows past the stack limit", is_growth(is_large)),
+    Case("grow-near", "an area that can be accessed within 256 pages below a growing one", is_growth(is_near)),
+    Case(
+        "grow-none", "an area without access, or one that grows, right below a growing one", is_growth(has_none_below)
+    ),
+    Case("grow-min", "an area that would grow below 0x10000", is_growth(is_below_hints)),
+    Case("grow-far", "an access two or more pages below a growing area", is_growth(lambda found: found.distance > 1)),
+    Case(
+        "grow-moved",
+        "a growing area that was written at a low address and moved up",
+        lambda seen: growth(seen) is not None and seen.there == "SIGSEGV SEGV_MAPERR",
+    ),
+    Case(
+        "grow-denied",
+        "an access that a growing area's protection does not allow",
+        lambda seen: growth(seen) is not None and seen.lists_differ,
+    ),
+    Case("brk-none", "a break without `heap`", is_brk_none, lambda seen: [answered(seen)]),
+    Case("grow-brk", "a break within 256 pages below a growing area", is_grow_brk),
+    Case("brk-unmapped", "a break that goes back over pages that are not mapped", is_brk_unmapped),
+    Case("brk-limit", "a break at the end of user memory", is_brk_limit),
 ]
 # These have no test of a line: a whole trace that cannot be run, and lists that differ in borders or names alone.
 SAYS = {case.name: case.says for case in CASES} | {

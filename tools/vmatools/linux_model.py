@@ -43,7 +43,6 @@ SHARED, PRIVATE, FIXED, ANONYMOUS, NOREPLACE, GROWS, NORESERVE = (
     for name in ("SHARED", "PRIVATE", "FIXED", "ANONYMOUS", "FIXED_NOREPLACE", "GROWSDOWN", "NORESERVE")
 )
 MAYMOVE, TO_FIXED, DONTUNMAP = MREMAP.values()
-VSYSCALL = 0xFFFFFFFFFF600
 Reply = Union[int, str]
 
 
@@ -52,7 +51,7 @@ class Kernel:
     """A way in which a kernel may answer, by its version, its settings, or borders that the model does not know."""
 
     is_aligned: bool = True  # huge pages are on
-    hint_min: int = HINT_MIN
+    hint_min: int = HINT_MIN  # the lowest page of hints, of searches, and of growth
     is_new: bool = True  # mremap is that of Linux 6.17 and newer
     has_memory: bool = True
     more: int = 0  # areas that the kernel has besides those of the model
@@ -119,7 +118,7 @@ class Linux(Space):
         return end if end - low >= pages else None
 
     def search_down(self, high: int, pages: int) -> Optional[int]:
-        low = max(self.min, 1)
+        low = max(self.min, self.kernel.hint_min)
         while True:
             end = self.highest_gap(low, high, pages)
             if end is None:
@@ -399,7 +398,7 @@ class Linux(Space):
 
     @staticmethod
     def overlaps(old: int, olds: int, new: int, news: int) -> bool:
-        return old < new + news and new < old + olds
+        return old < new + news and new < (old + olds) % 2**52  # the kernel's sum wraps
 
     def old_area_refusal(self, page: int, olds: int, news: int, flags: int) -> Optional[str]:
         """The tests of the area at the old address."""
@@ -484,8 +483,6 @@ class Linux(Space):
     def access(self, address: int, access: str) -> tuple[str, bool]:
         """The verdict on an access, and whether an area grew by it."""
         page = address // PAGE
-        if page == VSYSCALL:
-            return ("served" if access == "x" else "SIGSEGV SEGV_MAPERR"), False
         if 2**47 <= address < 2**64 - 2**47 and self.limit == WINDOW_END:
             return "SIGSEGV SI_KERNEL", False
         area, has_grown = area_at(self.areas, page), False
@@ -503,7 +500,7 @@ class Linux(Space):
     def grows_to(self, above: Area, page: int) -> bool:
         below = next((area for area in reversed(self.areas) if area.lo < page), None)
         is_near = below is not None and not below.grows and bool(below.prot) and page - below.hi < GUARD
-        return page >= max(self.min, 1) and not is_near and above.hi - page <= STACK_PAGES
+        return page >= max(self.min, self.kernel.hint_min) and not is_near and above.hi - page <= STACK_PAGES
 
     def verdict(self, area: Area, page: int, access: str) -> str:
         file, index = self.file_of.get(area.object), index_of(area, page)
@@ -539,6 +536,7 @@ def ways(space: Space, tainted: list[tuple[int, int]], line: Line) -> Iterator[K
         yield replace(first, has_memory=False)
     if line.word == "fault":
         yield replace(first, has_keys=False)
+        yield replace(first, hint_min=1)
     most = len(space.areas) + 6 >= space.most_areas
     if most and tainted:
         for more in range(0, 8):
