@@ -17,9 +17,10 @@ import os, re, sys
 from collections import Counter, namedtuple
 from dataclasses import dataclass, field
 
-from ..console import Failure, Progress, say
+from ..console import Failure, Progress, reason, say
+from ..explanations import explain
 from ..model import Space as Model, answer
-from ..traces import LIMITS, MAP, MREMAP, PAGE, PROT, read_trace
+from ..traces import LIMITS, MAP, MREMAP, PAGE, PROT, BadLine, read_trace
 
 HUGE = 2 * 1024 * 1024  # the kernel aligns mappings of this size and more, where it can be one page
 USER_END = 0x7ffffffff000
@@ -93,6 +94,7 @@ def split_arguments(text):
 
 PREFIX = re.compile(r"(?:\[pid +(\d+)(?:<[^>]*>)?\] +|(\d+)(?:<[^>]*>)? +)?(?:\d+:\d+:\d+(?:\.\d+)? +|\d+\.\d+ +)?(?:\[[0-9a-f]+\] +)?")
 RESULT = re.compile(r"^(.*)\) += (.*)$", re.DOTALL)
+LONG_NUMBER = re.compile("[0-9]{256}")  # no number of strace, nor a name
 
 
 class Log:
@@ -115,6 +117,9 @@ class Log:
         self.without_end = Counter(name for _, name, _ in self.pending.values())
 
     def line(self, at, line):
+        if LONG_NUMBER.search(line):
+            self.unreadable += 1
+            return
         found = PREFIX.match(line)
         pid, rest = self.process(int(found[1] or found[2] or 0)), line[found.end():]
         if rest.startswith("--- "):
@@ -256,15 +261,15 @@ def follow_descriptor(call, words, files):
         first, last = (int(word) if word.isdigit() else 2**32 for word in words[:2])
         for number in [number for number in files.table if first <= number <= last]:
             del files.table[number]
-    elif name == "ftruncate" and files.at(words[0]):
-        files.at(words[0]).learns("size", int(words[1], 0), "log")
+    elif name == "ftruncate" and files.at(words[0]) and re.fullmatch("[0-9]{1,18}", words[1]):
+        files.at(words[0]).learns("size", int(words[1]), "log")
     elif name in ("fstat", "newfstatat", "statx", "fstat64") and (name[0] == "f" or words[1] == '""'):
         learn_from_stat(files.at(words[0]), call.text)
 
 
 def learn_from_stat(opening, text):
     """Size, device and inode, as far as fstat, newfstatat or statx show them."""
-    size = re.search(r"\bstx?_size=(\d+)", text)
+    size = re.search(r"\bstx?_size=([0-9]{1,18})\b", text)
     device = re.search(r"\bst_dev=makedev\((\w+), (\w+)\)", text) or re.search(r"stx_dev_major=(\w+), stx_dev_minor=(\w+)", text)
     inode = re.search(r"\bstx?_ino=(\d+)", text)
     if opening and size:
@@ -349,7 +354,7 @@ class Processes:
 # The areas at the execve
 
 
-MAPS_LINE = re.compile(r"([0-9a-f]+)-([0-9a-f]+) ([r-][w-][x-][ps]) ([0-9a-f]+) ([0-9a-f]+):([0-9a-f]+) (\d+) *(.*)$")
+MAPS_LINE = re.compile(r"([0-9a-f]+)-([0-9a-f]+) ([r-][w-][x-][ps]) ([0-9a-f]+) ([0-9a-f]+):([0-9a-f]+) ([0-9]{1,20}) *(.*)$")
 
 
 def read_maps(path):
@@ -366,6 +371,21 @@ def read_maps(path):
     return areas
 
 
+def is_of(areas, path, elsewhere):
+    """Whether areas seem to be those of a program right after its execve: one is of its file, or it may be a script."""
+    names = {path, path if elsewhere else os.path.realpath(path)}
+    try:
+        with open(path, "rb") as program:
+            if not elsewhere and program.read(2) == b"#!":
+                return True
+    except OSError:
+        pass  # its name alone is known
+    bases = [os.path.basename(name.removesuffix(" (deleted)")) for name in names]
+    shown = {os.path.basename(area.name.removesuffix(" (deleted)")) for area in areas if area.name.startswith("/")}
+    # A program may be called by a shorter name, as python3 for python3.11.
+    return any(name.startswith(base) for base in bases for name in shown)
+
+
 def text_of(path):
     try:
         if path == "-":
@@ -373,7 +393,7 @@ def text_of(path):
         with open(path, encoding="utf-8", errors="surrogateescape", newline="\n") as source:
             return source.read()
     except OSError as error:
-        raise Refused(f"{path}: {error.strerror}") from None
+        raise Refused(reason(error, path)) from None
 
 
 # Writing a trace
@@ -384,8 +404,10 @@ def number_in(word):
     word = re.sub(r"/\*.*?\*/", "", word).strip()
     if word == "NULL":
         return 0
-    if re.fullmatch(r"0x[0-9a-fA-F]{1,16}|\d{1,20}", word):
-        return int(word, 0) if word.startswith("0x") else int(word)
+    if re.fullmatch(r"0x[0-9a-fA-F]{1,16}|[0-9]{1,20}", word):
+        value = int(word, 16 if word.startswith("0x") else 10)
+        if value < 2**64:
+            return value
     if re.fullmatch(r"-\d{1,19}", word):
         return int(word) + 2**64
     raise ValueError(word)
@@ -830,6 +852,8 @@ def made(choices):
     processes = Processes(log)
     space = processes.numbered(choices.exec)
     areas = read_maps(choices.maps) if choices.maps else []
+    if areas and not is_of(areas, space.label, choices.elsewhere):
+        say(f"{choices.maps} has no area of {printable(space.label)}: are these the areas of another program?")
     trace = Trace(choices, known_files(processes, areas))
     if areas:
         trace.begin_with(areas, first_break(space))
@@ -859,6 +883,8 @@ def add_arguments(parser):
 
 def run(choices):
     try:
+        if choices.replies:
+            open(choices.replies, "a").close()  # whether it can be written, before the work
         trace, log, processes, space = made(choices)
         text = trace.text(space.label)
         if not choices.as_returned:
@@ -871,8 +897,10 @@ def run(choices):
         sys.stdout.flush()
     except Refused as refused:
         raise Failure(str(refused)) from None
+    except BadLine as bad:
+        raise Failure(f"{choices.log}: what was made of it is no trace: {explain(bad)}") from None
     except OSError as error:
-        raise Failure(f"{error.filename or 'standard output'}: {error.strerror}") from None
+        raise Failure(reason(error)) from None
     report(trace, log, processes, space)
     if not trace.operations:
         say("the log has no memory call for this address space")
