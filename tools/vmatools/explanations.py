@@ -137,8 +137,12 @@ def read(source: Source, path: str) -> Trace:
         with console.reading(path):
             return read_trace(source)
     except BadLine as bad:
-        what = f"line {bad.line}: {explain(bad)}"
-        raise console.Failure(f"{console.named(path)} is no trace: {what}") from None
+        raise refusal(bad, path) from None
+
+
+def refusal(bad: BadLine, path: str) -> console.Failure:
+    """The end of a command whose trace has a bad line."""
+    return console.Failure(f"{console.named(path)} is no trace: line {bad.line}: {explain(bad)}")
 
 
 def carriage_return(word: str) -> str | None:

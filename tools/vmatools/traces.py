@@ -279,7 +279,7 @@ BLOCK = 1 << 20  # bytes that are read at once
 
 
 class Texts:
-    """The lines of a source as texts, one by one, each after the three tests of its bytes."""
+    """The lines of a source as texts, one by one, each after the three tests of its bytes; most comments are left out."""
 
     def __init__(self, source: Source) -> None:
         self.source = io.BytesIO(source) if isinstance(source, bytes) else source
@@ -290,7 +290,9 @@ class Texts:
         while block := self.source.read1(BLOCK):
             *lines, rest = (rest + block).split(b"\n")
             for raw in lines:
-                yield self.text_of(raw)
+                text = self.text_of(raw)
+                if text and text[0] != "#" or self.number == 1:
+                    yield text
             if len(rest) > LIMITS["line"]:
                 break
         if rest:

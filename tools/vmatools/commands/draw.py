@@ -1,5 +1,87 @@
-from ..drawing import draw as whole
+"""Draws a run: a trace and its output, as a page for any browser, or as a picture.
 
-__doc__ = whole.__doc__
+Time goes down, by version. On the left stand the calls, faults and reads of the list, each in the lane of its thread; on the
+right the areas of the list, by address from left to right. A box is an area, from the version that makes it to the one that ends
+it; its colour is what may be done there. Gaps are folded, and so are areas that a run of versions leaves alone. What a call
+changed is outlined, what it unmapped is dashed, and a fault points to its address. What OUTPUT says otherwise than the model in
+vmatools is marked.
+
+OUTPUT is what `vma_main serial` or `threads` wrote for TRACE, or another system in this form. Without it, the model answers the
+lines in their order. TRACE and OUTPUT are files, and one of them may be - for standard input. Example:
+
+    vma draw examples/tour.trace examples/tour.out > tour.html
+
+Exit status: 0 where OUTPUT is legal, as `vma judge` says it, 1 where it is not (the page is written all the same), and 2 on wrong
+use or where a file cannot be read.
+"""
+from __future__ import annotations
+
+import argparse
+import os
+import sys
+
+from .. import console, explanations
+from ..drawing.page import page
+from ..drawing.picture import picture
+from ..drawing.runs import Run, read_numbered, replayed
+from ..traces import BadLine, File
+
 SUMMARY = "draw a trace and its output, as a page or as a picture"
-add_arguments, run = whole.add_arguments, whole.run
+MOST_TOLD = 20  # differences on standard error
+MOST_BYTES = 1 << 28  # of an output
+
+
+def add_arguments(parser: argparse.ArgumentParser) -> None:
+    parser.add_argument("trace", metavar="TRACE", help="the trace")
+    parser.add_argument("output", metavar="OUTPUT", nargs="?", help="what was written for it")
+    parser.add_argument("--svg", action="store_true", help="the picture alone")
+    parser.add_argument(
+        "--list", metavar="N", type=int, help="prints the list after version N instead, as a maps line would"
+    )
+    parser.add_argument("--child", metavar="C", type=int, help="of this child alone")
+    parser.add_argument(
+        "--most", metavar="N", type=int, default=10_000, help="draws traces of up to N operations (10,000)"
+    )
+
+
+def run(options: argparse.Namespace) -> int:
+    runs, files = runs_of(options)
+    chosen = [run for run in runs if options.child is None or run.child == options.child]
+    if not chosen:
+        raise console.Failure(f"there is no child {options.child}")
+    if options.list is not None:
+        text = list_after(chosen[0], options.list)
+    elif options.svg:
+        text = picture(chosen, files)
+    else:
+        text = page(chosen, files, os.path.basename(console.named(options.trace)))
+    sys.stdout.write(text)
+    sys.stdout.flush()
+    wrong = [difference for run in runs for difference in run.differences]
+    for difference in wrong[:MOST_TOLD]:
+        console.say(difference)
+    if len(wrong) > MOST_TOLD:
+        console.say(f"and {console.counted(len(wrong) - MOST_TOLD, 'more difference')}")
+    return console.FOUND if wrong else console.DONE
+
+
+def runs_of(options: argparse.Namespace) -> tuple[list[Run], dict[int, File]]:
+    """The runs of the parent and of its children, and the files by their descriptors."""
+    source, *others = console.open_inputs(options.trace, *([options.output] if options.output else []))
+    try:
+        with console.reading(options.trace):
+            trace, texts = read_numbered(source, None if options.list is not None else options.most)
+    except BadLine as bad:
+        raise explanations.refusal(bad, options.trace) from None
+    output = None
+    for other in others:
+        with console.reading(options.output):
+            output = other.read(MOST_BYTES)
+    return replayed(trace, texts, output), {file.descriptor: file for file in trace.files}
+
+
+def list_after(run: Run, version: int) -> str:
+    last = len(run.lists) - 1
+    if not 0 <= version <= last:
+        raise console.Failure(f"there is no version {version}: the last is {last}")
+    return "".join(line + "\n" for line in run.maps(version))
