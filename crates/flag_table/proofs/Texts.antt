@@ -10,10 +10,11 @@ use Rattle.std.proofs.lemmas.List.Kept.{AllPairs-filter}
 use Rattle.std.proofs.lemmas.List.Splits.{join_with_byte-slice_split, length-slice_split}
 use Rattle.std.proofs.lemmas.Slice.Eq.{bytes_eq-Decides}
 use Rattle.flag_table.specs.Tables.{Row, Table, bits_of, HasRows, names_of, text_of, words_of, bar}
-use Rattle.flag_table.specs.Reading.{is_among, is_zero, error_of, first_error, unless_error, read_words, reading, Gives}
+use Rattle.flag_table.specs.Reading.{is_among, is_zero, error_of, first_error, unless_error, read_words, reading, Reads}
 use Rattle.mm_types.specs.Flags.{has_flag}
 use Rattle.flag_table.specs.Printing.{rows_with, printed}
 use Rattle.flag_table.specs.Laws.{IsSound, AreRows, IsNamed, IsFlagText, has_bar}
+use Rattle.flag_table.specs.declared.error.BadWord.{BadWord}
 use Rattle.flag_table.specs.declared.error.NameError.{NameError}
 use Rattle.flag_table.proofs.Bits.{bits_of-filter, bits_of-within}
 use Rattle.flag_table.proofs.Joins.{words_of-no_bar, words_of-text_of}
@@ -193,10 +194,10 @@ HasRows-reading table text bits sound is = ⊎_elim
     ((reading-Ok table text bits sound).0 is)
 
 -- and so has what is answered for words
-pub HasRows-words : (table : Table) (text : List ℕ) (result : Result ℕ NameError) → IsSound table → is_zero table text
+pub HasRows-words : (table : Table) (text : List ℕ) (result : Result ℕ BadWord) → IsSound table → is_zero table text
     ≡ false
-    → Gives result (read_words table.rows (words_of text)) → IfOk result (HasRows table)
+    → Reads result (read_words table.rows (words_of text)) → IfOk result (HasRows table)
 unfolding reading
-HasRows-words table text (Ok bits) sound flags gives = HasRows-reading table text bits sound
-    (ap (λ b. cond b (Ok 0) (read_words table.rows (words_of text))) flags ∙ gives)
-HasRows-words table text (Err error) sound flags gives = tt
+HasRows-words table text (Ok bits) sound flags reads = HasRows-reading table text bits sound
+    (ap (λ b. cond b (Ok 0) (read_words table.rows (words_of text))) flags ∙ reads)
+HasRows-words table text (Err word) sound flags reads = tt

@@ -11,7 +11,7 @@ use Rattle.std.proofs.lemmas.Nat.{pow_pos}
 use Rattle.std.proofs.lemmas.Option.{none-some, same_Some}
 use Rattle.std.proofs.lemmas.Slice.Eq.{bytes_eq-Decides}
 use Rattle.flag_table.specs.Tables.{Row, Table, row_named, bits_of, bit_with_name, names_of}
-use Rattle.flag_table.specs.Reading.{Gives, is_among, error_of, first_error, unless_error, read_words}
+use Rattle.flag_table.specs.Reading.{is_among, error_of, first_error, unless_error, read_words}
 use Rattle.mm_types.specs.Flags.{has_flag}
 use Rattle.flag_table.specs.Laws.{IsSound, IsOneBit}
 use Rattle.flag_table.specs.declared.error.NameError.{NameError}
@@ -209,25 +209,13 @@ AreRead-push table sound words word bits bit read is absent =
           ∙ ap (λ (o : Option Row). named_rows rows words ++ cons_option o []) row.1));
     }
 
--- a list whose first n elements are these, and the next is that
-from_place : (all words : List (List ℕ)) (word : List ℕ) (n : ℕ) → words ≡ take n all
-    → (n < length all) × (word ≡ get_or all n word)
-    → all ≡ words ++ word ∷ drop (n + 1) all
-from_place all words word n front next = sym (take-append-drop n all)
-    ∙ ap (λ (l : List (List ℕ)). l ++ drop n all) (sym front)
-    ∙ ap (λ (l : List (List ℕ)). words ++ l) (drop_more all n word next.0)
-    ∙ ap (λ (w : List ℕ). words ++ w ∷ drop (n + 1) all) (sym next.1)
-
 -- the first bad word decides
-pub read_words-bad : (rows : List Row) (all words : List (List ℕ)) (word : List ℕ) (bits n : ℕ) (error : NameError)
-    → AreRead rows words bits
-    → words ≡ take n all → (n < length all) × (word ≡ get_or all n word)
-    → error_of rows words word ≡ Some error → read_words rows all ≡ Err error
+pub read_words-bad : (rows : List Row) (words : List (List ℕ)) (word : List ℕ) (rest : List (List ℕ)) (bits : ℕ) (error : NameError)
+    → AreRead rows words bits → error_of rows words word ≡ Some error → read_words rows (words ++ word ∷ rest) ≡ Err error
 unfolding read_words
-read_words-bad rows all words word bits n error read front next bad =
-    let rest = drop (n + 1) all in
-    let first : first_error rows [] all ≡ Some error = ap (first_error rows []) (from_place all words word n front next)
-    ∙ first_error-append rows [] words (word ∷ rest) read.good
+read_words-bad rows words word rest bits error read bad =
+    let all = words ++ word ∷ rest in
+    let first : first_error rows [] all ≡ Some error = first_error-append rows [] words (word ∷ rest) read.good
     ∙ ap (λ (o : Option NameError). option_or o (first_error rows (words ++ word ∷ []) rest)) bad in
     ap (λ (o : Option NameError). unless_error o (bits_of (named_rows rows all))) first
 
@@ -238,10 +226,3 @@ unfolding read_words
 read_words-good rows all words bits read whole = ap (read_words rows) (sym whole)
     ∙ ap (λ (o : Option NameError). unless_error o (bits_of (named_rows rows words))) read.good
     ∙ ap Ok (sym read.together)
-
--- out of memory, in place of an error
-pub Gives-NoMemory : (result read : Result ℕ NameError) (error : NameError) → IsErrAnd result (λ e. e ≡ NoMemory)
-    → read ≡ Err error → Gives result read
-Gives-NoMemory (Ok bits) read error no_memory is = absurd no_memory
-Gives-NoMemory (Err e) read error no_memory is = let P : NameError → Type 0 = λ f. Gives (Err f) read in
-    subst P (sym no_memory) (ap is_err is)

@@ -1,8 +1,10 @@
 -- What a text of flags reads as.
-use Rattle.std.specs.Prelude.{ℕ, ◌≡◌, Bool, ◌||◌, List, [], ◌∷◌, ◌++◌, Option, Some, None, is_none, Result, Ok, Err, IsErr, if◌then◌else◌, codes, bytes_eq, nat_eq, filter_map, drop, length}
-use Rattle.std.specs.List.{list_any, starts_with}
+use Rattle.std.specs.Prelude.{ℕ, ◌≡◌, Bool, true, ◌==◌, ◌&&◌, ◌||◌, List, [], ◌∷◌, ◌++◌, Option, Some, None, is_none, Result, Ok, Err, IsErr, if◌then◌else◌, codes, bytes_eq, nat_eq, filter_map, drop, length}
+use Rattle.std.specs.List.{list_any, starts_with, before_first}
 use Rattle.std.specs.Option.{option_or}
-use Rattle.flag_table.specs.Tables.{Row, Table, bits_of, row_named, words_of}
+use Rattle.flag_table.specs.Tables.{Row, Table, bar, bits_of, row_named, words_of}
+use Rattle.flag_table.specs.declared.error.BadWord.{BadWord}
+use Rattle.flag_table.specs.declared.error.BadWord.TheVariants as bad
 use Rattle.flag_table.specs.declared.error.NameError.{NameError}
 use Rattle.flag_table.specs.declared.error.NameError.TheVariants.{Unknown, Twice, NoMemory}
 
@@ -38,11 +40,40 @@ is_zero table text = bytes_eq text (codes "0") || bytes_eq text table.zero
 unfoldable pub reading : Table → List ℕ → Result ℕ NameError
 reading table text = if is_zero table text then Ok 0 else read_words table.rows (words_of text)
 
--- the bit of the first of some rows with whose name a text begins, and what follows the name
+-- whether a word ends before these bytes: there are none, or a bar stands first
+unfoldable pub is_word_end : List ℕ → Bool
+is_word_end [] = true
+is_word_end (c ∷ text) = c == bar
+
+-- whether a name is the first word of a text
+unfoldable pub is_first_word : List ℕ → List ℕ → Bool
+is_first_word text name = starts_with nat_eq text name && is_word_end (drop (length name) text)
+
+-- the bit of the first of some rows whose name is the first word of a text, and what follows the name
 unfoldable pub bit_ahead : List Row → List ℕ → Option (ℕ × List ℕ)
 bit_ahead [] text = None
-bit_ahead (row ∷ rows) text = if starts_with nat_eq text row.name
+bit_ahead (row ∷ rows) text = if is_first_word text row.name
     then Some (row.bit, drop (length row.name) text) else bit_ahead rows text
+
+-- the first word of a text
+abbrev pub first_word : List ℕ → List ℕ
+first_word text = before_first (λ c. c == bar) text
+
+-- the error of a bad word
+abbrev pub error_named : BadWord → NameError
+error_named (bad.Unknown word) = Unknown word.now
+error_named (bad.Twice word) = Twice word.now
+
+-- what was answered without memory is what was to be read
+abbrev pub Reads : Result ℕ BadWord → Result ℕ NameError → Type 0
+Reads (Ok bits) read = read ≡ Ok bits
+Reads (Err word) read = read ≡ Err (error_named word)
+
+-- an error that was kept, unless no memory was left to keep it
+abbrev pub IsKept : NameError → NameError → Type 0
+IsKept NoMemory error = Unit {0}
+IsKept (Unknown word) error = error ≡ Unknown word
+IsKept (Twice word) error = error ≡ Twice word
 
 -- An answer gives what was to be read, except that it may be out of memory in place of an error.
 abbrev pub Gives : Result ℕ NameError → Result ℕ NameError → Type 0

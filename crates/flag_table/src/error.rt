@@ -1,7 +1,16 @@
 use mm_types::Text;
 use std::alloc::AllocError;
 
-/// Why a text of flags was refused.
+/// Why a text of flags was refused, with the word where it stands in the text.
+#[derive(Clone, Copy, Debug, PartialEq, Eq)]
+pub enum BadWord<'a> {
+    /// No flag of the table has this name.
+    Unknown(&'a str),
+    /// The name came before.
+    Twice(&'a str),
+}
+
+/// Why a text of flags was refused, with a copy of the word.
 #[derive(Debug, Drop)]
 pub enum NameError {
     /// No flag of the table has this name.

@@ -2,6 +2,7 @@
 
 ghost use Rattle.std.specs.Prelude.{◌≡◌, ◌<◌, true, false, drop, length, nat_eq, MatchOption};
 ghost use Rattle.std.specs.List.{starts_with};
+ghost use Rattle.flag_table.specs.Reading.{is_first_word, is_word_end};
 
 use mm_types::{
     MAP_ANONYMOUS, MAP_DENYWRITE, MAP_EXECUTABLE, MAP_FIXED, MAP_FIXED_NOREPLACE, MAP_GROWSDOWN,
@@ -42,17 +43,7 @@ macro_rules! bits {
     };
 }
 
-/// The bit of the row with this name.
-macro_rules! bit_named {
-    ($word:ident, $($name:literal = $bit:ident),*) => {
-        match $word {
-            $($name => Some($bit),)*
-            _ => None,
-        }
-    };
-}
-
-/// The bit of a row with whose name a text begins, and what follows the name.
+/// The bit of the row whose name is the first word of a text, and what follows the name.
 macro_rules! bit_ahead {
     ($text:ident, $($name:literal = $bit:ident),*) => {{
         $(if let Some(rest) = after_name($text, $name) {
@@ -72,8 +63,30 @@ macro_rules! name_with {
     };
 }
 
-/// What follows a name with which a text begins. The last byte of the name is compared first, which tells most names apart.
+/// What follows a name that is the first word of a text: nothing, or a bar and more.
+#[tactic(auto, unfolding(crate::specs::Reading::is_first_word))]
 fn after_name<'a>(text: &'a str, name: &str) -> Option<&'a str>
+    requires { 0 < length name.now }
+    ensures { MatchOption result (is_first_word text.now name.now ≡ false)
+        (λ rest. (is_first_word text.now name.now ≡ true) × (rest.now ≡ drop (length name.now) text.now)) }
+{
+    let rest = after_prefix(text, name)?;
+    if is_word_end(rest) { Some(rest) } else { None }
+}
+
+/// Whether a word ends before these bytes: there are none, or a bar stands first.
+#[tactic(auto, unfolding(crate::specs::Reading::is_word_end))]
+fn is_word_end(text: &str) -> bool
+    ensures { result ≡ is_word_end text.now }
+{
+    match text.as_bytes() {
+        [] => true,
+        [first, ..] => *first == b'|',
+    }
+}
+
+/// What follows a name with which a text begins. The last byte of the name is compared first, which tells most names apart.
+fn after_prefix<'a>(text: &'a str, name: &str) -> Option<&'a str>
     requires { 0 < length name.now }
     ensures { MatchOption result (starts_with nat_eq text.now name.now ≡ false)
         (λ rest. (starts_with nat_eq text.now name.now ≡ true) × (rest.now ≡ drop (length name.now) text.now)) }
@@ -105,28 +118,18 @@ pub const MAP_BITS: [u32; 11] = rows!(Map, bits, ());
 /// The bits of the flags of mremap(2), in the order of their table.
 pub const MREMAP_BITS: [u32; 3] = rows!(Mremap, bits, ());
 
-#[tactic(auto, unfolding(crate::specs::Tables::prot_flags, crate::specs::Tables::map_flags, crate::specs::Tables::mremap_flags, crate::specs::Tables::bit_with_name, crate::specs::Reading::bit_ahead, crate::specs::Tables::name_with_bit))]
+#[tactic(auto, unfolding(crate::specs::Tables::prot_flags, crate::specs::Tables::map_flags, crate::specs::Tables::mremap_flags, crate::specs::Reading::bit_ahead, crate::specs::Tables::name_with_bit))]
 impl Kind {
-    ghost use Rattle.std.specs.Prelude.{◌≡◌, IfSome, Some};
-    ghost use Rattle.flag_table.specs.Tables.{bit_with_name, name_with_bit};
+    ghost use Rattle.std.specs.Prelude.{◌≡◌, MatchOption, Some, None};
+    ghost use Rattle.flag_table.specs.Tables.{name_with_bit};
     ghost use Rattle.flag_table.specs.Kinds.{table_of};
     ghost use Rattle.flag_table.specs.Reading.{bit_ahead, is_zero};
 
-    /// The bit of the flag with this name.
-    pub fn bit_named(self, word: &str) -> Option<u32>
-        ensures { result ≡ bit_with_name (table_of self).rows word.now }
-    {
-        match self {
-            Kind::Prot => rows!(Prot, bit_named, word),
-            Kind::Map => rows!(Map, bit_named, word),
-            Kind::Mremap => rows!(Mremap, bit_named, word),
-        }
-    }
-
-    /// The bit of the first flag with whose name a text begins, and what follows the name. The text is compared in place, with no
+    /// The bit of the flag whose name is the first word of a text, and what follows the name. The text is compared in place, with no
     /// search for the end of a word.
     pub fn bit_ahead(self, text: &str) -> Option<(u32, &str)>
-        ensures { IfSome result (λ found. bit_ahead (table_of self).rows text.now ≡ Some (found.0, found.1.now)) }
+        ensures { MatchOption result (bit_ahead (table_of self).rows text.now ≡ None)
+            (λ found. bit_ahead (table_of self).rows text.now ≡ Some (found.0, found.1.now)) }
     {
         match self {
             Kind::Prot => rows!(Prot, bit_ahead, text),

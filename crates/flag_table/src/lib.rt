@@ -8,6 +8,6 @@ mod kind;
 mod laws;
 mod table;
 
-pub use error::NameError;
+pub use error::{BadWord, NameError};
 pub use laws::{bad_words_are_refused, flag_texts_are_read, printed_reads_back, tables_are_sound};
 pub use table::{FlagTable, map_table, mremap_table, prot_table};

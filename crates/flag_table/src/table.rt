@@ -1,10 +1,10 @@
-ghost use Rattle.std.specs.Prelude.{◌≡◌, IfOk, IfSome, Ok, OnOk, map, string_bytes};
+ghost use Rattle.std.specs.Prelude.{◌≡◌, IfOk, OnOk, map, string_bytes};
 ghost use Rattle.flag_table.specs.Tables.{prot_flags, map_flags, mremap_flags, words_of};
 ghost use Rattle.flag_table.specs.Kinds.{table_of};
-ghost use Rattle.flag_table.specs.Reading.{read_words, Gives};
+ghost use Rattle.flag_table.specs.Reading.{read_words, first_word, error_named, Reads, IsKept};
 ghost use Rattle.flag_table.specs.Printing.{printed, with_name};
 
-use crate::error::NameError;
+use crate::error::{BadWord, NameError};
 use crate::kind::{Kind, MAP_BITS, MREMAP_BITS, PROT_BITS};
 use mm_types::{NoMemory, Text, has_flag};
 use std::alloc::{AllocError, Global};
@@ -69,20 +69,31 @@ pub fn mremap_table() -> FlagTable<3>
 impl<const N: usize> FlagTable<N> {
     ghost use Rattle.std.specs.Prelude.{◌≡◌, IfOk, Ok};
     ghost use Rattle.flag_table.specs.Tables.{HasRows};
-    ghost use Rattle.flag_table.specs.Reading.{reading, Gives};
+    ghost use Rattle.flag_table.specs.Reading.{reading, Gives, Reads};
     ghost use Rattle.flag_table.specs.Printing.{printed};
 
     /// Reads a text of flags: `0`, the name that stands for no flag, or names joined by `|`, whose bits
-    /// it gives together. The first bad name from the left is refused and kept, which alone takes memory.
+    /// it gives together. The first bad name from the left is refused. It takes no memory.
     #[tactic(auto, unfolding(crate::specs::Reading::reading))]
-    pub fn read(&self, alloc: Global, text: &str) -> Result<u32, NameError>
-        ensures gives { Gives result (reading self.now text.now) }
+    pub fn bits_of<'a>(&self, text: &'a str) -> Result<u32, BadWord<'a>>
+        ensures reads { Reads result (reading self.now text.now) }
         ensures rows { IfOk result (HasRows self.now) }
     {
         if self.kind.is_zero(text) {
             return Ok(0);
         }
-        read_names(alloc, self.kind, text)
+        read_names(self.kind, text)
+    }
+
+    /// Reads a text of flags as `bits_of` does, and keeps the name that is refused, which alone takes memory.
+    pub fn read(&self, alloc: Global, text: &str) -> Result<u32, NameError>
+        ensures gives { Gives result (reading self.now text.now) }
+        ensures rows { IfOk result (HasRows self.now) }
+    {
+        match self.bits_of(text) {
+            Ok(bits) => Ok(bits),
+            Err(word) => Err(kept(alloc, word)),
+        }
     }
 
     /// Prints the names of the flags whose bits are there, in the order of the table and joined by `|`,
@@ -96,50 +107,50 @@ impl<const N: usize> FlagTable<N> {
     }
 }
 
-/// Reads the names between the bars: in one pass where each is there and stands once, and else word by word, for the first bad one.
-fn read_names(alloc: Global, kind: Kind, text: &str) -> Result<u32, NameError>
-    ensures { Gives result (read_words (table_of kind).rows (words_of text.now)) }
-{
-    match bits_of_names(kind, text) {
-        Some(bits) => Ok(bits),
-        None => read_words(alloc, kind, text),
-    }
-}
-
-/// The bits of names between bars together, read in one pass. There are none where a name is not a row's, goes on past a row's,
-/// or stands twice.
-fn bits_of_names(kind: Kind, text: &str) -> Option<u32>
-    ensures { IfSome result (λ bits. read_words (table_of kind).rows (words_of text.now) ≡ Ok bits) }
+/// Reads the names between the bars in one pass, up to the first bad one.
+fn read_names<'a>(kind: Kind, text: &'a str) -> Result<u32, BadWord<'a>>
+    ensures { Reads result (read_words (table_of kind).rows (words_of text.now)) }
 {
     let mut bits = 0;
     let mut rest = text;
     while let Some((bit, after)) = kind.bit_ahead(rest) {
+        // Each row has a bit of its own, so a bit that is there says that its name came before.
         if has_flag(bits, bit) {
-            return None;
+            return Err(BadWord::Twice(first_word(rest)));
         }
         bits |= bit;
-        if after.is_empty() {
-            return Some(bits);
+        match after.strip_prefix('|') {
+            Some(more) => rest = more,
+            None => return Ok(bits),
         }
-        rest = after.strip_prefix('|')?;
     }
-    None
+    Err(BadWord::Unknown(first_word(rest)))
 }
 
-/// Reads the names between the bars, one word after the other.
-fn read_words(alloc: Global, kind: Kind, text: &str) -> Result<u32, NameError>
-    ensures { Gives result (read_words (table_of kind).rows (words_of text.now)) }
+/// The first word of a text: what stands before its first bar, or all of it.
+fn first_word(text: &str) -> &str
+    ensures { result.now ≡ first_word text.now }
 {
-    let mut bits = 0;
-    for word in text.split('|') {
-        match kind.bit_named(word) {
-            None => return Err(NameError::Unknown(copy_of(alloc, word)?)),
-            // Each row has a bit of its own, so a bit that is there says that its name came before.
-            Some(bit) if has_flag(bits, bit) => return Err(NameError::Twice(copy_of(alloc, word)?)),
-            Some(bit) => bits |= bit,
-        }
+    match text.split_once('|') {
+        Some((word, _)) => word,
+        None => text,
     }
-    Ok(bits)
+}
+
+/// The error of a bad word, with a copy of it, or else `NameError::NoMemory`.
+fn kept(alloc: Global, bad: BadWord<'_>) -> NameError
+    ensures { IsKept result (error_named bad.entry) }
+{
+    match bad {
+        BadWord::Unknown(word) => match copy_of(alloc, word) {
+            Ok(word) => NameError::Unknown(word),
+            Err(_) => NameError::NoMemory,
+        },
+        BadWord::Twice(word) => match copy_of(alloc, word) {
+            Ok(word) => NameError::Twice(word),
+            Err(_) => NameError::NoMemory,
+        },
+    }
 }
 
 /// A text of its own with these bytes.

@@ -1,10 +1,10 @@
--- `FlagTable::read`: what is read has rows.
+-- `FlagTable::bits_of`: what is read has rows.
 use Rattle.std.proofs.Common.{◌∙◌, sym, subst, IfOk}
 use Rattle.flag_table.specs.Kinds.{table_of}
 use Rattle.flag_table.specs.Tables.{Table, HasRows}
 use Rattle.flag_table.proofs.Sound.{table_of-sound}
 use Rattle.flag_table.proofs.Texts.{HasRows-words}
-use Rattle.flag_table.proofs.table.FlagTable.read.Goals as goal
+use Rattle.flag_table.proofs.table.FlagTable.bits_of.Goals as goal
 
 pub returns-clause-rows : goal.returns-clause-rows
 returns-clause-rows g c =

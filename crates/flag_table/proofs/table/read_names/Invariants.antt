@@ -1,10 +1,10 @@
--- The loop of `bits_of_names`: the names so far are good, and their bits are together.
+-- The loop of `read_names`: the names so far are good, and their bits are together.
 use Rattle.std.proofs.Common.{length}
 use denote.Text.{Utf8}
 use denote.Shadow.{shadow}
 use Rattle.flag_table.specs.Kinds.{table_of}
 use Rattle.flag_table.proofs.Ahead.{AreAhead}
-use Rattle.flag_table.proofs.table.bits_of_names.Given as goal
+use Rattle.flag_table.proofs.table.read_names.Given as goal
 
 -- the words before the rest are good, and their bits together are known
 abbrev pub invariant-loop-bit : goal.invariant-loop-bit

@@ -1,4 +1,4 @@
--- For `after_name`: its goals.
+-- For `after_prefix`: its goals.
 use Rattle.std.proofs.Common.{ℕ, ◌≡◌, ◌-◌, ◌∙◌, sym, ap, refl, false, true, List, length, drop, get_or, nat_eq, Bor, MatchOption, Option, Some, None, arith}
 use Rattle.std.specs.List.{starts_with}
 use Rattle.std.specs.Str.Pattern.{FindsTextPrefix, StripsPrefix}
@@ -6,7 +6,7 @@ use Rattle.std.proofs.lemmas.Bool.{false_from_ne_true}
 use Rattle.std.proofs.lemmas.Bool.Decides.{Decides-eqb}
 use Rattle.std.proofs.lemmas.Slice.Eq.{starts_is}
 use Rattle.flag_table.proofs.Begins.{begins_is, last_differs}
-use Rattle.flag_table.proofs.kind.after_name.Goals as goal
+use Rattle.flag_table.proofs.kind.after_prefix.Goals as goal
 
 stripped : (text name : List ℕ) (found : Option (Bor (List ℕ)))
     → MatchOption found (FindsTextPrefix name text None) (λ rest. StripsPrefix (FindsTextPrefix name) text rest.now)
