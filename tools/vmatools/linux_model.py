@@ -55,7 +55,7 @@ class Kernel:
     is_new: bool = True  # mremap is that of Linux 6.17 and newer
     has_memory: bool = True
     more: int = 0  # areas that the kernel has besides those of the model
-    is_apart: bool = False  # areas that were written to, or are otherwise tainted, join nothing
+    is_apart: bool = False  # areas that were written to, or are otherwise tainted, join nothing, and have any borders
     has_keys: bool = True  # the processor has protection keys
 
 
@@ -95,6 +95,10 @@ class Linux(Space):
             self.kernel.is_apart
             and any(lo < area.hi and area.lo < hi for lo, hi in self.tainted for area in (first, second))
         )
+
+    def is_parted(self, area: Area) -> bool:
+        """Whether the kernel may have a border already where an area is to be split."""
+        return self.kernel.is_apart and any(lo < area.hi and area.lo < hi for lo, hi in self.tainted)
 
     # Placement
 
@@ -183,7 +187,8 @@ class Linux(Space):
     def unmapped(self, lo: int, hi: int) -> Optional[str]:
         """Unmaps a range, or tells why not."""
         inner = areas_in(self.areas, lo, hi)
-        if inner and inner[0].lo < lo and inner[0].hi > hi and self.count >= self.most_areas:
+        is_split = inner and inner[0].lo < lo and inner[0].hi > hi and not self.is_parted(inner[0])
+        if is_split and self.count >= self.most_areas:
             return "ENOMEM"
         if any(area.sealed for area in inner):
             if inner[0].lo < lo and not inner[0].sealed:
@@ -285,7 +290,7 @@ class Linux(Space):
         is_merged = lo == area.lo and self.may_join(below, new) or hi == area.hi and self.may_join(new, above)
         if not is_merged:
             for is_split in (lo > area.lo, hi < area.hi):
-                if is_split and self.count >= self.most_areas:
+                if is_split and self.count >= self.most_areas and not self.is_parted(area):
                     return False
                 self.count += is_split
                 self.splits |= {lo} if is_split else set()

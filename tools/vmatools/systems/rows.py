@@ -15,7 +15,7 @@ ROWS = program.TOP / "examples/kernel-rows.txt"
 CANNOT = 4  # the status of a trace that asks for what the machine cannot do
 HERE, THERE = "-- program", "-- Linux 6.18"
 PROGRAM_SECONDS = 600.0
-ON_DISK = "aligned-file"  # the row of files on a disk: the others' are memory
+ON_DISK = ("aligned-file", "aligned-file-moved")  # the row of files on a disk: the others' are memory
 
 
 @dataclass(frozen=True)
@@ -56,7 +56,7 @@ class Kernel:
 
     def output(self, row: Row) -> str | None:
         """What it answers to a row, or None where it cannot run it."""
-        adapter = self.on_disk if row.name == ON_DISK else self.in_memory
+        adapter = self.on_disk if row.name in ON_DISK else self.in_memory
         try:
             return adapter.answer(row.trace.encode())
         except Refused as refused:
