@@ -1,6 +1,7 @@
 #!/usr/bin/env python3
-"""Checks that three programs above mm_space do not compile: one that makes a Closed of its own, one that uses a pass that a
-closing took, and one that makes a call with the pass of an area that it holds.
+"""Checks that programs above mm_space do not compile: one that makes a Closed of its own, one that uses a pass that a closing
+took, and one that makes a call with the pass of an area that it holds. Nor do two above mmap_lock that take the lock again while
+they have it, at once or by a function that they call, which would wait for ever; nor mm_space with a fault that takes it twice.
 
 Each is made as a crate with one empty test in a copy of the repository, and compiled there from the sources by `rt try`, which
 proves nothing. It has to refuse it for the reason that is named here, and to accept the same program without the line in
@@ -80,6 +81,36 @@ HOLDS_END = """        held.unlock();
 }
 """
 
+LOCKS_HEAD = """//! A program above a lock.
+#![tactic(auto)]
+
+use mmap_lock::MmapLock;
+use std::sync::Wait;
+
+/// What says that a caller doesn't have the lock.
+#[derive(Drop)]
+pub struct Unlocked {
+    only: (),
+}
+
+/// The value.
+pub fn read<R: Wait>(rt: &R, lock: &MmapLock<u64, Unlocked>, unlocked: &mut Unlocked) -> u64 {
+    let mut guard = lock.take(rt, unlocked);
+    *guard.value()
+}
+
+/// The value, read twice.
+pub fn read_twice<R: Wait>(rt: &R, lock: &MmapLock<u64, Unlocked>, unlocked: &mut Unlocked) -> (u64, u64) {
+"""
+
+READS = "    let first = read(rt, lock, unlocked);\n    (first, read(rt, lock, unlocked))\n}\n"
+
+TAKES = "    let mut guard = lock.take(rt, unlocked);\n"
+
+TAKES_AGAIN = TAKES + "    let mut again = lock.take(rt, unlocked);\n    (*guard.value(), *again.value())\n}\n"
+
+READS_AGAIN = TAKES + "    let again = read(rt, lock, unlocked);\n    (*guard.value(), again)\n}\n"
+
 # rt try asks for a test
 TESTED = """
 #[cfg(test)]
@@ -99,7 +130,14 @@ PROGRAMS = [
     ("uses_a_pass_that_is_gone", HEAD + USES, "moved"),
     ("holds", HOLDS_HEAD + HOLDS_END, None),
     ("calls_while_it_holds", HOLDS_HEAD + CALLS + HOLDS_END, "moved"),
+    ("reads_under_a_lock", LOCKS_HEAD + READS, None),
+    ("takes_a_lock_twice", LOCKS_HEAD + TAKES_AGAIN, "borrow"),
+    ("reads_while_it_has_the_lock", LOCKS_HEAD + READS_AGAIN, "borrow"),
 ]
+
+# a file of mm_space, a line that stands in it once, and what stands in its place
+TAKES_TWICE = ("crates/mm_space/src/space.rt", "        let path = Path::Slow(miss);\n",
+    "        let path = Path::Slow(miss);\n        let _again = self.state.take(rt, &mut pass.unlocked);\n")
 
 
 def libraries():
@@ -144,6 +182,17 @@ def main():
             if wrong:
                 sys.exit(wrong)
             print(f"{name}: {'accepted' if reason is None else 'refused'}")
+        file, old, new = TAKES_TWICE
+        with open(os.path.join(copy, file)) as source:
+            text = source.read()
+        if text.count(old) != 1:
+            sys.exit(f"refused_programs: {file} does not have that line once:\n{old}")
+        with open(os.path.join(copy, file), "w") as source:
+            source.write(text.replace(old, new))
+        wrong = judge(copy, "mm_space", "borrow")
+        if wrong:
+            sys.exit(wrong)
+        print("a fault takes the lock twice: refused")
 
 
 main()

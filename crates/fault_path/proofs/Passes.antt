@@ -17,9 +17,10 @@ use Rattle.vma_lock.specs.declared.view.View.{View}
 use Rattle.vma_lock.specs.Views.{joined_at, new_reader, opened_view}
 use Rattle.area_rules.specs.Steps.{IsLegalJournal}
 use Rattle.node_slots.specs.declared.seats.NodeSeat.{NodeSeat}
+use Rattle.node_slots.specs.declared.view.Size.{Size}
 use Rattle.node_slots.specs.Views.{reader_view}
 use Rattle.node_slots.specs.Seats as node_seats
-use Rattle.fault_path.specs.Passes.{PassView, ViewedTable, SitsAt, KeepsPass, IsPass, IsPassOf, IsFresh, caller, config, seen_by, made_by, node_size}
+use Rattle.fault_path.specs.Passes.{PassView, ViewedTable, SitsAt, KeepsPass, IsPass, IsPassOf, IsFresh, caller, config, seen_by, made_by, looks_of, walks_of, node_size}
 use Rattle.fault_path.specs.Locking.{GoesOn}
 
 -- a pass after a read, for which an operation was taken
@@ -63,6 +64,15 @@ fresh_pass viewed most place count seat walker pass is table view_is walked_is w
       ),
       record { seen = ap (λ v. v.seen) view_is; log = refl; left = refl },
     )
+
+-- it never looked, nor walked
+pub unused_pass : (settings : Config) (size : Size) (place number count : ℕ) (seat : ReaderSeat) (walker : NodeSeat) (pass : PassView)
+    → pass ≡ record { reader = seat; nodes = walker; log = []; left = count; operations = count }
+    → view seat ≡ new_reader (opened_view settings place) → node_seats.view walker ≡ reader_view size number → (looks_of pass ≡ 0) × (walks_of pass ≡ 0)
+unused_pass settings size place number count seat walker pass is view_is walks_is = (
+  ap (λ (p : PassView). looks_of p) is ∙ ap (λ v. v.trace.looks) view_is,
+  ap (λ (p : PassView). walks_of p) is ∙ ap (λ v. v.walks) walks_is,
+)
 
 -- a read that is right in a journal is right in one that begins with it
 right_later : (settings : Config) (new old : List Entry) (read : Seen) → StartsWith new old → IsReadRight settings old read → IsReadRight settings new read

@@ -120,6 +120,10 @@ pub record IsFresh (pass : PassView) : Type 0 where
   pub log : pass.log ≡ []
   pub left : pass.left ≡ pass.operations
 
+-- passes that never looked at the sequence, nor walked the tree of areas
+abbrev pub AreUnused : List PassView → Type 0
+AreUnused passes = (place : ℕ) (pass : PassView) → slice_get passes place ≡ Some pass → (looks_of pass ≡ 0) × (walks_of pass ≡ 0)
+
 -- the same pass, later: it has seen what it had seen, and maybe more
 pub record IsLater (old new : PassView) : Type 0 where
   pub by : caller new ≡ caller old

@@ -4,7 +4,7 @@ ghost use Rattle.fault_path.specs.Passes.{seen_by, looks_of};
 ghost use Rattle.fault_path.specs.Faults.{IsMember};
 ghost use Rattle.fault_path.specs.Holding.{StaysAlike};
 
-use crate::pass::{Pass, Rest};
+use crate::pass::{Pass, Rest, Unlocked};
 use mm_types::Record;
 use std::marker::Model;
 use vma_lock::{ReaderSeat, VmaTable};
@@ -17,6 +17,7 @@ pub struct Held<'a> {
     pub(crate) table: &'a VmaTable,
     pub(crate) area: Record,
     pub(crate) reader: ReaderSeat,
+    pub(crate) unlocked: Unlocked,
     pub(crate) rest: Rest,
 }
 
@@ -74,9 +75,14 @@ impl<'a> Held<'a> {
             table,
             area: _,
             mut reader,
+            unlocked,
             rest,
         } = self;
         table.sub(&mut reader);
-        Pass { reader, rest }
+        Pass {
+            reader,
+            unlocked,
+            rest,
+        }
     }
 }

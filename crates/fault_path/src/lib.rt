@@ -12,7 +12,7 @@ mod view;
 pub use fast::{Fast, Miss};
 pub use held::Held;
 pub use notes::Note;
-pub use pass::Pass;
+pub use pass::{Pass, Rest, Unlocked};
 pub use view::FaultView;
 
 #[cfg(test)]

@@ -18,12 +18,21 @@ use vma_lock::ReaderSeat;
 #[derive(Drop)]
 pub struct Pass {
     pub reader: ReaderSeat,
-    pub(crate) rest: Rest,
+    /// Lent for as long as the caller has the mmap lock.
+    pub unlocked: Unlocked,
+    pub rest: Rest,
+}
+
+/// What says that a caller doesn't have the mmap lock. It has no bytes. One is made with each pass, and none is copied: so a caller
+/// that lent it can't take the lock again, and no function that it hands its pass to can.
+#[derive(Drop)]
+pub struct Unlocked {
+    only: (),
 }
 
 /// What a pass has beside its seat at the table of areas.
 #[derive(Drop)]
-pub(crate) struct Rest {
+pub struct Rest {
     pub(crate) nodes: NodeSeat,
     pub(crate) log: Vec<Seen>,
     pub(crate) left: u64,
@@ -62,7 +71,12 @@ impl Pass {
             left: operations,
             operations,
         };
-        Ok(Pass { reader, rest })
+        let unlocked = Unlocked { only: () };
+        Ok(Pass {
+            reader,
+            unlocked,
+            rest,
+        })
     }
 
     /// Whose pass it is.
@@ -138,14 +152,18 @@ impl Pass {
         ensures same { self.new ≡ record self.old { left = self.old.left - 1 } }
         ensures few { length (made_by self.old) + length self.old.log + self.old.left ≤ self.old.operations }
     {
-        self.rest.left -= 1;
+        self.rest.spend();
     }
 
     /// Ends the pass, and hands its log out.
     pub fn into_log(self) -> Vec<Seen>
         ensures { result.items ≡ self.log }
     {
-        let Pass { reader: _, rest } = self;
+        let Pass {
+            reader: _,
+            unlocked: _,
+            rest,
+        } = self;
         let Rest {
             nodes: _,
             log,
@@ -153,5 +171,15 @@ impl Pass {
             operations: _,
         } = rest;
         log
+    }
+}
+
+impl Rest {
+    /// Takes one operation, where a caller has the mmap lock.
+    pub fn spend(&mut self)
+        requires { 0 < self.old.left }
+        ensures { self.new ≡ record self.old { left = self.old.left - 1 } }
+    {
+        self.left -= 1;
     }
 }

@@ -8,7 +8,7 @@ ghost use Rattle.vma_lock.specs.Seats.{table_of, IsOf, sight, view};
 ghost use Rattle.node_slots.specs.declared.seats.NodeSeat.{NodeSeat as Walker};
 ghost use Rattle.node_slots.specs.Views.{reader_view, joined_at};
 ghost use Rattle.node_slots.specs.Seats as node_seats;
-ghost use Rattle.fault_path.specs.Passes.{caller, config, seen_by, looks_of, made_by, node_size, walker, SitsAt, IsLater, AreFresh, IsNewWriter};
+ghost use Rattle.fault_path.specs.Passes.{caller, config, seen_by, looks_of, made_by, node_size, walker, SitsAt, IsLater, AreFresh, AreUnused, IsNewWriter};
 ghost use Rattle.fault_path.specs.Faults.{WalksOnce, IsFast, Misses};
 ghost use Rattle.fault_path.specs.Holding.{Locks, StaysAlike};
 
@@ -70,6 +70,7 @@ impl FaultView {
         ensures writer { IfOk result (λ made. sight made.2 ≡ opened_view config.now (length operations.now)) }
         ensures nodes { IfOk result (λ made. IsNewWriter config.now (length operations.now) made.3) }
         ensures passes { IfOk result (λ made. AreFresh made.0 operations.now made.1.items) }
+        ensures unused { IfOk result (λ made. AreUnused made.1.items) }
     {
         let callers = operations.len() as u32;
         let (rows, slots) = (rows_for(config.areas), slots_for(config.areas));
@@ -130,6 +131,7 @@ impl FaultView {
     {
         let Pass {
             mut reader,
+            unlocked,
             mut rest,
         } = pass;
         match lock_page(&self.table, &self.nodes, &mut reader, &mut rest.nodes, page) {
@@ -137,9 +139,17 @@ impl FaultView {
                 table: &self.table,
                 area,
                 reader,
+                unlocked,
                 rest,
             }),
-            Err(miss) => Err((Pass { reader, rest }, miss)),
+            Err(miss) => {
+                let pass = Pass {
+                    reader,
+                    unlocked,
+                    rest,
+                };
+                Err((pass, miss))
+            }
         }
     }
 
@@ -156,7 +166,11 @@ impl FaultView {
     {
         into.facts();
         other.facts();
-        let Pass { reader, rest } = other;
+        let Pass {
+            reader,
+            unlocked: _,
+            rest,
+        } = other;
         let Rest {
             nodes,
             log,
@@ -186,12 +200,13 @@ fn passes_of(
     requires walkers { (place : ℕ) (seat : Walker) → slice_get walkers.items place ≡ Some seat
         → node_seats.IsOf seat nodes.now
         × (node_seats.view seat ≡ reader_view (node_size config.now (length operations.now)) place) }
-    ensures { IfOk result (λ passes. AreFresh (record {
+    ensures fresh { IfOk result (λ passes. AreFresh (record {
       table = table_of table.now;
       nodes = node_seats.table_of nodes.now;
       config = config.now;
       callers = length operations.now;
     }) operations.now passes.items) }
+    ensures unused { IfOk result (λ passes. AreUnused passes.items) }
 {
     let mut passes = Vec::with_capacity(alloc, operations.len())?;
     let mut walkers = walkers.into_iter();

@@ -7,7 +7,7 @@ use Rattle.mm_types.specs.declared.call.Entry.{Entry}
 use Rattle.mm_types.specs.declared.config.Config.{Config}
 use Rattle.mm_types.specs.declared.call.Reply.{Reply}
 use Rattle.area_rules.specs.Steps.{step, after, IsLegalJournal}
-use Rattle.fault_path.specs.Passes.{PassView, ViewedTable, IsLater, AreFresh, caller, seen_by}
+use Rattle.fault_path.specs.Passes.{PassView, ViewedTable, IsLater, AreFresh, AreUnused, caller, seen_by, looks_of, walks_of}
 use Rattle.fault_path.specs.Passes as tables
 use Rattle.mm_state.specs.States.{StateView}
 use Rattle.mm_space.specs.Names.{SpaceId, viewed_of, Within, AreStrangers, IsPassOf, IsNamed}
@@ -55,7 +55,7 @@ met_is name state passes table nodes config journal operations = λ i. record {
 pub ready : (name : SpaceId) (passes : List PassView) (viewed : ViewedTable) (state : StateView) (logs reserved : ℕ)
     → viewed ≡ viewed_of name → state.table ≡ name.table → state.nodes ≡ name.nodes → state.config ≡ name.config → state.journal ≡ name.before
     → AreStrangers name.before → length name.operations ≤ 64
-    → length name.before + sum name.operations < state.room → length name.before + sum name.operations ≤ 16777216
+    → state.room ≡ length name.before + sum name.operations + 1 → length name.before + sum name.operations ≤ 16777216
     → AreOpened name passes → logs ≡ 0 → length name.operations ≤ reserved → CanBeOpened viewed state passes logs reserved
 ready name passes viewed state logs reserved viewed_is table nodes config journal strangers callers room few opened empty reserve =
     let same : operations_of passes ≡ name.operations = operations_are _ _ _ opened.passes_are in
@@ -77,10 +77,13 @@ ready name passes viewed state logs reserved viewed_is table nodes config journa
 
 -- fresh passes have seen nothing
 pub opened_at_once : (name : SpaceId) (viewed : ViewedTable) (passes : List PassView) → viewed ≡ viewed_of name → name.before ≡ []
-    → AreFresh viewed name.operations passes → AreOpened name passes
-opened_at_once name viewed passes viewed_is before fresh = record {
+    → AreFresh viewed name.operations passes → AreUnused passes → AreOpened name passes
+opened_at_once name viewed passes viewed_is before fresh unused = record {
   passes_are = subst (λ (v : ViewedTable). tables.ArePasses v name.operations passes) viewed_is fresh.passes_are;
-  opened = λ place pass found. let f = fresh.fresh place pass found in record { seen = f.seen ∙ sym before; log = f.log; left = f.left };
+  opened = λ place pass found.
+      let f = fresh.fresh place pass found in
+      let never = unused place pass found in
+      record { seen = f.seen ∙ sym before; log = f.log; left = f.left; looks = omega (arith, never.0); walks = never.1 };
 }
 
 -- A pass of passes that meet a state one after another: those before this place have seen its journal.
@@ -90,18 +93,31 @@ pub record IsMet (name : SpaceId) (done place : ℕ) (pass : PassView) : Type 0 
   pub log : pass.log ≡ []
   pub left : pass.left ≡ pass.operations
   pub seen : place < done → seen_by pass ≡ name.before
+  pub looks : looks_of pass ≤ 1
+  pub unmet : done ≤ place → looks_of pass ≡ 0
+  pub walks : walks_of pass ≡ 0
 
 abbrev pub AreMet : SpaceId → ℕ → List PassView → Type 0
 AreMet name done passes = (length passes ≡ length name.operations)
     × ((place : ℕ) (pass : PassView) → slice_get passes place ≡ Some pass → IsMet name done place pass)
 
-pub met_none : (name : SpaceId) (passes : List PassView) → AreFresh (viewed_of name) name.operations passes → AreMet name 0 passes
-met_none name passes fresh = (
+pub met_none : (name : SpaceId) (passes : List PassView) → AreFresh (viewed_of name) name.operations passes → AreUnused passes → AreMet name 0 passes
+met_none name passes fresh unused = (
   fresh.passes_are.all,
   λ place pass found.
       let f = fresh.fresh place pass found in
       let e = fresh.passes_are.each place pass found in
-      record { of = e.0; by = e.1; log = f.log; left = f.left; seen = λ before. absurd (omega (arith, before)) },
+      let never = unused place pass found in
+      record {
+        of = e.0;
+        by = e.1;
+        log = f.log;
+        left = f.left;
+        seen = λ before. absurd (omega (arith, before));
+        looks = omega (arith, never.0);
+        unmet = λ after. never.0;
+        walks = never.1;
+      },
 )
 
 pub met_all : (name : SpaceId) (done : ℕ) (passes : List PassView) → AreMet name done passes → length passes ≤ done → AreOpened name passes
@@ -109,13 +125,13 @@ met_all name done passes are all = record {
   passes_are = record { all = are.0; each = λ place pass found. let m = are.1 place pass found in (m.of, m.by) };
   opened = λ place pass found.
       let m = are.1 place pass found in
-      record { seen = m.seen (omega (arith, slice_get_within passes place pass found, all)); log = m.log; left = m.left };
+      record { seen = m.seen (omega (arith, slice_get_within passes place pass found, all)); log = m.log; left = m.left; looks = m.looks; walks = m.walks };
 }
 
 pub met_more : (name : SpaceId) (done : ℕ) (passes : List PassView) (old new : PassView)
     → AreMet name done passes → done < length passes → slice_get passes done ≡ Some old → IsLater old new → seen_by new ≡ name.before
-    → new.log ≡ old.log → new.left ≡ old.left → AreMet name (done + 1) (set passes done new)
-met_more name done passes old new are within found later seen log left = (
+    → new.log ≡ old.log → new.left ≡ old.left → looks_of new ≡ looks_of old + 1 → walks_of new ≡ walks_of old → AreMet name (done + 1) (set passes done new)
+met_more name done passes old new are within found later seen log left looks walks = (
   length-set passes done new ∙ are.0,
   λ place pass there. elim (cases_eq done place) [
     | inl here ↦
@@ -129,13 +145,25 @@ met_more name done passes old new are within found later seen log left = (
           log = log ∙ m.log;
           left = left ∙ m.left ∙ sym later.operations;
           seen = λ before. seen;
+          looks = omega (arith, looks, m.unmet (omega arith));
+          unmet = λ after. absurd (omega (arith, after));
+          walks = walks ∙ m.walks;
         })
     | inr other ↦
         let inside : place < length passes = omega (arith, slice_get_within (set passes done new) place pass there, length-set passes done new) in
         let same : get_or passes place pass ≡ pass = sym (get_or-set_other passes done place new pass (λ same. other (sym same)))
         ∙ get_or_from_slice_get (set passes done new) place pass pass there in
         let m = are.1 place pass (slice_get-get_or passes place pass inside ∙ ap Some same) in
-        record { of = m.of; by = m.by; log = m.log; left = m.left; seen = λ before. m.seen (omega (arith, before, other)) }
+        record {
+          of = m.of;
+          by = m.by;
+          log = m.log;
+          left = m.left;
+          seen = λ before. m.seen (omega (arith, before, other));
+          looks = m.looks;
+          unmet = λ after. m.unmet (omega (arith, after));
+          walks = m.walks;
+        }
   ],
 )
 
@@ -169,6 +197,9 @@ fresh_as viewed same most passes shown same_is shown_is fresh =
     subst (λ (v : ViewedTable). AreFresh v (operations_of shown) shown) (sym same_is)
     (subst (λ (p : List PassView). AreFresh viewed (operations_of p) p) (sym shown_is)
     (subst (λ (ops : List ℕ). AreFresh viewed ops passes) (sym (operations_are viewed most passes fresh.passes_are)) fresh))
+
+pub unused_as : (passes shown : List PassView) → shown ≡ passes → AreUnused passes → AreUnused shown
+unused_as passes shown same unused = subst AreUnused (sym same) unused
 
 pub opened_as : (name one : SpaceId) (passes back : List PassView) → one ≡ name → back ≡ passes → AreOpened one passes → AreOpened name back
 opened_as name one passes back is back_is opened =

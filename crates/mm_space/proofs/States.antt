@@ -133,5 +133,5 @@ named_more name old new entry is more table nodes config room some =
       within = subst (Within operations) (sym (ap (drop (length before)) more ∙ drop_append (length before) old.journal (entry ∷ []) few))
           (within_more operations (since before old.journal) entry is.within (omega (arith, own, some)));
       few = is.few;
-      room = subst (λ n. length before + sum operations < n) (sym room) is.room;
+      room = room ∙ is.room;
     }

@@ -218,6 +218,15 @@ behind_told told before old new page access done heard later is =
     let all : take done.version (seen_by new) ≡ seen_by new = take_all done.version (seen_by new) (omega (arith, version)) in
     (omega (arith, within, version), subst (λ (j : List Entry). StartsWith j told) (sym all) begins)
 
+-- so it lies behind a call that the caller who told it had seen
+pub behind_call : (told : List Entry) (asked made before old new : PassView) (call : Call) (reply : Reply) (place : ℕ) (page : Page) (access : Access) (done : Faulted)
+    → Calls asked made call reply place → StartsWith told (seen_by made) → Hears before told old → IsLater old new → IsDone page access old new done
+    → place ≤ done.version
+behind_call told asked made before old new call reply place page access done called starts heard later is =
+    let within : length (seen_by made) ≤ length told = omega (arith, sym (ap length starts) ∙ length-take (length (seen_by made)) told) in
+    let behind = behind_told told before old new page access done heard later is in
+    omega (arith, called.version, within, behind.0)
+
 -- so the reply of a touch that grew has index 0
 pub grown_first : (reply : Reply) (area grown : Record) (index : ℕ) → reply ≡ Grown area 0 → reply ≡ Grown grown index → reply ≡ Grown grown 0
 grown_first reply area grown index is shown = let same : Grown area 0 ≡ Grown grown index = sym is ∙ shown in cc

@@ -57,7 +57,7 @@ abbrev pub AreStrangers : List Entry → Type 0
 AreStrangers before = All (λ entry. 64 ≤ entry.caller) before
 
 -- What the state of a space keeps: it is of the space's tables and configuration, the journal begins with the entries from before,
--- each caller has at most its operations behind them, and there is room for more entries than these and the operations of all callers,
+-- each caller has at most its operations behind them, and there is room for one entry more than these and the operations of all callers,
 -- which are at most 16,777,216 together.
 pub record IsNamed (name : SpaceId) (state : StateView) : Type 0 where
   pub table : state.table ≡ name.table
@@ -68,4 +68,4 @@ pub record IsNamed (name : SpaceId) (state : StateView) : Type 0 where
   pub callers : length name.operations ≤ 64
   pub within : Within name.operations (since name.before state.journal)
   pub few : length name.before + sum name.operations ≤ 16777216
-  pub room : length name.before + sum name.operations < state.room
+  pub room : state.room ≡ length name.before + sum name.operations + 1

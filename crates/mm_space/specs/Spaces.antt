@@ -55,11 +55,12 @@ pub record Reads (old new : PassView) (read : Seen) : Type 0 where
   pub own : made_by new ≡ made_by old
   pub left : new.left + 1 ≡ old.left
 
--- nothing was done: no read, no entry, and no operation was taken
+-- nothing was done but a look: no read, no entry, and no operation was taken
 pub record DoesNothing (old new : PassView) : Type 0 where
   pub log : new.log ≡ old.log
   pub own : made_by new ≡ made_by old
   pub left : new.left ≡ old.left
+  pub looks : looks_of new ≡ looks_of old + 1
 
 -- a pass told what it has seen: one operation was taken, and nothing else changed
 pub record Tells (old new : PassView) : Type 0 where

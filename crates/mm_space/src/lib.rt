@@ -12,7 +12,7 @@ mod space;
 
 pub use closed::Closed;
 pub use fault_path::Note;
-pub use laws::faults_lie_behind_what_was_heard;
+pub use laws::{faults_lie_behind_calls_that_were_heard, faults_lie_behind_what_was_heard};
 pub use name::SpaceName;
 pub use named::Named;
 pub use ready::Ready;

@@ -2,7 +2,7 @@
 ghost use Rattle.std.specs.Prelude.{◌≡◌, ◌≤◌, ◌<◌, ◌+◌, [], IfOk, length, sum};
 ghost use Rattle.area_rules.specs.Steps.{IsLegalJournal};
 ghost use Rattle.area_rules.specs.Journals.{calls_by};
-ghost use Rattle.fault_path.specs.Passes.{AreFresh, IsLater, caller, config, seen_by};
+ghost use Rattle.fault_path.specs.Passes.{AreFresh, AreUnused, IsLater, caller, config, seen_by, looks_of};
 ghost use Rattle.mm_space.specs.Names.{viewed_of, AreStrangers};
 ghost use Rattle.mm_space.specs.Opening.{operations_of, met_space, AreOpened};
 ghost use Rattle.mm_types.specs.Config.{IsValidConfig};
@@ -113,6 +113,7 @@ fn meet_all(state: &mut MmState, passes: &mut [Pass])
     requires strangers { AreStrangers state.old.journal }
     requires callers { length passes.old ≤ 64 }
     requires fresh { AreFresh (viewed_of (met_space state.old passes.old)) (operations_of passes.old) passes.old }
+    requires unused { AreUnused passes.old }
     ensures state { state.new ≡ state.old }
     ensures opened { AreOpened (met_space state.old passes.old) passes.new }
 {
@@ -131,6 +132,7 @@ fn meet_one(state: &mut MmState, pass: &mut Pass)
     ensures later { IsLater pass.old pass.new }
     ensures same { pass.new ≡ record pass.old { reader = pass.new.reader } }
     ensures seen { seen_by pass.new ≡ state.old.journal }
+    ensures looks { looks_of pass.new ≡ looks_of pass.old + 1 }
 {
     pass.facts();
     state.facts();

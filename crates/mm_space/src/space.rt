@@ -16,7 +16,7 @@ use crate::closing::gather_logs;
 use crate::name::SpaceName;
 use crate::named::Named;
 use crate::ready::Ready;
-use fault_path::{Fast, FaultView, Miss, Note, Pass};
+use fault_path::{Fast, FaultView, Miss, Note, Pass, Unlocked};
 use mm_types::{Access, Call, NoMemory, Page, Reply, Seen, Verdict};
 use mmap_lock::MmapLock;
 use std::alloc::Global;
@@ -57,7 +57,7 @@ enum Found {
 #[derive(Drop)]
 pub struct Space<N: SpaceName> {
     view: FaultView,
-    state: MmapLock<Named<N>>,
+    state: MmapLock<Named<N>, Unlocked>,
     /// Empty, with room for the log of each caller.
     logs: Vec<Vec<Seen>>,
     ghost viewed: { IsViewOf N.name view },
@@ -103,13 +103,12 @@ impl<N: SpaceName> Space<N> {
         // it walks no tree
         ensures nodes { pass.new.nodes ≡ pass.old.nodes }
     {
-        let mut guard = self.state.take(rt);
-        let state = guard.value();
         pass.spend();
-        let reply = state.apply(rt, &mut pass.reader, call);
+        let mut guard = self.state.take(rt, &mut pass.unlocked);
+        let reply = guard.value().apply(rt, &mut pass.reader, call);
         Called {
             reply,
-            version: pass.version(),
+            version: pass.reader.version(),
         }
     }
 
@@ -173,16 +172,17 @@ impl<N: SpaceName> Space<N> {
         ensures look { LooksOnce pass.old.reader pass.new.reader }
         ensures path { (faulted_of result).path ≡ Slow miss }
     {
-        let mut guard = self.state.take(rt);
+        pass.facts();
+        let mut guard = self.state.take(rt, &mut pass.unlocked);
         let state = guard.value();
         let path = Path::Slow(miss);
         if state.grows(page, access) {
-            pass.spend();
+            pass.rest.spend();
             let area = state.touch(rt, &mut pass.reader, page, access);
             return Found::Entered(Faulted {
                 verdict: Verdict::Served { area, index: 0 },
                 path,
-                version: pass.version(),
+                version: pass.reader.version(),
             });
         }
         state.meet(&mut pass.reader);
@@ -190,7 +190,7 @@ impl<N: SpaceName> Space<N> {
         Found::Answered(Faulted {
             verdict,
             path,
-            version: pass.version(),
+            version: pass.reader.version(),
         })
     }
 
@@ -202,15 +202,17 @@ impl<N: SpaceName> Space<N> {
         ensures pass { IsPassOf N.name pass.new }
         ensures later { IsLater pass.old pass.new }
         ensures read { IfOk result (λ version. (list : List Record) × Reads pass.old pass.new (Maps version list)) }
-        ensures looks { IfOk result (λ version. looks_of pass.new ≡ looks_of pass.old + 1) }
+        ensures looks { looks_of pass.new ≡ looks_of pass.old + 1 }
         ensures err { OnErr result (DoesNothing pass.old pass.new) }
         // it walks no tree
         ensures nodes { pass.new.nodes ≡ pass.old.nodes }
     {
-        let mut guard = self.state.take(rt);
-        let state = guard.value();
-        state.meet(&mut pass.reader);
-        let list = state.copy_list(alloc)?;
+        let list = {
+            let mut guard = self.state.take(rt, &mut pass.unlocked);
+            let state = guard.value();
+            state.meet(&mut pass.reader);
+            state.copy_list(alloc)?
+        };
         let version = pass.version();
         pass.note(Seen::Maps { version, list });
         Ok(version)

@@ -19,25 +19,34 @@ struct Pair {
     second: u64,
 }
 
+/// What says that its owner doesn't have the lock.
+#[derive(Drop)]
+struct Unlocked;
+
 /// Counts once.
-fn count<R: Wait>(rt: &R, lock: &MmapLock<Pair>) {
-    let mut guard = lock.take(rt);
+fn count<R: Wait>(rt: &R, lock: &MmapLock<Pair, Unlocked>, unlocked: &mut Unlocked) {
+    let mut guard = lock.take(rt, unlocked);
     let pair = guard.value();
     pair.first = pair.first.wrapping_add(1);
     pair.second = pair.second.wrapping_add(1);
 }
 
 /// Counts so often, and waits for nobody but those that have the lock.
-fn count_all<R: Wait>(rt: &R, lock: &MmapLock<Pair>) {
+fn count_all<R: Wait>(rt: &R, lock: &MmapLock<Pair, Unlocked>, unlocked: &mut Unlocked) {
     for _ in 0..ROUNDS {
-        count(rt, lock);
+        count(rt, lock, unlocked);
     }
 }
 
 /// All threads count under the lock.
-fn count_together<R: Threads + Wait + Sync>(rt: &R, lock: &MmapLock<Pair>) {
-    let mut workers = [(); THREADS];
-    thread::for_each_mut(rt, &mut workers, THREADS, &|_, _| count_all(rt, lock));
+fn count_together<R: Threads + Wait + Sync>(rt: &R, lock: &MmapLock<Pair, Unlocked>) {
+    let mut callers = [Unlocked, Unlocked, Unlocked, Unlocked];
+    thread::for_each_mut(
+        rt,
+        &mut callers,
+        THREADS,
+        &|_, unlocked| count_all(rt, lock, unlocked),
+    );
 }
 
 /// No count is lost, and no thread sees the numbers of another in between.

@@ -6,9 +6,9 @@ use Rattle.vma_lock.specs.Seats.{table_of}
 use Rattle.node_slots.specs.declared.view.NodeView.{NodeView}
 use Rattle.node_slots.specs.Views.{reader_view}
 use Rattle.node_slots.specs.Seats as node_seats
-use Rattle.fault_path.specs.Passes.{PassView, ViewedTable, IsPassOf, IsFresh, caller, node_size}
+use Rattle.fault_path.specs.Passes.{PassView, ViewedTable, IsPassOf, IsFresh, AreUnused, caller, looks_of, walks_of, node_size}
 use Rattle.fault_path.proofs.Places.{push_places, next_at, next_part, last_part, same_lengths, some_left}
-use Rattle.fault_path.proofs.Passes.{fresh_pass}
+use Rattle.fault_path.proofs.Passes.{fresh_pass, unused_pass}
 use Rattle.fault_path.proofs.view.passes_of.Goals as goal
 
 pub loop-reader-init : goal.loop-reader-init
@@ -19,6 +19,7 @@ loop-reader-init c = record {
   walkers_left = search rules;
   count = search rules;
   fresh = search rules;
+  unused = search rules;
 }
 
 pub unwrap-walker-requires : goal.unwrap-walker-requires
@@ -78,10 +79,16 @@ loop-reader-preserved c =
           (rw kept.count
           (fresh_pass viewed _ _ _ _ _ _ c.in_ok-new.ensures known.0 known.1 seat.0.same (seat.1 ∙ ap (reader_view (node_size c.args.config.now (length c.args.operations.now))) place)
           (grind (arith, c.len.ensures, kept.count, c.loop-reader.passes.ok)))));
+      unused = subst AreUnused (sym c.in_ok-push.ensures.items)
+          (push_places (λ place pass. (looks_of pass ≡ 0) × (walks_of pass ≡ 0)) c.loop-reader.passes.items c.in_ok-new.field-0 kept.unused
+          (unused_pass _ _ _ _ _ _ _ _ c.in_ok-new.ensures known.1 seat.1));
     }
 
-pub returns : goal.returns
-returns c = let kept = c.loop-reader.invariant in record {
+pub returns-clause-unused : goal.returns-clause-unused
+returns-clause-unused c = c.loop-reader.invariant.unused
+
+pub returns-clause-fresh : goal.returns-clause-fresh
+returns-clause-fresh c = let kept = c.loop-reader.invariant in record {
   passes_are = record {
     all = kept.count ∙ last_part _ _ _ kept.rest (sym kept.left ∙ c.in-None.ensures.steps.0) ∙ c.requires.all.0;
     each = λ place pass at. (kept.fresh place pass at).0;

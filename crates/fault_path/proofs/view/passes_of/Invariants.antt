@@ -4,7 +4,7 @@ use Rattle.std.specs.Vec.Iter.{into_iter_items, into_iter_len}
 use Rattle.vma_lock.specs.Seats.{table_of}
 use Rattle.node_slots.specs.declared.seats.NodeSeat.{NodeSeat}
 use Rattle.node_slots.specs.Seats as node_seats
-use Rattle.fault_path.specs.Passes.{PassView, IsPassOf, IsFresh, caller}
+use Rattle.fault_path.specs.Passes.{PassView, IsPassOf, IsFresh, AreUnused, caller}
 use Rattle.fault_path.proofs.view.passes_of.Given as goal
 
 abbrev pub invariant-loop-reader : goal.invariant-loop-reader
@@ -17,4 +17,5 @@ invariant-loop-reader l = record {
   fresh : (place : ℕ) (pass : PassView) → slice_get l.passes.items place ≡ Some pass
       → (IsPassOf (record { table = table_of l.table; nodes = node_seats.table_of l.nodes; config = l.config; callers = length l.operations }) l.operations pass
       × (caller pass ≡ place)) × IsFresh pass;
+  unused : AreUnused l.passes.items;
 }

@@ -2,7 +2,7 @@
 use Rattle.std.proofs.Common.{◌≡◌, ◌<◌, ◌∙◌, refl, length, get_or, sym, ap, subst, arith}
 use Rattle.std.proofs.lemmas.List.{length-map}
 use Rattle.std.proofs.lemmas.Option.{slice_get-get_or}
-use Rattle.fault_path.specs.Passes.{PassView, caller}
+use Rattle.fault_path.specs.Passes.{PassView, caller, walks_of}
 use Rattle.mm_state.specs.States.{StateView}
 use Rattle.mm_space.specs.Names.{AreStrangers}
 use Rattle.mm_space.proofs.States.{no_calls}
@@ -10,7 +10,7 @@ use Rattle.mm_space.proofs.Opening.{met_none, met_all, met_at, met_more}
 use Rattle.mm_space.proofs.ready.meet_all.Goals as goal
 
 pub loop-place-init : goal.loop-place-init
-loop-place-init c = record { state = refl; met = met_none _ _ c.requires.fresh }
+loop-place-init c = record { state = refl; met = met_none _ _ c.requires.fresh c.requires.unused }
 
 pub meet_one-requires-clause-table : goal.meet_one-requires-clause-table
 meet_one-requires-clause-table c =
@@ -43,7 +43,8 @@ loop-place-preserved c =
     record {
       state = met.state ∙ c.loop-place.invariant.state;
       met = met_more _ _ _ _ _ c.loop-place.invariant.met within (slice_get-get_or _ _ _ within) met.later
-          (met.seen ∙ ap (λ (s : StateView). s.journal) c.loop-place.invariant.state) (ap (λ (p : PassView). p.log) met.same) (ap (λ (p : PassView). p.left) met.same);
+          (met.seen ∙ ap (λ (s : StateView). s.journal) c.loop-place.invariant.state) (ap (λ (p : PassView). p.log) met.same) (ap (λ (p : PassView). p.left) met.same)
+          met.looks (ap (λ (p : PassView). walks_of p) met.same);
     }
 
 pub returns-clause-opened : goal.returns-clause-opened

@@ -26,4 +26,4 @@ invariant_of-result c =
     } in
     ready name _ _ _ _ _ viewed (ap (λ (s : StateView). s.table) made) (ap (λ (s : StateView). s.nodes) made)
     (ap (λ (s : StateView). s.config) made) (ap (λ (s : StateView). s.journal) made) (All-nil (λ (e : Entry). 64 ≤ e.caller)) c.requires.callers.1
-    (omega (arith, room, entries)) (omega (arith, few)) (opened_at_once name _ _ viewed refl c.in_ok-view.ensures.passes) c.in_ok-logs.ensures.len (search rules)
+    (omega (arith, room, entries)) (omega (arith, few)) (opened_at_once name _ _ viewed refl c.in_ok-view.ensures.passes c.in_ok-view.ensures.unused) c.in_ok-logs.ensures.len (search rules)

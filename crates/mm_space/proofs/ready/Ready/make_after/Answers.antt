@@ -4,7 +4,7 @@ use Rattle.std.proofs.lemmas.List.{take_at}
 use Rattle.mm_state.specs.States.{StateView}
 use Rattle.mm_space.specs.Names.{SpaceId, viewed_of}
 use Rattle.mm_space.specs.Opening.{operations_of}
-use Rattle.mm_space.proofs.Opening.{operations_are, met_is, ready, fresh_as, opened_as}
+use Rattle.mm_space.proofs.Opening.{operations_are, met_is, ready, fresh_as, unused_as, opened_as}
 use Rattle.mm_space.proofs.ready.Ready.make_after.Goals as goal
 
 pub meet_all-requires-clause-fresh : goal.meet_all-requires-clause-fresh
@@ -23,6 +23,9 @@ meet_all-requires-clause-fresh g c =
     (same.1 ∙ ap (λ (s : StateView). s.config) made) c.repeat.ensures.journal
     (ap operations_of c.as_mut_slice.ensures.value ∙ operations_are _ _ _ fresh.passes_are) in
     fresh_as _ _ _ _ _ (ap viewed_of met ∙ sym c.in_ok-view.ensures.view) c.as_mut_slice.ensures.value fresh
+
+pub meet_all-requires-clause-unused : goal.meet_all-requires-clause-unused
+meet_all-requires-clause-unused g c = unused_as _ _ c.as_mut_slice.ensures.value c.in_ok-view.ensures.unused
 
 pub invariant_of-result : goal.invariant_of-result
 invariant_of-result g c =
