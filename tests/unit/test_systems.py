@@ -108,7 +108,7 @@ class Fits(unittest.TestCase):
 
     def test_what_is_mapped_is_touched_at_the_end(self) -> None:
         trace = windows.Fit(WINDOW).fitted(trace_of(f"0 mmap 0x10000 4096 PROT_WRITE {MAP}|MAP_FIXED -1 0"))
-        self.assertEqual([(line.word, line.arguments) for line in trace.lines[1:]], [("fault", [0x10000, "w"])])
+        self.assertEqual([(line.word, line.arguments[0]) for line in trace.lines[1:]], [("fault", 0x10000)])
 
 
 class Scripts(unittest.TestCase):

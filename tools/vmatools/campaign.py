@@ -15,14 +15,15 @@ from contextlib import contextmanager, suppress
 from dataclasses import dataclass, field
 from pathlib import Path
 from types import FrameType
-from typing import Any, NamedTuple, Optional
+from typing import Any, NamedTuple, Optional, Union
 
 from . import coverage, generator, outputs, program, shrinking
-from .comparison import NO_END, Examined, Sides, Stopped, examine, is_trace, may_answer
+from .comparison import HANGS, Examined, Sides, Stopped, examine, is_trace, may_answer
 from .console import Failure, Progress, say
 from .fitting import fitted
 from .findings import Finding, Findings, Journal, Kind, events_of
 from .traces import BadLine, Trace, read_trace
+from .windows import EmptyFit, Fit
 
 QUIET_SECONDS = 30  # a line says how far the run is, where nobody looks at a terminal
 
@@ -47,6 +48,7 @@ class Settings:
     folder: Optional[Path] = None
     shard: tuple[int, int] = (1, 1)
     has_coverage: bool = False
+    fit: Optional[Union[Fit, EmptyFit]] = None  # how traces become such as the system can run
     words: list[str] = field(default_factory=list)  # those that a command needs to repeat a finding
 
     def identity(self) -> dict[str, Any]:
@@ -214,8 +216,11 @@ class Campaign:
 
     def examined(self, source: Source) -> tuple[Examined, Counter[str]]:
         trace = source.draw()
-        if self.settings.is_kernel and self.settings.folder:
+        if self.settings.fit:
+            trace = self.settings.fit.fitted(trace)
+        elif self.settings.is_kernel and self.settings.folder:
             trace = fitted(trace)
+        self.sides.confirm(trace)
         rows = coverage.rows_of(trace) if self.settings.has_coverage else Counter[str]()
         return examine(self.sides, trace, self.settings.most), rows
 
@@ -255,7 +260,8 @@ class Campaign:
     def repeat(self, source: Source) -> str:
         """The one command that repeats a finding."""
         tool = [sys.argv[0]] if Path(sys.argv[0]).name == "vma" else ["vma"]
-        return shlex.join([*tool, "compare", *self.settings.words, *source.words, "--", *self.settings.command])
+        system = self.settings.command if self.settings.command[:1] == ["--system"] else ["--", *self.settings.command]
+        return shlex.join([*tool, "compare", *self.settings.words, *source.words, *system])
 
     def tell(self) -> None:
         """Says how far the run is."""
@@ -294,7 +300,7 @@ class Campaign:
         found = kind.shortest
         wanted = outputs.kind_of(found.difference)
         trace = read_trace(found.trace.encode())
-        is_hang = wanted[2] == NO_END
+        is_hang = wanted[2] in HANGS
         limits = [self.settings.seconds]
         if is_hang and self.settings.short < self.settings.seconds:
             limits.insert(0, self.settings.short)
@@ -302,7 +308,8 @@ class Campaign:
             small = self.shrunk_within(trace, found.difference, wanted, seconds)
             # With all the time that COMMAND may take it has to differ as well.
             difference = self.sides.same_kind(small, wanted, self.settings.seconds)
-            if difference and (difference.there == NO_END) == is_hang:
+            if difference and (difference.there in HANGS) == is_hang:
+                self.sides.confirm(small)
                 return Finding(name, difference, small.text(), found.source, found.repeat)
         return found  # it differs now and then only
 
@@ -317,6 +324,7 @@ class Campaign:
                 known[text] = (
                     not self.is_stopping
                     and is_trace(trace)
+                    and (self.settings.fit is None or self.settings.fit.keeps(trace))
                     and may_answer(trace, kind)
                     and self.is_same(trace, kind, seconds)
                 )

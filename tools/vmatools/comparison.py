@@ -3,7 +3,7 @@ aside."""
 from __future__ import annotations
 
 from collections import Counter
-from collections.abc import Iterable, Iterator, Sequence
+from collections.abc import Callable, Iterable, Iterator, Sequence
 from dataclasses import dataclass, field
 from fnmatch import fnmatchcase
 from typing import NamedTuple, Optional
@@ -15,12 +15,14 @@ from .model import Space
 from .outputs import Difference, Part, answer_of, difference_of, is_list, kind_of, parts_of
 from .program import Ran, run
 from .serial import serial_output
+from .systems.batch import Adapters
 from .traces import FORMS, LIMITS, BadLine, Line, Trace, read_trace
 
 PROGRAM_SECONDS = 600
 MOST_FINDINGS = 12  # of one trace
 NO_END = "does not end"
 CANNOT_RUN = "ends with status 4"
+HANGS = (NO_END, "hung")  # the second is what an adapter answers that ends its system itself
 
 
 class CannotRun(Failure):
@@ -71,11 +73,17 @@ def end_of(here: str, there: str, words: dict[Optional[int], str]) -> Optional[D
 class Rules:
     """Which differences are set aside, by the rules of --ignore and by the cases of --kernel."""
 
-    def __init__(self, patterns: Iterable[str] = (), cases: Sequence[linux_cases.Case] = ()) -> None:
+    def __init__(
+        self,
+        patterns: Iterable[str] = (),
+        cases: Sequence[linux_cases.Case] = (),
+        linux: Optional[Callable[[Trace, Difference], bool]] = None,
+    ) -> None:
         patterns = list(patterns)
         self.patterns = [pattern for pattern in patterns if pattern != "list"]
         self.last_lists = "list" not in patterns
         self.cases = cases
+        self.linux = linux  # whether the running kernel answers as the system does
 
     def pattern_of(self, difference: Difference) -> Optional[str]:
         """The rule of --ignore by which a difference is set aside."""
@@ -88,10 +96,12 @@ class Rules:
     def name_of(self, trace: Trace, difference: Difference) -> Optional[str]:
         """The rule or the case by which a difference is set aside, or None."""
         pattern = self.pattern_of(difference)
-        if pattern or not self.cases:
+        if pattern or not (self.cases or self.linux):
             return pattern
         if difference.there == CANNOT_RUN:
             return "cannot-run"
+        if self.linux:
+            return "as-linux" if self.linux(trace, difference) else None
         return linux_cases.case_of(self.cases, trace, History(trace), difference)
 
 
@@ -109,15 +119,31 @@ class Sides:
         self.program, self.command, self.seconds, self.rules = program, list(command), seconds, rules
         self.is_stopped = False
         self.short = min(short, seconds)  # how long a run may take while the end of a system is looked for
+        self.adapters: Optional[Adapters] = None  # processes that answer many traces, in place of one for each
+        self.shown: Callable[[str], str] = str  # what of an output is compared
 
     def here(self, trace: Trace) -> str:
+        """What the program answers; with a batch, what the model does, which `confirm` holds to the program."""
+        return self.shown(serial_output(trace) if self.adapters else self.program_output(trace))
+
+    def confirm(self, trace: Trace) -> None:
+        """Ends the comparison where the model, which stands in for the program, answers a trace otherwise."""
+        if self.adapters and self.program_output(trace) != serial_output(trace):
+            raise CannotRun(f"the model of the tools answers otherwise than the program on this trace:\n{trace.text()}")
+
+    def program_output(self, trace: Trace) -> str:
         ran = run([self.program, "serial"], trace.text().encode(), PROGRAM_SECONDS)
         if ran.fault:
             raise CannotRun(f"the program {ran.fault} on a trace, with `{ran.message.strip()[:200]}` on standard error")
         return ran.output
 
     def there(self, trace: Trace, seconds: Optional[float] = None) -> Ran:
-        return run(self.command, trace.text().encode(), seconds or self.seconds)
+        text, limit = trace.text().encode(), seconds or self.seconds
+        if self.adapters:
+            answer = self.adapters.run(text, limit)
+            return Ran(self.shown(answer.output), answer.fault, answer.message)
+        ran = run(self.command, text, limit)
+        return Ran(self.shown(ran.output), ran.fault, ran.message)
 
     def test_machine(self) -> None:
         """Ends the comparison where COMMAND cannot run any trace on this machine: `vma kernel` says so with status

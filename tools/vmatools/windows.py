@@ -12,8 +12,9 @@ from collections.abc import Collection, Iterator
 from dataclasses import dataclass
 
 from . import model
+from .systems.empty import LOWEST_TOP, TOP
 from .systems.places import Window, finds_place, leaves
-from .traces import MAP, MREMAP, PAGE, PROT, Line, Trace
+from .traces import MAP, MREMAP, PAGE, Line, Trace
 
 PROFILES = [
     "few",
@@ -55,6 +56,28 @@ class Fit:
         return is_lost or leaves(line, low, high) or line.word == "brk" and "heap" not in trace.settings
 
 
+@dataclass(frozen=True)
+class EmptyFit:
+    """How traces are fitted to the empty space of a kernel, which lacks some operations."""
+
+    lowest: int
+    lacks: Collection[str] = ()
+
+    def fitted(self, trace: Trace) -> Trace:
+        """The trace with settings that the kernel can have, and without what it lacks."""
+        settings = {
+            name: value for name, value in trace.settings.items() if name != "top" or LOWEST_TOP <= value <= TOP
+        }
+        lines = [line for line in trace.lines if line.word not in self.lacks]
+        return Trace(trace.version, settings | {"min": self.lowest}, trace.files, lines).numbered()
+
+    def keeps(self, trace: Trace) -> bool:
+        """Whether a trace has nothing that the kernel lacks."""
+        return trace.settings.get("min", self.lowest) == self.lowest and not any(
+            line.word in self.lacks for line in trace.lines
+        )
+
+
 class Fitting:
     """One trace that is fitted: the lines so far, and the spaces that they leave."""
 
@@ -80,7 +103,7 @@ class Fitting:
         areas = self.parent.areas
         for area in self.random.sample(areas, min(len(areas), MOST_TOUCHED)):
             page = self.random.choice([area.lo, area.hi - 1])
-            kind = "w" if area.prot & PROT["PROT_WRITE"] else "r"
+            kind = self.random.choice("rww")
             if self.low <= page * PAGE < self.high:
                 yield Line(0, thread, "fault", [page * PAGE, kind], None)
 

@@ -44,6 +44,7 @@ from .. import (
 )
 from ..campaign import Campaign, Settings, sources
 from ..findings import Baseline, Findings, Journal, Kind
+from ..systems import beside
 
 SUMMARY = "run random traces on the program and on a system of yours, and shrink what differs"
 SIGNALS = {"SIGINT": 130, "SIGTERM": 143}
@@ -200,6 +201,7 @@ def add_arguments(parser: argparse.ArgumentParser) -> None:
         metavar="N",
         help="differences of one trace at most " f"({comparison.MOST_FINDINGS})",
     )
+    beside.add_arguments(parser)
     program.add_arguments(parser)
     parser.add_argument(
         "command", nargs="*", metavar="COMMAND", help="the system under test and its arguments, behind --"
@@ -238,6 +240,9 @@ def settings_of(options: argparse.Namespace) -> Settings:
         words += [name, f"{value:g}" if isinstance(value, float) else str(value)] if value != default else []
     words += ["--profile", ",".join(options.profile)] if options.profile != generator.IN_TURN else []
     words += ["--kernel"] if options.kernel else []
+    words += beside.words_of(options)
+    if options.system:
+        settings.command = ["--system", options.system]
     settings.words = words + [word for pattern in options.ignore for word in ("--ignore", pattern)]
     return settings
 
@@ -330,8 +335,14 @@ def opened(path: str, stack: ExitStack) -> TextIO:
 def compare(options: argparse.Namespace) -> int:
     """The whole comparison: prints what differs, and returns the exit status."""
     settings, sides = settings_of(options), make_sides(options)
+    with beside.prepared(options, settings, sides):
+        return compare_sides(options, settings, sides)
+
+
+def compare_sides(options: argparse.Namespace, settings: Settings, sides: comparison.Sides) -> int:
+    """The comparison of two sides that are ready."""
     findings = Findings(Baseline.read(options.baseline) if options.baseline else Baseline())
-    if options.kernel:
+    if options.kernel or options.system:
         sides.test_machine()
     if options.keep:
         make_folder(options.keep)
@@ -386,6 +397,7 @@ def try_mutants(options: argparse.Namespace) -> int:
 def run(options: argparse.Namespace) -> int:
     if options.mutants:
         return try_mutants(options)
+    beside.take_system(options)
     if not options.command:
         raise console.Failure("COMMAND is missing: the system under test stands behind --")
     options.program = program.find(options.program, options.verbose)

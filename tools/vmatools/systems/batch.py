@@ -21,6 +21,7 @@ from .running import end_group, ended, read_some, write_all
 
 GRACE = 5.0  # seconds that an adapter has beyond those of a trace, to end its system itself
 MOST_OUTPUT = 64 << 20
+END_SECONDS = 2.0  # for an adapter to end by itself, with what it started
 DOES_NOT_END = "does not end"
 
 
@@ -86,8 +87,14 @@ class Adapter:
                 return Answer(text_of(data), fault_of(ended(process)), self.said())
 
     def close(self) -> None:
+        """Ends the process: by the end of its input, and where it goes on, by a signal."""
         if self.process is None:
             return
+        if self.process.stdin:
+            with contextlib.suppress(OSError):
+                self.process.stdin.close()
+        with contextlib.suppress(subprocess.TimeoutExpired):
+            self.process.wait(END_SECONDS)
         end_group(self.process)
         for stream in (self.process.stdin, self.process.stdout, self.errors):
             if stream is not None:

@@ -4,7 +4,7 @@ from __future__ import annotations
 import shutil
 import subprocess
 import time
-from collections.abc import Callable, Iterator, Sequence
+from collections.abc import Iterator, Sequence
 from dataclasses import dataclass, field, replace
 from pathlib import Path
 
@@ -12,7 +12,7 @@ from .. import console, program, windows
 from ..generator import Generator
 from ..outputs import is_list, parts_of
 from ..traces import LIMITS, PAGE, Line, Trace
-from . import empty, known, machines
+from . import known, machines
 from .adapter import Adapter
 from .known import System
 from .places import Refused
@@ -134,22 +134,13 @@ def with_reads(trace: Trace) -> Trace:
     return trace.with_lines(lines).numbered()
 
 
-def fit_of(system: System, kernel: empty.Kernel | None, lacks: Sequence[str]) -> Callable[[Trace], Trace]:
+def fit_of(system: System, lacks: Sequence[str]) -> windows.Fit | windows.EmptyFit:
     """How the traces of a comparison become such as the system can run."""
-    if system.window:
-        return windows.Fit(system.window, lacks).fitted
-    lowest = max(kernel.lowest if kernel else PAGE, PAGE)
-
-    def fitted(trace: Trace) -> Trace:
-        settings = {
-            name: value
-            for name, value in trace.settings.items()
-            if name != "top" or empty.LOWEST_TOP <= value <= empty.TOP
-        }
-        lines = [line for line in trace.lines if line.word not in lacks]
-        return Trace(trace.version, settings | {"min": lowest}, trace.files, lines).numbered()
-
-    return fitted
+    return (
+        windows.Fit(system.window, lacks)
+        if system.window
+        else windows.EmptyFit(max(system.kernel().lowest, PAGE), lacks)
+    )
 
 
 def lacks_of(adapter: Adapter) -> list[str]:
@@ -178,7 +169,7 @@ class Measuring:
         """Runs the traces, for so many seconds at most once the system has begun."""
         lacks = lacks_of(self.adapter)
         until = time.monotonic() + seconds
-        fitted = fit_of(self.system, None if self.system.window else self.system.kernel(), lacks)
+        fitted = fit_of(self.system, lacks).fitted
         for number in range(self.runs * len(windows.PROFILES)):
             if time.monotonic() > until:
                 break

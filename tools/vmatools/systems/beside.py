@@ -1,0 +1,131 @@
+"""What `vma compare` needs for a system that is not empty, or that starts slowly: its words, and both sides made ready."""
+from __future__ import annotations
+
+import argparse
+from collections.abc import Iterator
+from contextlib import ExitStack, contextmanager
+
+from .. import console, generator, program, windows
+from ..campaign import Settings
+from ..comparison import CANNOT_RUN, Sides
+from ..traces import PAGE, Trace, read_trace
+from .batch import Adapters
+from .known import KNOWN, WINDOW, system_of
+from .places import Window
+from .reference import Reference, unnamed
+
+VMA = str(program.TOP / "tools/vma")
+FOR_SECONDS = 60.0  # how long traces are run in a known system, where nothing else is asked for
+
+
+def address_of(text: str) -> int:
+    """An address of a page, in hexadecimal behind 0x or in decimal digits."""
+    try:
+        value = int(text, 16) if text.startswith("0x") else int(text)
+    except ValueError:
+        value = -1
+    if value < 0 or value % PAGE or value >= 2**64:
+        raise argparse.ArgumentTypeError(f"{text} is no address of a page")
+    return value
+
+
+def window_of(text: str) -> Window:
+    low, _, high = text.partition("-")
+    window = Window(address_of(low), address_of(high))
+    if window.low >= window.high:
+        raise argparse.ArgumentTypeError(f"{text} is no window: LO-HI, with LO below HI")
+    return window
+
+
+def add_arguments(parser: argparse.ArgumentParser) -> None:
+    group = parser.add_argument_group("a system that is not empty, or that starts slowly (docs/SYSTEMS.md)")
+    group.add_argument("--system", metavar="NAME", help=f"one that is known, in place of COMMAND: {', '.join(KNOWN)}")
+    group.add_argument("--batch", action="store_true", help="COMMAND answers many traces in one process")
+    group.add_argument(
+        "--window",
+        type=window_of,
+        metavar="LO-HI",
+        help="traces keep to these addresses, and leave no place to be found",
+    )
+    group.add_argument(
+        "--linux", action="store_true", help="set aside what the running Linux answers too, in the same window"
+    )
+
+
+def take_system(options: argparse.Namespace) -> None:
+    """Takes a known system in the place of COMMAND, with what belongs to it."""
+    if not options.system:
+        return
+    if options.command:
+        raise console.Failure("--system stands in the place of COMMAND: only one of them can be given")
+    system = system_of(options.system)
+    options.command = [VMA, "kernel", "--batch", "--system", options.system]
+    options.batch = True
+    if system.window:
+        options.window = options.window or system.window
+        options.command += ["--window", f"{options.window.low:#x}-{options.window.high:#x}"]
+        options.linux = options.linux or not options.kernel and system.name != "window"
+    else:
+        options.kernel = True
+    options.kernel = options.kernel or system.name == "window"
+    options.jobs = 1 if system.boots else options.jobs
+    if not options.runs and not options.for_seconds and not options.only and not options.traces:
+        options.for_seconds = FOR_SECONDS
+
+
+def words_of(options: argparse.Namespace) -> list[str]:
+    """The words that a command needs to repeat a finding, beside --system."""
+    window = options.window
+    return [
+        *(["--batch"] if options.batch and not options.system else []),
+        *(["--window", f"{window.low:#x}-{window.high:#x}"] if window and not options.system else []),
+        *(["--linux"] if options.linux and not options.system else []),
+    ]
+
+
+@contextmanager
+def prepared(options: argparse.Namespace, settings: Settings, sides: Sides) -> Iterator[None]:
+    """Makes both sides ready: the processes of a batch, how traces are fitted, and the running kernel beside."""
+    with ExitStack() as stack:
+        if options.batch:
+            sides.adapters = Adapters(sides.command)
+            stack.callback(sides.adapters.close)
+        if options.window or options.system:
+            settings.fit = fit_of(options, sides)
+        if options.window and options.profile == generator.IN_TURN:
+            settings.profiles = windows.PROFILES
+        if options.window:
+            sides.shown = unnamed
+        if options.linux:
+            reference = Reference(options.window or WINDOW)
+            stack.callback(reference.close)
+            why = reference.test()
+            if why:
+                raise console.Failure(f"--linux: the running kernel cannot answer here: {why}")
+            sides.rules.linux = reference.agrees
+        yield
+
+
+def fit_of(options: argparse.Namespace, sides: Sides) -> windows.Fit | windows.EmptyFit:
+    """How traces become such as the system can run: in a window, or in the empty space of a kernel."""
+    system = system_of(options.system) if options.system else None
+    lacks = lacks_of(sides, (options.window or WINDOW).low)
+    if lacks:
+        console.say(f"the system has no {', '.join(lacks)}: left out of all traces")
+    if options.window:
+        return windows.Fit(options.window, lacks)
+    assert system
+    return windows.EmptyFit(max(system.kernel().lowest, PAGE), lacks)
+
+
+def lacks_of(sides: Sides, low: int) -> list[str]:
+    """The calls that a system has not: it does not run a trace that has them, and does without."""
+    page = f"vmatrace 1\n0 mmap {low:#x} {PAGE} PROT_READ MAP_PRIVATE|MAP_ANONYMOUS|MAP_FIXED -1 0\n"
+    with_seal = read_trace(f"{page}0 mseal {low:#x} {PAGE} 0\n".encode())
+    return (
+        ["mseal"] if fault_of(sides, with_seal) == CANNOT_RUN and not fault_of(sides, read_trace(page.encode())) else []
+    )
+
+
+def fault_of(sides: Sides, trace: Trace) -> str | None:
+    return sides.there(trace).fault
