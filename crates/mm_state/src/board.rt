@@ -9,12 +9,13 @@ ghost use Rattle.lock_core.specs.declared.stage.Stage.TheVariants.{Out};
 ghost use Rattle.lock_core.specs.Core.{slot_at, StartsWith};
 ghost use Rattle.split_merge.specs.Plans.{olds_of, news_of, IsPlanOf};
 ghost use Rattle.split_merge.specs.declared.plan.Change.TheVariants.{Detach, Alter, Add};
-ghost use Rattle.vma_lock.specs.Seats.{config_of, slots_of, IsOf, Writes, view, seen, stage, HasTurn, sight, journal, slots, IsOpen, MayEnter};
+ghost use Rattle.vma_lock.specs.Seats.{config_of, slots_of, IsOf, Writes, view, seen, stage, HasTurn, sight, journal, slots, IsOpen, IsClosed, MayEnter};
 ghost use Rattle.vma_lock.specs.Views.{opened_view, look_at};
 ghost use Rattle.area_slots.specs.Slots.{IsTaken};
 ghost use Rattle.area_tree.specs.AreaTrees.{areas_of};
 ghost use Rattle.mm_state.specs.Internal.Boards.{IsWritten, CanChange, Carries, IsSane, IsChanging, IsAtRest, IsReadied, IsEntered, IsCarriedOut, adds, adds_of, CanFree};
 ghost use Rattle.mm_state.specs.Internal.Runs.{IsRun, IsLetGo, CarriesAll};
+ghost use Rattle.mm_state.specs.Internal.Waits.{HasReader};
 ghost use Rattle.span_tree.specs.SpanTrees.{IsFreshWriter};
 
 use crate::runs::run_before;
@@ -80,12 +81,27 @@ fn mark<R: Wait>(rt: &R, table: &VmaTable, writer: &mut WriterSeat, slot: Slot)
     ensures marked { IsWritten (sight writer.old) slot.0 (slot_at (slots writer.old) slot.0).row (sight writer.new) }
 {
     for _ in rt.forever() {
-        if table.try_mark(writer, slot).is_ok() {
+        if mark_once(table, writer, slot) {
             return;
         }
-        thread::yield_now();
     }
     unreachable!()
+}
+
+/// Tries once to mark a slot, and answers whether it did. Where it did not, a reader holds the slot, and it lets other threads run.
+fn mark_once(table: &VmaTable, writer: &mut WriterSeat, slot: Slot) -> bool
+    requires table { Writes writer.old table.now }
+    requires open_call { IsOpen writer.old }
+    requires slot { slot.0 < slots_of table.now }
+    ensures table { Writes writer.new table.now }
+    ensures marked { result ≡ true → IsWritten (sight writer.old) slot.0 (slot_at (slots writer.old) slot.0).row (sight writer.new) }
+    ensures reader { result ≡ false → HasReader (sight writer.old) slot.0 (sight writer.new) }
+{
+    if table.try_mark(writer, slot).is_ok() {
+        return true;
+    }
+    thread::yield_now();
+    false
 }
 
 impl Board {
@@ -188,8 +204,10 @@ impl Board {
         self.table.end(&mut self.writer, entry);
     }
 
-    /// Prepares the tree, and waits until as many slots are free as the changes need.
+    /// Prepares the tree, and waits until as many slots are free as the changes need: before a call, and never within one, whose
+    /// readers would wait too.
     fn make_ready<R: Wait>(&mut self, rt: &R, changes: &[Change])
+        requires closed { IsClosed self.old.writer }
         requires still { self.old.areas.tree.changed ≡ false }
         requires enough { CanFree self.old.areas self.old.slots (adds_of changes.now) }
         ensures ready { IsReadied self.old self.new changes.now }

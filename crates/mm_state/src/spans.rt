@@ -1,5 +1,5 @@
 //! Slots that are free again, and areas that moved, as a call needs them.
-ghost use Rattle.std.specs.Prelude.{◌≡◌, ◌≤◌, ◌<◌, ◌+◌, ◌++◌, ◌∷◌, [], true, false, List, Some, length, vec_capacity, option_to_list, IfSome, IsPermutation};
+ghost use Rattle.std.specs.Prelude.{ℕ, ◌*◌, ◌≡◌, ◌≤◌, ◌<◌, ◌+◌, ◌++◌, ◌∷◌, [], true, false, List, Some, length, vec_capacity, option_to_list, IfSome, IsPermutation};
 ghost use Rattle.node_slots.specs.Seats.{HasOpen};
 ghost use Rattle.area_slots.specs.Slots.{slots_of, gone_by, gone_after};
 ghost use Rattle.area_tree.specs.declared.shown.ShownArea.{ShownArea};
@@ -36,22 +36,30 @@ fn free_settled(areas: &AreaTree, slots: &mut AreaSlots)
     slots.seen(areas.settled());
 }
 
-/// Scans, frees what is settled then, and answers whether so many slots are free. Where they are not, it found a reader inside.
+/// Scans once where too few slots are free, frees what is settled then, and answers whether so many are. Where they are not, it found
+/// a reader inside, and lets other threads run.
 fn scan_for(areas: &mut AreaTree, slots: &mut AreaSlots, wanted: usize) -> bool
-    requires { CanFree areas.old slots.old wanted }
+    requires can { CanFree areas.old slots.old wanted }
+    requires few { length slots.old.free < wanted }
     ensures areas { IsScanned areas.old areas.new }
     ensures scans { areas.new.tree.scans ≡ areas.old.tree.scans + length areas.old.tree.pins }
+    ensures readers { length areas.new.tree.pins ≡ length areas.old.tree.pins }
     ensures settled { areas.old.tree.settled ≤ areas.new.tree.settled }
     ensures slots { IsFreed areas.new.tree.settled slots.old slots.new }
     ensures free { result ≡ true → wanted ≤ length slots.new.free }
+    ensures few { result ≡ false → length slots.new.free < wanted }
     ensures inside { result ≡ false → HasOpen areas.new.tree.pins }
 {
     areas.scan();
     free_settled(areas, slots);
-    slots.count_free() >= wanted
+    if slots.count_free() >= wanted {
+        return true;
+    }
+    thread::yield_now();
+    false
 }
 
-/// Waits until so many slots are free, for readers alone: once none is inside, so many are.
+/// Waits until so many slots are free, for readers alone: once none is inside, so many are. It scans only while they are not.
 pub(crate) fn wait_for_slots<R: Wait>(
     rt: &R,
     areas: &mut AreaTree,
@@ -60,6 +68,9 @@ pub(crate) fn wait_for_slots<R: Wait>(
 )
     requires { CanFree areas.old slots.old wanted }
     ensures areas { IsScanned areas.old areas.new }
+    ensures still { wanted ≤ length slots.old.free + length (gone_by areas.old.tree.settled slots.old.left) → areas.new ≡ areas.old }
+    ensures scans { (rounds : ℕ) × (areas.new.tree.scans ≡ areas.old.tree.scans + rounds * length areas.old.tree.pins) }
+    ensures readers { length areas.new.tree.pins ≡ length areas.old.tree.pins }
     ensures settled { areas.old.tree.settled ≤ areas.new.tree.settled }
     ensures slots { IsFreed areas.new.tree.settled slots.old slots.new }
     ensures free { wanted ≤ length slots.new.free }
@@ -72,7 +83,6 @@ pub(crate) fn wait_for_slots<R: Wait>(
         if scan_for(areas, slots, wanted) {
             return;
         }
-        thread::yield_now();
     }
     unreachable!()
 }

@@ -6,6 +6,12 @@ use Rattle.mm_state.proofs.Hanging.{seen_freed}
 use Rattle.mm_state.proofs.Scanning.{scanned, some_inside}
 use Rattle.mm_state.proofs.spans.scan_for.Goals as goal
 
+pub returns-then-count_free-wanted-clause-areas : goal.returns-then-count_free-wanted-clause-areas
+returns-then-count_free-wanted-clause-areas c = scanned c.args.areas.now c.scan.new.self _ c.scan.ensures.same
+
+pub returns-then-count_free-wanted-clause-slots : goal.returns-then-count_free-wanted-clause-slots
+returns-then-count_free-wanted-clause-slots c = seen_freed c.args.slots.now c.free_settled.new.slots c.scan.new.self.tree.settled c.free_settled.ensures
+
 pub returns-clause-areas : goal.returns-clause-areas
 returns-clause-areas c = scanned c.args.areas.now c.scan.new.self _ c.scan.ensures.same
 
@@ -14,6 +20,7 @@ returns-clause-slots c = seen_freed c.args.slots.now c.free_settled.new.slots c.
 
 pub returns-clause-inside : goal.returns-clause-inside
 returns-clause-inside c = λ no.
-    some_inside c.args.areas.now c.scan.new.self c.args.slots.now c.free_settled.new.slots c.args.wanted c.requires
+    let test = c.if-count_free-wanted.false in
+    some_inside c.args.areas.now c.scan.new.self c.args.slots.now c.free_settled.new.slots c.args.wanted c.requires.can
     (ap (λ (t : AreaTreeView). t.tree.number) c.scan.ensures.same) c.scan.ensures.gone c.free_settled.ensures
-    (let few : c.count_free.result < c.args.wanted = grind (arith, nat_tests, no) in omega (arith, few, c.count_free.ensures))
+    (let few : c.count_free.result < c.args.wanted = grind (arith, nat_tests, test) in omega (arith, few, c.count_free.ensures))

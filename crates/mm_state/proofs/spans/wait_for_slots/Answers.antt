@@ -1,10 +1,17 @@
--- For `wait_for_slots`: what is settled is freed once more.
-use Rattle.std.proofs.Common.{refl, ap, arith}
+-- For `wait_for_slots`: what is settled is freed once more, by one round of scans more.
+use Rattle.std.proofs.Common.{◌<◌, ◌+◌, ◌∙◌, refl, length, ap, arith, length-append}
+use Rattle.std.proofs.lemmas.Bool.Decides.{nat_tests}
+use Rattle.std.proofs.lemmas.List.{length-map}
+use Rattle.area_slots.specs.declared.leaving.Leaving.{Leaving}
+use Rattle.area_slots.specs.Slots.{SlotSet, gone_by, slots_of}
 use Rattle.area_tree.specs.AreaTrees.{AreaTreeView}
 use Rattle.mm_state.proofs.Hanging.{freed_freed, seen_freed}
 use Rattle.mm_state.proofs.Readying.{can_free}
 use Rattle.mm_state.proofs.Scanning.{scanned_more}
 use Rattle.mm_state.proofs.spans.wait_for_slots.Goals as goal
+
+pub returns-then-count_free-wanted-clause-scans : goal.returns-then-count_free-wanted-clause-scans
+returns-then-count_free-wanted-clause-scans g c = (0, omega arith)
 
 pub returns-then-count_free-wanted-clause-slots : goal.returns-then-count_free-wanted-clause-slots
 returns-then-count_free-wanted-clause-slots g c = seen_freed c.args.slots.now c.free_settled.new.slots c.args.areas.now.tree.settled c.free_settled.ensures
@@ -12,11 +19,25 @@ returns-then-count_free-wanted-clause-slots g c = seen_freed c.args.slots.now c.
 pub loop-init : goal.loop-init
 loop-init g c =
     let freed = seen_freed c.args.slots.now c.free_settled.new.slots c.args.areas.now.tree.settled c.free_settled.ensures in
+    let test = c.if-count_free-wanted.false in
+    let few : c.count_free.result < c.args.wanted = grind (arith, nat_tests, test) in
+    let gone = gone_by c.args.areas.now.tree.settled c.args.slots.now.left in
     record {
       can = can_free c.args.areas.now c.args.areas.now c.args.slots.now c.free_settled.new.slots c.args.areas.now.tree.settled c.args.wanted c.requires refl freed;
       areas = refl;
       settled = omega arith;
       slots = freed;
+      few = omega (arith, few, c.count_free.ensures);
+      short = omega (
+        arith,
+        few,
+        c.count_free.ensures,
+        ap (λ (s : SlotSet). length s.free) c.free_settled.ensures,
+        length-append c.args.slots.now.free (slots_of gone),
+        length-map gone (λ (l : Leaving). l.slot),
+      );
+      rounds = (0, omega arith);
+      readers = refl;
     }
 
 pub loop-preserved : goal.loop-preserved
@@ -30,4 +51,17 @@ loop-preserved g c =
       settled = omega (arith, was.settled, tried.settled);
       slots = freed_freed c.args.slots.now c.loop.slots c.scan_for.new.slots c.loop.areas.tree.settled c.scan_for.new.areas.tree.settled c.scan_for.new.areas.tree.settled
           was.slots tried.slots tried.settled (omega arith);
+      few = tried.few c.if-scan_for.false;
+      short = was.short;
+      rounds = (was.rounds.0 + 1, omega (arith, was.rounds.1, tried.scans, was.readers));
+      readers = tried.readers ∙ was.readers;
     }
+
+pub returns-then-scan_for-clause-scans : goal.returns-then-scan_for-clause-scans
+returns-then-scan_for-clause-scans g c =
+    let tried = c.scan_for.ensures in
+    let was = c.loop.invariant in
+    (was.rounds.0 + 1, omega (arith, was.rounds.1, tried.scans, was.readers))
+
+pub returns-then-scan_for-clause-still : goal.returns-then-scan_for-clause-still
+returns-then-scan_for-clause-still g c = λ enough. let short = c.loop.invariant.short in absurd (omega (arith, enough, short))
