@@ -78,7 +78,9 @@ def written(program: Path, case: Case) -> dict[str, str]:
 
 def faults_of(cases: list[Case]) -> list[str]:
     """What is wrong with the cases themselves: a name or a trace twice, too many lines."""
-    found, names, bodies = [], set(), {}
+    found: list[str] = []
+    names: set[str] = set()
+    bodies: dict[tuple[int, object], str] = {}
     for case in cases:
         where = f"{case.group}/{case.name}"
         body = (case.version, case.lines)

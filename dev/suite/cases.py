@@ -63,7 +63,7 @@ def long_line(line: str) -> str:
 
 
 def read_cases(group: str, page: str, text: str) -> list[Case]:
-    """The cases of a group. Each is a line `name | sentence [| page] [| version 2]`, with the lines of its trace below, indented."""
+    """The cases of a group. Each is a line `name | sentence [| page] [| version 2]`, its trace below, indented."""
     found: list[Case] = []
     head: list[str] = []
     lines: list[str] = []

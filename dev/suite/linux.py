@@ -1,4 +1,4 @@
-"""The cases in which Linux answers otherwise, each with the row of docs/KERNEL.md that says so; and what a kernel gives for them."""
+"""The cases in which Linux answers otherwise, each with its row of docs/KERNEL.md; and what a kernel gives for them."""
 from __future__ import annotations
 
 # By row, the cases; a group alone is none.

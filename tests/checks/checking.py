@@ -1,14 +1,65 @@
-"""What the tools share that check the program: runs that are compared in all that they answer, and an end at the first that differs."""
-import os, resource, signal, subprocess, sys, time
+"""How the checks of this folder begin, report and end, and runs of the program that are compared in all that they answer.
 
-sys.path.insert(0, os.path.join(os.path.dirname(os.path.abspath(__file__)), "../../tools"))
+A check is a module with a function `check(options)`, which calls `passed` for each thing that is as it should be, `skipped` where
+the machine cannot try it, and `fail` at the first that is not. `main` runs it: status 0 where all is as it should be, 1 where
+something is not, 2 on wrong use or where the program is missing, 130 on Ctrl-C.
+"""
+from __future__ import annotations
+
+import argparse
+import resource
+import signal
+import subprocess
+import sys
+import time
+from collections.abc import Callable, Iterable, Sequence
+from pathlib import Path
+from typing import Any, NoReturn
+
+TOP = Path(__file__).resolve().parents[2]
+sys.dont_write_bytecode = True
+sys.path[:0] = [str(TOP / "tools"), str(TOP)]
 from vmatools import console, program as programs
 
-TOOL = os.path.basename(sys.argv[0]).removesuffix(".py")
+TOOL = Path(sys.argv[0]).stem
 WAIT = 30  # a machine may be so many times as busy
 
+Arguments = Callable[[argparse.ArgumentParser], None]
+Words = Sequence["str | bytes"]
+Done = subprocess.CompletedProcess[bytes]
 
-def program_of(given=None):
+
+class Failed(Exception):
+    """What is not as it should be."""
+
+
+# Begin and end
+
+
+def main(
+    check: Callable[[argparse.Namespace], None], arguments: Arguments | None = None, with_program: bool = True
+) -> NoReturn:
+    """Runs the check of a module, and ends."""
+    text = sys.modules[check.__module__].__doc__
+    parser = argparse.ArgumentParser(description=text, formatter_class=argparse.RawDescriptionHelpFormatter)
+    if with_program:
+        parser.add_argument("program", nargs="?", metavar="PROGRAM", help="the program (crates/vma_main/out/vma_main)")
+    if arguments:
+        arguments(parser)
+    options = parser.parse_args()
+    try:
+        if with_program:
+            options.program = program_of(options.program)
+        check(options)
+    except Failed as failed:
+        sys.exit(f"{TOOL}: {failed}")
+    except KeyboardInterrupt:
+        print(f"{TOOL}: interrupted", file=sys.stderr)
+        sys.exit(console.INTERRUPTED)
+    sys.exit(0)
+
+
+def program_of(given: str | None = None) -> str:
     """The path of the program, or an end with status 2 that says how to build it."""
     try:
         return programs.find(given)
@@ -17,39 +68,59 @@ def program_of(given=None):
         sys.exit(failure.status)
 
 
-def fail(name, what):
-    sys.exit(f"{TOOL}: {name}: {what}")
+# Report
 
 
-def passed(name, seconds=None):
+def fail(name: str, what: str) -> NoReturn:
+    raise Failed(f"{name}: {what}")
+
+
+def passed(name: str, seconds: float | None = None) -> None:
     print(f"{TOOL}: {name}: as it should be" + ("" if seconds is None else f", in {seconds:.1f} seconds"), flush=True)
 
 
-def bytes_of(lines):
+def skipped(name: str, why: str) -> None:
+    print(f"{TOOL}: {name}: skipped, as {why}", flush=True)
+
+
+def compare(name: str, got: bytes, wanted: bytes) -> None:
+    if got != wanted:
+        gots, wanteds = got.split(b"\n"), wanted.split(b"\n")
+        pairs = enumerate(zip(gots, wanteds))
+        line = next((n for n, (a, b) in pairs if a != b), min(len(gots), len(wanteds)))
+        found, right = (lines[line][:200] if line < len(lines) else None for lines in (gots, wanteds))
+        fail(name, f"line {line + 1} is {found!r}, and not {right!r}")
+
+
+# Runs
+
+
+def bytes_of(lines: Iterable[str]) -> bytes:
     return "".join(line + "\n" for line in lines).encode()
 
 
-def compare(name, got, wanted):
-    if got != wanted:
-        got, wanted = got.split(b"\n"), wanted.split(b"\n")
-        line = next((n for n, (a, b) in enumerate(zip(got, wanted)) if a != b), min(len(got), len(wanted)))
-        found, right = (lines[line][:200] if line < len(lines) else None for lines in (got, wanted))
-        fail(name, f"line {line + 1} is {found}, and not {right}")
-
-
-def limit(kind, most):
+def limit(kind: int, most: int) -> None:
     """Sets a limit of the process that begins."""
     resource.setrlimit(kind, (most, most))
 
 
-def answer(name, command, seconds, begin=lambda: None, **streams):
-    """What a run of a command gives, and the processor time that it takes, at most so many seconds. It may wait for a busy machine."""
-    def begins():
+def nothing() -> None:
+    pass
+
+
+def answer(
+    name: str, command: Words, seconds: int, begin: Callable[[], None] = nothing, **streams: Any
+) -> tuple[Done, float]:
+    """What a run of a command gives, and the processor time that it takes, at most so many seconds. A busy machine has more."""
+
+    def begins() -> None:
         limit(resource.RLIMIT_CPU, seconds)
         begin()
+
     before, since = used(), time.monotonic()
+    ends: dict[str, Any] = {"stdout": subprocess.PIPE, "stderr": subprocess.PIPE, **streams}
     try:
-        done = subprocess.run(command, timeout=WAIT * seconds, preexec_fn=begins, **{"stdout": subprocess.PIPE, "stderr": subprocess.PIPE, **streams})
+        done: Done = subprocess.run(command, timeout=WAIT * seconds, preexec_fn=begins, **ends)
     except subprocess.TimeoutExpired:
         fail(name, f"has not ended after {time.monotonic() - since:.0f} seconds")
     took = used() - before
@@ -58,14 +129,14 @@ def answer(name, command, seconds, begin=lambda: None, **streams):
     return done, took
 
 
-def used():
+def used() -> float:
     """The processor time of all runs so far."""
     children = resource.getrusage(resource.RUSAGE_CHILDREN)
     return children.ru_utime + children.ru_stime
 
 
-def check_ended(name, done, status, message=b""):
+def check_ended(name: str, done: Done, status: int, message: bytes = b"") -> None:
     """A run has this status and this on standard error, where nothing stands, not even a line, where all went well."""
     if done.returncode != status:
-        fail(name, f"has status {done.returncode}, and not {status}; on standard error stands {done.stderr[:200]}")
+        fail(name, f"has status {done.returncode}, and not {status}; on standard error stands {done.stderr[:200]!r}")
     compare(f"{name}, standard error", done.stderr, message)

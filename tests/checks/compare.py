@@ -1,24 +1,38 @@
 #!/usr/bin/env python3
-"""Tries `vma compare` and `vma explain`: on the program itself, on systems that are wrong in one thing each, and on broken traces.
+"""Tries `vma compare` and `vma explain`: on the program itself, on systems that are wrong in one thing each, and on
+broken traces.
 
-PROGRAM is crates/vma_main/out/vma_main by default. The wrong systems are those of tools/vmatools/mutants.py. Each has to be found, with
---kernel and without, and the smallest trace has at most five lines below the header. Of each broken trace the line and the cause that `vma explain` names have
-to be those of the program. Takes less than a minute; --runs 2000 --broken 500 takes longer.
+PROGRAM is crates/vma_main/out/vma_main by default. The wrong systems are those of tools/vmatools/mutants.py. Each has to be
+found, with --kernel and without, and the smallest trace has at most five lines below the header. Of each broken trace the
+line and the cause that `vma explain` names have to be those of the program. Takes less than a minute; --runs 2000 --broken 500
+takes longer.
 
-Exit status: 0 where all is as it should be, 1 at the first thing that is not, 2 on wrong use, or where the program is missing.
+Exit status: 0 where all is as it should be, 1 at the first thing that is not, 2 on wrong use, or where the program is
+missing.
 """
-import argparse, contextlib, io, os, random, re, subprocess, sys, tempfile, time
-from concurrent.futures import ThreadPoolExecutor
+from __future__ import annotations
 
-sys.dont_write_bytecode = True
-sys.path.insert(0, os.path.join(os.path.dirname(os.path.abspath(__file__)), "../../tools"))
-from checking import program_of
+import argparse
+import contextlib
+import io
+import os
+import random
+import re
+import subprocess
+import sys
+import tempfile
+import time
+from concurrent.futures import ThreadPoolExecutor
+from typing import NoReturn
+
+from checking import Failed, main, passed
+from vmatools import cli, comparison, explanations, generator, mutants, program as programs, serial, traces
 from vmatools.commands import compare
-from vmatools import cli, comparison, explanations, generator, outputs, serial, program as programs, traces, mutants
 
 HERE = os.path.dirname(os.path.abspath(__file__))
 TOOLS, DEV = (os.path.join(programs.TOP, name) for name in ("tools", "dev"))
 
+Job = tuple[str, list[str], int, str]  # a tool, its words, its status, and what it names
 MOST_LINES = 5
 RUNS = 200  # of the wrong models
 WRONG = {  # of some wrong models: runs, profiles, and a pattern of the kind that has to be found
@@ -32,42 +46,44 @@ ENDS = {  # of those that are run as commands: runs, profiles, how many seconds 
 }
 
 
-def fail(what):
-    sys.exit(f"check-compare: {what}")
+def fail(what: str) -> NoReturn:
+    raise Failed(what)
 
 
-def told(name, began):
-    print(f"check-compare: {name}, in {time.monotonic() - began:.1f} seconds", flush=True)
+def told(name: str, began: float) -> None:
+    passed(name, time.monotonic() - began)
 
 
 class OfModel(comparison.Sides):
     """Sides whose system under test is a model in this process."""
 
-    def there(self, trace, seconds=None):
+    def there(self, trace: traces.Trace, seconds: float | None = None) -> programs.Ran:
         return programs.Ran(serial.serial_output(trace, (mutants.MUTANTS | mutants.ENDING)[self.command[0]]), None, "")
 
 
-def compared(words, sides_type=None):
+def compared(words: list[str], sides_type: type[comparison.Sides] | None = None) -> tuple[int, str]:
     """Status and text of a comparison with these words."""
     parser, _ = cli.parser_of(cli.COMMANDS["compare"])
     options = parser.parse_args(words)
     kept, text = comparison.Sides, io.StringIO()
-    comparison.Sides = sides_type or kept
+    setattr(comparison, "Sides", sides_type or kept)
     try:
         with contextlib.redirect_stdout(text):
             status = compare.try_mutants(options) if options.mutants else compare.compare(options)
     finally:
-        comparison.Sides = kept
+        setattr(comparison, "Sides", kept)
     return status, text.getvalue()
 
 
-def smallest_traces(text):
+def smallest_traces(text: str) -> list[tuple[str, list[str]]]:
     """Of each kind in a report, its title and the lines below the header of its smallest trace."""
-    kinds = re.findall(r"^\d+\. (.*?) \(\d+ traces?; --ignore .*\n   the smallest trace:\n((?:     .*\n)+)", text, re.MULTILINE)
+    kinds = re.findall(
+        r"^\d+\. (.*?) \(\d+ traces?; --ignore .*\n   the smallest trace:\n((?:     .*\n)+)", text, re.MULTILINE
+    )
     return [(title, [line.strip() for line in trace.splitlines()[1:]]) for title, trace in kinds]
 
 
-def wrong_report(name, status, text, pattern):
+def wrong_report(name: str, status: int, text: str, pattern: str) -> str | None:
     """What is wrong with a report, if something is."""
     found = smallest_traces(text)
     if status != 1 or not re.search(r"^\d+ traces, [1-9]\d* differ$", text, re.MULTILINE):
@@ -78,7 +94,7 @@ def wrong_report(name, status, text, pattern):
     return f"{name}: the smallest trace of `{long[0]} lines:\n{text[-4000:]}" if long else None
 
 
-def check_itself(program, runs):
+def check_itself(program: str, runs: int) -> None:
     began = time.monotonic()
     status, text = compared(["--runs", str(runs), "--program", program, "--", program, "serial"])
     if (status, text) != (0, f"{runs} traces, 0 differ\n"):
@@ -86,7 +102,7 @@ def check_itself(program, runs):
     told(f"the program against itself, {runs} traces", began)
 
 
-def check_model(program, runs):
+def check_model(program: str, runs: int) -> None:
     """The model that the generator keeps is the program's, on all profiles."""
     began = time.monotonic()
     profiles = ",".join(generator.PROFILES)
@@ -97,9 +113,10 @@ def check_model(program, runs):
     told(f"the model against the program, {runs} traces", began)
 
 
-def check_mutants():
+def check_mutants() -> None:
     """Each wrong model is found by the options as they stand, and with --kernel, which hides none of them."""
-    for more in ([], ["--kernel"]):
+    choices: tuple[list[str], ...] = ([], ["--kernel"])
+    for more in choices:
         began = time.monotonic()
         status, text = compared(["--mutants", "--runs", str(RUNS), *more])
         if status:
@@ -108,7 +125,7 @@ def check_mutants():
         told(f"{text.splitlines()[-1]}{' with --kernel' if more else ''}", began)
 
 
-def check_wrong(program):
+def check_wrong(program: str) -> None:
     for name, (runs, profiles, pattern) in WRONG.items():
         began = time.monotonic()
         words = ["--runs", str(runs), "--program", program, "--profile", profiles, "--", name]
@@ -119,18 +136,30 @@ def check_wrong(program):
     for name, (runs, profiles, seconds, pattern) in ENDS.items():
         began = time.monotonic()
         command = ["env", f"PYTHONPATH={TOOLS}", sys.executable, "-m", "vmatools.mutants", name]
+        wrong = None
         for limit in seconds:
             shrinks = str(float(limit) / 2)
-            words = ["--runs", str(runs), "--lines", "12", "--seconds", limit, "--shrink-seconds", shrinks, "--program", program]
+            words = [
+                "--runs",
+                str(runs),
+                "--lines",
+                "12",
+                "--seconds",
+                limit,
+                "--shrink-seconds",
+                shrinks,
+                "--program",
+                program,
+            ]
             wrong = wrong_report(name, *compared([*words, "--profile", profiles, "--", *command]), pattern)
             if not wrong:
                 break
-        else:
+        if wrong:
             fail(wrong)
         told(f"{name} found", began)
 
 
-def check_rules(program):
+def check_rules(program: str) -> None:
     """What is set aside is counted, and the rest of its trace is compared. --keep leaves traces and outputs."""
     began = time.monotonic()
     words = ["--runs", "24", "--program", program, "--profile", "few,edges"]
@@ -146,17 +175,32 @@ def check_rules(program):
     told("--ignore and --keep", began)
 
 
-def check_statuses(program):
+def check_statuses(program: str) -> None:
     """Wrong use and a missing program end with status 2 and a clear line, and what a system does wrong with 1."""
     began = time.monotonic()
-    runs = [([], 2), (["--runs", "0", "--", "true"], 2), (["--profile", "none", "--", "true"], 2), (["--", "no-such-command"], 2), (["--help"], 0),
-            (["--runs", "3", "--", "true"], 1), (["--runs", "3", "--", "false"], 1), (["--runs", "3", "--", "echo", "L2"], 1)]
+    runs: list[tuple[list[str], int]] = [
+        ([], 2),
+        (["--runs", "0", "--", "true"], 2),
+        (["--profile", "none", "--", "true"], 2),
+        (["--", "no-such-command"], 2),
+        (["--help"], 0),
+        (["--runs", "3", "--", "true"], 1),
+        (["--runs", "3", "--", "false"], 1),
+        (["--runs", "3", "--", "echo", "L2"], 1),
+    ]
     vma, measure = os.path.join(TOOLS, "vma"), os.path.join(DEV, "measure")
-    jobs = [(vma, ["compare", "--program", program, *words], wanted, "") for words, wanted in runs]
-    jobs += [(os.path.join(HERE, f"{name}.py"), ["/no/program"], 2, "rt run") for name in ("program", "compare", "judged_runs", "memory")]
+    jobs: list[Job] = [(vma, ["compare", "--program", program, *words], wanted, "") for words, wanted in runs]
+    jobs += [
+        (os.path.join(HERE, f"{name}.py"), ["/no/program"], 2, "rt run")
+        for name in ("program", "compare", "judged_runs", "memory")
+    ]
     jobs += [(os.path.join(DEV, name), ["/no/program"], 2, "rt run") for name in ("measure", "measure-faults")]
-    jobs += [(vma, ["compare", "--program", "/no/program", "--", "true"], 2, "rt run"), (measure, ["--only", "nosuch", program], 2, "nosuch"),
-             (vma, ["explain", "/no/trace"], 2, "/no/trace"), (vma, ["judge", "/no/trace", "/no/output"], 2, "/no/trace")]
+    jobs += [
+        (vma, ["compare", "--program", "/no/program", "--", "true"], 2, "rt run"),
+        (measure, ["--only", "nosuch", program], 2, "nosuch"),
+        (vma, ["explain", "/no/trace"], 2, "/no/trace"),
+        (vma, ["judge", "/no/trace", "/no/output"], 2, "/no/trace"),
+    ]
     with ThreadPoolExecutor(max_workers=4) as pool:
         wrong = [why for why in pool.map(lambda job: wrong_status(*job), jobs) if why]
     if wrong:
@@ -164,22 +208,72 @@ def check_statuses(program):
     told("exit statuses", began)
 
 
-def wrong_status(tool, words, wanted, named):
+def wrong_status(tool: str, words: list[str], wanted: int, named: str) -> str | None:
     """What is wrong with the status of a tool, or with its line on standard error, if something is."""
     done = subprocess.run([sys.executable, tool, *words], capture_output=True, text=True)
     if done.returncode != wanted or named not in done.stderr or "Traceback" in done.stderr:
         return f"{tool} {' '.join(words)}: status {done.returncode}, and not {wanted}: {done.stderr[-500:]}"
+    return None
 
 
 # Broken traces
 
-PIECES = ["after=2", "after=", "0", "-1", "+5", "64", "0x", "0xg", "18446744073709551616", "PROT_NONE", "PROT_READ|PROT_READ", "MAP_ANON", "r", "rw", "x",
-          "3", "maps", "fork", "1", "file", "limit", "areas", "heap", "top", "min", "mmap", "|", "#", "\t", "\r", "0x1000", "65531", "4095", "MREMAP_FIXED",
-          "\ufeff", "8:1", "fffff:1", "00000000000000000000001", "0 fork 2", "2 maps"]
-LINES = ["0 maps", "1 fork 2", "0 fork 1", "0 fork 0", "1 brk 0 after=3", "file 3 r 1 0:0 1 /a", "# note", "", "0 maps\n" * 65]
+PIECES = [
+    "after=2",
+    "after=",
+    "0",
+    "-1",
+    "+5",
+    "64",
+    "0x",
+    "0xg",
+    "18446744073709551616",
+    "PROT_NONE",
+    "PROT_READ|PROT_READ",
+    "MAP_ANON",
+    "r",
+    "rw",
+    "x",
+    "3",
+    "maps",
+    "fork",
+    "1",
+    "file",
+    "limit",
+    "areas",
+    "heap",
+    "top",
+    "min",
+    "mmap",
+    "|",
+    "#",
+    "\t",
+    "\r",
+    "0x1000",
+    "65531",
+    "4095",
+    "MREMAP_FIXED",
+    "\ufeff",
+    "8:1",
+    "fffff:1",
+    "00000000000000000000001",
+    "0 fork 2",
+    "2 maps",
+]
+LINES = [
+    "0 maps",
+    "1 fork 2",
+    "0 fork 1",
+    "0 fork 0",
+    "1 brk 0 after=3",
+    "file 3 r 1 0:0 1 /a",
+    "# note",
+    "",
+    "0 maps\n" * 65,
+]
 
 
-def broken(draw, text):
+def broken(draw: random.Random, text: str) -> bytes:
     """A good trace with something changed in it, mostly so that a line is bad: words, bytes and lines."""
     lines = text.split("\n")[:-1]
     for _ in range(draw.choice([1, 1, 2])):
@@ -207,11 +301,17 @@ def broken(draw, text):
         lines[place] = " ".join(words)
     data = ("\n".join(lines) + "\n").encode()
     end = draw.randrange(40)
-    ends = [data[:-1], data.replace(b"0", b"\xff", 1), data.replace(b"\n", b"\r\n"), b"\xef\xbb\xbf" + data, data + b"#" * 4097 + b"\n"]
+    ends = [
+        data[:-1],
+        data.replace(b"0", b"\xff", 1),
+        data.replace(b"\n", b"\r\n"),
+        b"\xef\xbb\xbf" + data,
+        data + b"#" * 4097 + b"\n",
+    ]
     return ends[end] if end < len(ends) else data
 
 
-def explained(data):
+def explained(data: bytes) -> str:
     """The program's line on standard error as `vma explain` has it, and its sentence."""
     try:
         traces.read_trace(data)
@@ -223,11 +323,14 @@ def explained(data):
     return ""
 
 
-def check_explanations(program, count):
+def check_explanations(program: str, count: int) -> None:
     """The line and the cause that are explained are the program's."""
-    began, draw, causes = time.monotonic(), random.Random("broken"), set()
+    began, draw, causes = time.monotonic(), random.Random("broken"), set[str]()
     profiles = [name for name in generator.PROFILES if name != "many"]
-    goods = (generator.Generator(profiles[number % len(profiles)], f"broken {number}", 6).draw().text() for number in range(count))
+    goods = (
+        generator.Generator(profiles[number % len(profiles)], f"broken {number}", 6).draw().text()
+        for number in range(count)
+    )
     texts = [broken(draw, good) for good in goods]
     with ThreadPoolExecutor() as pool:
         runs = list(pool.map(lambda data: subprocess.run([program, "serial"], input=data, capture_output=True), texts))
@@ -235,11 +338,13 @@ def check_explanations(program, count):
         ours, theirs = explained(data), done.stderr.decode()
         causes.update(re.findall(r"\d+ (\w+)$", theirs.strip()))
         if ours != theirs or done.returncode != (3 if theirs else 0):
-            fail(f"broken trace {number}: explained as `{ours.strip()}`, and the program says `{theirs.strip()}`:\n{data[:2000]!r}")
+            fail(
+                f"broken trace {number}: explained as `{ours.strip()}`, and the program says `{theirs.strip()}`:\n{data[:2000]!r}"
+            )
     told(f"{count} broken traces, with {len(causes)} causes, explained by the program's line and cause", began)
 
 
-def check_adapter():
+def check_adapter() -> None:
     """The adapter of docs/COMPARE.md writes the form of an output."""
     for name in ("readme", "two-mappings"):
         front = os.path.join(programs.TOP, "examples", name)
@@ -249,13 +354,14 @@ def check_adapter():
             fail(f"examples/page-table on {name}.trace writes\n{done.stdout}{done.stderr}")
 
 
-def main():
-    parser = argparse.ArgumentParser(prog="check-compare", description=__doc__, formatter_class=argparse.RawDescriptionHelpFormatter)
-    parser.add_argument("program", nargs="?", metavar="PROGRAM", help="the program (crates/vma_main/out/vma_main)")
-    parser.add_argument("--runs", type=int, default=40, metavar="N", help="traces on which the program is compared with itself (40)")
+def add_arguments(parser: argparse.ArgumentParser) -> None:
+    what = "traces on which the program is compared with itself (40)"
+    parser.add_argument("--runs", type=int, default=40, metavar="N", help=what)
     parser.add_argument("--broken", type=int, default=40, metavar="N", help="broken traces (40)")
-    options = parser.parse_args()
-    program = program_of(options.program)
+
+
+def check(options: argparse.Namespace) -> None:
+    program: str = options.program
     check_itself(program, options.runs)
     check_model(program, 78)
     check_mutants()
@@ -267,4 +373,4 @@ def main():
 
 
 if __name__ == "__main__":
-    main()
+    main(check, add_arguments)

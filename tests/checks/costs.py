@@ -1,17 +1,19 @@
 #!/usr/bin/env python3
 """Checks that what the program takes grows with its input and not faster: memory that it asks for, and processor time.
 
-PROGRAM is crates/vma_main/out/vma_main by default. Each run gets an address space of so many MiB, some tenth more than it needs, of two
-sizes of most inputs. And the processor time of an input is compared with that of one of four times its size, the least of three runs
-each: it may take seven times as long, where linear work takes four to five and quadratic sixteen. A comparison that fails is made again.
-It ends with status 1 at the first run that takes more, and 2 on wrong use, or where the program is missing.
+PROGRAM is crates/vma_main/out/vma_main by default. Each run gets an address space of so many MiB, some tenth more
+than it needs, of two sizes of most inputs. And the processor time of an input is compared with that of one of four
+times its size, the least of three runs each: it may take seven times as long, where linear work takes four to five
+and quadratic sixteen. A comparison that fails is made again. It ends with status 1 at the first run that takes more,
+and 2 on wrong use, or where the program is missing.
 """
-import argparse, os, resource, sys
+from __future__ import annotations
 
-sys.dont_write_bytecode = True
-sys.path.insert(0, os.path.join(os.path.dirname(os.path.abspath(__file__)), "../../tools"))
-from vmatools import program as programs
-from checking import program_of, answer, bytes_of, check_ended, fail, limit, passed
+import argparse
+import resource
+from collections.abc import Callable
+
+from checking import answer, bytes_of, check_ended, fail, limit, main, passed
 
 MIB = 2**20
 SECONDS = 60
@@ -19,70 +21,93 @@ TRIES = 5
 MOST_TIMES = 7
 ANONYMOUS = "MAP_PRIVATE|MAP_ANONYMOUS|MAP_FIXED"
 
+Made = Callable[[int], list[str]]  # the lines of an input of a size
+Input = Callable[[str, int], bytes]  # the input of a size, for a program
 
-def place(area):
+
+def place(area: int) -> int:
     return 0x10000000 + 8192 * area
 
 
-def calls(count):
+def calls(count: int) -> list[str]:
     """Calls that map a page and unmap it again."""
     both = (f"0 mmap {{0:#x}} 4096 PROT_READ {ANONYMOUS} -1 0", "0 munmap {0:#x} 4096")
     return ["vmatrace 1", *(both[line % 2].format(place(line // 2 % 8)) for line in range(count))]
 
 
-def faults(count):
+def faults(count: int) -> list[str]:
     return ["vmatrace 1", *(f"0 fault {4096 * (line % 5):#x} r" for line in range(count))]
 
 
-def leaving(count):
+def leaving(count: int) -> list[str]:
     """A list of as many areas as it may have, which then leave in another order. Each call leaves rows of the tree."""
     half = count // 2
     made = (f"0 mmap {place(area):#x} 4096 PROT_READ {ANONYMOUS} -1 0" for area in range(half))
-    return ["vmatrace 1", f"limit areas {half}", *made, *(f"0 munmap {place(area * 7919 % half):#x} 4096" for area in range(half))]
+    return [
+        "vmatrace 1",
+        f"limit areas {half}",
+        *made,
+        *(f"0 munmap {place(area * 7919 % half):#x} 4096" for area in range(half)),
+    ]
 
 
-def moving(count):
+def moving(count: int) -> list[str]:
     """A page that moves from below many areas to above them and back, past all of them."""
     half = count // 2
     ends = place(-1), place(half)
     made = (f"0 mmap {at:#x} 4096 PROT_READ {ANONYMOUS} -1 0" for at in (ends[0], *map(place, range(half))))
-    return ["vmatrace 1", *made, *(
-        f"0 mremap {ends[turn % 2]:#x} 4096 4096 MREMAP_MAYMOVE|MREMAP_FIXED {ends[1 - turn % 2]:#x}" for turn in range(half))]
+    return [
+        "vmatrace 1",
+        *made,
+        *(
+            f"0 mremap {ends[turn % 2]:#x} 4096 4096 MREMAP_MAYMOVE|MREMAP_FIXED {ends[1 - turn % 2]:#x}"
+            for turn in range(half)
+        ),
+    ]
 
 
-def placed(count):
+def placed(count: int) -> list[str]:
     """Calls that name no place. Each area has other access than the one above it, so that no two become one."""
     accesses = ("PROT_READ", "PROT_READ|PROT_WRITE")
-    return ["vmatrace 1", *(f"0 mmap 0 4096 {accesses[area % 2]} MAP_PRIVATE|MAP_ANONYMOUS -1 0" for area in range(count))]
+    return [
+        "vmatrace 1",
+        *(f"0 mmap 0 4096 {accesses[area % 2]} MAP_PRIVATE|MAP_ANONYMOUS -1 0" for area in range(count)),
+    ]
 
 
-def maps(count):
+def maps(count: int) -> list[str]:
     return [f"{place(area):08x}-{place(area) + 4096:08x} r--p 00000000 00:00 0 " for area in range(count)]
 
 
-def script(count):
-    return ["vmasteps 1", "lock 1 1", *["add 0 0", "look 0", "sub 0", "begin", "mark 0", "end 0 munmap 0x1000 4096"] * (count // 6)]
+def script(count: int) -> list[str]:
+    return [
+        "vmasteps 1",
+        "lock 1 1",
+        *["add 0 0", "look 0", "sub 0", "begin", "mark 0", "end 0 munmap 0x1000 4096"] * (count // 6),
+    ]
 
 
-def judged(made):
+def judged(made: Made) -> Input:
     """The input of `check`: a trace, and its output."""
-    def both(program, count):
+
+    def both(program: str, count: int) -> bytes:
         trace = bytes_of(made(count))
         done, _ = answer("serial", [program, "serial"], SECONDS, input=trace)
         return trace + b"==\n" + done.stdout
+
     return both
 
 
-def given(made):
+def given(made: Made) -> Input:
     return lambda program, count: bytes_of(made(count))
 
 
-def nothing(_program, _count):
+def nothing(_program: str, _count: int) -> bytes:
     return b""
 
 
 # the words, what makes the input, and its sizes, each with the MiB in which it runs
-MEMORY = [
+MEMORY: list[tuple[str, list[str], Input, tuple[tuple[int, int], ...]]] = [
     ("a header alone", ["serial"], given(calls), ((0, 80),)),
     ("calls", ["serial"], given(calls), ((200_000, 150), (800_000, 400))),
     ("faults", ["serial"], given(faults), ((200_000, 150), (800_000, 400))),
@@ -95,7 +120,7 @@ MEMORY = [
 ]
 
 # the same, with the smaller of the two sizes
-TIME = [
+TIME: list[tuple[str, list[str], Input, int]] = [
     ("calls", ["serial"], given(calls), 100_000),
     ("faults", ["serial"], given(faults), 100_000),
     ("areas that come and leave", ["serial"], given(leaving), 32_000),
@@ -109,11 +134,11 @@ TIME = [
 ]
 
 
-def words_of(words, count):
+def words_of(words: list[str], count: int) -> list[str]:
     return [word.format(count) for word in words]
 
 
-def check_memory(program, name, words, text, count, most):
+def check_memory(program: str, name: str, words: list[str], text: bytes, count: int, most: int) -> None:
     at = f"{name}, {count} of them in {most} MiB"
     command = [program, *words_of(words, count)]
     done, _ = answer(at, command, SECONDS, input=text, begin=lambda: limit(resource.RLIMIT_AS, most * MIB))
@@ -121,14 +146,14 @@ def check_memory(program, name, words, text, count, most):
     passed(at)
 
 
-def least_time(program, name, words, text, count):
+def least_time(program: str, name: str, words: list[str], text: bytes, count: int) -> float:
     runs = [answer(name, [program, *words_of(words, count)], SECONDS, input=text) for _ in range(3)]
     for done, _ in runs:
         check_ended(name, done, 0)
     return min(took for _, took in runs)
 
 
-def check_time(program, name, words, made, count):
+def check_time(program: str, name: str, words: list[str], made: Input, count: int) -> None:
     small, large = made(program, count), made(program, 4 * count)
     for _ in range(TRIES):
         before = least_time(program, name, words, small, count)
@@ -138,15 +163,13 @@ def check_time(program, name, words, made, count):
     fail(name, f"{count} take {before:.2f} seconds, and {4 * count} take {after:.2f}, {TRIES} times over")
 
 
-def main():
-    parser = argparse.ArgumentParser(prog="check-costs", description=__doc__, formatter_class=argparse.RawDescriptionHelpFormatter)
-    parser.add_argument("program", nargs="?", metavar="PROGRAM", help="the program (crates/vma_main/out/vma_main)")
-    program = program_of(parser.parse_args().program)
+def check(options: argparse.Namespace) -> None:
     for name, words, made, sizes in MEMORY:
         for count, most in sizes:
-            check_memory(program, name, words, made(program, count), count, most)
+            check_memory(options.program, name, words, made(options.program, count), count, most)
     for name, words, made, count in TIME:
-        check_time(program, name, words, made, count)
+        check_time(options.program, name, words, made, count)
 
 
-main()
+if __name__ == "__main__":
+    main(check)

@@ -1,18 +1,25 @@
 #!/usr/bin/env python3
 """Has reads and writes of the program fail, at each place where they can, and compares all that it answers.
 
-PROGRAM is crates/vma_main/out/vma_main by default. The system takes so many bytes of an output, for each number below its length:
-the run has to end with status 5, `write fault` on standard error, and exactly these bytes given. Where it takes all, the run ends
-with status 0 and nothing on standard error. The system gives so many bytes of an input before a read fails, for each number up to its
-length: status 4, `read fault`, and nothing given. A read or a write that would have to wait is refused in the same way.
-It ends with status 1 at the first run that differs, and 2 on wrong use, or where the program is missing.
+PROGRAM is crates/vma_main/out/vma_main by default. The system takes so many bytes of an output, for each number below
+its length: the run has to end with status 5, `write fault` on standard error, and exactly these bytes given. Where it
+takes all, the run ends with status 0 and nothing on standard error. The system gives so many bytes of an input before
+a read fails, for each number up to its length: status 4, `read fault`, and nothing given. A read or a write that
+would have to wait is refused in the same way. It ends with status 1 at the first run that differs, and 2 on wrong
+use, or where the program is missing.
 """
-import argparse, os, resource, signal, socket, sys, tempfile
+from __future__ import annotations
 
-sys.dont_write_bytecode = True
-sys.path.insert(0, os.path.join(os.path.dirname(os.path.abspath(__file__)), "../../tools"))
-from vmatools import program as programs
-from checking import program_of, answer, bytes_of, check_ended, compare, fail, limit, passed
+import argparse
+import os
+import resource
+import signal
+import socket
+import tempfile
+from collections.abc import Sequence
+from typing import Any
+
+from checking import TOP, answer, bytes_of, check_ended, compare, fail, limit, main, passed
 
 SECONDS = 10
 PIECE = 65_536  # the program gives so many bytes at a time
@@ -30,26 +37,38 @@ SCRIPT = b"vmasteps 1\nlock 1 1\nadd 0 0\nbegin\nmark 0\nlook 0\n"
 MAPS = b"""00010000-00012000 rw-p 00000000 00:00 0 
 00012000-00014000 r--p 00000000 08:02 7                                  /usr/lib/libdemo.so
 """
-RUNS = [(["serial"], TRACE), (["threads"], TRACE), (["steps"], SCRIPT), (["query", "0x11000"], MAPS), (["retrace"], MAPS),
-        (["check"], b"vmatrace 1\n==\nmaps 0\n"), (["generate", "2", "1"], b"")]
+RUNS = [
+    (["serial"], TRACE),
+    (["threads"], TRACE),
+    (["steps"], SCRIPT),
+    (["query", "0x11000"], MAPS),
+    (["retrace"], MAPS),
+    (["check"], b"vmatrace 1\n==\nmaps 0\n"),
+    (["generate", "2", "1"], b""),
+]
 
 
-def long_trace():
+def long_trace() -> bytes:
     """A trace whose output is given in several pieces."""
-    lines = (f"0 mmap {0x10000000 + 8192 * area:#x} 4096 PROT_READ MAP_PRIVATE|MAP_ANONYMOUS|MAP_FIXED -1 0" for area in range(2500))
+    lines = (
+        f"0 mmap {0x10000000 + 8192 * area:#x} 4096 PROT_READ MAP_PRIVATE|MAP_ANONYMOUS|MAP_FIXED -1 0"
+        for area in range(2500)
+    )
     return bytes_of(["vmatrace 1", "limit areas 2500", *lines])
 
 
-def check_writes(program, words, text, places=None):
+def check_writes(program: str, words: list[str], text: bytes, some: list[int] | None = None) -> None:
     """Writes fail behind each of these places of the output, or behind each place of all."""
     name = f"{' '.join(words)}, a write that fails"
     done, _ = answer(name, [program, *words], SECONDS, input=text)
     check_ended(name, done, 0)
     whole = done.stdout
-    places = range(len(whole)) if places is None else [*places, len(whole) - 1]
+    places: Sequence[int] = range(len(whole)) if some is None else [*some, len(whole) - 1]
     for place in (*places, len(whole)):
         with tempfile.TemporaryFile() as output:
-            done, _ = answer(name, [program, *words], SECONDS, begin=lambda: end_files_at(place), input=text, stdout=output)
+            done, _ = answer(
+                name, [program, *words], SECONDS, begin=lambda: end_files_at(place), input=text, stdout=output
+            )
             output.seek(0)
             given = output.read()
         at, failed = f"{name} behind {place} bytes", place < len(whole)
@@ -58,13 +77,13 @@ def check_writes(program, words, text, places=None):
     passed(f"{name} behind {len(places)} places")
 
 
-def end_files_at(place):
+def end_files_at(place: int) -> None:
     """No file of the process that begins has more bytes, and a write of more is refused by an error alone."""
     signal.signal(signal.SIGXFSZ, signal.SIG_IGN)
     limit(resource.RLIMIT_FSIZE, place)
 
 
-def check_reads(program, words, text):
+def check_reads(program: str, words: list[str], text: bytes) -> None:
     """Reads fail behind each place of the input: the other end of the socket is gone, and what was sent to it unread."""
     name = f"{' '.join(words)}, a read that fails"
     for place in range(len(text) + 1):
@@ -80,7 +99,7 @@ def check_reads(program, words, text):
     passed(f"{name} behind {len(text) + 1} places")
 
 
-def check_waits(program):
+def check_waits(program: str) -> None:
     """A read or a write that would have to wait fails, and is not tried again."""
     read, write = os.pipe()
     os.write(write, TRACE)
@@ -103,33 +122,40 @@ def check_waits(program):
     passed("what would have to wait, or is read by nobody")
 
 
-def check_devices(program):
+def check_devices(program: str) -> None:
     """A folder cannot be read, and /dev/full not be written; a line that cannot be written to standard error is left out."""
-    full, folder = os.open("/dev/full", os.O_WRONLY), os.open(programs.TOP, os.O_RDONLY)
+    full, folder = os.open("/dev/full", os.O_WRONLY), os.open(TOP, os.O_RDONLY)
     done, _ = answer("a folder", [program, "serial"], SECONDS, stdin=folder)
     check_ended("a folder", done, 4, b"read fault\n")
     for words, text in RUNS:
         done, _ = answer("/dev/full", [program, *words], SECONDS, input=text, stdout=full)
         check_ended("/dev/full", done, 5, b"write fault\n")
-    for status, words, streams in ((0, ["serial"], {"input": TRACE}), (2, [], {"input": b""}), (3, ["serial"], {"input": b"x"}),
-                                   (4, ["serial"], {"stdin": folder}), (5, ["serial"], {"input": TRACE, "stdout": full})):
+    ends: tuple[tuple[int, list[str], dict[str, Any]], ...] = (
+        (0, ["serial"], {"input": TRACE}),
+        (2, [], {"input": b""}),
+        (3, ["serial"], {"input": b"x"}),
+        (4, ["serial"], {"stdin": folder}),
+        (5, ["serial"], {"input": TRACE, "stdout": full}),
+    )
+    for status, words, streams in ends:
         done, _ = answer("a full standard error", [program, *words], SECONDS, stderr=full, **streams)
         if done.returncode != status:
             fail("a full standard error", f"has status {done.returncode}, and not {status}")
     passed("a folder, and /dev/full")
 
 
-def main():
-    parser = argparse.ArgumentParser(prog="check-failures", description=__doc__, formatter_class=argparse.RawDescriptionHelpFormatter)
-    parser.add_argument("program", nargs="?", metavar="PROGRAM", help="the program (crates/vma_main/out/vma_main)")
-    program = program_of(parser.parse_args().program)
+def check(options: argparse.Namespace) -> None:
+    program: str = options.program
     for words, text in RUNS:
         check_writes(program, words, text)
         if text:
             check_reads(program, words, text)
-    check_writes(program, ["serial"], long_trace(), [0, PIECE - 1, PIECE, PIECE + 1, 2 * PIECE - 1, 2 * PIECE, 2 * PIECE + 1])
+    check_writes(
+        program, ["serial"], long_trace(), [0, PIECE - 1, PIECE, PIECE + 1, 2 * PIECE - 1, 2 * PIECE, 2 * PIECE + 1]
+    )
     check_waits(program)
     check_devices(program)
 
 
-main()
+if __name__ == "__main__":
+    main(check)

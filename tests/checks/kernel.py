@@ -1,17 +1,25 @@
 #!/usr/bin/env python3
 """Runs `vma kernel` on traces that every Linux from 5.4 on answers alike, and on runs that it has to refuse.
 
-usage: check-kernel
-
-Each trace is one in which no row of docs/KERNEL.md has a part. What the kernel itself does is not tested here: where the output has the
-right form and another answer, a line says so, and no more. Where `cc` is missing, the kernel is older, or a sandbox or a setting of the
-machine forbids what the command needs, a line says that nothing was run. Ends with status 1 where `cc` fails on the runner, at the first run
-that crashes or does not end, at the first output that is of no form, and at the first run that should have been refused.
+Each trace is one in which no row of docs/KERNEL.md has a part. What the kernel itself does is not tested here: where
+the output has the right form and another answer, a line says so, and no more. Where `cc` is missing, the kernel is
+older, or a sandbox or a setting of the machine forbids what the command needs, a line says that nothing was run. Ends
+with status 1 where `cc` fails on the runner, at the first run that crashes or does not end, at the first output that
+is of no form, and at the first run that should have been refused.
 """
-import os, platform, re, subprocess, sys, tempfile
+from __future__ import annotations
 
-TOP = os.path.realpath(os.path.join(os.path.dirname(os.path.abspath(__file__)), "../.."))
-TOOL = os.path.join(TOP, "tools/vma")
+import argparse
+import os
+import platform
+import re
+import subprocess
+import sys
+import tempfile
+
+from checking import TOP, fail, main, passed, skipped
+
+TOOL = TOP / "tools/vma"
 EXAMPLES = ["two-mappings", "readme", "tour", "faults", "fork"]
 OLDEST = (5, 4)
 CANNOT, FORBIDDEN = 4, 5  # statuses of `vma kernel`: what this machine cannot do for a trace, and cannot do at all
@@ -52,96 +60,100 @@ maps 2
 """
 
 # What it refuses: its name, its words, the trace, the status, and what the line on standard error has.
-REFUSED = [
+REFUSED: list[tuple[str, list[str], str, int, str]] = [
     ("an option that is none", ["--fast"], "vmatrace 1\n", 2, "--fast"),
-    ("a folder that is none", ["--folder", TOOL], "vmatrace 1\n", 2, "is no folder"),
+    ("a folder that is none", ["--folder", str(TOOL)], "vmatrace 1\n", 2, "is no folder"),
     ("a bad trace", [], "vmatrace 1\n0 maps\n0 touch 4096\n", 3, "trace line 3 cause 3 Word"),
     ("no newline at the end", [], "vmatrace 1\n0 maps", 3, "trace line 2 cause 11 NoEnd"),
     ("a note of a child", [], "vmatrace 1\n0 fork 1\n0 munmap 0 1\n1 maps after=3\n", 3, "trace line 4 cause 13 After"),
     ("the tool's own addresses", [], "vmatrace 1\n0 munmap 0 0x7ffffffff000\n", 4, "line 2: it touches"),
     ("a top out of reach", [], "vmatrace 1\ntop 0x100000\n", 4, "`top 0x100000`"),
     ("another lowest address", [], "vmatrace 1\nmin 0x7000000\n", 4, "`min 0x7000000`"),
-    ("very much memory at once", [], "vmatrace 1\n0 mmap 0 0x80000000 PROT_READ MAP_PRIVATE|MAP_ANONYMOUS|MAP_POPULATE -1 0\n", 4, "line 2: MAP_POPULATE"),
+    (
+        "very much memory at once",
+        [],
+        "vmatrace 1\n0 mmap 0 0x80000000 PROT_READ MAP_PRIVATE|MAP_ANONYMOUS|MAP_POPULATE -1 0\n",
+        4,
+        "line 2: MAP_POPULATE",
+    ),
 ]
 
 
-def fail(name, what):
-    sys.exit(f"check-kernel: {name}: {what}")
+def run(trace: str, *words: str, **environment: str) -> subprocess.CompletedProcess[str]:
+    command = [sys.executable, str(TOOL), "kernel", *words]
+    ends = {**os.environ, **environment}
+    return subprocess.run(
+        command, input=trace, capture_output=True, encoding="utf-8", errors="replace", timeout=600, env=ends
+    )
 
 
-def skip(why):
-    print(f"check-kernel: nothing was run: {why}")
-    sys.exit(0)
-
-
-def run(trace, *words, **environment):
-    return subprocess.run([sys.executable, TOOL, "kernel", *words], input=trace, capture_output=True, encoding="utf-8", errors="replace", timeout=600,
-                          env={**os.environ, **environment})
-
-
-def check_machine():
+def why_not() -> str | None:
+    """Why this machine can run nothing, where it cannot."""
     if platform.system() != "Linux" or platform.machine() != "x86_64":
-        skip(f"this is {platform.system()} on {platform.machine()}, and not Linux on x86-64")
+        return f"this is {platform.system()} on {platform.machine()}, and not Linux on x86-64"
     version = re.match(r"(\d+)\.(\d+)", platform.release())
     if version is None or tuple(map(int, version.groups())) < OLDEST:
-        skip(f"the kernel is {platform.release()}, and older than {OLDEST[0]}.{OLDEST[1]}")
+        return f"the kernel is {platform.release()}, and older than {OLDEST[0]}.{OLDEST[1]}"
     # An empty trace asks for nothing but a list of its own, which a sandbox may forbid, or begin elsewhere.
     first = run("vmatrace 1\n")
     if first.returncode in (CANNOT, FORBIDDEN) and "`cc` fails" not in first.stderr:
-        skip(first.stderr.strip().removeprefix("vma kernel: "))
+        return first.stderr.strip().removeprefix("vma kernel: ")
     if first.returncode:
-        fail("an empty trace", f"has status {first.returncode}, and on standard error stands {first.stderr.strip()[:300]}")
+        fail(
+            "an empty trace",
+            f"has status {first.returncode}, and on standard error stands {first.stderr.strip()[:300]}",
+        )
+    return None
 
 
-def check_output(name, trace, wanted):
+def check_output(name: str, trace: str, output: str) -> None:
     done = run(trace)
     if done.returncode in (CANNOT, FORBIDDEN):
-        print(f"check-kernel: {name}: this machine cannot run it: {done.stderr.strip()}")
-        return
+        return skipped(name, f"this machine cannot run it: {done.stderr.strip()}")
     if done.returncode != 0:
         fail(name, f"has status {done.returncode}, and on standard error stands {done.stderr.strip()[:300]}")
-    given, wanted = done.stdout.splitlines(), wanted.splitlines()
+    given, wanted = done.stdout.splitlines(), output.splitlines()
     bad = next((text for text in given if not FORM.fullmatch(text)), None)
     if bad is not None:
         fail(name, f"`{bad}` is no line of an output")
     place = next((n for n, pair in enumerate(zip(given, wanted)) if pair[0] != pair[1]), min(len(given), len(wanted)))
     if given != wanted:
         found, right = (lines[place] if place < len(lines) else None for lines in (given, wanted))
-        print(f"check-kernel: {name}: this kernel answers otherwise: line {place + 1} is {found!r}, and not {right!r}")
-        return
-    print(f"check-kernel: {name}: as it should be")
+        return skipped(name, f"this kernel answers otherwise: line {place + 1} is {found!r}, and not {right!r}")
+    passed(name)
 
 
-def check_refused(name, words, trace, status, message):
+def check_refused(name: str, words: list[str], trace: str, status: int, message: str) -> None:
     done = run(trace, *words)
     if done.returncode != status or message not in done.stderr or done.stdout:
-        fail(name, f"has status {done.returncode}, and not {status}; on standard error stands {done.stderr.strip()[:300]}")
-    print(f"check-kernel: {name}: refused as it should be")
+        fail(
+            name,
+            f"has status {done.returncode}, and not {status}; on standard error stands {done.stderr.strip()[:300]}",
+        )
+    passed(f"{name}, refused")
 
 
-def check_without_cc():
+def check_without_cc() -> None:
     """Without a compiler, and without what one made before."""
     with tempfile.TemporaryDirectory() as empty:
         done = run("vmatrace 1\n", PATH=empty, XDG_CACHE_HOME=empty)
     if done.returncode != 5 or "`cc` is missing" not in done.stderr:
         fail("no compiler", f"has status {done.returncode}, and on standard error stands {done.stderr.strip()[:300]}")
-    print("check-kernel: no compiler: refused as it should be")
+    passed("no compiler, refused")
 
 
-def main():
-    if len(sys.argv) > 1:
-        print(__doc__.strip())
-        return 0 if sys.argv[1:] in (["--help"], ["-h"]) else 2
-    check_machine()
+def check(_options: argparse.Namespace) -> None:
+    why = why_not()
+    if why:
+        return skipped("all", why)
     for name in EXAMPLES:
-        trace, wanted = (open(os.path.join(TOP, "examples", name + ending), encoding="utf-8") for ending in (".trace", ".out"))
-        with trace, wanted:
-            check_output(name, trace.read(), wanted.read())
+        trace, wanted = (TOP / "examples" / (name + ending) for ending in (".trace", ".out"))
+        check_output(name, trace.read_text(encoding="utf-8"), wanted.read_text(encoding="utf-8"))
     check_output("files, objects and a fork", MORE, MORE_OUTPUT)
     for refused in REFUSED:
         check_refused(*refused)
     check_without_cc()
-    return 0
 
 
-sys.exit(main())
+if __name__ == "__main__":
+    main(check, with_program=False)

@@ -1,18 +1,23 @@
 #!/usr/bin/env python3
 """Runs the program on small inputs with each request for memory refused in turn, and says what it answers.
 
-PROGRAM is crates/vma_main/out/vma_main by default, as `rt run` leaves it. A small library, which cc compiles and the loader puts
-before the C library, makes the Nth malloc or realloc of a run fail, for N from 1 up to the number that a whole run makes. Each
-such run has to end with status 6, `no memory` on standard error and a beginning of the output, or as a run does of which nothing
-is refused (in `threads`, an output of the same lines). It is no part of the gate.
-The exit status is 0 where all is so, 1 where a run is not, 2 on wrong use, or where the program or cc is missing.
+PROGRAM is crates/vma_main/out/vma_main by default, as `rt run` leaves it. A small library, which cc compiles and the
+loader puts before the C library, makes the Nth malloc or realloc of a run fail, for N from 1 up to the number that a
+whole run makes. Each such run has to end with status 6, `no memory` on standard error and a beginning of the output,
+or as a run does of which nothing is refused (in `threads`, an output of the same lines). It is no part of the gate.
+Where cc is missing, a line says so.
 """
-import argparse, collections, os, shutil, subprocess, sys, tempfile
+from __future__ import annotations
 
-sys.dont_write_bytecode = True
-sys.path.insert(0, os.path.join(os.path.dirname(os.path.abspath(__file__)), "../../tools"))
-from checking import program_of
-from vmatools import program as programs
+import argparse
+import os
+import shutil
+import subprocess
+import sys
+import tempfile
+from collections import Counter
+
+from checking import Done, fail, main, passed, skipped
 
 LIBRARY = r"""
 #define _GNU_SOURCE
@@ -74,11 +79,18 @@ L3 t0 v1 = 0x10000
 maps 1
 00010000-00012000 r--p 00000000 00:00 0 
 """
-RUNS = [(["serial"], TRACE), (["threads"], TRACE), (["steps"], SCRIPT), (["generate", "20", "1"], b""), (["query", "0x11000"], MAPS),
-        (["retrace"], MAPS), (["check"], JUDGED)]
+RUNS = [
+    (["serial"], TRACE),
+    (["threads"], TRACE),
+    (["steps"], SCRIPT),
+    (["generate", "20", "1"], b""),
+    (["query", "0x11000"], MAPS),
+    (["retrace"], MAPS),
+    (["check"], JUDGED),
+]
 
 
-def run(program, words, text, library, at, counted):
+def run(program: str, words: list[str], text: bytes, library: str, at: int, counted: str) -> tuple[Done, int]:
     """What a run gives in which the request of this number is refused; at 0, none is, and the number of requests is told."""
     with open(counted, "wb") as none:
         none.write(bytes(8))
@@ -88,43 +100,50 @@ def run(program, words, text, library, at, counted):
         return done, int.from_bytes(told.read(), sys.byteorder)
 
 
-def lines_of(output):
+def lines_of(output: bytes) -> int:
     """How many lines of the input an output answers."""
     return sum(line.startswith(b"L") for line in output.split(b"\n"))
 
 
-def is_right(done, whole, words):
-    """Whether a run gave the whole output, or was out of memory and gave a beginning of it. What `threads` gives is another each time."""
+def is_right(done: Done, whole: Done, words: list[str]) -> bool:
+    """Whether a run gave the whole output, or was out of memory and gave a beginning of it; that of `threads` varies."""
     if done.returncode == 0:
         return done.stdout == whole.stdout or words == ["threads"] and lines_of(done.stdout) == lines_of(whole.stdout)
-    begins = whole.stdout.startswith(done.stdout) or words == ["threads"] and lines_of(done.stdout) <= lines_of(whole.stdout)
+    begins = (
+        whole.stdout.startswith(done.stdout) or words == ["threads"] and lines_of(done.stdout) <= lines_of(whole.stdout)
+    )
     return begins and (done.returncode, done.stderr) == (6, b"no memory\n")
 
 
-def main():
-    parser = argparse.ArgumentParser(prog="refuse-memory", description=__doc__, formatter_class=argparse.RawDescriptionHelpFormatter)
-    parser.add_argument("program", nargs="?", metavar="PROGRAM", help="the program (crates/vma_main/out/vma_main)")
-    program = program_of(parser.parse_args().program)
+def check(options: argparse.Namespace) -> None:
+    program: str = options.program
     if shutil.which("cc") is None:
-        print("refuse-memory: there is no `cc`, which compiles the library that refuses", file=sys.stderr)
-        sys.exit(2)
+        return skipped("all", "there is no `cc`, which compiles the library that refuses")
     with tempfile.TemporaryDirectory() as folder:
         source, library, counted = (os.path.join(folder, name) for name in ("refuse.c", "refuse.so", "made"))
         with open(source, "w") as file:
             file.write(LIBRARY)
         subprocess.run(["cc", "-shared", "-fPIC", "-O1", "-o", library, source, "-ldl"], check=True)
         for words, text in RUNS:
-            whole, made = run(program, words, text, library, 0, counted)
-            if whole.returncode:
-                sys.exit(f"refuse-memory: {' '.join(words)}: status {whole.returncode} with nothing refused")
-            answers = collections.Counter()
-            for at in range(1, made + 1):
-                done, _ = run(program, words, text, library, at, counted)
-                answers[done.returncode] += 1
-                if not is_right(done, whole, words):
-                    sys.exit(f"refuse-memory: {' '.join(words)}: request {at}: status {done.returncode}, {done.stderr}, {len(done.stdout)} bytes")
-            told = ", ".join(f"status {status} {count} times" for status, count in sorted(answers.items()))
-            print(f"{' '.join(words)}: {made} requests, each refused in turn: {told}")
+            check_mode(program, words, text, library, counted)
 
 
-main()
+def check_mode(program: str, words: list[str], text: bytes, library: str, counted: str) -> None:
+    """One mode, with each of its requests refused in turn."""
+    name = " ".join(words)
+    whole, made = run(program, words, text, library, 0, counted)
+    if whole.returncode:
+        fail(name, f"has status {whole.returncode} with nothing refused")
+    answers: Counter[int] = Counter()
+    for at in range(1, made + 1):
+        done, _ = run(program, words, text, library, at, counted)
+        answers[done.returncode] += 1
+        if not is_right(done, whole, words):
+            what = f"status {done.returncode}, {done.stderr[:200]!r}, {len(done.stdout)} bytes"
+            fail(name, f"request {at}: {what}")
+    told = ", ".join(f"status {status} {count} times" for status, count in sorted(answers.items()))
+    passed(f"{name}: {made} requests, each refused in turn: {told}")
+
+
+if __name__ == "__main__":
+    main(check)

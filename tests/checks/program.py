@@ -1,21 +1,21 @@
 #!/usr/bin/env python3
-"""Runs the program on the largest traces, loads and scripts, on threads that wait for each other and on what it refuses, and compares all
-that it answers.
+"""Runs the program on the largest traces, loads and scripts, on threads that wait for each other and on what it refuses,
+and compares all that it answers.
 
-PROGRAM is crates/vma_main/out/vma_main by default. The script works out for itself what each run writes to standard output
-and standard error, and its status. It ends with status 1 at the first run that differs, or that takes longer than its seconds of processor
-time. In the mode `threads` a trace of one thread has the output of `serial`; of one of many threads each line is answered once, those of
-a thread in their order, and the versions never fall. A load as a trace has an output that `check` judges to be legal, a smaller one that of the
-model of tools/vmatools, and `generate` has to count in it what stands there.
-The seconds are some fifty times what a run needs, and fewer than it would need with work quadratic in its lines. The status is 2 on wrong
-use, or where the program is missing.
+PROGRAM is crates/vma_main/out/vma_main by default. The script works out for itself what each run writes to standard
+output and standard error, and its status. It ends with status 1 at the first run that differs, or that takes longer
+than its seconds of processor time. In the mode `threads` a trace of one thread has the output of `serial`; of one of
+many threads each line is answered once, those of a thread in their order, and the versions never fall. A load as a
+trace has an output that `check` judges to be legal, a smaller one that of the model of tools/vmatools, and `generate`
+has to count in it what stands there. The seconds are some fifty times what a run needs, and fewer than it would need
+with work quadratic in its lines. The status is 2 on wrong use, or where the program is missing.
 """
-import argparse, os, sys
+from __future__ import annotations
 
-sys.dont_write_bytecode = True
-sys.path.insert(0, os.path.join(os.path.dirname(os.path.abspath(__file__)), "../../tools"))
-from vmatools import loads, serial, program as programs, traces
-from checking import program_of, answer, bytes_of, check_ended, compare, fail, passed
+import argparse
+
+from checking import Words, answer, bytes_of, check_ended, compare, fail, main, passed
+from vmatools import loads, serial, traces
 
 PAGE = 4096
 OPERATIONS = 1_000_000
@@ -31,28 +31,30 @@ ANONYMOUS = "MAP_PRIVATE|MAP_ANONYMOUS|MAP_FIXED"
 class Run:
     """A trace, and what the program writes for it."""
 
-    def __init__(self):
-        self.trace, self.output, self.version = ["vmatrace 1"], [], 0
+    def __init__(self) -> None:
+        self.trace = ["vmatrace 1"]
+        self.output: list[str] = []
+        self.version = 0
 
-    def start(self, thread, line):
+    def start(self, thread: int, line: str) -> str:
         self.trace.append(f"{thread} {line}")
         return f"L{len(self.trace)} t{thread} v{self.version} ="
 
-    def call(self, thread, line, reply):
+    def call(self, thread: int, line: str, reply: str) -> None:
         self.version += 1
         self.output.append(f"{self.start(thread, line)} {reply}")
 
-    def read(self, thread, line, answer):
+    def read(self, thread: int, line: str, answer: str) -> None:
         self.output.append(f"{self.start(thread, line)} {answer}")
 
 
-def path_of(file, front):
+def path_of(file: int, front: str) -> str:
     """A name of 255 bytes, and of every 64th file one that fills its line."""
     length = LINE_BYTES - len(front) if file % 64 == 0 else 255
     return f"/{file:04}".ljust(length, "n")
 
 
-def operations():
+def operations() -> Run:
     """As many operations as a trace may have, of all threads, over all files, with names as long as a line."""
     run = Run()
     names = []
@@ -87,7 +89,7 @@ def operations():
     return run
 
 
-def areas():
+def areas() -> Run:
     """As many areas as a list may have, and one more, which is refused."""
     run = Run()
     lines = []
@@ -100,20 +102,29 @@ def areas():
     return run
 
 
-def check(program, name, words, status, message=b"", output=b"", seconds=10, trace=b"vmatrace 1\n", **ends):
-    source = ends if "stdin" in ends else {"input": trace, **ends}
-    done, took = answer(name, [program, *words], seconds, **source)
+def check_run(
+    program: str,
+    name: str,
+    words: Words,
+    status: int,
+    message: bytes = b"",
+    output: bytes = b"",
+    seconds: int = 10,
+    trace: bytes = b"vmatrace 1\n",
+) -> None:
+    done, took = answer(name, [program, *words], seconds, input=trace)
     check_ended(name, done, status, message)
     compare(f"{name}, standard output", done.stdout or b"", output)
     passed(name, took)
 
 
-def check_threads(program, name, trace, seconds):
+def check_threads(program: str, name: str, trace: list[str], seconds: int) -> None:
     """In `threads` each line is answered once, those of a thread in order, and the versions never fall."""
     done, took = answer(name, [program, "threads"], seconds, input=bytes_of(trace))
     check_ended(name, done, 0)
     wanted = {f"L{n} t{line.split()[0]}" for n, line in enumerate(trace, 1) if line[0].isdigit()}
-    last, version, found = {}, 0, 0
+    last: dict[str, int] = {}
+    version = found = 0
     for line in done.stdout.decode().splitlines():
         words = line.split(" ", 3)
         if not (line.startswith("L") and len(words) == 4 and words[2].startswith("v")):
@@ -130,81 +141,147 @@ def check_threads(program, name, trace, seconds):
     passed(f"{name}, threads", took)
 
 
-def check_words(program):
+def check_words(program: str) -> None:
     """Only the words that the README names are accepted, and none besides them."""
-    refused = ([], ["serial", "serial"], ["threads", "serial"], ["serial", "x"], ["steps", "1"], ["retrace", "0"], ["check", "x"], [""], ["--help"],
-               ["query"], ["query", "x"], ["query", "0", "0"], ["generate"], ["generate", "10"], ["generate", "10", "1", "extra"],
-               ["generate", "10", "1", "extra", "words"], ["generate", "400001", "0"], ["generate", "0", str(2**64)], ["serial", b"\xff"])
+    refused: list[list[str | bytes]] = [
+        [],
+        ["serial", "serial"],
+        ["threads", "serial"],
+        ["serial", "x"],
+        ["steps", "1"],
+        ["retrace", "0"],
+        ["check", "x"],
+        [""],
+        ["--help"],
+        ["query"],
+        ["query", "x"],
+        ["query", "0", "0"],
+        ["generate"],
+        ["generate", "10"],
+        ["generate", "10", "1", "extra"],
+        ["generate", "10", "1", "extra", "words"],
+        ["generate", "400001", "0"],
+        ["generate", "0", str(2**64)],
+        ["serial", b"\xff"],
+    ]
     for words in refused:
-        check(program, f"the words {words}", words, 2, b"words\n")
+        check_run(program, f"the words {words}", words, 2, b"words\n")
 
 
-def check_summaries(program):
+def check_summaries(program: str) -> None:
     """What the first line of a generated trace does is worked by hand; the last row is of a longer run."""
-    for count, seed, numbers in ((0, 0, (0, 0, 0, 0, 0, 0)), (1, 0, (0, 0, 1, 0, 0, 0)), (1, 4, (1, 0, 0, 0, 1, 1)), (20000, 1, (15001, 4240, 4999, 781, 15001, 7108))):
+    for count, seed, numbers in (
+        (0, 0, (0, 0, 0, 0, 0, 0)),
+        (1, 0, (0, 0, 1, 0, 0, 0)),
+        (1, 4, (1, 0, 0, 0, 1, 1)),
+        (20000, 1, (15001, 4240, 4999, 781, 15001, 7108)),
+    ):
         names = ("calls", "refused", "faults", "served", "version", "areas")
         output = bytes_of(f"{name} {number}" for name, number in zip(names, numbers))
         for run in ("", ", once more"):
-            check(program, f"generate {count} {seed}{run}", ["generate", str(count), str(seed)], 0, output=output)
+            check_run(program, f"generate {count} {seed}{run}", ["generate", str(count), str(seed)], 0, output=output)
 
 
-def check_load(program, count, seed, seconds, judges):
+def check_load(program: str, count: int, seed: int, seconds: int, judges: bool) -> None:
     """A generated trace as lines has in `serial` an output that is legal, and `generate` has the summary of it, each time."""
     name, trace = f"the load {count} {seed}", bytes_of(loads.load(count, seed))
     done, took = answer(name, [program, "serial"], seconds, input=trace)
     check_ended(name, done, 0)
     passed(f"{name}, serial", took)
     output = done.stdout.decode().splitlines()
-    check(program, f"{name}, judged", ["check"], 0, output=b"legal\n", trace=trace + b"==\n" + done.stdout, seconds=seconds)
+    check_run(
+        program,
+        f"{name}, judged",
+        ["check"],
+        0,
+        output=b"legal\n",
+        trace=trace + b"==\n" + done.stdout,
+        seconds=seconds,
+    )
     if judges:
         compare(f"{name}, by the model", done.stdout, serial.serial_output(traces.read_trace(trace)).encode())
         passed(f"{name}, by the model")
     for words in ([str(count), str(seed)], [str(count).zfill(20), str(seed).zfill(20)]):
-        check(program, f"generate {' '.join(words)}", ["generate", *words], 0, output=bytes_of(loads.summary(output)), seconds=seconds)
+        check_run(
+            program,
+            f"generate {' '.join(words)}",
+            ["generate", *words],
+            0,
+            output=bytes_of(loads.summary(output)),
+            seconds=seconds,
+        )
 
 
-def check_scripts(program):
+def check_scripts(program: str) -> None:
     """The longest scripts: as many lines as one may have, each as long as a line may be, and a line more."""
     for made in (lock_script, grace_script):
         script, output = made()
-        for name, lines in ((made.__name__, script), (f"{made.__name__}, as wide as it may be", [line.ljust(LINE_BYTES) for line in script])):
+        for name, lines in (
+            (made.__name__, script),
+            (f"{made.__name__}, as wide as it may be", [line.ljust(LINE_BYTES) for line in script]),
+        ):
             lines[0] = "vmasteps 1"
-            check(program, name, ["steps"], 0, output=bytes_of(output), trace=bytes_of(lines), seconds=30)
-            check(program, f"{name}, a line more", ["steps"], 3, f"trace line {SCRIPT_LINES + 1} cause 8 TooMany\n".encode(),
-                  trace=bytes_of([*lines, "#"]), seconds=30)
+            check_run(program, name, ["steps"], 0, output=bytes_of(output), trace=bytes_of(lines), seconds=30)
+            check_run(
+                program,
+                f"{name}, a line more",
+                ["steps"],
+                3,
+                f"trace line {SCRIPT_LINES + 1} cause 8 TooMany\n".encode(),
+                trace=bytes_of([*lines, "#"]),
+                seconds=30,
+            )
 
 
-def lock_script():
+def lock_script() -> tuple[list[str], list[str]]:
     """A reader looks and leaves while calls are made: each call marks the slot and unmaps what was not mapped."""
-    script, output, seq, version, found = ["vmasteps 1", "lock 1 1"], [], 2, 0, 0
+    script, seq, version, found = ["vmasteps 1", "lock 1 1"], 2, 0, 0
+    output: list[str] = []
     while len(script) + 6 <= SCRIPT_LINES:
         marked = seq + 1
-        for line, result, shown in (("add 0 0", f"found {found}", f"S {seq} M 0:{found}/1"), ("look 0", f"seq {seq} version {version}", f"S {seq} M 0:{found}/1"),
-                                    ("sub 0", "ok", f"S {seq} M 0:{found}/0"), ("begin", "ok", f"S {marked} M 0:{found}/0"),
-                                    ("mark 0", "ok", f"S {marked} M 0:{marked}/0"), ("end 0 munmap 0x1000 4096", "ok", f"S {marked + 1} M 0:{marked}/0")):
+        for line, result, shown in (
+            ("add 0 0", f"found {found}", f"S {seq} M 0:{found}/1"),
+            ("look 0", f"seq {seq} version {version}", f"S {seq} M 0:{found}/1"),
+            ("sub 0", "ok", f"S {seq} M 0:{found}/0"),
+            ("begin", "ok", f"S {marked} M 0:{found}/0"),
+            ("mark 0", "ok", f"S {marked} M 0:{marked}/0"),
+            ("end 0 munmap 0x1000 4096", "ok", f"S {marked + 1} M 0:{marked}/0"),
+        ):
             script.append(line)
             output.append(f"L{len(script)} {result} | {shown}")
         seq, version, found = marked + 1, version + 1, marked
     return [*script, *["#"] * (SCRIPT_LINES - len(script))], output
 
 
-def grace_script():
+def grace_script() -> tuple[list[str], list[str]]:
     """A row is published in the place of the other, in turn. A reader opens, loads the root, closes and is scanned."""
-    script, output, tree, pin = ["vmasteps 1", "grace 1 2"], [], 0, 0
+    script, tree, pin = ["vmasteps 1", "grace 1 2"], 0, 0
+    output: list[str] = []
     while len(script) + 6 <= SCRIPT_LINES:
         old, new = tree % 2, (tree + 1) % 2
-        before, after, waits = (f"T {number} root {number % 2} P 0:{{}} {rest}" for number, rest in
-                                ((tree, f"free {new} wait"), (tree + 1, f"free {old} wait"), (tree + 1, f"free wait {old}")))
-        for line, result, shown in (("open 0", "ok", before.format(pin + 1)), ("root 0", f"tree {tree} row {old}", before.format(pin + 1)),
-                                    (f"fill {new} {tree}", "ok", before.format(pin + 1)), (f"publish {tree + 1} {new}", "ok", waits.format(pin + 1)),
-                                    ("close 0", "ok", waits.format(pin + 2)), ("scan 0", f"pin {pin + 2}", after.format(pin + 2))):
+        before, after, waits = (
+            f"T {number} root {number % 2} P 0:{{}} {rest}"
+            for number, rest in (
+                (tree, f"free {new} wait"),
+                (tree + 1, f"free {old} wait"),
+                (tree + 1, f"free wait {old}"),
+            )
+        )
+        for line, result, shown in (
+            ("open 0", "ok", before.format(pin + 1)),
+            ("root 0", f"tree {tree} row {old}", before.format(pin + 1)),
+            (f"fill {new} {tree}", "ok", before.format(pin + 1)),
+            (f"publish {tree + 1} {new}", "ok", waits.format(pin + 1)),
+            ("close 0", "ok", waits.format(pin + 2)),
+            ("scan 0", f"pin {pin + 2}", after.format(pin + 2)),
+        ):
             script.append(line)
             output.append(f"L{len(script)} {result} | {shown}")
         tree, pin = tree + 1, pin + 2
     return [*script, *["#"] * (SCRIPT_LINES - len(script))], output
 
 
-def check_all_at_once(program):
+def check_all_at_once(program: str) -> None:
     """64 threads, of which each waits for the one before it, and then all for the last: so none can end before all have begun."""
     run = Run()
     for thread in range(THREADS):
@@ -212,55 +289,98 @@ def check_all_at_once(program):
         run.call(thread, f"mmap {place:#x} 4096 PROT_READ {ANONYMOUS} -1 0{after}", f"{place:#x}")
     last = len(run.trace)
     for thread in range(THREADS):
-        place, after = 0x10000000 + 2 * PAGE * ((thread + 1) % THREADS), f" after={last}" if thread + 1 < THREADS else ""
+        place, after = (
+            0x10000000 + 2 * PAGE * ((thread + 1) % THREADS),
+            f" after={last}" if thread + 1 < THREADS else "",
+        )
         run.read(thread, f"fault {place:#x} r{after}", f"served {place:08x}-{place + PAGE:08x} r--p page 0")
-    lines = [f"{0x10000000 + 2 * PAGE * area:08x}-{0x10000000 + 2 * PAGE * area + PAGE:08x} r--p 00000000 00:00 0 " for area in range(THREADS)]
+    lines = [
+        f"{0x10000000 + 2 * PAGE * area:08x}-{0x10000000 + 2 * PAGE * area + PAGE:08x} r--p 00000000 00:00 0 "
+        for area in range(THREADS)
+    ]
     run.output += [f"maps {THREADS}", *lines]
     name, trace, output = "threads that wait for each other", bytes_of(run.trace), bytes_of(run.output)
-    check(program, f"{name}, serial", ["serial"], 0, output=output, trace=trace)
+    check_run(program, f"{name}, serial", ["serial"], 0, output=output, trace=trace)
     for _ in range(10):
-        check(program, f"{name}, threads", ["threads"], 0, output=output, trace=trace)
+        check_run(program, f"{name}, threads", ["threads"], 0, output=output, trace=trace)
 
 
-def check_largest(program):
+def check_largest(program: str) -> None:
     """The largest traces: in `serial`, judged, and in `threads`."""
     for made, seconds in ((areas, 5), (operations, 60)):
         run = made()
-        check(program, f"{made.__name__}, serial", ["serial"], 0, output=bytes_of(run.output), trace=bytes_of(run.trace), seconds=seconds)
+        check_run(
+            program,
+            f"{made.__name__}, serial",
+            ["serial"],
+            0,
+            output=bytes_of(run.output),
+            trace=bytes_of(run.trace),
+            seconds=seconds,
+        )
         both, count = bytes_of([*run.trace, "==", *run.output]), bytes_of(run.output).count(b"\n")
-        check(program, f"{made.__name__}, judged", ["check"], 0, output=b"legal\n", trace=both, seconds=seconds)
-        for name, given, line in (("without the last newline", both[:-1], count), ("with one line more", both + b"maps 0\n", count + 1)):
-            check(program, f"{made.__name__}, judged {name}", ["check"], 0, output=f"bad {line}\n".encode(), trace=given, seconds=seconds)
+        check_run(program, f"{made.__name__}, judged", ["check"], 0, output=b"legal\n", trace=both, seconds=seconds)
+        for name, given, line in (
+            ("without the last newline", both[:-1], count),
+            ("with one line more", both + b"maps 0\n", count + 1),
+        ):
+            check_run(
+                program,
+                f"{made.__name__}, judged {name}",
+                ["check"],
+                0,
+                output=f"bad {line}\n".encode(),
+                trace=given,
+                seconds=seconds,
+            )
         if made is areas:
-            check(program, "areas, threads", ["threads"], 0, output=bytes_of(run.output), trace=bytes_of(run.trace), seconds=seconds)
+            check_run(
+                program,
+                "areas, threads",
+                ["threads"],
+                0,
+                output=bytes_of(run.output),
+                trace=bytes_of(run.trace),
+                seconds=seconds,
+            )
         else:
             check_threads(program, made.__name__, run.trace, seconds)
 
 
-def main():
-    parser = argparse.ArgumentParser(prog="check-program", description=__doc__, formatter_class=argparse.RawDescriptionHelpFormatter)
-    parser.add_argument("program", nargs="?", metavar="PROGRAM", help="the program (crates/vma_main/out/vma_main)")
-    program = program_of(parser.parse_args().program)
+def check(options: argparse.Namespace) -> None:
+    program: str = options.program
     check_words(program)
-    check(program, "a bad trace", ["serial"], 3, b"trace line 3 cause 3 Word\n", trace=b"vmatrace 1\n0 maps\n0 map\n")
+    check_run(
+        program, "a bad trace", ["serial"], 3, b"trace line 3 cause 3 Word\n", trace=b"vmatrace 1\n0 maps\n0 map\n"
+    )
     # A reader that holds the slot keeps a call from marking it; the script without its last newline is none.
     script = ["vmasteps 1", "lock 1 1", "add 0 0", "begin", "mark 0"]
     text = ["L3 found 0 | S 2 M 0:0/1", "L4 ok | S 3 M 0:0/1", "L5 refused 2 ReadersLeft 1 | S 3 M 0:0/1"]
-    check(program, "a script", ["steps"], 0, output=bytes_of(text), trace=bytes_of(script))
-    check(program, "a bad script", ["steps"], 3, b"trace line 5 cause 11 NoEnd\n", trace=bytes_of(script)[:-1])
+    check_run(program, "a script", ["steps"], 0, output=bytes_of(text), trace=bytes_of(script))
+    check_run(program, "a bad script", ["steps"], 3, b"trace line 5 cause 11 NoEnd\n", trace=bytes_of(script)[:-1])
     check_scripts(program)
     check_summaries(program)
     check_load(program, 20_000, 1, 10, judges=True)
     check_load(program, 400_000, 1, 60, judges=False)
-    check(program, "no text to judge", ["check"], 3, b"trace line 2 cause 11 NoEnd\n")
-    check(program, "an empty text", ["check"], 0, output=b"bad 1\n", trace=b"vmatrace 1\n==\n")
-    check(program, "a text of bytes of any kind", ["check"], 0, output=b"bad 1\n", trace=b"vmatrace 1\n==\n" + bytes(range(256)))
+    check_run(program, "no text to judge", ["check"], 3, b"trace line 2 cause 11 NoEnd\n")
+    check_run(program, "an empty text", ["check"], 0, output=b"bad 1\n", trace=b"vmatrace 1\n==\n")
+    check_run(
+        program,
+        "a text of bytes of any kind",
+        ["check"],
+        0,
+        output=b"bad 1\n",
+        trace=b"vmatrace 1\n==\n" + bytes(range(256)),
+    )
     largest = b"vmatrace 1\n==\n" + bytes(TEXT_BYTES)
-    check(program, "the longest text", ["check"], 0, output=b"bad 1\n", trace=largest)
-    check(program, "a byte more", ["check"], 3, b"trace line 3 cause 2 TooLong\n", trace=largest + b"\0")
-    check(program, "many bytes more", ["check"], 3, b"trace line 3 cause 2 TooLong\n", trace=largest + bytes(100_000_000))
+    check_run(program, "the longest text", ["check"], 0, output=b"bad 1\n", trace=largest)
+    check_run(program, "a byte more", ["check"], 3, b"trace line 3 cause 2 TooLong\n", trace=largest + b"\0")
+    check_run(
+        program, "many bytes more", ["check"], 3, b"trace line 3 cause 2 TooLong\n", trace=largest + bytes(100_000_000)
+    )
     check_all_at_once(program)
     check_largest(program)
 
 
-main()
+if __name__ == "__main__":
+    main(check)

@@ -5,12 +5,20 @@ they have it, at once or by a function that they call, which would wait for ever
 
 Each is made as a crate with one empty test in a copy of the repository, and compiled there from the sources by `rt try`, which
 proves nothing. It has to refuse it for the reason that is named here, and to accept the same program without the line in
-question. No edit of the gate can say this, since each of those has to compile. The status is 0 where all is so, 1 where not, 2 on wrong use.
+question. No edit of the gate can say this, since each of those has to compile.
 """
-import argparse, os, shutil, subprocess, sys, tempfile
-from concurrent.futures import ThreadPoolExecutor
+from __future__ import annotations
 
-TOP = os.path.realpath(os.path.join(os.path.dirname(os.path.abspath(__file__)), "../.."))
+import argparse
+import os
+import shutil
+import subprocess
+import tempfile
+from concurrent.futures import ThreadPoolExecutor
+from pathlib import Path
+
+from checking import TOP, fail, main, passed
+
 
 HEAD = """//! A program above a space.
 #![tactic(auto)]
@@ -125,8 +133,14 @@ CALLS = "        space.call(rt, &mut pass, call);\n"
 # the name, the source, and words of the reason for which it is refused; none for one that is accepted
 PROGRAMS = [
     ("closes", HEAD + CLOSES, None),
-    ("makes_a_closed", HEAD.replace("ghost use Rattle.std.specs.Prelude.{◌≡◌};\nghost use Rattle.mm_space.specs.Names.{ArePasses};\n\n", "")
-        .replace("use fault_path::Pass;\nuse mm_space::{Closed, Space, SpaceName};", "use mm_space::Closed;") + MAKES, "private"),
+    (
+        "makes_a_closed",
+        HEAD.replace(
+            "ghost use Rattle.std.specs.Prelude.{◌≡◌};\nghost use Rattle.mm_space.specs.Names.{ArePasses};\n\n", ""
+        ).replace("use fault_path::Pass;\nuse mm_space::{Closed, Space, SpaceName};", "use mm_space::Closed;")
+        + MAKES,
+        "private",
+    ),
     ("uses_a_pass_that_is_gone", HEAD + USES, "moved"),
     ("holds", HOLDS_HEAD + HOLDS_END, None),
     ("calls_while_it_holds", HOLDS_HEAD + CALLS + HOLDS_END, "moved"),
@@ -136,20 +150,23 @@ PROGRAMS = [
 ]
 
 # a file of mm_space, a line that stands in it once, and what stands in its place
-TAKES_TWICE = ("crates/mm_space/src/space.rt", "        let path = Path::Slow(miss);\n",
-    "        let path = Path::Slow(miss);\n        let _again = self.state.take(rt, &mut pass.unlocked);\n")
+TAKES_TWICE = (
+    "crates/mm_space/src/space.rt",
+    "        let path = Path::Slow(miss);\n",
+    "        let path = Path::Slow(miss);\n        let _again = self.state.take(rt, &mut pass.unlocked);\n",
+)
 
 
-def libraries():
+def libraries() -> str:
     """mm_space and all that it stands on, as crates.txt names them."""
     for line in open(os.path.join(TOP, "crates.txt")):
         name, _, below = line.partition(":")
         if name.split()[0] == "mm_space":
             return below.strip() + " mm_space"
-    sys.exit("check-refused: crates.txt has no mm_space")
+    fail("crates.txt", "has no mm_space")
 
 
-def write_all(copy):
+def write_all(copy: str) -> None:
     """A copy of the repository, with a crate for each program."""
     shutil.copytree(os.path.join(TOP, "crates"), os.path.join(copy, "crates"), ignore=shutil.ignore_patterns("out"))
     shutil.copy(os.path.join(TOP, "HANDLES"), copy)
@@ -162,37 +179,44 @@ def write_all(copy):
                 file.write(text + TESTED)
 
 
-def judge(copy, name, reason):
+def judge(copy: str, name: str, reason: str | None) -> str | None:
     """What is wrong with the answer on a program, or nothing."""
-    done = subprocess.run(["rt", "try", "--test"], cwd=os.path.join(copy, "crates", name), capture_output=True, text=True)
+    done = subprocess.run(
+        ["rt", "try", "--test"], cwd=os.path.join(copy, "crates", name), capture_output=True, text=True
+    )
     said = done.stdout + done.stderr
     if reason is None and done.returncode != 0:
-        return f"check-refused: {name} was refused:\n{said[-4000:]}"
+        return f"was refused:\n{said[-4000:]}"
     if reason is not None and (done.returncode == 0 or reason not in said):
-        return f"check-refused: {name} was not refused as {reason}:\n{said[-4000:]}"
+        return f"was not refused as {reason}:\n{said[-4000:]}"
+    return None
 
 
-def main():
-    argparse.ArgumentParser(prog="check-refused", description=__doc__, formatter_class=argparse.RawDescriptionHelpFormatter).parse_args()
+def check(_options: argparse.Namespace) -> None:
     with tempfile.TemporaryDirectory() as copy:
         write_all(copy)
         with ThreadPoolExecutor(max_workers=3) as pool:
             answers = list(pool.map(lambda program: judge(copy, program[0], program[2]), PROGRAMS))
         for (name, _, reason), wrong in zip(PROGRAMS, answers):
             if wrong:
-                sys.exit(wrong)
-            print(f"{name}: {'accepted' if reason is None else 'refused'}")
-        file, old, new = TAKES_TWICE
-        with open(os.path.join(copy, file)) as source:
-            text = source.read()
-        if text.count(old) != 1:
-            sys.exit(f"refused_programs: {file} does not have that line once:\n{old}")
-        with open(os.path.join(copy, file), "w") as source:
-            source.write(text.replace(old, new))
-        wrong = judge(copy, "mm_space", "borrow")
-        if wrong:
-            sys.exit(wrong)
-        print("a fault takes the lock twice: refused")
+                fail(name, wrong)
+            passed(f"{name}, {'accepted' if reason is None else 'refused'}")
+        check_lock(copy)
 
 
-main()
+def check_lock(copy: str) -> None:
+    """A fault that takes the lock twice is refused."""
+    file, old, new = TAKES_TWICE
+    path = Path(copy, file)
+    text = path.read_text()
+    if text.count(old) != 1:
+        fail(file, f"does not have that line once:\n{old}")
+    path.write_text(text.replace(old, new))
+    wrong = judge(copy, "mm_space", "borrow")
+    if wrong:
+        fail("a fault takes the lock twice", wrong)
+    passed("a fault takes the lock twice, refused")
+
+
+if __name__ == "__main__":
+    main(check, with_program=False)

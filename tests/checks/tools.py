@@ -1,63 +1,83 @@
 #!/usr/bin/env python3
 """Checks from-strace, record, draw and chart on what stands in the repository, and compares all that they answer.
 
-from-strace makes the saved traces of the saved logs of tests/logs again, and refuses what is no log. draw draws each example with its
-output, and docs/tour.svg is what it draws of the tour; an output that says otherwise is marked. chart draws
-what measure and measure-faults print as it draws a table with the same numbers, and refuses what is no table. record runs a command, where strace is
-there and may trace.
+from-strace makes the saved traces of the saved logs of tests/logs again, and refuses what is no log. draw draws each
+example with its output, and docs/tour.svg is what it draws of the tour; an output that says otherwise is marked.
+chart draws what measure and measure-faults print as it draws a table with the same numbers, and refuses what is no
+table. record runs a command, where strace is there and may trace.
 
 It ends with status 1 at the first thing that differs, and takes some ten seconds.
 """
-import argparse, glob, os, platform, re, shutil, subprocess, sys, tempfile
+from __future__ import annotations
+
+import argparse
+import glob
+import os
+import platform
+import re
+import shutil
+import subprocess
+import sys
+import tempfile
+from typing import Any
 from xml.etree import ElementTree
 
-sys.dont_write_bytecode = True
-sys.path.insert(0, os.path.join(os.path.dirname(os.path.abspath(__file__)), "../../tools"))
-from checking import compare, fail, passed
+from checking import TOP, Done, compare, fail, main, passed, skipped
 from vmatools.model import Space, answer
 from vmatools.traces import read_trace
 
-TOP = os.path.realpath(os.path.join(os.path.dirname(os.path.abspath(__file__)), "../.."))
 TESTS, EXAMPLES = os.path.join(TOP, "tests/logs"), os.path.join(TOP, "examples")
 TOOLS = {"chart": [os.path.join(TOP, "dev/chart")], "from-strace": [os.path.join(TOP, "tools/vma"), "import"]}
 SECONDS = 600
 MAY_NOT_TRACE = 125  # the status of record where strace may not trace
 
 
-def read_bytes(path):
+def read_bytes(path: str) -> bytes:
     with open(path, "rb") as source:
         return source.read()
 
 
-def run(name, tool, *words, status=0, **more):
+def run(name: str, tool: str, *words: str, status: int = 0, **more: Any) -> Done:
     """Runs a tool, which has to end with this status and without a traceback."""
     try:
-        done = subprocess.run([sys.executable, *TOOLS.get(tool, [os.path.join(TOP, "tools/vma"), tool]), *words], capture_output=True, timeout=SECONDS, **more)
+        done = subprocess.run(
+            [sys.executable, *TOOLS.get(tool, [os.path.join(TOP, "tools/vma"), tool]), *words],
+            capture_output=True,
+            timeout=SECONDS,
+            **more,
+        )
     except subprocess.TimeoutExpired:
         fail(name, f"takes longer than {SECONDS} seconds")
     if done.returncode != status or b"Traceback" in done.stderr:
-        fail(name, f"has status {done.returncode}, and not {status}; on standard error stands {done.stderr.decode()[-500:]}")
+        fail(
+            name,
+            f"has status {done.returncode}, and not {status}; on standard error stands {done.stderr.decode()[-500:]}",
+        )
     return done
 
 
 # from-strace
 
 
-def check_logs(folder):
+def check_logs(folder: str) -> None:
     """The saved logs: one of `strace -f` alone, and one of record."""
-    for log, more in (("plain", []), ("mixed", ["--maps", os.path.join(TESTS, "mixed.maps")])):
+    logs: dict[str, list[str]] = {"plain": [], "mixed": ["--maps", os.path.join(TESTS, "mixed.maps")]}
+    for log, more in logs.items():
         name, front, replies = f"from-strace, {log}.log", os.path.join(TESTS, log), os.path.join(folder, "replies")
         done = run(name, "from-strace", front + ".log", *more, "--elsewhere", "--hints", "--replies", replies)
         compare(name, done.stdout, read_bytes(front + ".trace"))
         compare(f"{name}, replies", read_bytes(replies), read_bytes(front + ".kernel"))
         # What is left out is named.
-        for word in {"plain": ["MAP_HUGETLB 1", "madvise 1", "--exec 2 takes it"], "mixed": ["MAP_LOCKED 2", "shmat 1", "a fork of"]}[log]:
+        for word in {
+            "plain": ["MAP_HUGETLB 1", "madvise 1", "--exec 2 takes it"],
+            "mixed": ["MAP_LOCKED 2", "shmat 1", "a fork of"],
+        }[log]:
             if word.encode() not in done.stderr:
                 fail(name, f"{word} stands nowhere on standard error")
         passed(name)
 
 
-def check_refused(folder):
+def check_refused(folder: str) -> None:
     """What is no log, and no call for a trace."""
     rubbish, other = os.path.join(folder, "rubbish"), os.path.join(folder, "other")
     with open(rubbish, "w") as log:
@@ -65,8 +85,14 @@ def check_refused(folder):
     with open(other, "w") as log:
         log.write('7 execve("/bin/a", ["a"], 0x1 /* 1 var */) = 0\n7 getpid() = 7\n7 +++ exited with 0 +++\n')
     plain = os.path.join(TESTS, "plain.log")
-    cases = (("no such log", [rubbish + "x"], 2), ("rubbish", [rubbish], 2), ("no memory call", [other], 1), ("no words", [], 2),
-             ("no such execve", [plain, "--exec", "9"], 2), ("maps that are none", [plain, "--maps", rubbish], 2))
+    cases: tuple[tuple[str, list[str], int], ...] = (
+        ("no such log", [rubbish + "x"], 2),
+        ("rubbish", [rubbish], 2),
+        ("no memory call", [other], 1),
+        ("no words", [], 2),
+        ("no such execve", [plain, "--exec", "9"], 2),
+        ("maps that are none", [plain, "--maps", rubbish], 2),
+    )
     for name, words, status in cases:
         run(f"from-strace, {name}", "from-strace", *words, status=status)
     passed("from-strace, what it refuses")
@@ -75,28 +101,40 @@ def check_refused(folder):
 # draw
 
 
-def check_pictures(folder):
-    traces = [trace for folder in (EXAMPLES, os.path.join(EXAMPLES, "calls")) for trace in sorted(glob.glob(os.path.join(folder, "*.trace")))]
+def check_pictures(folder: str) -> None:
+    traces = [
+        trace
+        for folder in (EXAMPLES, os.path.join(EXAMPLES, "calls"))
+        for trace in sorted(glob.glob(os.path.join(folder, "*.trace")))
+    ]
     for trace in traces:
         name = f"draw, {os.path.basename(trace)}"
         page = run(name, "draw", trace, trace.removesuffix("trace") + "out").stdout
-        if re.search(rb'(src|href)=|url\(|@import', page):
+        if re.search(rb"(src|href)=|url\(|@import", page):
             fail(name, "the page asks for something from outside")
         # The pictures of a page are XML.
         for picture in re.findall(rb"<svg .*?</svg>", page, re.DOTALL):
             ElementTree.fromstring(picture)
     tour = [os.path.join(EXAMPLES, f"tour.{end}") for end in ("trace", "out")]
-    compare("draw, docs/tour.svg", run("draw, tour", "draw", "--svg", *tour).stdout, read_bytes(os.path.join(TOP, "docs", "tour.svg")))
+    compare(
+        "draw, docs/tour.svg",
+        run("draw, tour", "draw", "--svg", *tour).stdout,
+        read_bytes(os.path.join(TOP, "docs", "tour.svg")),
+    )
     final = b"maps 4\n" + read_bytes(tour[1]).split(b"maps 4\n")[1]
     compare("draw, a list", run("draw, a list", "draw", "--list", "6", *tour).stdout, final)
     passed("draw, all examples")
     wrong = os.path.join(folder, "wrong.out")
     with open(wrong, "wb") as output:
         output.write(read_bytes(tour[1]).replace(b"-1 ENOMEM", b"0x100000"))
-    page = run("draw, a wrong output", "draw", tour[0], wrong, status=1)
-    if b"line 9: the output says v5 = 0x100000, and the model v5 = -1 ENOMEM" not in page.stderr:
-        fail("draw, a wrong output", f"says {page.stderr[:300]}")
-    for name, words in (("no such trace", [wrong + "x", wrong]), ("no trace", [wrong, wrong]), ("no such version", [*tour, "--list", "7"])):
+    marked = run("draw, a wrong output", "draw", tour[0], wrong, status=1)
+    if b"line 9: the output says v5 = 0x100000, and the model v5 = -1 ENOMEM" not in marked.stderr:
+        fail("draw, a wrong output", f"says {marked.stderr[:300]!r}")
+    for name, words in (
+        ("no such trace", [wrong + "x", wrong]),
+        ("no trace", [wrong, wrong]),
+        ("no such version", [*tour, "--list", "7"]),
+    ):
         run(f"draw, {name}", "draw", *words, status=2)
     passed("draw, what it marks and refuses")
 
@@ -110,10 +148,18 @@ turns20000, serial: 220001 lines, 9 bytes in, 9 bytes out; 0.778 0.778 0.785 s; 
 """
 MEASURED_TABLE = b"""title: Time of a call by number of areas
 up: microseconds a line
-areas   {0}, least of three  {0}, middle of three  {0}, most of three  {1}, least of three  {1}, middle of three  {1}, most of three
+areas   {0}, {2}  {0}, {3}  {0}, {4}  {1}, {2}  {1}, {3}  {1}, {4}
 1,000   2.12  2.31  2.35  1.84  1.86  1.86
 20,000  3.54  3.54  3.57  -     -     -
-""".replace(b"{0}", b"serial").replace(b"{1}", b"threads of 4")
+"""
+for sign, meant in {
+    "{0}": "serial",
+    "{1}": "threads of 4",
+    "{2}": "least of three",
+    "{3}": "middle of three",
+    "{4}": "most of three",
+}.items():
+    MEASURED_TABLE = MEASURED_TABLE.replace(sign.encode(), meant.encode())
 FAULTS = b"""        | shared                                   | own
 threads |  areas  alone missed beside calls missed |  areas  alone missed beside calls missed
       1 |  65000    5.7      0          4.2      0 |  65000    5.6      0          4.1      0
@@ -124,10 +170,12 @@ up: millions of faults a second
 threads	{}, shared, alone	{}, shared, beside calls	{}, own, alone	{}, own, beside calls
 1  5.7  4.2   5.6  4.1
 2  9.3  6.9  10.1  7.5
-""".replace(b"{}", b"65,000 areas")
+""".replace(
+    b"{}", b"65,000 areas"
+)
 
 
-def check_charts(folder):
+def check_charts(folder: str) -> None:
     for name, printed, table in (("measure", MEASURED, MEASURED_TABLE), ("measure-faults", FAULTS, FAULTS_TABLE)):
         pictures = [run(f"chart, what {name} prints", "chart", "-", input=text).stdout for text in (printed, table)]
         compare(f"chart, what {name} prints", *pictures)
@@ -135,9 +183,19 @@ def check_charts(folder):
     if "b & <c>" not in [element.text for element in ElementTree.fromstring(drawn)]:
         fail("chart, signs of XML", "a name is lost")
     many = "  ".join(f"n{n}" for n in range(22)).encode() + b"\n" + b" 1" * 22 + b"\n"
-    cases = (("nothing", b""), ("names alone", b"a  b\n"), ("a word for a number", b"a  b\n1 x\n"), ("a number below 0", b"a  b\n1 -1\n"),
-             ("too few numbers", b"a  b  c\n1 2\n"), ("too many", b"a  b\n1 2 3\n"), ("nothing across", b"a  b\n- 2\n"),
-             ("a name twice", b"a  b  b\n1 2 3\n"), ("lines beyond telling apart", many), ("a control", b"a  \x01\n1 2\n"), ("no text", b"\xff"))
+    cases = (
+        ("nothing", b""),
+        ("names alone", b"a  b\n"),
+        ("a word for a number", b"a  b\n1 x\n"),
+        ("a number below 0", b"a  b\n1 -1\n"),
+        ("too few numbers", b"a  b  c\n1 2\n"),
+        ("too many", b"a  b\n1 2 3\n"),
+        ("nothing across", b"a  b\n- 2\n"),
+        ("a name twice", b"a  b  b\n1 2 3\n"),
+        ("lines beyond telling apart", many),
+        ("a control", b"a  \x01\n1 2\n"),
+        ("no text", b"\xff"),
+    )
     for name, text in cases:
         run(f"chart, {name}", "chart", "-", input=text, status=2)
     run("chart, no such table", "chart", os.path.join(folder, "none.txt"), status=2)
@@ -147,29 +205,37 @@ def check_charts(folder):
 # record
 
 
-def skipped(why):
-    print(f"check-programs: record: skipped, as {why}")
-
-
-def check_record(folder):
+def check_record(folder: str) -> None:
     if platform.system() != "Linux" or platform.machine() != "x86_64":
-        return skipped(f"this is {platform.system()} on {platform.machine()}")
+        return skipped("record", f"this is {platform.system()} on {platform.machine()}")
     if shutil.which("strace") is None:
-        return skipped("strace is not there")
+        return skipped("record", "strace is not there")
     front = os.path.join(folder, "sh")
     command = [sys.executable, os.path.join(TOP, "tools/vma"), "record", "-o", front, "sh", "-c", "echo heard; exit 7"]
     try:
         done = subprocess.run(command, capture_output=True, timeout=SECONDS)
     except subprocess.TimeoutExpired:
-        return skipped(f"strace does not end within {SECONDS} seconds here")
+        return skipped("record", f"strace does not end within {SECONDS} seconds here")
     if b"Traceback" in done.stderr:
         fail("record", done.stderr.decode()[-500:])
     said = done.stderr.decode(errors="replace").strip()[-300:]
     if done.returncode == MAY_NOT_TRACE:
-        return skipped(f"strace may not trace here: on standard error stands {said}")
+        return skipped("record", f"strace may not trace here: on standard error stands {said}")
     if done.returncode != 7 or done.stdout != b"heard\n":
-        fail("record", f"has status {done.returncode}, and not 7, and writes {done.stdout[:200]}; on standard error stands {said}")
-    made = run("record, its trace", "from-strace", front + ".log", "--maps", front + ".maps", "--hints", "--replies", front + ".kernel")
+        fail(
+            "record",
+            f"has status {done.returncode}, and not 7, and writes {done.stdout[:200]!r}; on standard error stands {said}",
+        )
+    made = run(
+        "record, its trace",
+        "from-strace",
+        front + ".log",
+        "--maps",
+        front + ".maps",
+        "--hints",
+        "--replies",
+        front + ".kernel",
+    )
     trace, replies = read_trace(made.stdout), read_bytes(front + ".kernel").decode().splitlines()
     areas = [line for line in read_bytes(front + ".maps").splitlines() if not line.endswith(b"[vsyscall]")]
     if len(replies) != len(trace.lines) or len(trace.lines) < len(areas):
@@ -181,9 +247,7 @@ def check_record(folder):
     passed(f"record, {equal} of {len(replies)} replies as in the model")
 
 
-def main():
-    parser = argparse.ArgumentParser(prog="check-programs", description=__doc__, formatter_class=argparse.RawDescriptionHelpFormatter)
-    parser.parse_args()
+def check(_options: argparse.Namespace) -> None:
     with tempfile.TemporaryDirectory() as folder:
         check_logs(folder)
         check_refused(folder)
@@ -193,4 +257,4 @@ def main():
 
 
 if __name__ == "__main__":
-    main()
+    main(check, with_program=False)

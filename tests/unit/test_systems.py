@@ -381,9 +381,9 @@ class Known(unittest.TestCase):
     def test_systems_by_name(self) -> None:
         self.assertEqual(known.system_of("machine:/boot/x").image, "/boot/x")
         self.assertEqual(known.system_under("qemu-x86_64-static -L '/a b'").under, ("qemu-x86_64-static", "-L", "/a b"))
-        for wrong in (lambda: known.system_of("bochs"), lambda: known.system_under("")):
+        for make, word in ((known.system_of, "bochs"), (known.system_under, "")):
             with self.assertRaises(Refused) as caught:
-                wrong()
+                make(word)
             self.assertEqual(caught.exception.status, 2)
 
     def test_an_archive_of_one_file(self) -> None:

@@ -60,7 +60,7 @@ class Result:
         """In one line what is wrong."""
         if self.verdict is Verdict.FAILED:
             return f"line {self.line} is `{self.found[:120]}` and not `{self.wanted[:120]}`"
-        return self.message.strip().splitlines()[-1][:200] if self.message.strip() else self.verdict.value
+        return self.message.strip().splitlines()[-1][:200] if self.message.strip() else str(self.verdict.value)
 
 
 def sentence(trace: str) -> str:

@@ -93,7 +93,7 @@ def run(command: Sequence[str | os.PathLike[str]], text: bytes, seconds: float) 
 
 
 def read_both(process: subprocess.Popen[bytes], end: float) -> tuple[bytes, bytes, str | None]:
-    """Standard output and standard error up to their ends, and None; or what came of them until it took too long or was too much."""
+    """Standard output and standard error up to their ends, and none; or what came of them until that was too long or too much."""
     assert process.stdout and process.stderr
     read: dict[IO[bytes], list[bytes]] = {process.stdout: [], process.stderr: []}
     size, fault = 0, None

@@ -1,19 +1,24 @@
 """Makes a trace of the memory calls of a real program, from what strace wrote of it.
 
-LOG is what `strace -f -e trace=memory,desc,process -o LOG COMMAND` writes (with -v and -y it tells more); `-` is standard input.
-`vma record` makes one, with the areas that the program begins with. The trace goes to standard output. It has the calls mmap,
-munmap, mprotect, mremap, brk and mseal of one address space, with a number for each opening of a file that is mapped and one for
-each thread. All that a trace has no word for is counted and named on standard error.
+LOG is what `strace -f -e trace=memory,desc,process -o LOG COMMAND` writes (with -v and -y it tells more); `-` is
+standard input. `vma record` makes one, with the areas that the program begins with. The trace goes to standard
+output. It has the calls mmap, munmap, mprotect, mremap, brk and mseal of one address space, with a number for each
+opening of a file that is mapped and one for each thread. All that a trace has no word for is counted and named on
+standard error.
 
-The calls stand in the order in which they returned. But where calls of several threads ran at once, the log does not say which the
-kernel did first: there they stand in an order in which the kernel answered what the model in vmatools does, if there is one.
+The calls stand in the order in which they returned. But where calls of several threads ran at once, the log does not
+say which the kernel did first: there they stand in an order in which the kernel answered what the model in vmatools
+does, if there is one.
 
-Each successful execve begins an address space, and these are numbered from 1 in the order of the log; number 0 is the one that was
-there before the first. A fork has a copy of its parent's, which is no part of this trace.
+Each successful execve begins an address space, and these are numbered from 1 in the order of the log; number 0 is the
+one that was there before the first. A fork has a copy of its parent's, which is no part of this trace.
 
-The status is 0 where a trace was written, 1 where the log has no call for it, and 2 on wrong use or where a file cannot be read.
+The status is 0 where a trace was written, 1 where the log has no call for it, and 2 on wrong use or where a file
+cannot be read.
 """
-import os, re, sys
+import os
+import re
+import sys
 from collections import Counter, namedtuple
 from dataclasses import dataclass, field
 
@@ -23,20 +28,48 @@ from ..model import Space as Model, answer
 from ..traces import LIMITS, MAP, MREMAP, PAGE, PROT, BadLine, read_trace
 
 HUGE = 2 * 1024 * 1024  # the kernel aligns mappings of this size and more, where it can be one page
-USER_END = 0x7ffffffff000
-DEFAULT_TOP = 0x7ffff7fff000
-MOST_THREADS, MOST_FILES, MOST_OPERATIONS, MOST_LINE = (LIMITS[name] for name in ("threads", "files", "operations", "line"))
+USER_END = 0x7FFFFFFFF000
+DEFAULT_TOP = 0x7FFFF7FFF000
+MOST_THREADS, MOST_FILES, MOST_OPERATIONS, MOST_LINE = (
+    LIMITS[name] for name in ("threads", "files", "operations", "line")
+)
 MOST_STEPS, MOST_PATH = 3_000, 400  # of a search for an order: the tries without success, and the calls at once
 
-ERRORS = {"EINVAL", "ENOMEM", "EBADF", "EACCES", "EEXIST", "EPERM", "EOVERFLOW", "EFAULT"}  # those that the program answers
+ERRORS = {
+    "EINVAL",
+    "ENOMEM",
+    "EBADF",
+    "EACCES",
+    "EEXIST",
+    "EPERM",
+    "EOVERFLOW",
+    "EFAULT",
+}  # those that the program answers
 
 CALLS = {"mmap", "munmap", "mprotect", "pkey_mprotect", "mremap", "brk", "mseal", "syscall_0x1ce"}
 # Calls that change the list, or what stands in it, and that no trace has.
 CHANGES = {"shmat", "shmdt", "remap_file_pages", "map_shadow_stack", "io_setup", "io_destroy", "userfaultfd"}
 # Calls about memory that leave the areas of a trace as they are.
-ADVICE = {"madvise", "process_madvise", "mlock", "mlock2", "munlock", "mlockall", "munlockall", "msync", "mincore", "mbind",
-          "set_mempolicy", "get_mempolicy", "migrate_pages", "move_pages", "set_mempolicy_home_node", "pkey_alloc", "pkey_free",
-          "membarrier"}
+ADVICE = {
+    "madvise",
+    "process_madvise",
+    "mlock",
+    "mlock2",
+    "munlock",
+    "mlockall",
+    "munlockall",
+    "msync",
+    "mincore",
+    "mbind",
+    "set_mempolicy",
+    "get_mempolicy",
+    "migrate_pages",
+    "move_pages",
+    "set_mempolicy_home_node",
+    "pkey_alloc",
+    "pkey_free",
+    "membarrier",
+}
 FORKS = {"fork", "vfork", "clone", "clone2", "clone3"}
 
 Call = namedtuple("Call", "begin end pid name text result")
@@ -92,7 +125,9 @@ def split_arguments(text):
     return parts + [last] if last or parts else []
 
 
-PREFIX = re.compile(r"(?:\[pid +(\d+)(?:<[^>]*>)?\] +|(\d+)(?:<[^>]*>)? +)?(?:\d+:\d+:\d+(?:\.\d+)? +|\d+\.\d+ +)?(?:\[[0-9a-f]+\] +)?")
+PREFIX = re.compile(
+    r"(?:\[pid +(\d+)(?:<[^>]*>)?\] +|(\d+)(?:<[^>]*>)? +)?(?:\d+:\d+:\d+(?:\.\d+)? +|\d+\.\d+ +)?(?:\[[0-9a-f]+\] +)?"
+)
 RESULT = re.compile(r"^(.*)\) += (.*)$", re.DOTALL)
 LONG_NUMBER = re.compile("[0-9]{256}")  # no number of strace, nor a name
 
@@ -121,7 +156,7 @@ class Log:
             self.unreadable += 1
             return
         found = PREFIX.match(line)
-        pid, rest = self.process(int(found[1] or found[2] or 0)), line[found.end():]
+        pid, rest = self.process(int(found[1] or found[2] or 0)), line[found.end() :]
         if rest.startswith("--- "):
             self.signals[rest.split()[1]] += 1
         elif rest.startswith("+++ "):
@@ -179,6 +214,7 @@ class Log:
 @dataclass
 class Opening:
     """One opening of a file. `told` is from where each of size and identity is known."""
+
     path: str
     mode: str = "r"
     size: int = None
@@ -223,7 +259,7 @@ def descriptor_of(word):
 
 
 def quoted(word):
-    return unescaped(word[1:word.rfind('"')]) if word.startswith('"') and word.count('"') > 1 else word
+    return unescaped(word[1 : word.rfind('"')]) if word.startswith('"') and word.count('"') > 1 else word
 
 
 def full_path(directory, path):
@@ -244,11 +280,15 @@ def follow_descriptor(call, words, files):
     if not ok or not words:
         return
     if name in ("open", "creat"):
-        files.opened(call.result, Opening(full_path("", quoted(words[0])), "w" if name == "creat" else mode_of(words[1])))
+        files.opened(
+            call.result, Opening(full_path("", quoted(words[0])), "w" if name == "creat" else mode_of(words[1]))
+        )
     elif name in ("openat", "openat2"):
         files.opened(call.result, Opening(full_path(words[0], quoted(words[1])), mode_of(words[2])))
     elif name in ("memfd_create", "memfd_secret"):
-        opening = Opening(f"/memfd:{quoted(words[0])} (deleted)" if name == "memfd_create" else "/secretmem (deleted)", "rw")
+        opening = Opening(
+            f"/memfd:{quoted(words[0])} (deleted)" if name == "memfd_create" else "/secretmem (deleted)", "rw"
+        )
         opening.learns("size", 0, "log")
         files.opened(call.result, opening)
     elif name in ("dup", "dup2", "dup3") or (name == "fcntl" and len(words) > 1 and words[1].startswith("F_DUPFD")):
@@ -270,7 +310,9 @@ def follow_descriptor(call, words, files):
 def learn_from_stat(opening, text):
     """Size, device and inode, as far as fstat, newfstatat or statx show them."""
     size = re.search(r"\bstx?_size=([0-9]{1,18})\b", text)
-    device = re.search(r"\bst_dev=makedev\((\w+), (\w+)\)", text) or re.search(r"stx_dev_major=(\w+), stx_dev_minor=(\w+)", text)
+    device = re.search(r"\bst_dev=makedev\((\w+), (\w+)\)", text) or re.search(
+        r"stx_dev_major=(\w+), stx_dev_minor=(\w+)", text
+    )
     inode = re.search(r"\bstx?_ino=(\d+)", text)
     if opening and size:
         opening.learns("size", int(size[1]), "log")
@@ -284,6 +326,7 @@ def learn_from_stat(opening, text):
 @dataclass
 class Space:
     """One address space of the log: what began it, and the calls on it, each with the opening that it maps."""
+
     number: int = None  # which execve began it; none for a fork
     label: str = ""
     calls: list = field(default_factory=list)
@@ -348,13 +391,17 @@ class Processes:
         for space in self.spaces:
             if space.number == number:
                 return space
-        raise Refused(f"the log has no execve number {number}: there are {sum(bool(space.number) for space in self.spaces)}")
+        raise Refused(
+            f"the log has no execve number {number}: there are {sum(bool(space.number) for space in self.spaces)}"
+        )
 
 
 # The areas at the execve
 
 
-MAPS_LINE = re.compile(r"([0-9a-f]+)-([0-9a-f]+) ([r-][w-][x-][ps]) ([0-9a-f]+) ([0-9a-f]+):([0-9a-f]+) ([0-9]{1,20}) *(.*)$")
+MAPS_LINE = re.compile(
+    r"([0-9a-f]+)-([0-9a-f]+) ([r-][w-][x-][ps]) ([0-9a-f]+) ([0-9a-f]+):([0-9a-f]+) ([0-9]{1,20}) *(.*)$"
+)
 
 
 def read_maps(path):
@@ -364,7 +411,9 @@ def read_maps(path):
         found = MAPS_LINE.match(line)
         if found is None:
             raise Refused(f"{path}: line {place} is no line of /proc/PID/maps: {line.strip()[:80]}")
-        lo, hi, _, offset, major, minor = (int(word, 16) if at != 2 else word for at, word in enumerate(found.groups()[:6]))
+        lo, hi, _, offset, major, minor = (
+            int(word, 16) if at != 2 else word for at, word in enumerate(found.groups()[:6])
+        )
         areas.append(Area(lo, hi, found[3], offset, major, minor, int(found[7]), found[8]))
     if not areas:
         raise Refused(f"{path}: no areas stand there")
@@ -441,7 +490,7 @@ class Trace:
         return opening.number
 
     def complete(self, opening):
-        """Takes what the log does not say of a file from elsewhere in the log or the maps, from the file system, or from its use."""
+        """Takes what the log does not say of a file from elsewhere in it or the maps, from the file system, or from its use."""
         same = self.known.get(opening.path, [])
         for what in ("size", "identity"):
             for other in same:
@@ -467,7 +516,7 @@ class Trace:
         major, minor, inode = opening.identity
         front = f"file {opening.number} {opening.mode} {opening.size} {major:02x}:{minor:02x} {inode} "
         name = opening.path.lstrip(" \t").replace("\n", "\\012").encode("utf-8", "replace") or b"?"
-        return front + name[:MOST_LINE - len(front)].decode("utf-8", "ignore")
+        return front + name[: MOST_LINE - len(front)].decode("utf-8", "ignore")
 
     # Operations
 
@@ -536,7 +585,9 @@ class Trace:
             descriptor = -1
         elif opening is None and succeeded:
             opening = Opening(f"/not-opened-in-the-log/{descriptor_of(words[4])[0]}", "rw")
-            self.left_out["the opening of a file that is mapped, which the log does not show (one with no name stands in)"] += 1
+            self.left_out[
+                "the opening of a file that is mapped, which the log does not show (one with no name stands in)"
+            ] += 1
             descriptor = self.file(opening, offset + length)
         elif opening is None or answer == "-1 EBADF":
             descriptor = -1
@@ -615,8 +666,12 @@ class Trace:
         else:
             descriptor, anonymous = -1, "|MAP_ANONYMOUS"
         grows = "|MAP_GROWSDOWN" if area.name == "[stack]" else ""
-        self.operation(0, f"mmap {hex(area.lo)} {area.hi - area.lo} {prot} {sharing}|MAP_FIXED{anonymous}{grows} {descriptor} "
-                          f"{hexadecimal(area.offset if is_file else 0)}", hex(area.lo))
+        self.operation(
+            0,
+            f"mmap {hex(area.lo)} {area.hi - area.lo} {prot} {sharing}|MAP_FIXED{anonymous}{grows} {descriptor} "
+            f"{hexadecimal(area.offset if is_file else 0)}",
+            hex(area.lo),
+        )
 
     # The text
 
@@ -635,8 +690,12 @@ class Trace:
 
     def sources(self):
         """From where sizes, devices and inodes are, other than the log."""
-        names = {"maps": "from the maps", "file system": "from the file system", "mappings": "not known, as far as they are mapped",
-                 "nowhere": "not known, written as 0"}
+        names = {
+            "maps": "from the maps",
+            "file system": "from the file system",
+            "mappings": "not known, as far as they are mapped",
+            "nowhere": "not known, written as 0",
+        }
         for what, title in {"size": "Sizes", "identity": "Devices and inodes"}.items():
             for source, name in names.items():
                 numbers = [str(opening.number) for opening in self.files if opening.told[what] == source]
@@ -648,20 +707,25 @@ class Trace:
         """Where calls overlap, puts them in an order in which the model answers what the kernel answered."""
         lines = read_trace(text.encode()).lines
         model = Model(read_trace(text.encode()))
-        for line in lines[:self.of_maps]:
+        for line in lines[: self.of_maps]:
             answer(model, line)
-        steps = [Step(*times, line, said[2]) for times, line, said in zip(self.times, lines[self.of_maps:], self.answers[self.of_maps:])]
+        steps = [
+            Step(*times, line, said[2])
+            for times, line, said in zip(self.times, lines[self.of_maps :], self.answers[self.of_maps :])
+        ]
         order = Order(steps).found(model)
         first = len(self.body) - len(steps)
-        bodies, answers = self.body[first:], self.answers[self.of_maps:]
+        bodies, answers = self.body[first:], self.answers[self.of_maps :]
         self.body[first:] = [bodies[place] for place in order]
-        self.answers[self.of_maps:] = [(first + 1 + at, *answers[place][1:]) for at, place in enumerate(order)]
+        self.answers[self.of_maps :] = [(first + 1 + at, *answers[place][1:]) for at, place in enumerate(order)]
         self.moved = sum(place != at for at, place in enumerate(order))
 
     def replies(self):
         """What the kernel answered, as `serial` writes the results."""
-        return "".join(f"L{place + self.shift} t{thread} v{version} = {said}\n"
-                       for version, (place, thread, said) in enumerate(self.answers, 1))
+        return "".join(
+            f"L{place + self.shift} t{thread} v{version} = {said}\n"
+            for version, (place, thread, said) in enumerate(self.answers, 1)
+        )
 
 
 WRITERS = {name: name for name in ("mmap", "munmap", "mprotect", "mremap", "brk", "mseal")}
@@ -716,14 +780,17 @@ class Order:
 
     def next_ones(self, heads):
         """The calls that may come next, the first to return first: each began before all others that are left have returned."""
-        left = [(which, self.of_thread[thread][head]) for which, (thread, head) in enumerate(zip(self.threads, heads))
-                if head < len(self.of_thread[thread])]
+        left = [
+            (which, self.of_thread[thread][head])
+            for which, (thread, head) in enumerate(zip(self.threads, heads))
+            if head < len(self.of_thread[thread])
+        ]
         end = min((self.steps[place].end for _, place in left), default=0)
         ones = [one for one in left if self.steps[one[1]].begin < end or self.steps[one[1]].end == end]
         return sorted(ones, key=lambda one: self.steps[one[1]].end)
 
     def search(self, model, heads):
-        """The longest order from here on in which all answers are equal, as far as few steps tell; the model and the place then."""
+        """The longest order from here on in which all answers are equal, as far as few steps tell; model and place then."""
         path, best, left = [], ([], model, heads), MOST_STEPS
         stack = [(model, heads, iter(self.next_ones(heads)))]
         while left and len(path) < MOST_PATH:
@@ -760,7 +827,7 @@ class Order:
 
 
 def advanced(heads, which):
-    return heads[:which] + (heads[which] + 1,) + heads[which + 1:]
+    return heads[:which] + (heads[which] + 1,) + heads[which + 1 :]
 
 
 def hinted(step):
@@ -807,14 +874,18 @@ def first_break(space):
 def report(trace, log, processes, space):
     """On standard error: what the trace has, and what was left out."""
     threads = len(set(trace.threads.values()))
-    say(f"{printable(space.label)}: {counted(trace.operations - trace.of_maps, 'call')} of {counted(threads, 'thread')}, "
-        f"after {trace.of_maps} for the areas of the maps; {counted(len(trace.files), 'opening')} of files")
+    say(
+        f"{printable(space.label)}: {counted(trace.operations - trace.of_maps, 'call')} of {counted(threads, 'thread')}, "
+        f"after {trace.of_maps} for the areas of the maps; {counted(len(trace.files), 'opening')} of files"
+    )
     for line in trace.sources():
         say(line)
     if trace.hints:
         say(f"a hint was written for {counted(trace.hints, 'mapping')} that the kernel aligned to 2 MiB")
     if trace.moved:
-        say(f"{counted(trace.moved, 'call')} of threads that ran at once: in another order than that in which they returned")
+        say(
+            f"{counted(trace.moved, 'call')} of threads that ran at once: in another order than that in which they returned"
+        )
     tell("flags taken off", trace.taken_off)
     tell("left out, or otherwise", trace.left_out)
     tell("left out, and the list is another without them", Counter({name: space.other[name] for name in CHANGES}))
@@ -827,9 +898,13 @@ def report(trace, log, processes, space):
         if other is not space and other.calls:
             which = f"execve {other.number}, " if other.number else ""
             taken = f": --exec {other.number} takes it" if other.number is not None else ""
-            say(f"left out: {counted(len(other.calls), 'call')} of another address space, {which}{printable(other.label)}{taken}")
+            say(
+                f"left out: {counted(len(other.calls), 'call')} of another address space, {which}{printable(other.label)}{taken}"
+            )
     if processes.unexplained:
-        say(f"threads whose beginning the log does not show, taken for threads of the first process: {len(processes.unexplained)}")
+        say(
+            f"threads whose beginning the log does not show, taken for threads of the first process: {len(processes.unexplained)}"
+        )
     if log.unreadable:
         say(f"lines that are none of strace: {log.unreadable}")
 
@@ -870,15 +945,31 @@ def made(choices):
 
 def add_arguments(parser):
     parser.add_argument("log", metavar="LOG", help="what strace wrote, or - for standard input")
-    parser.add_argument("--maps", metavar="FILE",
-                        help="/proc/PID/maps of the moment after that execve: lines that map these areas come first")
-    parser.add_argument("--replies", metavar="FILE", help="writes there what the kernel answered, in the form of an output")
-    parser.add_argument("--hints", action="store_true", help="where the kernel aligned a mapping to 2 MiB, asks for its address by a hint")
-    parser.add_argument("--exec", metavar="N", type=int, help="the address space that the Nth execve of the log began (the first)")
-    parser.add_argument("--as-returned", action="store_true",
-                        help="leaves all calls in the order in which they returned")
+    parser.add_argument(
+        "--maps",
+        metavar="FILE",
+        help="/proc/PID/maps of the moment after that execve: lines that map these areas come first",
+    )
+    parser.add_argument(
+        "--replies", metavar="FILE", help="writes there what the kernel answered, in the form of an output"
+    )
+    parser.add_argument(
+        "--hints",
+        action="store_true",
+        help="where the kernel aligned a mapping to 2 MiB, asks for its address by a hint",
+    )
+    parser.add_argument(
+        "--exec", metavar="N", type=int, help="the address space that the Nth execve of the log began (the first)"
+    )
+    parser.add_argument(
+        "--as-returned", action="store_true", help="leaves all calls in the order in which they returned"
+    )
     parser.add_argument("--most", metavar="N", type=int, help="the first N calls alone")
-    parser.add_argument("--elsewhere", action="store_true", help="the log is of another machine: its files are not looked up on this one")
+    parser.add_argument(
+        "--elsewhere",
+        action="store_true",
+        help="the log is of another machine: its files are not looked up on this one",
+    )
 
 
 def run(choices):

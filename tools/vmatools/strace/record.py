@@ -1,27 +1,39 @@
 """Runs a command under strace, and keeps its log together with the areas that it begins with.
 
-Writes two files. NAME.log is the log of strace, with the calls that `vma import` reads: of memory, of processes, and those that
-open files or tell their sizes. NAME.maps is /proc/PID/maps of the moment after the execve, before the first instruction.
-Randomisation of addresses is off, and so the same command has the same addresses each time. NAME is the command's name.
-Then:
+Writes two files. NAME.log is the log of strace, with the calls that `vma import` reads: of memory, of processes, and
+those that open files or tell their sizes. NAME.maps is /proc/PID/maps of the moment after the execve, before the
+first instruction. Randomisation of addresses is off, and so the same command has the same addresses each time. NAME
+is the command's name. Then:
 
     tools/vma import NAME.log --maps NAME.maps --replies NAME.kernel > NAME.trace
 
-The command has this terminal and this environment. The log has its words and the names of the files that it opens, but neither its
-environment nor what it reads.
+The command has this terminal and this environment. The log has its words and the names of the files that it opens,
+but neither its environment nor what it reads.
 
-The status is that of the command, or 128 and the number of the signal that ended it; 125 where strace is not there or may not trace,
-and on wrong use; 127 where the command is not there.
+The status is that of the command, or 128 and the number of the signal that ended it; 125 where strace is not there or
+may not trace, and on wrong use; 127 where the command is not there.
 """
-import argparse, ctypes, os, shutil, signal, subprocess, sys, time
+from __future__ import annotations
+
+import argparse
+import ctypes
+import os
+import shutil
+import signal
+import subprocess
+import sys
+import time
+from typing import NoReturn
 
 from ..console import Failure, say
 
 ADDR_NO_RANDOMIZE = 0x0040000
 PTRACE_TRACEME, PTRACE_DETACH = 0, 17
-PR_SET_PTRACER, ANY = 0x59616d61, -1
-TRACED = ("%memory,%process,open,openat,openat2,creat,close,close_range,dup,dup2,dup3,fcntl,fstat,newfstatat,statx,ftruncate,"
-          "memfd_create")
+PR_SET_PTRACER, ANY = 0x59616D61, -1
+TRACED = (
+    "%memory,%process,open,openat,openat2,creat,close,close_range,dup,dup2,dup3,fcntl,fstat,newfstatat,statx,ftruncate,"
+    "memfd_create"
+)
 IN_FULL = "fstat,newfstatat,statx"  # with device and inode; the environment of an execve stays out of the log
 SECONDS = 10
 
@@ -30,11 +42,11 @@ LIBC.ptrace.argtypes = [ctypes.c_long, ctypes.c_long, ctypes.c_void_p, ctypes.c_
 LIBC.ptrace.restype = ctypes.c_long
 
 
-def fail(status, text):
+def fail(status: int, text: str) -> NoReturn:
     raise Failure(text, status)
 
 
-def started(path, words):
+def started(path: str, words: list[str]) -> int:
     """A child that stands still right after its execve, with randomisation off."""
     child = os.fork()
     if child == 0:
@@ -55,13 +67,13 @@ def started(path, words):
     return child
 
 
-def quoted(word):
+def quoted(word: str) -> str:
     """A word as strace writes strings."""
     plain = {ord('"'): '\\"', ord("\\"): "\\\\", ord("\n"): "\\n", ord("\t"): "\\t"}
     return '"' + "".join(plain.get(b) or (chr(b) if 32 <= b < 127 else f"\\{b:03o}") for b in os.fsencode(word)) + '"'
 
 
-def keep_beginning(child, path, words, choices):
+def keep_beginning(child: int, path: str, words: list[str], choices: argparse.Namespace) -> None:
     """The maps, and the log's first line, as strace comes only after the execve."""
     with open(f"/proc/{child}/maps", "rb") as areas, open(choices.name + ".maps", "wb") as kept:
         kept.write(areas.read())
@@ -69,13 +81,32 @@ def keep_beginning(child, path, words, choices):
         log.write(f"{child} execve({quoted(path)}, [{', '.join(map(quoted, words))}], ...) = 0\n")
 
 
-def traced(child, log):
+def traced(child: int, log: str) -> subprocess.Popen[bytes]:
     """strace, once it traces the child. Where it cannot, the child is ended."""
     # The child stops by a signal of its own, so that it waits for strace.
     LIBC.ptrace(PTRACE_DETACH, child, None, signal.SIGSTOP)
     os.waitpid(child, os.WUNTRACED)
-    tracer = subprocess.Popen(["strace", "-f", "-qq", "-y", "-A", "-o", log, "-e", f"trace={TRACED}", "-e", f"abbrev=!{IN_FULL}",
-                               "-e", "signal=all", "-p", str(child)], stdin=subprocess.DEVNULL, start_new_session=True)
+    tracer = subprocess.Popen(
+        [
+            "strace",
+            "-f",
+            "-qq",
+            "-y",
+            "-A",
+            "-o",
+            log,
+            "-e",
+            f"trace={TRACED}",
+            "-e",
+            f"abbrev=!{IN_FULL}",
+            "-e",
+            "signal=all",
+            "-p",
+            str(child),
+        ],
+        stdin=subprocess.DEVNULL,
+        start_new_session=True,
+    )
     until = time.monotonic() + SECONDS
     while tracer.poll() is None and time.monotonic() < until:
         with open(f"/proc/{child}/status") as status:
@@ -83,11 +114,15 @@ def traced(child, log):
                 return tracer
         time.sleep(0.005)
     os.kill(child, signal.SIGKILL)
-    fail(125, "strace does not trace the command: what it says stands above" if tracer.poll() is not None else
-         f"strace has not begun to trace within {SECONDS} seconds")
+    fail(
+        125,
+        "strace does not trace the command: what it says stands above"
+        if tracer.poll() is not None
+        else f"strace has not begun to trace within {SECONDS} seconds",
+    )
 
 
-def waited(child):
+def waited(child: int) -> int:
     """How the command ended, for the shell."""
     while True:
         try:
@@ -97,13 +132,15 @@ def waited(child):
             pass  # the command has the same terminal, and got the interruption itself
 
 
-def add_arguments(parser):
+def add_arguments(parser: argparse.ArgumentParser) -> None:
     parser.usage = "vma record [-h] [-o NAME] COMMAND ..."
-    parser.add_argument("-o", dest="name", metavar="NAME", help="the front of the two files' names (the command's name)")
+    parser.add_argument(
+        "-o", dest="name", metavar="NAME", help="the front of the two files' names (the command's name)"
+    )
     parser.add_argument("command", metavar="COMMAND", nargs=argparse.REMAINDER, help="the command and its words")
 
 
-def run(choices):
+def run(choices: argparse.Namespace) -> int:
     words = choices.command[1:] if choices.command[:1] == ["--"] else choices.command
     if not words:
         fail(125, "no command; `vma record --help` says how")
@@ -130,4 +167,3 @@ def run(choices):
         tracer.wait()
     say(f"{choices.name}.log and {choices.name}.maps are written")
     return status
-

@@ -1,0 +1,47 @@
+#!/usr/bin/env python3
+"""Checks the Python of the repository by mypy and flake8, with the settings of pyproject.toml, where they are installed.
+
+mypy has to find every function typed, and flake8 nothing. What is not installed is named and passed (Debian packages mypy and
+flake8).
+"""
+from __future__ import annotations
+
+import argparse
+import shutil
+import subprocess
+import sys
+import tomllib
+
+from checking import TOP, fail, main, passed, skipped
+
+FOLDERS = ("tools/vmatools", "tests", "dev")
+PROGRAMS = ("tools/vma", "tests/run", "dev/chart", "dev/measure", "dev/measure-faults")
+MOST = 4_000  # characters of what is printed
+
+
+def lines_of(done: subprocess.CompletedProcess[str]) -> str:
+    return (done.stdout + done.stderr).strip()[:MOST]
+
+
+def check_tool(name: str, words: list[str]) -> None:
+    if shutil.which(name) is None:
+        return skipped(name, "it is not installed")
+    done = subprocess.run([name, *words], cwd=TOP, capture_output=True, text=True)
+    if done.returncode:
+        fail(name, f"finds\n{lines_of(done)}")
+    passed(name)
+
+
+def check(_options: argparse.Namespace) -> None:
+    if sys.version_info < (3, 11):
+        return skipped("all", "pyproject.toml is read by Python 3.11 and newer")
+    settings = tomllib.loads((TOP / "pyproject.toml").read_text(encoding="utf-8"))["tool"]["flake8"]
+    words = [f"--{name}={','.join(value) if isinstance(value, list) else value}" for name, value in settings.items()]
+    check_tool("flake8", [*words, *FOLDERS, *PROGRAMS])
+    check_tool("mypy", ["tools/vmatools", "tests/checks", "tests/unit", "dev/suite"])
+    for program in PROGRAMS:
+        check_tool("mypy", ["--scripts-are-modules", program])
+
+
+if __name__ == "__main__":
+    main(check, with_program=False)
