@@ -65,7 +65,11 @@ class Shadow:
         ]
 
     def touched(self, line: Line, result: str) -> None:
-        area = area_at(self.space.areas, line.arguments[0] // PAGE)
+        page = line.arguments[0] // PAGE
+        area = area_at(self.space.areas, page)
+        above = next((other for other in self.space.areas if other.hi > page), None)
+        if area is None and above and above.grows:  # it was made ready to grow, even where it may not
+            self.tainted.append((above.lo, above.hi))
         if area and not area.shared and result.startswith("served") and (line.arguments[1] == "w" or area.grows):
             self.tainted.append((area.lo, area.hi))
 

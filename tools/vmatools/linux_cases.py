@@ -243,7 +243,7 @@ def is_grow_hint(seen: Seen) -> bool:
 
 
 def is_grow_search(seen: Seen) -> bool:
-    is_placed = seen.word in ("mmap", "mremap") and seen.told("here") >= 0 and seen.fixed is None
+    is_placed = seen.word in ("mmap", "mremap") and (seen.told("here") >= 0 or seen.lists_differ) and seen.fixed is None
     return is_placed and any(area.grows for area in seen.areas)
 
 
@@ -276,7 +276,7 @@ def is_brk_limit(seen: Seen) -> bool:
 
 def is_seal_split(seen: Seen) -> bool:
     """A refused call, other than mprotect, that has left a border where its range begins."""
-    if seen.here != "list: joined" or seen.word not in ("mmap", "munmap", "mremap", "brk"):
+    if seen.here not in ("list: joined", "list: name") or seen.word not in ("mmap", "munmap", "mremap", "brk"):
         return False
     if seen.word == "brk":
         return seen.space.has_sealed(pages_of(seen.arguments[0]), pages_of(seen.space.break_))
@@ -399,6 +399,7 @@ CASES: list[Case] = [
 # These have no test of a line: a whole trace that cannot be run, and lists that differ in borders or names alone.
 SAYS = {case.name: case.says for case in CASES} | {
     "cannot-run": "`vma kernel` refuses the trace",
+    "linux": "what the model of Linux predicts, of no row of its own",
     "border": "the same pages, in areas with other borders",
     "brk-name": "which areas are named [heap], and what joins them",
 }

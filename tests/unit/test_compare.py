@@ -1,0 +1,204 @@
+"""What `vma compare` finds, what it sets aside, and what it writes."""
+from __future__ import annotations
+
+import json
+import tempfile
+import unittest
+from collections import Counter
+from pathlib import Path
+from xml.etree import ElementTree
+
+from vmatools import comparison, console, coverage, findings, generator, linux_cases, mutants, shrinking
+from vmatools.linux_borders import History
+from vmatools.linux_model import Kernel, Linux, predictions
+from vmatools.model import Space
+from vmatools.outputs import Difference, kind_of
+from vmatools.traces import Trace, read_trace
+
+TWO = b"""vmatrace 1
+0 mmap 0x100000 4096 PROT_READ MAP_PRIVATE|MAP_ANONYMOUS|MAP_FIXED -1 0
+0 mmap 0x101000 4096 PROT_READ MAP_PRIVATE|MAP_ANONYMOUS|MAP_FIXED -1 0
+"""
+
+
+def examined(model: type[Space], text: bytes, has_cases: bool = False) -> comparison.Examined:
+    cases = linux_cases.CASES if has_cases else ()
+    return comparison.examine(comparison.InProcess(model, comparison.Rules((), cases)), read_trace(text))
+
+
+def kinds(told: comparison.Examined) -> list[tuple[str, str, str]]:
+    return [kind_of(one.difference) for one in told.findings]
+
+
+class AllDifferences(unittest.TestCase):
+    def test_each_difference_of_a_trace_is_found(self) -> None:
+        text = (
+            b"vmatrace 1\n0 munmap 0x7ffffffff000 4096\n0 mmap 0 0 PROT_READ MAP_PRIVATE|MAP_ANONYMOUS -1 0\n0 maps\n"
+        )
+
+        class Both(mutants.MunmapPastEnd, mutants.MmapNoLength):
+            """Two errors are others."""
+
+        self.assertEqual(
+            kinds(examined(Both, text)), [("munmap", "-1 EINVAL", "-1 ENOMEM"), ("mmap", "-1 EINVAL", "-1 ENOMEM")]
+        )
+
+    def test_a_list_is_blamed_on_the_line_that_changed_it(self) -> None:
+        told = examined(mutants.NeverMerges, TWO + b"0 fault 0x100000 r\n")
+        self.assertEqual(kinds(told)[0], ("mmap", "list: joined", "list: apart"))
+        self.assertEqual(told.findings[0].difference.number, 3)
+        self.assertEqual(told.findings[0].difference.here_lines[0], "maps 1")
+
+    def test_what_a_child_damages_is_blamed_on_its_line(self) -> None:
+        text = TWO + b"0 fork 1\n1 munmap 0x100000 4096\n0 munmap 0x101000 4096\n"
+        told = examined(mutants.DamagesParent, text)
+        self.assertEqual([(one.difference.operation, one.difference.number) for one in told.findings], [("munmap", 5)])
+
+    def test_a_fork_goes_with_its_child(self) -> None:
+        trace = read_trace(TWO + b"0 fork 1\n1 munmap 0x100000 4096\n0 maps\n")
+        self.assertEqual([line.word for line in comparison.without(trace, 4).lines], ["mmap", "mmap", "maps"])
+
+    def test_no_more_than_so_many(self) -> None:
+        text = b"vmatrace 1\n" + b"0 munmap 0x7ffffffff000 4096\n" * 5
+        told = comparison.examine(comparison.InProcess(mutants.MunmapPastEnd, comparison.Rules()), read_trace(text), 2)
+        self.assertEqual((len(told.findings), told.has_more), (2, True))
+
+
+class LinuxCases(unittest.TestCase):
+    """The cases have what Linux answers, and nothing else."""
+
+    def test_a_system_that_never_merges_is_found(self) -> None:
+        self.assertEqual(kinds(examined(mutants.NeverMerges, TWO, True)), [("mmap", "list: joined", "list: apart")])
+
+    def test_an_area_that_was_written_to_may_stay_apart(self) -> None:
+        history = History(read_trace(TWO.replace(b"PROT_READ ", b"PROT_READ|PROT_WRITE ") + b"0 fault 0x100000 w\n"))
+        self.assertTrue(history.at_end[None].tainted)
+        self.assertFalse(History(read_trace(TWO)).at_end[None].tainted)
+
+    def test_each_answer_is_predicted(self) -> None:
+        lines = {
+            "0 mmap 0x7fffffffefff 4096 PROT_READ MAP_PRIVATE|MAP_ANONYMOUS|MAP_FIXED -1 0": "-1 ENOMEM",
+            "0 mmap 0x100000 4096 PROT_READ MAP_ANONYMOUS|MAP_FIXED_NOREPLACE -1 0": "-1 EEXIST",
+            "0 mremap 0x100000 4096 4096 MREMAP_MAYMOVE|MREMAP_DONTUNMAP": "0x7ffff7ffe000",
+            "0 mremap 0x100000 4096 0x800000000000 0": "-1 EINVAL",
+            "0 mremap 0x100000 8192 8192 MREMAP_MAYMOVE|MREMAP_FIXED 0x300000": "0x300000",
+            "0 mmap 0 2097152 PROT_READ MAP_PRIVATE|MAP_ANONYMOUS -1 0": "0x7ffff7c00000",
+            "0 fault 0x800000000000 r": "SIGSEGV SI_KERNEL",
+        }
+        for line, answer in lines.items():
+            trace = read_trace(TWO + line.encode() + b"\n")
+            state = History(trace).before[4]
+            first = next(predictions(state.space, state.tainted, state.sizes, trace.lines[-1]))
+            self.assertEqual(first.result, answer, line)
+
+    def test_growth_is_that_of_linux(self) -> None:
+        area = b"vmatrace 1\n0 mmap 0x200000 4096 PROT_READ|PROT_WRITE MAP_PRIVATE|MAP_ANONYMOUS|MAP_FIXED|MAP_GROWSDOWN -1 0\n"
+        for line, answer in {
+            "0 fault 0x1fd000 w": "served 001fd000-00201000 rw-p page 0",
+            "0 fault 0x1ff000 x": "SIGSEGV SEGV_ACCERR",
+        }.items():
+            trace = read_trace(area + line.encode() + b"\n")
+            state = History(trace).before[3]
+            self.assertEqual(next(predictions(state.space, [], {}, trace.lines[-1])).result, answer)
+
+    def test_a_place_below_a_growing_area_is_passed_over(self) -> None:
+        trace = read_trace(
+            b"vmatrace 1\n0 mmap 0x7ffff7ff0000 4096 PROT_READ MAP_PRIVATE|MAP_ANONYMOUS|MAP_FIXED|MAP_GROWSDOWN -1 0\n"
+        )
+        space = History(trace).at_end[None].space
+        self.assertEqual(Linux.of(space, Kernel(), [], {}).searched(0xE), 0x7FFFF7FF1)
+        self.assertEqual(Linux.of(space, Kernel(), [], {}).searched(0xF), 0x7FFFF7FF0 - 256 - 0xF)
+
+    def test_a_case_of_ones_own_predicts_too(self) -> None:
+        own = linux_cases.Case(
+            "mine", "EINVAL is ENOMEM", lambda seen: seen.is_of("munmap"), lambda seen: ["-1 ENOMEM"]
+        )
+        sides = comparison.InProcess(mutants.MunmapPastEnd, comparison.Rules((), [own]))
+        told = comparison.examine(sides, read_trace(b"vmatrace 1\n0 munmap 0x7ffffffff000 4096\n"))
+        self.assertEqual((told.findings, told.aside), ([], Counter({"mine": 1})))
+
+
+class Shrinking(unittest.TestCase):
+    def test_numbers_get_small(self) -> None:
+        """What differs from three pages on is shown with three."""
+
+        def first_same(traces: list[Trace]) -> int | None:
+            fitting = (
+                any(line.word == "mmap" and line.arguments[1] > 8192 for line in trace.lines) for trace in traces
+            )
+            return next((place for place, holds in enumerate(fitting) if holds), None)
+
+        trace = read_trace(b"vmatrace 1\n0 mmap 0 70368744177664 PROT_READ MAP_PRIVATE|MAP_ANONYMOUS -1 0\n")
+        self.assertEqual(shrinking.Shrinker(trace, first_same).shrink().lines[0].arguments[1], 12288)
+
+
+class Generated(unittest.TestCase):
+    def test_the_same_words_give_the_same_trace(self) -> None:
+        for name in generator.PROFILES:
+            first, second = (generator.Generator(name, "7 3", 12).draw().text() for _ in range(2))
+            self.assertEqual(first, second)
+            self.assertEqual(read_trace(first.encode()).text(), first)
+
+    def test_threads_name_calls_of_others(self) -> None:
+        trace = generator.Generator("few", "1 1", 60, threads=4).draw()
+        self.assertEqual({line.thread for line in trace.lines}, {0, 1, 2, 3})
+        self.assertTrue(any(line.after for line in trace.lines))
+        self.assertEqual(read_trace(trace.text().encode()).text(), trace.text())
+
+    def test_rows_are_counted_by_the_names_of_the_tables(self) -> None:
+        rows = coverage.rows_of(read_trace(TWO))
+        self.assertEqual(rows, Counter({"mmap/done": 2, "merge/private": 1}))
+        for name in generator.PROFILES:
+            self.assertLessEqual(set(coverage.rows_of(generator.Generator(name, "1 1", 20).draw())), set(coverage.ROWS))
+
+
+class Reports(unittest.TestCase):
+    def finding(self, name: str = "munmap/-1 EINVAL/0") -> findings.Finding:
+        operation, here, there = name.split("/", 2)
+        return findings.Finding(
+            name, Difference(operation, here, there, 2, ["a"], ["b"]), "vmatrace 1\n", "trace 0", "vma compare --only 0"
+        )
+
+    def baseline(self, text: str) -> findings.Baseline:
+        return findings.Baseline(findings.Baseline.lines(Path("base"), text))
+
+    def test_what_is_known_does_not_fail(self) -> None:
+        told = findings.Findings(self.baseline("# all\nmunmap/*/0 # it takes any\nmmap/a/b # gone\n"))
+        told.add([self.finding()], Counter())
+        self.assertFalse(told.has_new)
+        self.assertEqual([known.pattern for known in told.baseline.stale], ["mmap/a/b"])
+        told.add([self.finding("brk/an address/another address")], Counter())
+        self.assertTrue(told.has_new)
+
+    def test_a_baseline_wants_a_reason(self) -> None:
+        for text in ("munmap/*/0\n", "munmap/*/0 #\n", "munmap # why\n"):
+            with self.assertRaises(console.Failure):
+                self.baseline(text)
+
+    def test_parts_make_one_report(self) -> None:
+        with tempfile.TemporaryDirectory() as folder:
+            path = Path(folder) / "part"
+            found = self.finding()
+            events = [
+                {"event": "begin", "identity": {"shard": "1/1"}},
+                found.event("finding", number=3),
+                found.event("smallest", count=1),
+            ]
+            end = findings.Findings(traces=5, differing=1, aside=Counter({"border": 2})).end_event(1, None)
+            path.write_text("".join(json.dumps(event) + "\n" for event in [*events, end]) + '{"cut', encoding="utf-8")
+            whole = findings.Findings()
+            part = findings.Part.read(path)
+            part.add_to(whole)
+        self.assertTrue(part.has_ended)
+        self.assertEqual((whole.traces, whole.differing, whole.aside), (5, 1, Counter({"border": 2})))
+        self.assertTrue(whole.kinds[found.name].is_shrunk)
+
+    def test_junit_counts(self) -> None:
+        told = findings.Findings(self.baseline("munmap/*/0 # it takes any\nmmap/a/b # gone\n"))
+        told.add([self.finding(), self.finding("brk/\x00/b")], Counter())
+        suite = ElementTree.fromstring(findings.junit(told, True, None).split("\n", 1)[1])
+        self.assertEqual([suite.get(name) for name in ("tests", "failures", "skipped", "errors")], ["4", "2", "1", "0"])
+
+
+if __name__ == "__main__":
+    unittest.main()
