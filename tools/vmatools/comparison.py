@@ -2,6 +2,7 @@
 aside."""
 from __future__ import annotations
 
+import re
 from collections import Counter
 from collections.abc import Callable, Iterable, Iterator, Sequence
 from dataclasses import dataclass, field
@@ -22,6 +23,7 @@ PROGRAM_SECONDS = 600
 MOST_FINDINGS = 12  # of one trace
 NO_END = "does not end"
 CANNOT_RUN = "ends with status 4"
+ENDING = re.compile("hung|killed by signal [0-9]+|ended with status [0-9]+")  # what such an adapter answers
 HANGS = (NO_END, "hung")  # the second is what an adapter answers that ends its system itself
 
 
@@ -167,6 +169,9 @@ class Sides:
             return Compared(
                 Difference("run", "an output", there.fault, None, [], there.message.splitlines()[-3:]), set()
             )
+        ended = self.end_in(trace, there.output)
+        if ended:
+            return Compared(ended, set())
         here = self.here(trace)
         passed: set[str] = set()
         if here == there.output:
@@ -192,8 +197,20 @@ class Sides:
     def raw_difference(self, trace: Trace, seconds: Optional[float] = None) -> Optional[Difference]:
         return self.compared(trace, seconds).difference
 
+    def end_in(self, trace: Trace, output: str) -> Optional[Difference]:
+        """The operation in which the system ended, where the adapter says so: it counts more than what differs above."""
+        last = next((part for part in parts_of(output) if ENDING.fullmatch(part.result)), None)
+        if last is None:
+            return None
+        here = next((part for part in parts_of(self.here(trace)) if part.number == last.number), None)
+        told, lines = (answer_of(here.result), here.lines) if here else ("an answer", [])
+        operation = words_of(trace).get(last.number, "output")
+        return Difference(operation, told, last.result, last.number, lines, last.lines)
+
     def located(self, trace: Trace, found: Difference) -> Difference:
         """A difference by the operation that brings it about: after it a list is another one, or the system ends."""
+        if ENDING.fullmatch(found.there):
+            return found
         if found.operation == "run":
             return self.at_its_end(trace, found)
         return self.with_lists(trace, found) if self.rules.last_lists else found
@@ -241,7 +258,7 @@ class Sides:
         self.go_on()
         asked, behind = with_reads(trace, marks)
         there = self.there(asked)
-        if there.fault:
+        if there.fault or self.end_in(asked, there.output):
             return None
         words, here = words_of(asked), self.here(asked)
         found: dict[int, Difference] = {}
