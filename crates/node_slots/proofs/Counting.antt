@@ -4,6 +4,8 @@ use Rattle.std.proofs.lemmas.Bool.{cond-true, cond-false, cases_lt}
 use Rattle.std.proofs.lemmas.Bool.Decides.{eqb_tells}
 use Rattle.std.proofs.lemmas.List.Sums.{sum_by-cons, sum_by_push}
 use Rattle.grace_core.specs.Core.{times}
+use Rattle.node_slots.specs.declared.left.Left.{Left}
+use Rattle.node_slots.specs.Kept.{left_numbers}
 use Rattle.node_slots.specs.Opening.{IsFreeFrom}
 
 -- a row added first, which is this row or another
@@ -65,3 +67,7 @@ free_none start = record {
   below = λ row some. absurd (omega arith);
   all = λ row above below. absurd (omega arith);
 }
+
+-- the first of the rows that were left
+pub first_gone : (row : ℕ) (one : Left) (rest : List Left) → one.row.0 ≡ row → 1 ≤ times row (left_numbers (one ∷ rest))
+first_gone row one rest here = let found = one_if one.row.0 row here in omega (arith, found, times_first row one.row.0 (left_numbers rest))

@@ -9,6 +9,8 @@ pub mod Storing
 pub mod Filling
 pub mod Listing
 pub mod Notes
+pub mod Spots
+pub mod Chosen
 pub mod Gone
 pub mod Writers
 pub mod Leaves

@@ -3,7 +3,8 @@ use Rattle.std.proofs.Common.{ℕ, zero, suc, ◌≡◌, ◌<◌, ◌∙◌, ref
 use Rattle.std.proofs.Math.Seq.{map-set_same}
 use Rattle.std.proofs.lemmas.List.{get_or-map}
 use Rattle.node_slots.specs.declared.note.Note.{Note}
-use Rattle.node_slots.specs.Kept.{firsts_of, first_at}
+use Rattle.mm_types.specs.declared.slot.Row.{Row}
+use Rattle.node_slots.specs.Kept.{firsts_of, first_at, spots_of, replaced_of}
 
 -- a note with the same first tree in the place of another
 pub note_same : (notes : List Note) (row : ℕ) (old new : Note) → old ≡ get_or notes row old → new.first ≡ old.first
@@ -21,3 +22,26 @@ pub read_first : (notes : List Note) (row : ℕ) (found : Note) → row < length
     → first_at (firsts_of notes) row ≡ found.first
 read_first notes row found within read =
     get_or-map (λ (n : Note). n.first) notes row found 0 within ∙ ap (λ (n : Note). n.first) (sym read)
+
+-- a note that was changed in one part alone
+pub spots_same : (notes : List Note) (row : ℕ) (old new : Note) → old ≡ get_or notes row old → new.spot ≡ old.spot
+    → spots_of (set notes row new) ≡ spots_of notes
+spots_same notes row old new was same =
+    map-set_same (λ (n : Note). n.spot) notes row new old (same ∙ ap (λ (n : Note). n.spot) was)
+
+pub replaced_same : (notes : List Note) (row : ℕ) (old new : Note) → old ≡ get_or notes row old → new.replaced ≡ old.replaced
+    → replaced_of (set notes row new) ≡ replaced_of notes
+replaced_same notes row old new was same =
+    map-set_same (λ (n : Note). n.replaced.0) notes row new old (ap (λ (r : Row). r.0) same ∙ ap (λ (n : Note). n.replaced.0) was)
+
+-- the place that a note has, as it was read
+pub read_spot : (notes : List Note) (row : ℕ) (found : Note) → row < length notes → found ≡ get_or notes row found
+    → get_or (spots_of notes) row 0 ≡ found.spot
+read_spot notes row found within read =
+    get_or-map (λ (n : Note). n.spot) notes row found 0 within ∙ ap (λ (n : Note). n.spot) (sym read)
+
+-- and the row that it replaced
+pub read_replaced : (notes : List Note) (row : ℕ) (found : Note) → row < length notes → found ≡ get_or notes row found
+    → get_or (replaced_of notes) row 0 ≡ found.replaced.0
+read_replaced notes row found within read =
+    get_or-map (λ (n : Note). n.replaced.0) notes row found 0 within ∙ ap (λ (n : Note). n.replaced.0) (sym read)

@@ -1,7 +1,8 @@
 -- For `NodeTable::leave`, `NodeTable::publish` and others: what a writer's lists tell of a row.
-use Rattle.std.proofs.Common.{ℕ, ◌≡◌, ◌<◌, ◌≤◌, ◌+◌, ◌^◌, ◌∙◌, true, false, cond, nat_eq, List, [], ◌∷◌, get_or, refl, sym, ap, subst, arith, inl, inr}
+use Rattle.std.proofs.Common.{ℕ, ◌≡◌, ◌<◌, ◌≤◌, ◌+◌, ◌^◌, ◌∙◌, true, false, cond, nat_eq, List, [], ◌∷◌, ◌++◌, length, set, get_or, refl, sym, ap, subst, arith, inl, inr}
 use Rattle.std.proofs.lemmas.Bool.{cases_Bool, cond-true, cond-false, ltb-true}
-use Rattle.std.proofs.lemmas.List.{length-map}
+use Rattle.std.proofs.lemmas.List.{length-map, map-append}
+use Rattle.mm_types.specs.declared.slot.Row.{Row}
 use Rattle.grace_core.specs.Core.{times, has_row}
 use Rattle.maple_node.specs.Levels as levels
 use Rattle.maple_node.specs.Levels.{at_of}
@@ -12,10 +13,11 @@ use Rattle.node_slots.specs.declared.note.Note.{Note}
 use Rattle.node_slots.specs.declared.seats.NodeWriter.{NodeWriter}
 use Rattle.node_slots.specs.Trees.{shown_rows}
 use Rattle.node_slots.specs.Plays.{RowsExist}
-use Rattle.node_slots.specs.Kept.{times_gone, firsts_of, first_at}
+use Rattle.node_slots.specs.Kept.{times_gone, free_numbers, firsts_of, first_at, spots_of, PlacesKept}
 use Rattle.node_slots.specs.Seats.{sight, desk, is_kept, is_taken, is_present, ReachesNewRows}
 use Rattle.node_slots.proofs.Counting.{times_first}
 use Rattle.node_slots.proofs.Notes.{read_first}
+use Rattle.node_slots.proofs.Spots.{places_pushed}
 use Rattle.node_slots.proofs.Listing.{kept_parts, kept_from, taken_parts}
 
 -- a row that is neither free nor left
@@ -81,3 +83,21 @@ root_within writer shown slots reaches layout =
     let once = (root-once (at_of shown.words) slots (shown_rows shown) (tree_of (at_of shown.words) shown.root) layout).1 in
     let some : 1 ≤ times shown.root.row.0 (shown_rows shown) = omega (arith, once, times_same shown.root.row.0 (shown_rows shown)) in
     omega (arith, new_within writer shown reaches shown.root.row.0 some, writer.desk.table.sized.fits.few_rows)
+
+-- a row that was not free came into the free list, and its place is noted
+pub pushed_places : (writer : NodeWriter) (row : Row) → times row.0 (free_numbers writer.free.items) ≡ 0 → row.0 < writer.desk.table.size.rows
+    → (spot : ℕ) (free : List Row) (spots : List ℕ) → free ≡ writer.free.items ++ row ∷ [] → spots ≡ set (spots_of writer.notes.items) row.0 spot
+    → spot ≡ length writer.free.items
+    → PlacesKept writer.desk.table.size.rows writer.fresh (free_numbers free) spots
+pushed_places writer row none within spot free spots free_is spots_is at =
+    let number : Row → ℕ = λ r. r.0 in
+    let before : List ℕ = free_numbers writer.free.items in
+    let noted : length (spots_of writer.notes.items) ≡ length (firsts_of writer.notes.items) =
+    length-map writer.notes.items (λ (n : Note). n.spot) ∙ sym (length-map writer.notes.items (λ (n : Note). n.first)) in
+    let pushed = places_pushed writer.desk.table.size.rows writer.fresh row.0 before (spots_of writer.notes.items) writer.places
+    (omega (arith, none)) (omega (arith, within, noted, writer.rows.sized)) in
+    let free_same : free_numbers free ≡ before ++ row.0 ∷ [] = ap free_numbers free_is ∙ map-append number writer.free.items (row ∷ []) in
+    let spots_same : spots ≡ set (spots_of writer.notes.items) row.0 (length before) =
+    spots_is ∙ ap (set (spots_of writer.notes.items) row.0) (at ∙ sym (length-map writer.free.items number)) in
+    subst (λ (l : List ℕ). PlacesKept writer.desk.table.size.rows writer.fresh l spots) (sym free_same)
+    (subst (λ (l : List ℕ). PlacesKept writer.desk.table.size.rows writer.fresh (before ++ row.0 ∷ []) l) (sym spots_same) pushed)

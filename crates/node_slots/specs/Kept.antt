@@ -88,6 +88,29 @@ firsts_of notes = map (λ note. note.first) notes
 abbrev pub first_at : List ℕ → ℕ → ℕ
 first_at firsts row = slice_index_or firsts row 0
 
+-- where the rows came to stand in the free list last, as the writer notes it
+abbrev pub spots_of : List Note → List ℕ
+spots_of notes = map (λ note. note.spot) notes
+
+-- the rows that the rows replaced, as the writer notes them
+abbrev pub replaced_of : List Note → List ℕ
+replaced_of notes = map (λ note. note.replaced.0) notes
+
+-- the number at a place of a list
+abbrev pub number_at : List ℕ → ℕ → ℕ
+number_at numbers place = slice_index_or numbers place 0
+
+-- the rows below a number but the first, the highest first
+pub record FallsFrom (rows : ℕ) (free : List ℕ) : Type 0 where
+  pub long : length free + 1 ≡ rows
+  pub falls : (place : ℕ) → place < length free → number_at free place + place + 1 ≡ rows
+
+-- The fresh rows stand at the front of the free list, the highest first. Each other free row stands at the place that is noted for it.
+pub record PlacesKept (rows fresh : ℕ) (free spots : List ℕ) : Type 0 where
+  pub few : fresh ≤ length free
+  pub falls : (place : ℕ) → place < fresh → number_at free place + place + 1 ≡ rows
+  pub noted : (place : ℕ) → fresh ≤ place → place < length free → number_at spots (number_at free place) ≡ place
+
 -- what is so of a row that was left: it leaves at the next publish, or it waits since the tree that left it out, which is the
 -- present one or one before it
 pub record IsLeft (desk : Desk) (left : Left) : Type 0 where

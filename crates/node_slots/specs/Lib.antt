@@ -7,4 +7,5 @@ pub mod Opening
 pub mod Kept
 pub mod Seats
 pub mod Built
+pub mod Choosing
 pub mod Internal

@@ -11,10 +11,14 @@ root_place = 0
 abbrev pub pin_place : ℕ → ℕ
 pin_place reader = (reader + 1) * 8
 
--- the place of a word of a row, in a table of so many readers
+-- the place of a row's first word, in a table of so many readers: the rows stand after the last pin
+abbrev pub row_place : ℕ → ℕ → ℕ
+row_place readers row = pin_place readers + row * 32
+
+-- the place of a word of a row
 abbrev pub word_place : ℕ → ℕ → ℕ → ℕ
-word_place readers row place = (readers + 1) * 8 + row * 32 + place
+word_place readers row place = row_place readers row + place
 
 -- how many words a table has
 abbrev pub word_count : Size → ℕ
-word_count size = (size.readers + 1) * 8 + size.rows * 32
+word_count size = row_place size.readers size.rows

@@ -3,6 +3,7 @@
 //! reader closes. One writer fills free rows, publishes trees, and scans the pins to find which rows are free again.
 #![tactic(auto)]
 
+mod choosing;
 mod first_words;
 mod left;
 mod note;
@@ -13,7 +14,6 @@ mod rows;
 mod rule;
 mod seats;
 mod tree;
-mod twins;
 mod view;
 mod writing;
 

@@ -5,8 +5,8 @@ use mm_types::Row;
 pub(crate) struct Note {
     /// The first tree that may have it.
     pub(crate) first: u64,
-    /// The row that it was taken for, so that a node's next version goes to a row that holds nearly the same words. No clause rests on it.
-    pub(crate) twin: Row,
-    /// Where it came to stand in the free list last. No clause rests on it.
+    /// The row that it replaced, so that a node's next version goes to a row that holds nearly the same words.
+    pub(crate) replaced: Row,
+    /// Where it came to stand in the free list last.
     pub(crate) spot: u32,
 }

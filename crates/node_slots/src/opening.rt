@@ -4,7 +4,7 @@ ghost use Rattle.std.specs.VecDeque.{deque_capacity};
 ghost use Rattle.node_slots.specs.declared.seats.NodeSeat.{NodeSeat as Reader};
 ghost use Rattle.node_slots.specs.Places.{word_count};
 ghost use Rattle.node_slots.specs.Views.{opened_view, reader_view, new_reader, after_reader};
-ghost use Rattle.node_slots.specs.Kept.{IsSize, free_numbers};
+ghost use Rattle.node_slots.specs.Kept.{IsSize, free_numbers, FallsFrom};
 ghost use Rattle.node_slots.specs.Opening.{IsFreeFrom};
 ghost use Rattle.node_slots.specs.Seats.{size_of, IsOf, Writes, view, sight, free_of, left_of};
 
@@ -32,7 +32,7 @@ const FIRST_ROOT: Root = Root {
 /// What is remembered of a row that was never taken.
 const NO_NOTE: Note = Note {
     first: 0,
-    twin: Row(0),
+    replaced: Row(0),
     spot: 0,
 };
 
@@ -145,6 +145,7 @@ fn open_seat(
     ensures table { IfOk result (λ made. size_of made.0 ≡ size) }
     ensures seat { IfOk result (λ made. (made.1.seat.table_id ≡ (arc_value made.0.table).shared.table_id) × (made.1.table.size ≡ size)
         × (made.1.seat.me.0 ≡ opened_view size 0)) }
+    ensures blank { IfOk result (λ made. length made.1.words.items ≡ 0) }
 {
     let clearings = vec![in alloc; NEW_CLEARING; size.readers as usize]?;
     words.set_first(pack_root(FIRST_ROOT));
@@ -172,6 +173,7 @@ fn first_free(alloc: Global, count: u32) -> Result<VecDeque<Row>, NoMemory>
     requires { 1 ≤ count }
     ensures room { IfOk result (λ free. count ≤ deque_capacity free) }
     ensures free { IfOk result (λ free. IsFreeFrom 1 count (free_numbers free.items)) }
+    ensures order { IfOk result (λ free. FallsFrom count (free_numbers free.items)) }
 {
     let mut free = VecDeque::with_capacity(alloc, count as usize)?;
     for row in 1..count {

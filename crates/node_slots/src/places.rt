@@ -1,6 +1,6 @@
 //! Where the words of a table stand: each pin has a cache line of its own, and so has the root word, which is the first.
-ghost use Rattle.std.specs.Prelude.{◌≡◌, ◌<◌, ◌+◌, ◌*◌};
-ghost use Rattle.node_slots.specs.Places.{pin_place, word_place};
+ghost use Rattle.std.specs.Prelude.{◌≡◌, ◌<◌};
+ghost use Rattle.node_slots.specs.Places.{pin_place, row_place, word_place};
 
 use maple_node::NODE_WORDS;
 use mm_types::Row;
@@ -15,18 +15,24 @@ pub(crate) fn pin_place(reader: u32) -> usize
     (reader as usize + 1) * LINE
 }
 
-/// The place of a word of a row, in a table of so many readers.
+/// The place of a row's first word, in a table of so many readers: the rows stand after the last pin.
+fn row_place(readers: u32, row: u32) -> usize
+    ensures { result ≡ row_place readers row }
+{
+    pin_place(readers) + row as usize * NODE_WORDS
+}
+
+/// The place of a word of a row.
 pub(crate) fn word_place(readers: u32, row: Row, place: usize) -> usize
     requires { place < 32 }
     ensures { result ≡ word_place readers row.0 place }
 {
-    // the rows stand after the last pin
-    pin_place(readers) + row.0 as usize * NODE_WORDS + place
+    row_place(readers, row.0) + place
 }
 
 /// How many words a table of so many rows and readers has.
 pub(crate) fn word_count(rows: u32, readers: u32) -> usize
-    ensures { result ≡ (readers + 1) * 8 + rows * 32 }
+    ensures { result ≡ row_place readers rows }
 {
-    pin_place(readers) + rows as usize * NODE_WORDS
+    row_place(readers, rows)
 }

@@ -1,4 +1,4 @@
-ghost use Rattle.std.specs.Prelude.{◌≡◌, ◌≤◌, ◌<◌, ◌+◌, ◌-◌, ◌^◌, ℕ, true, false, if◌then◌else◌, List, [], ◌∷◌, ◌++◌, length, MatchOption, IfSome, IfOk};
+ghost use Rattle.std.specs.Prelude.{◌≡◌, ◌≤◌, ◌<◌, ◌+◌, ◌-◌, ◌^◌, ℕ, min, max, true, false, nat_eq, if◌then◌else◌, List, [], ◌∷◌, ◌++◌, length, slice_set, MatchOption, IfSome, OnSome, IfOk};
 ghost use Rattle.std.specs.List.Sorted.{IsPermutation};
 ghost use Rattle.grace_core.specs.Core.{row_at, since_at, times};
 ghost use Rattle.grace_core.specs.Steps.{least};
@@ -6,13 +6,14 @@ ghost use Rattle.maple_node.specs.Levels.{at_of};
 ghost use Rattle.maple_node.specs.Trees.{tree_of, IsLayout};
 ghost use Rattle.node_slots.specs.Trees.{shown_rows};
 ghost use Rattle.node_slots.specs.Views.{fill_at, publish_at, scan_from};
-ghost use Rattle.node_slots.specs.Kept.{left_at};
+ghost use Rattle.node_slots.specs.Kept.{left_at, number_at, replaced_of};
 ghost use Rattle.node_slots.specs.Built.{words_at};
+ghost use Rattle.node_slots.specs.Choosing.{IsNearest, takes_fresh, touched};
 ghost use Rattle.node_slots.specs.Seats.{size_of, Writes, StaysAt, sight, desk, row_count, free_of, left_of, is_present, is_waiting, is_kept, is_taken, count_of, next_root, next_shown, pins_of, AreOut, ReachesNewRows};
 
+use crate::choosing::{note_replaced, note_spot};
 use crate::left::Left;
 use crate::seats::{NodeTable, NodeWriter};
-use crate::twins::{note_spot, note_twin};
 use grace_core::least;
 use maple_node::{NODE_WORDS, Root};
 use mm_types::{NoMemory, Row, Steps};
@@ -42,6 +43,7 @@ impl NodeTable {
         ensures table { Writes writer.new self.now }
         ensures view { sight writer.new ≡ fill_at (sight writer.old) row.0 words.now }
         ensures lists { (free_of writer.new ≡ free_of writer.old) × (left_of writer.new ≡ left_of writer.old) }
+        ensures touched { touched writer.new ≡ max (touched writer.old) (row.0 + 1) }
     {
         writer.fill(row, words);
     }
@@ -170,31 +172,53 @@ impl NodeWriter {
         ensures left { left_of self.new ≡ left_of self.old }
         ensures view { sight self.new ≡ sight self.old }
     {
-        let row = self.free.pop_back()?;
-        self.fresh = self.fresh.min(self.free.len());
+        let last = self.free.len().checked_sub(1)?;
+        Some(self.take_at(last))
+    }
+
+    /// Takes the row at a place of the free list, to which the last one comes.
+    fn take_at(&mut self, place: usize) -> Row
+        requires inside { place < length self.old.free.items }
+        requires behind { self.old.fresh ≤ place + 1 }
+        ensures desk { self.new.desk ≡ self.old.desk }
+        ensures row { result.0 ≡ number_at (free_of self.old) place }
+        ensures free { IsPermutation (free_of self.old) (result.0 ∷ free_of self.new) }
+        ensures last { place + 1 ≡ length self.old.free.items → free_of self.old ≡ free_of self.new ++ result.0 ∷ [] }
+        ensures fresh { self.new.fresh ≡ min self.old.fresh place }
+        ensures taken { is_taken self.new result.0 ≡ true }
+        ensures left { left_of self.new ≡ left_of self.old }
+        ensures replaced { replaced_of self.new.notes.items ≡ replaced_of self.old.notes.items }
+    {
+        let last = self.free[self.free.len() - 1];
+        note_spot(&mut self.notes, last, place);
+        let row = self.free.swap_remove_back(place).unwrap();
+        self.fresh = self.fresh.min(place);
         self.notes[row.0 as usize].first = self.desk.root.tree + 1;
-        Some(row)
+        row
     }
 
     /// Takes a row for the next version of the node in a row: that row itself, if it was left and is free, or the row that held the
-    /// version before it, if that is free, whose words are nearly the same, and else any free row. None exactly where no row is
-    /// free. Which free row it is no clause says.
+    /// version before it, if that is free, whose words are nearly the same. Else it takes a row that was never taken while few were,
+    /// or another free row. None exactly where no row is free.
     pub fn take_row_for(&mut self, old: Row) -> Option<Row>
         ensures table { StaysAt self.old self.new }
         ensures free { MatchOption result ((free_of self.old ≡ []) × (free_of self.new ≡ []))
             (λ row. IsPermutation (free_of self.old) (row.0 ∷ free_of self.new)) }
+        ensures nearest { IfSome result (λ row. IsNearest self.old old.0 row.0) }
+        ensures fresh { OnSome result (self.new.fresh ≡ self.old.fresh - count_of (takes_fresh self.old old.0)) }
+        ensures replaced { IfSome result (λ row. replaced_of self.new.notes.items
+            ≡ (if nat_eq row.0 old.0 then replaced_of self.old.notes.items else slice_set (replaced_of self.old.notes.items) row.0 old.0)) }
         ensures taken { IfSome result (λ row. is_taken self.new row.0 ≡ true) }
         ensures left { left_of self.new ≡ left_of self.old }
         ensures view { sight self.new ≡ sight self.old }
     {
-        self.choose_for(old);
-        match self.take_last() {
-            None => None,
-            Some(row) => {
-                note_twin(&mut self.notes, row, old);
-                Some(row)
-            }
+        if self.free.is_empty() {
+            return None;
         }
+        let place = self.place_for(old);
+        let row = self.take_at(place);
+        note_replaced(&mut self.notes, row, old);
+        Some(row)
     }
 
     /// Stores the words of a row that was taken and is not published.
@@ -203,6 +227,7 @@ impl NodeWriter {
         ensures table { StaysAt self.old self.new }
         ensures view { sight self.new ≡ fill_at (sight self.old) row.0 words.now }
         ensures lists { (free_of self.new ≡ free_of self.old) × (left_of self.new ≡ left_of self.old) }
+        ensures touched { touched self.new ≡ max (touched self.old) (row.0 + 1) }
     {
         self.desk.fill_row(row, words);
     }

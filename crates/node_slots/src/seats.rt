@@ -1,7 +1,7 @@
 ghost use Rattle.std.specs.Arc.{arc_value};
-ghost use Rattle.std.specs.Prelude.{◌≡◌, ◌≤◌, length, vec_capacity};
+ghost use Rattle.std.specs.Prelude.{◌≡◌, ◌≤◌, ◌+◌, length, vec_capacity};
 ghost use Rattle.std.specs.VecDeque.{deque_capacity};
-ghost use Rattle.node_slots.specs.Kept.{IsSized, ReaderKept, WriterKept, RowsKept, firsts_of, with_empty};
+ghost use Rattle.node_slots.specs.Kept.{IsSized, ReaderKept, WriterKept, RowsKept, PlacesKept, firsts_of, spots_of, free_numbers, with_empty};
 
 use crate::left::Left;
 use crate::note::Note;
@@ -59,11 +59,14 @@ pub struct NodeWriter {
     pub(crate) left: VecDeque<Left>,
     /// For each row what is remembered of it, in one place, since each store touches all of it.
     pub(crate) notes: Vec<Note>,
-    /// How many rows at the front of the free list are fresh: they were not taken yet. No clause rests on it.
+    /// How many rows at the front of the free list are fresh: they were not taken yet.
     pub(crate) fresh: usize,
     /// How often another row than a fresh one was taken for a node that had none.
     pub(crate) spares: usize,
     pub ghost rows: { RowsKept desk.table.size.rows free.items left.items (firsts_of notes.items) desk.seat.me.0.known.desk },
+    pub ghost places: { PlacesKept desk.table.size.rows fresh (free_numbers free.items) (spots_of notes.items) },
+    /// No word of a fresh row was touched.
+    pub ghost untouched: { length desk.words.items + fresh ≤ desk.table.size.rows },
     pub ghost free_room: { desk.table.size.rows ≤ deque_capacity free },
     pub ghost left_room: { desk.table.size.rows ≤ deque_capacity left },
 }

@@ -1,4 +1,4 @@
-ghost use Rattle.std.specs.Prelude.{◌≡◌, ◌<◌, ◌≤◌, ◌+◌, ◌-◌, ◌++◌, true, ℕ, List, length, replicate, vec_capacity};
+ghost use Rattle.std.specs.Prelude.{◌≡◌, ◌<◌, ◌≤◌, ◌+◌, ◌-◌, ◌++◌, true, ℕ, List, length, replicate, max, vec_capacity};
 ghost use Rattle.grace_core.specs.Core.{is_free};
 ghost use Rattle.maple_node.specs.Roots.{FitsRoot};
 ghost use Rattle.node_slots.specs.Trees.{IsShown, empty_row};
@@ -73,6 +73,7 @@ impl NodeWriterSeat {
         requires free { is_free (seat_sight self.old).known.desk row.0 ≡ true }
         ensures view { seat_sight self.new ≡ fill_at (seat_sight self.old) row.0 words.now }
         ensures same { self.new.table ≡ self.old.table }
+        ensures touched { length self.new.words.items ≡ max (length self.old.words.items) (row.0 + 1) }
     {
         add_empty(&mut self.words, row.0 as usize + 1);
         for part in 0..8 {
@@ -92,6 +93,7 @@ impl NodeTable {
         ensures table { SitsAt seat.new self.now }
         ensures view { seat_sight seat.new ≡ publish_at (seat_sight seat.old) root }
         ensures same { seat.new.table ≡ seat.old.table }
+        ensures words { length seat.new.words.items ≡ length seat.old.words.items }
     {
         let word = pack_root(root);
         self.table
@@ -107,6 +109,7 @@ impl NodeTable {
         ensures table { SitsAt seat.new self.now }
         ensures view { seat_sight seat.new ≡ scan_at (seat_sight seat.old) reader result }
         ensures same { seat.new.table ≡ seat.old.table }
+        ensures words { length seat.new.words.items ≡ length seat.old.words.items }
     {
         let place = pin_place(reader);
         let found = self.table.shared.load::<Scanned>(&mut seat.seat, place);
@@ -121,6 +124,7 @@ impl NodeTable {
         ensures table { SitsAt seat.new self.now }
         ensures view { (pins : List ℕ) × (length pins ≡ self.now.size.readers) × (seat_sight seat.new ≡ scan_from 0 pins (seat_sight seat.old)) }
         ensures same { seat.new.table ≡ seat.old.table }
+        ensures words { length seat.new.words.items ≡ length seat.old.words.items }
     {
         for reader in 0..self.size.readers {
             self.scan_pin(seat, reader);

@@ -2,6 +2,7 @@
 use Rattle.std.proofs.Common.{◌∙◌, ap, arith}
 use Rattle.node_slots.specs.Kept.{firsts_of}
 use Rattle.node_slots.proofs.Notes.{firsts_new}
+use Rattle.node_slots.proofs.Spots.{places_new}
 use Rattle.node_slots.proofs.Starting.{opening_rows}
 use Rattle.node_slots.proofs.opening.open.Goals as goal
 
@@ -13,6 +14,8 @@ invariant_of-writer c =
       rows = opening_rows _ _ _ _ _ _ c.requires.size c.in_ok-first_free.ensures.free
           (ap firsts_of (c.in_ok-vec.ensures.items_if_clones_equal (λ y e. e)) ∙ firsts_new _ _)
           c.in_ok-with_capacity.ensures.items made.1 made.2;
+      places = rw size (places_new _ _ _ c.in_ok-first_free.ensures.order);
+      untouched = omega (arith, size, c.in_ok-table.ensures.blank, c.requires.size.some_rows);
       free_room = omega (arith, size, c.in_ok-first_free.ensures.room);
       left_room = omega (arith, size, c.in_ok-with_capacity.ensures.capacity);
     }

@@ -40,6 +40,8 @@ invariant_of-writer c =
           (publish_lists writer.desk.table.size.rows (writer.desk.root.tree + 1) (shown_rows shown) writer.free.items writer.left.items
           (firsts_of writer.notes.items) (desk writer)
           writer.rows (ap (λ n. n + 1) (sym number)) writer.desk.kept.since (new_not_gone writer shown reaches) (new_all writer shown reaches)));
+      places = rw size writer.places;
+      untouched = omega (arith, writer.untouched, size, c.publish_root.ensures.words);
       free_room = omega (arith, writer.free_room, size);
       left_room = omega (arith, writer.left_room, size);
     }

@@ -21,6 +21,8 @@ invariant_of-writer c =
     record {
       rows = rw c.scan_pins.ensures.same (rw told.2
           (scans_lists writer.desk.table.size.rows 0 told.0 writer.free.items writer.left.items (firsts_of writer.notes.items) (sight writer) writer.rows));
+      places = rw size writer.places;
+      untouched = omega (arith, writer.untouched, size, c.scan_pins.ensures.words);
       free_room = omega (arith, writer.free_room, size);
       left_room = omega (arith, writer.left_room, size);
     }

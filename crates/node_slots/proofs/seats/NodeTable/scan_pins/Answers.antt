@@ -23,4 +23,5 @@ loop-reader-preserved c =
             ∙ ap (λ n. scan_at (scan_from 0 pins view) n found) (omega (arith, count)) ∙ sym (scan_more 0 pins found view),
       );
       same = c.scan_pin.ensures.same ∙ c.loop-reader.invariant.same;
+      words = c.scan_pin.ensures.words ∙ c.loop-reader.invariant.words;
     }

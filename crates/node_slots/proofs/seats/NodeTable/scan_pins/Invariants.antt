@@ -9,4 +9,5 @@ invariant-loop-reader l = record {
   table : SitsAt l.seat l.self;
   view : (pins : List ℕ) × (length pins ≡ l.reader) × (seat_sight l.seat ≡ scan_from 0 pins (seat_sight l.fn.seat));
   same : l.seat.table ≡ l.fn.seat.table;
+  words : length l.seat.words.items ≡ length l.fn.seat.words.items;
 }

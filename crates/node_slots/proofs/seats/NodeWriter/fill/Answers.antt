@@ -1,8 +1,9 @@
 -- For `fill`: the row is free by the grace protocol, and the lists keep what they keep.
-use Rattle.std.proofs.Common.{◌∙◌, sym, ap, arith}
-use Rattle.node_slots.specs.Seats.{table_of, sight, desk}
-use Rattle.node_slots.specs.Kept.{firsts_of}
+use Rattle.std.proofs.Common.{ℕ, ◌∙◌, sym, ap, arith}
+use Rattle.node_slots.specs.Seats.{table_of, sight, desk, free_of}
+use Rattle.node_slots.specs.Kept.{firsts_of, spots_of}
 use Rattle.node_slots.proofs.Listing.{taken_free, fill_lists}
+use Rattle.node_slots.proofs.Spots.{below_fresh}
 use Rattle.node_slots.proofs.Writers.{writer_taken}
 use Rattle.node_slots.proofs.seats.NodeWriter.fill.Goals as goal
 
@@ -20,10 +21,16 @@ pub invariant_of-self : goal.invariant_of-self
 invariant_of-self c =
     let writer = c.args.self.now in
     let size = ap (λ t. t.size.rows) c.fill_row.ensures.same in
+    let row : ℕ = c.args.row.0 in
+    let taken = writer_taken writer row c.requires.taken in
+    let below = below_fresh writer.desk.table.size.rows writer.fresh row (free_of writer) (spots_of writer.notes.items) writer.places
+    (omega (arith, taken.1)) taken.0 in
     record {
       rows = rw c.fill_row.ensures.same (rw c.fill_row.ensures.view
           (fill_lists writer.desk.table.size.rows c.args.row.0 c.args.words.now writer.free.items writer.left.items (firsts_of writer.notes.items) (sight writer)
           writer.rows));
+      places = rw size writer.places;
+      untouched = omega (arith, writer.untouched, size, c.fill_row.ensures.touched, below);
       free_room = omega (arith, writer.free_room, size);
       left_room = omega (arith, writer.left_room, size);
     }

@@ -2,11 +2,14 @@
 use Rattle.std.proofs.Common.{◌≡◌, ◌∙◌, List, [], ◌∷◌, ◌++◌, refl, ap, subst, arith}
 use Rattle.std.specs.Option.{option_to_list}
 use Rattle.std.proofs.lemmas.List.{map-append}
+use Rattle.grace_core.specs.Core.{times}
 use Rattle.mm_types.specs.declared.slot.Row.{Row}
 use Rattle.node_slots.specs.declared.left.Left.{Left}
 use Rattle.node_slots.specs.Kept.{left_at, free_numbers, left_numbers, RowsKept, firsts_of}
 use Rattle.node_slots.specs.Seats.{desk}
 use Rattle.node_slots.proofs.Listing.{waiting_after, passed_lists, gone_few}
+use Rattle.node_slots.proofs.Counting.{first_gone}
+use Rattle.node_slots.proofs.Writers.{pushed_places}
 use Rattle.node_slots.proofs.seats.NodeWriter.free_first.Goals as goal
 
 pub returns-then-not-has_passed-clause-rest : goal.returns-then-not-has_passed-clause-rest
@@ -45,10 +48,14 @@ invariant_of-self c =
     let some = c.has_passed.ensures.some c.if-not-has_passed.false in
     let first = ap (λ (l : List Left). (left_at l 0).since) items in
     record {
-      rows = rw c.note_spot.ensures (rw c.push_back_reserved.ensures.items
+      rows = rw c.note_spot.ensures.firsts (rw c.push_back_reserved.ensures.items
           (passed_lists writer.desk.table.size.rows one writer.free.items rest (firsts_of writer.notes.items) (desk writer)
           (subst (λ (l : List Left). RowsKept writer.desk.table.size.rows writer.free.items l (firsts_of writer.notes.items) (desk writer)) items writer.rows)
           (omega (arith, some.1, first, c.requires.passed.1)) (omega (arith, some.1, first, c.requires.passed.0))));
+      places = pushed_places writer one.row (omega (arith, first_gone one.row.0 one rest refl, ap (λ (l : List Left). times one.row.0 (left_numbers l)) items, writer.rows.once one.row.0))
+          (writer.rows.inside one.row.0 (omega (arith, first_gone one.row.0 one rest refl, ap (λ (l : List Left). times one.row.0 (left_numbers l)) items)))
+          _ _ _ c.push_back_reserved.ensures.items c.note_spot.ensures.spots (omega (arith, c.len-spot.ensures, writer.free.ok));
+      untouched = writer.untouched;
       free_room = omega (arith, writer.free_room, c.push_back_reserved.ensures.capacity);
       left_room = omega (arith, writer.left_room, c.pop_front.ensures.capacity);
     }

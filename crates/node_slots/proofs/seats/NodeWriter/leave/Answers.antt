@@ -8,7 +8,7 @@ use Rattle.node_slots.specs.declared.left.Left.{Left}
 use Rattle.node_slots.specs.Kept.{free_numbers, left_numbers, firsts_of}
 use Rattle.node_slots.specs.Seats.{desk, is_present, free_of, left_of}
 use Rattle.node_slots.proofs.Listing.{gone_few, gone_fewer, free_lists, left_lists}
-use Rattle.node_slots.proofs.Writers.{writer_kept, writer_first}
+use Rattle.node_slots.proofs.Writers.{writer_kept, writer_first, pushed_places}
 use Rattle.node_slots.proofs.seats.NodeWriter.leave.Goals as goal
 
 pub push_back_reserved-requires : goal.push_back_reserved-requires
@@ -47,6 +47,8 @@ invariant_of-self c =
       rows = rw c.push_back_reserved.ensures.items
           (left_lists writer.desk.table.size.rows one writer.free.items writer.left.items (firsts_of writer.notes.items) (desk writer) writer.rows kept.0 kept.1
           (omega (arith, first, c.if-index-next.true, number)) (omega (arith, number)));
+      places = writer.places;
+      untouched = writer.untouched;
       free_room = writer.free_room;
       left_room = omega (arith, writer.left_room, c.push_back_reserved.ensures.capacity);
     }
@@ -59,10 +61,13 @@ invariant_of-self-else-index-next c =
     let first = writer_first writer row c.index.result.now c.requires.kept c.index.ensures in
     let number = writer.desk.kept.number_is in
     record {
-      rows = rw c.note_spot.ensures (rw c.push_back_reserved-else-index-next.ensures.items
+      rows = rw c.note_spot.ensures.firsts (rw c.push_back_reserved-else-index-next.ensures.items
           (free_lists writer.desk.table.size.rows c.args.row writer.free.items writer.left.items (firsts_of writer.notes.items) (desk writer) writer.rows kept.0
           kept.1
           (omega (arith, first, c.if-index-next.false, number))));
+      places = pushed_places writer c.args.row (omega (arith, kept.1)) kept.0
+          _ _ _ c.push_back_reserved-else-index-next.ensures.items c.note_spot.ensures.spots (omega (arith, c.len-spot.ensures, writer.free.ok));
+      untouched = writer.untouched;
       free_room = omega (arith, writer.free_room, c.push_back_reserved-else-index-next.ensures.capacity);
       left_room = writer.left_room;
     }

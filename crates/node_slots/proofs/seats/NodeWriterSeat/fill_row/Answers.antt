@@ -37,6 +37,7 @@ loop-part-init c =
       view = sym (ap (fill_at view row) (blend_none c.args.words.now (row_at view.known.desk.words row)) ∙ fill_same view row);
       same = refl;
       there = omega (arith, added c.args.self.now.words.items _ _ c.add_empty.ensures.items);
+      touched = omega (arith, added c.args.self.now.words.items _ _ c.add_empty.ensures.items);
     }
 
 pub loop-part-preserved : goal.loop-part-preserved
@@ -58,6 +59,7 @@ loop-part-preserved c =
           ∙ ap (λ (n : ℕ). fill_at view row (blend n words old)) next;
       same = c.store_four.ensures.same ∙ c.loop-part.invariant.same;
       there = omega (arith, c.store_four.ensures.count, c.loop-part.invariant.there);
+      touched = omega (arith, c.store_four.ensures.count, c.loop-part.invariant.touched);
     }
 
 pub returns-clause-view : goal.returns-clause-view
