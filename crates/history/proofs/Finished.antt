@@ -12,7 +12,7 @@ use Rattle.mm_types.specs.declared.config.Config.{Config}
 use Rattle.trace_reader.specs.declared.trace.Op.{Op}
 use Rattle.trace_reader.specs.declared.trace.Op.TheVariants as ops
 use Rattle.trace_reader.specs.declared.trace.TraceLine.{TraceLine}
-use Rattle.trace_reader.specs.Values.{is_call_op, AreNumbered, AreNamesRight}
+use Rattle.trace_reader.specs.Values.{is_call_op, AreNumbered, NamesACall, AreNamesRight}
 use Rattle.mm_types.proofs.Sorting.{Rises}
 use Rattle.area_rules.specs.Journals.{calls_by}
 use Rattle.history.specs.declared.items.Content.{Content}
@@ -20,10 +20,10 @@ use Rattle.history.specs.declared.items.Content.TheVariants as contents
 use Rattle.history.specs.declared.items.Item.{Item}
 use Rattle.history.specs.Histories.{items_of, lines_of, read_as, op_of, is_call, journal_of, line_of, StandsAmong, IsLegalHistory, gather}
 use Rattle.history.specs.Runs.{entry_items, logs_items, history_of, own_of, ops_of, asked, IsRun, place_key}
-use Rattle.history.proofs.Lists.{split_at, slice_get_found}
+use Rattle.history.proofs.Lists.{split_at, at_place, slice_get_found}
 use Rattle.history.proofs.Calls.{answer_made, answer_right}
 use Rattle.history.proofs.Naming.{stands_before}
-use Rattle.history.proofs.Numbers.{named_calls}
+use Rattle.history.proofs.Numbers.{IsNamed, named_line, named_calls, own_place}
 use Rattle.history.proofs.Sorts.{Small, gather_by_caller}
 use Rattle.history.proofs.Steps.{items_append, entries_none}
 use Rattle.history.proofs.Legal.{logs_none, caller_items, IsGathered, run_gathered, history_journal}
@@ -228,10 +228,10 @@ told_at config start lines callers journal logs run few numbered names place ite
     next : ℕ
     next = length (items_of (take place (history_of journal logs)) item.caller)
 
-    by_number : (line : TraceLine) → slice_get (lines_of lines item.caller) next ≡ Some line → (after : Option ℕ) → line.after ≡ after
-        → IfSome after (StandsAmong lines (take place (history_of journal logs)))
-    by_number line here None is = tt
-    by_number line here (Some number) is = λ teller there named named_here same.
+    answered_at : (line : TraceLine) → slice_get (lines_of lines item.caller) next ≡ Some line → (number : ℕ) → line.after ≡ Some number
+        → (teller there : ℕ) (named : TraceLine) → slice_get (lines_of lines teller) there ≡ Some named → named.number ≡ number
+        → there < length (items_of (take place (history_of journal logs)) teller)
+    answered_at line here number is teller there named named_here same =
         let mine : (log : List Seen) × (slice_get logs item.caller ≡ Some log) =
         has_log config start lines callers journal logs run item.caller next line here in
         let its : (log : List Seen) × (slice_get logs teller ≡ Some log) =
@@ -250,6 +250,21 @@ told_at config start lines callers journal logs run few numbered names place ite
         (did_call (own_of teller journal its.0) (lines_of lines teller) there said.0 named (run.done teller its.0 its.1) said.1 named_here call)
         found
         (run.told item.caller next mine.0 item line number mine.1 own here is teller there its.0 said.0 named its.1 said.1 named_here same)
+
+    by_number : (line : TraceLine) → slice_get (lines_of lines item.caller) next ≡ Some line → (after : Option ℕ) → line.after ≡ after
+        → IfSome after (StandsAmong lines (take place (history_of journal logs)))
+    by_number line here None is = tt
+    by_number line here (Some number) is =
+        let own_line = own_place lines item.caller next line here in
+        let its_line : IsNamed lines number = named_line lines line number (at_place (NamesACall lines) lines own_line.0 line names own_line.1) is in
+        record {
+          teller = its_line.teller;
+          place = its_line.place;
+          line = its_line.line;
+          its = its_line.its;
+          numbered = its_line.numbered;
+          answered = answered_at line here number is its_line.teller its_line.place its_line.line its_line.its its_line.numbered;
+        }
 
     by_line : (line : Option TraceLine) → slice_get (lines_of lines item.caller) next ≡ line
         → IfSome line (λ line. IfSome line.after (StandsAmong lines (take place (history_of journal logs))))

@@ -23,3 +23,4 @@ pub mod Advances
 pub mod Told
 pub mod Coming
 pub mod Walking
+pub mod OwnLines

@@ -151,3 +151,20 @@ named_calls lines numbered names caller place line number found after teller the
     let mine = own_place lines caller place line found in
     let other = own_place lines teller there named its in
     (names_call lines numbered line number (at_place (NamesACall lines) lines mine.0 line names mine.1) after other.0 named other.1 same).0
+
+-- what a line names, as a line of its caller
+pub record IsNamed (lines : List TraceLine) (number : ℕ) : Type 0 where
+  pub teller : ℕ
+  pub place : ℕ
+  pub line : TraceLine
+  pub its : slice_get (lines_of lines teller) place ≡ Some line
+  pub numbered : line.number ≡ number
+
+-- there is one
+pub named_line : (lines : List TraceLine) (line : TraceLine) (number : ℕ) → NamesACall lines line → line.after ≡ Some number → IsNamed lines number
+named_line lines line number names after =
+    let call = subst (λ (a : Option ℕ). IfSome a (λ n. (other : TraceLine) × Contains lines other × (other.number ≡ n) × (n < line.number)
+    × (other.thread ≢ line.thread) × (is_call_op other.op ≡ true))) after names in
+    let at = place_of lines call.0 call.1 in
+    let mine = owned lines at.0 call.0 at.1 in
+    record { teller = caller_of lines call.0.thread; place = mine.0; line = call.0; its = mine.1; numbered = call.2 }

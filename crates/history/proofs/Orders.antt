@@ -1,9 +1,9 @@
 -- For gathering and labelling: lists of items that are in order, and what comes of putting them so.
-use Rattle.std.proofs.Common.{ℕ, suc, ◌≡◌, ◌+◌, ◌*◌, ◌^◌, ◌<◌, ◌≤◌, ◌∙◌, refl, sym, ap, subst, cond, Bool, true, false, not, ◌&&◌, ◌||◌, nat_eq, nat_lt, nat_le, List, [], ◌∷◌, ◌++◌, length, length-append, take, get_or, All, arith, inl, inr}
+use Rattle.std.proofs.Common.{ℕ, suc, ◌≡◌, ◌+◌, ◌*◌, ◌^◌, ◌<◌, ◌≤◌, ◌∙◌, refl, sym, ap, subst, cond, Bool, true, false, not, ◌&&◌, ◌||◌, nat_eq, nat_lt, nat_le, List, [], ◌∷◌, ◌++◌, length, length-append, take, drop, get_or, All, arith, inl, inr}
 use Rattle.std.specs.List.{AllPairs}
 use Rattle.std.proofs.lemmas.Bool.{cases_Bool, cases_lt, cond_both, cond-true, le-leb, leb-true}
 use Rattle.std.proofs.lemmas.Bool.Decides.{nat_tests}
-use Rattle.std.proofs.lemmas.List.{take_all, take_more, get_or_append_left, get_or_at, get_or-append-add, get_or-take, length-take-le}
+use Rattle.std.proofs.lemmas.List.{take_all, take_more, drop_more, get_or_append_left, get_or_at, get_or-append-add, get_or-take, length-take-le}
 use Rattle.std.proofs.lemmas.List.Elements.{All-nil, All-cons, All-head, All-tail, All-push, All-weaker, All-from_get_or}
 use Rattle.std.proofs.lemmas.List.Kept.{AllPairs-cons}
 use Rattle.trace_reader.specs.declared.trace.TraceLine.{TraceLine}
@@ -14,7 +14,7 @@ use Rattle.mm_types.specs.declared.call.Seen.TheVariants as reads
 use Rattle.area_rules.specs.Journals.{version_of}
 use Rattle.history.specs.declared.items.Item.{Item}
 use Rattle.history.specs.Histories.{is_call, goes_first, gather}
-use Rattle.history.specs.Runs.{place_key, time_key, log_items}
+use Rattle.history.specs.Runs.{place_key, time_key, read_item, log_items}
 use Rattle.history.specs.Labels.{labelled}
 use Rattle.history.proofs.SerialOrder.{insert_item}
 use Rattle.history.proofs.Legal.{all_log}
@@ -240,6 +240,39 @@ log_places low (reads.Maps version list ∷ log) rises = (omega (arith, rises.0)
 pub log_in_order : (log : List Seen) → Rises version_of 0 log → AllPairs (λ a b. goes_first a b ≡ true) (log_items 0 log)
 log_in_order log rises =
     places_in_order (0 * 2 ^ 33 + 1) (log_items 0 log) (log_places 0 log rises) (all_log Small 0 log (λ k d below. omega arith))
+
+-- where versions do not fall, those from a read on do not
+pub falls_no_later : (log : List Seen) (place : ℕ) (read : Seen) (last now : ℕ) → (Rises version_of 0 log → Rises version_of last (drop place log))
+    → read ≡ get_or log place read → now ≡ version_of read → place < length log → Rises version_of 0 log
+    → (last ≤ now) × Rises version_of now (drop (place + 1) log)
+falls_no_later log place read last now later here is within all =
+    let more : drop place log ≡ read ∷ drop (place + 1) log =
+    drop_more log place read within ∙ ap (λ (x : Seen). x ∷ drop (place + 1) log) (sym here) in
+    let both : Rises version_of last (read ∷ drop (place + 1) log) = subst (λ (l : List Seen). Rises version_of last l) more (later all) in
+    (omega (arith, is, both.0), subst (λ (n : ℕ). Rises version_of n (drop (place + 1) log)) (sym is) both.1)
+
+versions_above : (version : ℕ) (log : List Seen) → All (λ item. version ≤ item.version) (log_items 0 log) → All (λ read. version ≤ version_of read) log
+unfolding log_items
+versions_above version [] all = All-nil (λ (read : Seen). version ≤ version_of read)
+versions_above version (read ∷ log) all =
+    All-cons (λ (read : Seen). version ≤ version_of read) read log
+    (All-head (λ (item : Item). version ≤ item.version) (read_item 0 read) (log_items 0 log) all)
+    (versions_above version log (All-tail (λ (item : Item). version ≤ item.version) (read_item 0 read) (log_items 0 log) all))
+
+-- and only reads whose versions do not fall are in the order of a history
+pub log_rises : (low : ℕ) (log : List Seen) → All (λ read. low ≤ version_of read) log → AllPairs (λ a b. goes_first a b ≡ true) (log_items 0 log)
+    → Rises version_of low log
+unfolding log_items
+log_rises low [] above pairs = tt
+log_rises low (read ∷ log) above pairs =
+    let x : Item = read_item 0 read in
+    let first : All (GoesFirst x) (log_items 0 log) = (pair_parts GoesFirst [] x (log_items 0 log) pairs).1 in (
+      All-head (λ (read : Seen). low ≤ version_of read) read log above,
+      log_rises (version_of read) log
+          (versions_above (version_of read) log
+          (All-weaker (GoesFirst x) (λ (y : Item). version_of read ≤ y.version) (λ y goes. first_is_no_higher x y goes) (log_items 0 log) first))
+          (λ i j d before within. pairs (suc i) (suc j) d (omega arith) (omega arith)),
+    )
 
 pub all_places : (items : List Item) (place : ℕ) → Rises place_key 0 (take place items) → length items ≤ place → Rises place_key 0 items
 all_places items place rises past = subst (λ (l : List Item). Rises place_key 0 l) (take_all place items past) rises

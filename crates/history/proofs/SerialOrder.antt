@@ -20,7 +20,7 @@ use Rattle.mm_types.specs.Sorts.{insert_in_order, sort_by}
 use Rattle.history.specs.Histories.{occurs, caller_of, lines_of, AsksItself, AskThemselves, call_of, makes_call, is_call, journal_of, line_of, StandsAmong, IsLegalHistory, goes_first, gather, space_by, version_by, space_after, version_after, items_from, serial_history, space_after_all, sort_by_caller, leading_reads, after_reads, answered_by, answered}
 use Rattle.history.proofs.Lists.{split_at, at_place, get_past}
 use Rattle.history.proofs.Calls.{line_call}
-use Rattle.history.proofs.Numbers.{passed, own_place, names_call}
+use Rattle.history.proofs.Numbers.{IsNamed, named_line, passed, own_place, names_call}
 use Rattle.history.proofs.CallerOrder.{callers_alike}
 use Rattle.mm_types.proofs.Sorting.{insert_by, filter-sort_by, All-sort_by, Rises, Rises-sort_by, sort_by-from_filters, sort_by-from_stable, sort_by_alike}
 use Rattle.history.proofs.Serial.{item_of, call_answer, HasLines, pairs_from, items_of_pairs, answers_place, GoesBefore, AreOrdered, opening_stands, counts_taken, items_are_history, all_reached}
@@ -553,13 +553,22 @@ told_before config trace lines whole numbered rise names place line found = by_n
   where
     by_number : (after : Option ℕ) → line.after ≡ after → IfSome after (StandsAmong trace (take place (items_from config trace (opening config) 0 lines)))
     by_number None is = tt
-    by_number (Some number) is = λ teller there named its same.
-        omega (
-          arith,
-          counts_taken config trace lines place teller,
-          named_before trace lines whole numbered rise place line found (at_place (NamesACall trace) lines place line names found) number is teller there
-              named its same,
-        )
+    by_number (Some number) is =
+        let call : NamesACall trace line = at_place (NamesACall trace) lines place line names found in
+        let named : IsNamed trace number = named_line trace line number call is in
+        record {
+          teller = named.teller;
+          place = named.place;
+          line = named.line;
+          its = named.its;
+          numbered = named.numbered;
+          answered = omega (
+            arith,
+            counts_taken config trace lines place named.teller,
+            named_before trace lines whole numbered rise place line found call number is named.teller named.place named.line named.its
+                named.numbered,
+          );
+        }
 
 -- it is legal and of the trace
 pub serial_is_history : (config : Config) (lines : List TraceLine) → AskThemselves lines → AreNumbered lines → AreNamesRight lines

@@ -6,7 +6,7 @@ use Rattle.std.proofs.lemmas.List.{append-nil, drop_all, drop_more, nil_from_len
 use Rattle.std.proofs.lemmas.List.Elements.{All-nil, All-cons, All-head, All-tail, All-append, All-weaker}
 use Rattle.mm_types.specs.declared.call.Entry.{Entry}
 use Rattle.mm_types.specs.declared.call.Seen.{Seen}
-use Rattle.mm_types.proofs.Sorting.{Rises}
+use Rattle.mm_types.proofs.Sorting.{Rises, Rises-sort_by}
 use Rattle.trace_reader.specs.declared.trace.TraceLine.{TraceLine}
 use Rattle.area_rules.specs.Journals.{version_of}
 use Rattle.history.specs.declared.items.Item.{Item}
@@ -15,12 +15,13 @@ use Rattle.history.specs.declared.turns.Turn.{Turn}
 use Rattle.history.specs.Histories.{caller_of, goes_first, gather}
 use Rattle.history.specs.Labels.{labelled, label_of}
 use Rattle.history.specs.Runs.{entry_items, read_item, log_items, logs_items, history_of, place_key}
-use Rattle.history.specs.Turns.{turn_item}
+use Rattle.history.specs.Turns.{turn_item, IsInTurn}
 use Rattle.history.specs.Internal.Turns.{turn_place, AreLater}
 use Rattle.history.proofs.SerialOrder.{insert_item}
 use Rattle.history.proofs.Gathers.{After, all_gather, call_before, higher_after}
 use Rattle.history.proofs.Regrouping.{labelled_small}
 use Rattle.history.proofs.Orders.{GoesFirst, in_order_gathered, first_is_no_higher, in_order_first, pair_parts}
+use Rattle.history.proofs.Sorts.{gather_is_sort}
 use Rattle.history.proofs.Steps.{entry_item}
 
 -- an item that may stand before all others, where those in front of it have to stand after it, comes first
@@ -154,6 +155,20 @@ turns_more trace lines place d items left turn last now caller all so_far within
     (subst (λ (l : List Item). Rises place_key last (labelled trace (line ∷ rest) l)) (sym first)
     (omega (arith, here, up), subst (λ (n : ℕ). Rises place_key n (labelled trace rest left)) here rises)))
 
+-- and where none of all falls, one thing more is no earlier
+pub turns_later : (trace lines : List TraceLine) (place : ℕ) (d : TraceLine) (items left : List Item) (turn : Turn) (last now caller : ℕ)
+    (all : List Item) → (Rises place_key 0 all → Rises place_key last (labelled trace (drop place lines) items))
+    → place < length lines → items ≡ turn_item turn ∷ left → caller ≡ caller_of trace (get_or lines place d).thread → now ≡ turn_place caller turn
+    → Rises place_key 0 all → (last ≤ now) × Rises place_key now (labelled trace (drop (place + 1) lines) left)
+turns_later trace lines place d items left turn last now caller all later within first of_line is rises =
+    let line : TraceLine = get_or lines place d in
+    let rest : List TraceLine = drop (place + 1) lines in
+    let here : now ≡ turn_place (caller_of trace line.thread) turn = is ∙ ap (λ (c : ℕ). turn_place c turn) of_line in
+    let both : Rises place_key last (labelled trace (line ∷ rest) (turn_item turn ∷ left)) =
+    subst (λ (l : List Item). Rises place_key last (labelled trace (line ∷ rest) l)) first
+    (subst (λ (l : List TraceLine). Rises place_key last (labelled trace l items)) (drop_more lines place d within) (later rises)) in
+    (omega (arith, here, both.0), subst (λ (n : ℕ). Rises place_key n (labelled trace rest left)) (sym here) both.1)
+
 -- at the end of the lines, or of what was done, nothing is left that could be earlier
 pub lines_end : (trace lines : List TraceLine) (place low : ℕ) (items : List Item) → length lines ≤ place
     → Rises place_key low (labelled trace (drop place lines) items)
@@ -175,3 +190,19 @@ in_turn_order lines journal log items tried is tried_is same =
 pub turns_gathered : (lines : List TraceLine) (items : List Item) → All (λ line. line.thread < MOST_THREADS) lines
     → Rises place_key 0 (labelled lines lines items) → labelled lines lines items ≡ gather (labelled lines lines items)
 turns_gathered lines items threads rises = in_order_gathered (labelled lines lines items) rises (labelled_small lines lines items threads)
+
+-- and only those
+pub gathered_rises : (lines : List TraceLine) (items : List Item) → All (λ line. line.thread < MOST_THREADS) lines
+    → labelled lines lines items ≡ gather (labelled lines lines items) → Rises place_key 0 (labelled lines lines items)
+gathered_rises lines items threads same =
+    let all : List Item = labelled lines lines items in
+    subst (λ (l : List Item). Rises place_key 0 l) (sym (same ∙ gather_is_sort all (labelled_small lines lines items threads)))
+    (Rises-sort_by place_key all)
+
+-- what is not gathered so is not in turn
+pub not_in_turn : (lines : List TraceLine) (journal : List Entry) (log : List Seen) (tried : List Item) → tried ≡ history_of journal (log ∷ [])
+    → (labelled lines lines tried ≡ gather (labelled lines lines tried) → ⊥) → IsInTurn lines journal log → ⊥
+unfolding label_of
+not_in_turn lines journal log tried is apart in_turn =
+    apart (ap (λ (l : List Item). labelled lines lines l) is ∙ in_turn.turns
+    ∙ ap (λ (l : List Item). gather (labelled lines lines l)) (sym is))

@@ -109,10 +109,14 @@ IsMade config space (contents.Called call reply) = call_of config space (asks_fo
 IsMade config space (contents.Fault page access verdict) = Unit {0}
 IsMade config space (contents.List areas) = Unit {0}
 
--- the item of the line of this number is among some items
-abbrev pub StandsAmong : List TraceLine → List Item → ℕ → Type 0
-StandsAmong lines before number = (teller place : ℕ) (line : TraceLine) → slice_get (lines_of lines teller) place ≡ Some line
-    → line.number ≡ number → place < length (items_of before teller)
+-- a line has this number, and its item is among some items
+pub record StandsAmong (lines : List TraceLine) (before : List Item) (number : ℕ) : Type 0 where
+  pub teller : ℕ
+  pub place : ℕ
+  pub line : TraceLine
+  pub its : slice_get (lines_of lines teller) place ≡ Some line
+  pub numbered : line.number ≡ number
+  pub answered : place < length (items_of before teller)
 
 -- An item can stand after others, in a space that began with some entries, where its version is that of its moment (a call's counts the
 -- call itself), reads of one version go by ascending caller, its caller's next line asks for it, a touch is of a fault that grows there,

@@ -4,6 +4,7 @@ pub mod Turns
 pub mod Labels
 pub mod Threads
 pub mod CallerPlaces
+pub mod Parents
 pub mod Checking
 pub mod Coming
 pub mod Internal

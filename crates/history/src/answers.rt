@@ -1,7 +1,7 @@
 //! What a history that is refused is told: the item that is bad, and what was expected there.
-ghost use Rattle.std.specs.Prelude.{◌≡◌, ◌↔◌, IsTrue, IfOk};
+ghost use Rattle.std.specs.Prelude.{◌≡◌, ◌≢◌, ◌↔◌, false, IsTrue, IsOk, IfOk};
 ghost use Rattle.history.specs.Checking.{answer_in};
-ghost use Rattle.history.specs.Internal.Walks.{shown};
+ghost use Rattle.history.specs.Internal.Walks.{is_list, shown};
 
 use crate::items::Content;
 use crate::same::{same_call, same_list, same_reply, same_verdict};
@@ -61,7 +61,8 @@ pub(crate) enum Expected {
 impl Answer {
     /// The answer of an item, with a copy of its list.
     pub(crate) fn of(alloc: Global, content: &Content) -> Result<Answer, NoMemory>
-        ensures { IfOk result (λ answer. answer ≡ answer_in content.now) }
+        ensures answer { IfOk result (λ answer. answer ≡ answer_in content.now) }
+        ensures at_once { is_list content.now ≡ false → IsOk result }
     {
         match content {
             Content::Called(call, reply) => Ok(Answer::Call(*call, *reply)),
@@ -74,7 +75,8 @@ impl Answer {
 impl Expected {
     /// The answer over an address space, with a copy of its areas where it is the list.
     pub(crate) fn answer(&self, alloc: Global, space: &PlainSpace<'_>) -> Result<Answer, NoMemory>
-        ensures { IfOk result (λ answer. answer ≡ shown space.now.space.areas self.now) }
+        ensures answer { IfOk result (λ answer. answer ≡ shown space.now.space.areas self.now) }
+        ensures at_once { self.now ≢ Expected.List → IsOk result }
     {
         match self {
             Expected::Call(call, reply) => Ok(Answer::Call(*call, *reply)),
@@ -84,22 +86,21 @@ impl Expected {
         }
     }
 
-    /// Whether an item answers this over an address space. Its areas are asked for only where the item is a list.
+    /// Whether an item answers this over an address space. Its areas are copied only where the item is a list, and one is expected.
     pub(crate) fn is_in(
         &self,
         alloc: Global,
         space: &PlainSpace<'_>,
         content: &Content,
     ) -> Result<bool, NoMemory>
-        ensures { IfOk result (λ is. IsTrue is ↔ (shown space.now.space.areas self.now ≡ answer_in content.now)) }
+        ensures is { IfOk result (λ is. IsTrue is ↔ (shown space.now.space.areas self.now ≡ answer_in content.now)) }
+        ensures at_once { is_list content.now ≡ false → IsOk result }
+        ensures other { self.now ≢ Expected.List → IsOk result }
     {
         match content {
             Content::Called(call, reply) => Ok(self.is_call(call, reply)),
             Content::Fault { verdict, .. } => Ok(self.is_verdict(verdict)),
-            Content::List(list) => {
-                let areas = space.copy_list(alloc)?;
-                Ok(self.is_list() && same_list(list.items(), areas.items()))
-            }
+            Content::List(list) => self.is_list_of(alloc, space, list),
         }
     }
 
@@ -123,11 +124,23 @@ impl Expected {
         }
     }
 
-    /// Whether it is the list.
-    fn is_list(&self) -> bool
-        ensures { IsTrue result ↔ (self.now ≡ Expected.List) }
+    /// Whether it is the list, and this is that of an address space.
+    fn is_list_of(
+        &self,
+        alloc: Global,
+        space: &PlainSpace<'_>,
+        list: &AreaList,
+    ) -> Result<bool, NoMemory>
+        ensures is { IfOk result (λ is. IsTrue is ↔ (shown space.now.space.areas self.now ≡ Answer.List list.now)) }
+        ensures other { self.now ≢ Expected.List → IsOk result }
     {
-        matches!(self, Expected::List)
+        match self {
+            Expected::List => {
+                let areas = space.copy_list(alloc)?;
+                Ok(same_list(list.items(), areas.items()))
+            }
+            Expected::Call(_, _) | Expected::Fault(_) | Expected::Nothing => Ok(false),
+        }
     }
 }
 

@@ -8,11 +8,13 @@ ghost use Rattle.history.specs.declared.callers.TheConstants.{MOST_THREADS};
 ghost use Rattle.history.specs.declared.items.Item.{Item};
 ghost use Rattle.history.specs.Histories.{CanStand, IsLegalHistory, IsMade, asks_for, call_of, read_of};
 ghost use Rattle.history.specs.Checking.{answer_in, answer_to, next_line, IsRefused};
+ghost use Rattle.history.specs.Parents.{parent_lines};
 ghost use Rattle.history.specs.Internal.Walks.{shown, space_after_line, HasBegun, IsWalked, IsToldRightly};
 
 use crate::answers::{Answer, BadEntry, CheckError, Expected};
 use crate::items::{Content, History, Item};
 use crate::made::made_call;
+use crate::parents::lines_of_parent;
 use crate::progress::Progress;
 use mm_types::{Call, Config, Entry, NoMemory};
 use plain_space::PlainSpace;
@@ -35,18 +37,20 @@ struct Walk<'a> {
     space: PlainSpace<'a>,
 }
 
-/// Judges a history: `Ok` exactly where it is legal and of the trace, and else the first item that is bad, or its end, where lines are
-/// left. Each call is made once, and each item is compared once. The only other error is out of memory.
+/// Judges a history: `Ok` exactly where it is legal and of the trace, of one that forks of the parent's lines, and else the first item
+/// that is bad, or its end, where lines are left. Each call is made once, and each item is compared once. The only other error is out of
+/// memory.
 pub fn check(alloc: Global, trace: &Trace, history: &History) -> Result<(), CheckError>
     requires valid { IsValidConfig trace.now.config }
     requires few { length trace.now.lines ≤ MOST_LINES }
     requires threads { All (λ line. line.thread < MOST_THREADS) trace.now.lines }
     requires numbered { AreNumbered trace.now.lines }
-    ensures legal { OnOk result (IsLegalHistory trace.now.config [] trace.now.lines history.now) }
+    ensures legal { OnOk result (IsLegalHistory trace.now.config [] (parent_lines trace.now.lines) history.now) }
     ensures refused { (bad : BadEntry) → result ≡ Err (CheckError.Bad bad)
-        → IsRefused trace.now.config [] trace.now.lines history.now bad }
+        → IsRefused trace.now.config [] (parent_lines trace.now.lines) history.now bad }
 {
-    check_after(alloc, &trace.config, &[], trace.lines.items(), history)
+    let lines = lines_of_parent(alloc, trace.lines.items())?;
+    check_after(alloc, &trace.config, &[], lines.as_slice(), history)
 }
 
 /// Judges a history of a space that began with some entries, as `check` does one of a space that began empty.

@@ -1,6 +1,5 @@
 //! The history of a journal and of the logs of its callers.
-ghost use Rattle.std.specs.Prelude.{◌≡◌, ◌+◌, ◌<◌, ◌^◌, ◌++◌, ◌∷◌, [], IfOk, OnOk, AllPairs, length, map, true};
-ghost use Rattle.std.specs.Bool.{OnTrue};
+ghost use Rattle.std.specs.Prelude.{◌≡◌, ◌↔◌, ◌+◌, ◌<◌, ◌^◌, ◌++◌, ◌∷◌, [], IfOk, OnOk, IsTrue, AllPairs, length, map, true};
 ghost use Rattle.area_rules.specs.Journals.{version_of};
 ghost use Rattle.history.specs.Histories.{goes_first, gather};
 ghost use Rattle.history.specs.Runs.{entry_items, read_item, log_items, logs_items, history_of};
@@ -42,7 +41,7 @@ pub(crate) fn gather_one(
 
 /// Whether the reads of one log are in the order of a history: their versions do not fall.
 pub(crate) fn is_in_order(log: &[Seen]) -> bool
-    ensures { OnTrue result (AllPairs (λ a b. goes_first a b ≡ true) (log_items 0 log.now)) }
+    ensures { IsTrue result ↔ AllPairs (λ a b. goes_first a b ≡ true) (log_items 0 log.now) }
 {
     let mut last = 0;
     for read in log {

@@ -12,6 +12,7 @@ mod laws;
 mod made;
 mod numbered;
 mod ordering;
+mod parents;
 mod places;
 mod progress;
 mod run_laws;
@@ -32,6 +33,7 @@ pub use laws::{
 };
 pub use made::made_call;
 pub use numbered::are_numbered;
+pub use parents::lines_of_parent;
 pub use places::places_by_caller;
 pub use progress::Progress;
 pub use run_laws::{

@@ -117,13 +117,13 @@ impl<'a> Progress<'a> {
         }
     }
 
-    /// Whether the line of this number is answered, if there is one.
+    /// Whether a line has this number and is answered.
     fn is_answered(&self, number: u64) -> bool
         ensures { (lines : List TraceLine) (before : List Item) → IsProgress lines before self.now
             → IsTrue result ↔ StandsAmong lines before number }
     {
         let Some(line) = line_of_number(self.lines, number) else {
-            return true;
+            return false;
         };
         let caller = self.callers.caller(line.thread) as usize;
         match self.next_line(caller) {

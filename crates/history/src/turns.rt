@@ -1,13 +1,12 @@
 //! What one caller did that ran all lines of a trace, one thing after the other, without a list of it.
-ghost use Rattle.std.specs.Prelude.{◌≡◌, ◌<◌, ◌≤◌, ◌⊎◌, ◌∷◌, [], All, AllPairs, IfSome, MatchOption, true};
-ghost use Rattle.std.specs.Bool.{OnTrue};
+ghost use Rattle.std.specs.Prelude.{◌≡◌, ◌↔◌, ◌<◌, ◌≤◌, ◌⊎◌, ◌∷◌, [], All, AllPairs, IfSome, IfNone, IsTrue, MatchOption, true};
 ghost use Rattle.history.specs.declared.callers.TheConstants.{MOST_THREADS};
 ghost use Rattle.history.specs.Histories.{gather, goes_first};
 ghost use Rattle.history.specs.Labels.{labelled, label_of};
 ghost use Rattle.history.specs.Runs.{history_of, log_items};
 ghost use Rattle.area_rules.specs.Journals.{version_of};
 ghost use Rattle.history.specs.Internal.Turns.{turn_place, AreLater};
-ghost use Rattle.history.specs.Turns.{turn_item};
+ghost use Rattle.history.specs.Turns.{turn_item, IsInTurn};
 
 use crate::callers::{Callers, MOST_THREADS};
 use crate::gathering::{is_in_order, version_of};
@@ -101,25 +100,27 @@ fn next_read<'a>(version: u64, journal: &[Entry], log: &'a [Seen]) -> Option<(&'
     Some((read, rest))
 }
 
-/// What one caller did by a journal and a log, in the order of a history, where that is the order of the lines that stand with it.
-/// `None` says nothing, by any clause. By the code it comes where the versions of the log fall, or where a read of a version
-/// stands behind one of it by a later thread.
+/// What one caller did by a journal and a log, in the order of a history, where that is the order of the lines that stand with it; else
+/// `None`: the versions of the log fall, or a read of a version stands behind one of it by a later thread.
 pub fn in_turn<'a>(lines: &[TraceLine], journal: &'a [Entry], log: &'a [Seen]) -> Option<Turns<'a>>
     requires { All (λ line. line.thread < MOST_THREADS) lines.now }
     ensures all { IfSome result (λ turns. turns ≡ history_of journal.now (log.now ∷ [])) }
     ensures order { IfSome result (λ turns. labelled lines.now lines.now turns ≡ label_of lines.now journal.now log.now) }
+    ensures none { IfNone result (IsInTurn lines.now journal.now log.now → ⊥) }
 {
-    if is_in_order(log) && is_in_turn(lines, Turns::of(journal, log)) {
-        Some(Turns::of(journal, log))
-    } else {
-        None
+    if !is_in_order(log) {
+        return None;
     }
+    if !is_in_turn(lines, Turns::of(journal, log)) {
+        return None;
+    }
+    Some(Turns::of(journal, log))
 }
 
 /// Whether these things, each by the caller of the line that stands with it, are in the order of a history.
 fn is_in_turn(lines: &[TraceLine], mut turns: Turns<'_>) -> bool
     requires { All (λ line. line.thread < MOST_THREADS) lines.now }
-    ensures { OnTrue result (labelled lines.now lines.now turns.entry ≡ gather (labelled lines.now lines.now turns.entry)) }
+    ensures { IsTrue result ↔ (labelled lines.now lines.now turns.entry ≡ gather (labelled lines.now lines.now turns.entry)) }
 {
     let callers = Callers::of(lines);
     let mut last = 0;

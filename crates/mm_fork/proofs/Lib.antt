@@ -3,5 +3,5 @@ pub mod Places
 pub mod Spaces
 pub mod ChildRuns
 pub mod Alike
-pub mod OwnLines
+pub mod LogsBehind
 pub mod Traces

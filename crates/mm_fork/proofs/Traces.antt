@@ -10,7 +10,8 @@ use Rattle.trace_reader.specs.Lines.{has_child}
 use Rattle.trace_reader.specs.Values.{IsTraceValue, IsLineValue, AreForksRight, AreNamesRight, AreNumbered, NamesACall, NamesInSpace, ForksFromParent, IsOfParent, child_of, children_of, is_call_op, is_maps}
 use Rattle.split_merge.proofs.Lists.{length-filter_at_most}
 use Rattle.split_merge.proofs.Counting.{contains_filter}
-use Rattle.mm_fork.specs.Children.{parent_lines, child_lines, parent_trace, child_trace}
+use Rattle.history.specs.Parents.{parent_lines}
+use Rattle.mm_fork.specs.Children.{child_lines, parent_trace, child_trace}
 
 -- ---- what a test gives of some of the elements
 

@@ -1,12 +1,10 @@
 -- Child spaces: what a child begins with, whose lines are whose, and the history of a child.
-use Rattle.std.specs.Prelude.{ℕ, ◌≡◌, ◌≤◌, ◌<◌, ◌+◌, false, not, nat_eq, List, [], ◌++◌, length, map, take, drop, filter, fold, slice_get, All, Some}
+use Rattle.std.specs.Prelude.{ℕ, ◌≡◌, ◌≤◌, ◌<◌, ◌+◌, false, nat_eq, List, [], ◌++◌, length, map, take, drop, filter, fold, slice_get, All, Some}
 use Rattle.mm_types.specs.declared.call.Entry.{Entry}
 use Rattle.mm_types.specs.declared.call.Seen.{Seen}
 use Rattle.mm_types.specs.declared.config.Config.{Config}
 use Rattle.trace_reader.specs.declared.trace.Trace.{Trace}
 use Rattle.trace_reader.specs.declared.trace.TraceLine.{TraceLine}
-use Rattle.trace_reader.specs.Lines.{has_child}
-use Rattle.trace_reader.specs.Values.{children_of}
 use Rattle.area_rules.specs.Growing.{grows}
 use Rattle.area_rules.specs.Tables.{AddressSpace}
 use Rattle.area_rules.specs.Verdicts.{verdict}
@@ -17,6 +15,7 @@ use Rattle.history.specs.declared.items.Content.{Content}
 use Rattle.history.specs.declared.items.Content.TheVariants as contents
 use Rattle.history.specs.declared.items.Item.{Item}
 use Rattle.history.specs.Histories.{lines_of}
+use Rattle.history.specs.Parents.{parent_lines}
 use Rattle.history.specs.Runs.{history_of, own_of, ops_of, asked, HasGrown, AreTold}
 use Rattle.mm_fork.specs.Behind.{log_behind}
 
@@ -31,10 +30,6 @@ inherited journal version = map as_inherited (take version journal)
 -- the history of a child that was forked at a version, by its whole journal and the logs of its callers
 abbrev pub child_history_of : ℕ → List Entry → List (List Seen) → List Item
 child_history_of version journal logs = history_of (drop version journal) (map (log_behind version) logs)
-
--- the lines of the parent, in order: those of threads that are no child's
-abbrev pub parent_lines : List TraceLine → List TraceLine
-parent_lines lines = filter (λ line. not (has_child (children_of lines) line.thread)) lines
 
 -- the lines of a child, in order
 abbrev pub child_lines : List TraceLine → ℕ → List TraceLine

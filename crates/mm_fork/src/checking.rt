@@ -7,16 +7,17 @@ ghost use Rattle.history.specs.declared.answers.BadEntry.{BadEntry};
 ghost use Rattle.history.specs.declared.callers.TheConstants.{MOST_THREADS};
 ghost use Rattle.history.specs.Checking.{IsRefused};
 ghost use Rattle.history.specs.Histories.{IsLegalHistory};
-ghost use Rattle.mm_fork.specs.Children.{parent_lines, child_lines};
+ghost use Rattle.history.specs.Parents.{parent_lines};
+ghost use Rattle.mm_fork.specs.Children.{child_lines};
 
-use crate::lines::{lines_of_child, lines_of_parent};
-use history::{CheckError, History, check_after};
+use crate::lines::lines_of_child;
+use history::{CheckError, History, check, check_after};
 use mm_types::Entry;
 use std::alloc::Global;
 use trace_reader::Trace;
 
-/// Judges the history of the parent of a trace, as `check` does one of a trace without children: `Ok` exactly where it is legal and of the
-/// lines of threads that are no child's, and else the first item that is bad, or its end. The only other error is out of memory.
+/// Judges the history of the parent of a trace, as `check` does: `Ok` exactly where it is legal and of the lines of threads that are no
+/// child's, and else the first item that is bad, or its end. The only other error is out of memory.
 pub fn check_parent(alloc: Global, trace: &Trace, history: &History) -> Result<(), CheckError>
     requires valid { IsValidConfig trace.now.config }
     requires few { length trace.now.lines ≤ MOST_LINES }
@@ -26,8 +27,7 @@ pub fn check_parent(alloc: Global, trace: &Trace, history: &History) -> Result<(
     ensures refused { (bad : BadEntry) → result ≡ Err (CheckError.Bad bad)
         → IsRefused trace.now.config [] (parent_lines trace.now.lines) history.now bad }
 {
-    let lines = lines_of_parent(alloc, trace.lines.items())?;
-    check_after(alloc, &trace.config, &[], lines.as_slice(), history)
+    check(alloc, trace, history)
 }
 
 /// Judges the history of a child of a trace, which began with these entries, as `check` does that of a space that began empty: `Ok` exactly

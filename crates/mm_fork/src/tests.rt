@@ -276,6 +276,32 @@ fn a_fault_comes_after_the_line_that_it_names(rt: HostRuntime) -> Result<(), Fai
     Ok(())
 }
 
+/// One thread unmaps a page, in a line that names a line that the trace does not have.
+fn stray_trace(alloc: Global, thread: u32) -> Result<Trace, Fail> {
+    let lines = vec![in alloc; line(2, thread, Op::Call(UNMAPPING), Some(99))]?;
+    Ok(trace_of(alloc, lines))
+}
+
+/// Its item, which is right.
+fn stray_history(alloc: Global) -> Result<Vec<Item>, Fail> {
+    let mut items = Vec::new(alloc);
+    items.push(called(0, 1, UNMAPPING, Reply::Zero))?;
+    Ok(items)
+}
+
+#[test]
+fn a_line_that_names_none_of_the_space_stands_nowhere(rt: HostRuntime) -> Result<(), Fail> {
+    let wanted = (1, Kind::Nothing, Kind::Call);
+    let trace = stray_trace(rt.alloc(), 0)?;
+    let items = stray_history(rt.alloc())?;
+    assert_eq!(rt; bad_of_parent(&rt, &trace, items)?, Some(wanted));
+
+    let history = History::of(stray_history(rt.alloc())?);
+    let trace = stray_trace(rt.alloc(), 7)?;
+    assert_eq!(rt; bad_of_child(&rt, &trace, &[], &history)?, Some(wanted));
+    Ok(())
+}
+
 /// A call that unmaps the page of the parent.
 const UNMAPPING: Call = Call::Munmap {
     addr: 0x10_0000,

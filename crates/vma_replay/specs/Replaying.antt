@@ -13,7 +13,8 @@ use Rattle.history.specs.declared.items.Item.{Item}
 use Rattle.history.specs.Histories.{journal_of, IsLegalHistory}
 use Rattle.history.specs.Runs.{history_of, IsRun}
 use Rattle.history.specs.Labels.{label_of, IsSerialRun}
-use Rattle.mm_fork.specs.Children.{inherited, child_history_of, parent_lines, child_lines, parent_trace, IsChildRun}
+use Rattle.history.specs.Parents.{parent_lines}
+use Rattle.mm_fork.specs.Children.{inherited, child_history_of, child_lines, parent_trace, IsChildRun}
 use Rattle.trace_reader.specs.declared.error.Cause.{Cause}
 use Rattle.trace_reader.specs.declared.error.BadLine.{BadLine}
 use Rattle.trace_reader.specs.declared.trace.Trace.{Trace}

@@ -1,5 +1,5 @@
 -- What `check` keeps while it walks over the items of a history.
-use Rattle.std.specs.Prelude.{ℕ, ◌≡◌, ◌+◌, ◌-◌, ◌^◌, ◌<◌, ◌≤◌, false, if◌then◌else◌, List, ◌++◌, length, take, All, Option, Some, None, IfSome, IsSomeAnd}
+use Rattle.std.specs.Prelude.{ℕ, ◌≡◌, ◌+◌, ◌-◌, ◌^◌, ◌<◌, ◌≤◌, Bool, true, false, if◌then◌else◌, List, ◌++◌, length, take, All, Option, Some, None, IfSome, IsSomeAnd}
 use Rattle.mm_types.specs.declared.area.Record.{Record}
 use Rattle.mm_types.specs.declared.call.Entry.{Entry}
 use Rattle.mm_types.specs.declared.config.Config.{Config}
@@ -17,10 +17,18 @@ use Rattle.history.specs.declared.answers.Expected.TheVariants as expected
 use Rattle.history.specs.declared.callers.TheConstants.{MOST_THREADS}
 use Rattle.history.specs.declared.checking.Case.{Case}
 use Rattle.history.specs.declared.checking.Walk.{Walk}
+use Rattle.history.specs.declared.items.Content.{Content}
+use Rattle.history.specs.declared.items.Content.TheVariants as contents
 use Rattle.history.specs.declared.items.Item.{Item}
 use Rattle.history.specs.Histories.{items_of, lines_of, journal_of, is_call, read_as, op_of, space_after, StandsAmong}
 use Rattle.history.specs.Checking.{AreGood, IsRefused}
 use Rattle.history.specs.Coming.{ProgressView, IsProgress}
+
+-- whether a content is a list of areas, which alone takes memory to show
+abbrev pub is_list : Content → Bool
+is_list (contents.Called call reply) = false
+is_list (contents.Fault page access verdict) = false
+is_list (contents.List areas) = true
 
 -- what is expected, where a list is this one
 abbrev pub shown : List Record → Expected → Answer

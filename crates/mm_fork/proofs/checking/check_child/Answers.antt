@@ -2,7 +2,7 @@
 use Rattle.std.proofs.Common.{◌∙◌, ap, nat_eq}
 use Rattle.trace_reader.specs.declared.trace.TraceLine.{TraceLine}
 use Rattle.mm_fork.specs.Children.{child_lines}
-use Rattle.mm_fork.proofs.OwnLines.{own_few, own_threads, own_numbers}
+use Rattle.history.proofs.OwnLines.{own_few, own_threads, own_numbers}
 use Rattle.mm_fork.proofs.checking.check_child.Goals as goal
 
 pub check_after-requires-clause-few : goal.check_after-requires-clause-few

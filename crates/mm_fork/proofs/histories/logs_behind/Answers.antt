@@ -1,7 +1,7 @@
 -- For `logs_behind`: its goals.
 use Rattle.std.proofs.Common.{◌∙◌, ap}
 use Rattle.mm_fork.specs.Behind.{log_behind}
-use Rattle.mm_fork.proofs.OwnLines.{logs_more, logs_done}
+use Rattle.mm_fork.proofs.LogsBehind.{logs_more, logs_done}
 use Rattle.mm_fork.proofs.histories.logs_behind.Goals as goal
 
 pub loop-log-preserved : goal.loop-log-preserved

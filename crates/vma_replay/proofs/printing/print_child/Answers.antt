@@ -3,7 +3,7 @@ use Rattle.std.proofs.Common.{◌∙◌, ap, nat_eq, refl}
 use Rattle.trace_reader.specs.declared.trace.TraceLine.{TraceLine}
 use Rattle.history.proofs.ThreadCounts.{threads_of_trace}
 use Rattle.mm_fork.specs.Children.{child_lines}
-use Rattle.mm_fork.proofs.OwnLines.{own_few, own_threads}
+use Rattle.history.proofs.OwnLines.{own_few, own_threads}
 use Rattle.vma_replay.proofs.ChildSpaces.{reads_later}
 use Rattle.vma_replay.proofs.Pieces.{at_error, cut_none}
 use Rattle.vma_replay.proofs.printing.print_child.Goals as goal

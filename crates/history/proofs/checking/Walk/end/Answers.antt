@@ -16,4 +16,4 @@ returns-clause-refused c =
     (c.in-Some.ensures c.args.case.now.lines.now _ c.requires.progress)
     (c.next_line-line.ensures _ _ c.requires.progress)
     c.run_line-expected.ensures.answer refl
-    c.in_ok-answer.ensures refl
+    c.in_ok-answer.ensures.answer refl

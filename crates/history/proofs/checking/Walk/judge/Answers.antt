@@ -28,7 +28,7 @@ returns-clause-ok c =
     (slice_get-get_or c.args.case.now.items.now c.args.place _ c.requires.within)
     (c.next_line-line.ensures _ _ c.requires.walked.progress) (c.if-not-can_stand.ensures.0 refl)
     c.run_line-expected.ensures.answer
-    (c.in_ok-is_answered.ensures.0 c.if-not-is_answered.false)
+    (c.in_ok-is_answered.ensures.is.0 c.if-not-is_answered.false)
     c.run_line-expected.ensures.space c.run_line-expected.ensures.config c.run_line-expected.ensures.objects
     c.pass.ensures.answered c.pass.ensures.lines _ c.is_call.ensures c.pass.ensures.version c.pass.ensures.lowest
 
@@ -39,7 +39,7 @@ returns-then-not-is_answered-clause-refused c =
     (slice_get-get_or c.args.case.now.items.now c.args.place _ c.requires.within)
     (c.next_line-line.ensures _ _ c.requires.walked.progress) (c.if-not-can_stand.ensures.0 refl)
     c.run_line-expected.ensures.answer
-    (λ same. false≢true (sym c.if-not-is_answered.true ∙ c.in_ok-is_answered.ensures.1 same))
+    (λ same. false≢true (sym c.if-not-is_answered.true ∙ c.in_ok-is_answered.ensures.is.1 same))
     refl
-    c.in_ok-answer.ensures
-    c.in_ok-of-2.ensures
+    c.in_ok-answer.ensures.answer
+    c.in_ok-of-2.ensures.answer

@@ -1,11 +1,11 @@
--- For `check_parent`: what `check_after` requires of the parent's lines.
+-- For `check`: what `check_after` requires of the parent's lines.
 use Rattle.std.proofs.Common.{◌∙◌, ap, not}
 use Rattle.trace_reader.specs.declared.trace.TraceLine.{TraceLine}
 use Rattle.trace_reader.specs.Lines.{has_child}
 use Rattle.trace_reader.specs.Values.{children_of}
-use Rattle.mm_fork.specs.Children.{parent_lines}
-use Rattle.mm_fork.proofs.OwnLines.{own_few, own_threads, own_numbers}
-use Rattle.mm_fork.proofs.checking.check_parent.Goals as goal
+use Rattle.history.specs.Parents.{parent_lines}
+use Rattle.history.proofs.OwnLines.{own_few, own_threads, own_numbers}
+use Rattle.history.proofs.checking.check.Goals as goal
 
 pub check_after-requires-clause-few : goal.check_after-requires-clause-few
 check_after-requires-clause-few c =
