@@ -1,5 +1,5 @@
 -- For all calls of `Board`: how slots hang together, step by step.
-use Rattle.std.proofs.Common.{◌≡◌, ◌≢◌, ◌≤◌, ◌<◌, ◌+◌, ℕ, true, nat_lt, nat_le, not, List, [], ◌∷◌, ◌++◌, length, get_or, set, sum_by, All, refl, sym, ap, ◌∙◌, subst, ◌⊎◌, inl, inr, arith, if◌then◌else◌, length-append}
+use Rattle.std.proofs.Common.{◌≡◌, ◌≢◌, ◌≤◌, ◌<◌, ◌+◌, ℕ, Bool, true, false, nat_lt, nat_le, not, List, [], ◌∷◌, ◌++◌, length, get_or, set, sum_by, All, refl, sym, ap, ◌∙◌, subst, ◌⊎◌, inl, inr, arith, if◌then◌else◌, length-append}
 use Rattle.std.specs.List.{Contains}
 use Rattle.std.specs.List.Sorted.{IsPermutation}
 use Rattle.std.proofs.lemmas.Bool.{cases_eq, cases_lt, cond-true, cond-false}
@@ -310,22 +310,44 @@ seen_freed slots after tree is = subst (IsFreed tree slots) (sym is) record {
     sum_by-append (λ (l : Leaving). one_at slot l.slot) (gone_by tree slots.left) (gone_after tree slots.left),
     sum_by-IsPermutation (λ (l : Leaving). one_at slot l.slot) slots.left (gone_by tree slots.left ++ gone_after tree slots.left) (parted_left tree slots.left),
   );
-  leaving = λ last all. All-filter (λ (l : Leaving). not (left_by tree l)) (λ (l : Leaving). l.tree ≤ last) slots.left all;
-  waits = λ leaving member later. contains_filter (λ (l : Leaving). not (left_by tree l)) slots.left leaving member (left_later tree leaving.tree later);
+  left = refl;
 }
+
+-- what is left after slots were freed left no later than before
+pub freed_upto : (settled last : ℕ) (old new : SlotSet) → IsFreed settled old new → All (λ leaving. leaving.tree ≤ last) old.left
+    → All (λ leaving. leaving.tree ≤ last) new.left
+freed_upto settled last old new freed all = subst (λ (left : List Leaving). All (λ leaving. leaving.tree ≤ last) left) (sym freed.left)
+    (All-filter (λ (l : Leaving). not (left_by settled l)) (λ (l : Leaving). l.tree ≤ last) old.left all)
+
+-- what left after the settled tree is left still
+pub freed_waits : (settled : ℕ) (old new : SlotSet) → IsFreed settled old new → (leaving : Leaving) → Contains old.left leaving → settled < leaving.tree
+    → Contains new.left leaving
+freed_waits settled old new freed leaving member later = subst (λ (left : List Leaving). Contains left leaving) (sym freed.left)
+    (contains_filter (λ (l : Leaving). not (left_by settled l)) old.left leaving member (left_later settled leaving.tree later))
   where
     left_later : (settled later : ℕ) → settled < later → not (nat_le later settled) ≡ true
     left_later settled later above = grind (arith, nat_tests)
 
--- slots that were freed twice, by trees up to a third
-pub freed_freed : (first second third : SlotSet) (settled between later : ℕ) → IsFreed settled first second → IsFreed between second third → settled ≤ later → between ≤ later
+-- what left after a tree and after a later one is what left after the later one
+gone_on : (settled later : ℕ) → settled ≤ later → (left : List Leaving) → gone_after later (gone_after settled left) ≡ gone_after later left
+gone_on settled later upto [] = refl
+gone_on settled later upto (l ∷ left) = first (nat_le l.tree settled) (nat_le l.tree later) refl refl (gone_on settled later upto left)
+  where
+    first : (a b : Bool) → nat_le l.tree settled ≡ a → nat_le l.tree later ≡ b → gone_after later (gone_after settled left) ≡ gone_after later left
+        → gone_after later (gone_after settled (l ∷ left)) ≡ gone_after later (l ∷ left)
+    first true true gone too rest = rw (gone, too) rest
+    first true false gone stays rest = absurd (grind (arith, nat_tests))
+    first false true stays gone rest = rw (stays, gone) rest
+    first false false stays still rest = rw (stays, still) (ap (λ more. l ∷ more) rest)
+
+-- slots that were freed twice
+pub freed_freed : (first second third : SlotSet) (settled later : ℕ) → IsFreed settled first second → IsFreed later second third → settled ≤ later
     → IsFreed later first third
-freed_freed first second third settled between later one two upto too = record {
+freed_freed first second third settled later one two upto = record {
   count = two.count ∙ one.count;
   sum = two.sum ∙ one.sum;
   each = λ slot. two.each slot ∙ one.each slot;
-  leaving = λ last all. two.leaving last (one.leaving last all);
-  waits = λ leaving member above. two.waits leaving (one.waits leaving member (omega (arith, upto, above))) (omega (arith, too, above));
+  left = two.left ∙ ap (gone_after later) one.left ∙ gone_on settled later upto first.left;
 }
 
 pub hangs_freed : (states : List SlotState) (shown : List ShownArea) (settled : ℕ) (slots after : SlotSet) → IsFreed settled slots after → Hangs states shown slots

@@ -23,7 +23,7 @@ use Rattle.mm_state.specs.Shelves.{Hangs}
 use Rattle.mm_state.specs.Internal.Boards.{adds, adds_of, CanFree, IsFreed, IsAtRest, IsReadied, IsChanging, CanHold, weigh}
 use Rattle.mm_state.proofs.InOrder.{weigh_map, same_order, can_hold}
 use Rattle.mm_state.proofs.Weights.{applied_weighs}
-use Rattle.mm_state.proofs.Hanging.{hangs_freed, none_above, at_most_once, self}
+use Rattle.mm_state.proofs.Hanging.{hangs_freed, freed_upto, none_above, at_most_once, self}
 
 -- a board whose tree is prepared, but for its writer
 pub record IsPrepared (old board : Board) : Type 0 where
@@ -36,7 +36,7 @@ prepared old board changes rest ready = record {
   hangs = subst (λ (list : List ShownArea). Hangs (slots old.writer) list board.slots) (sym list)
       (hangs_freed (slots old.writer) (shown_of old.areas) board.areas.tree.settled old.slots board.slots ready.slots rest.hangs);
   moved = moved;
-  leaving = ready.slots.leaving (board.areas.tree.number + 1) (All-weaker (λ leaving. leaving.tree ≤ old.areas.tree.number) (λ leaving. leaving.tree ≤ board.areas.tree.number + 1)
+  leaving = freed_upto board.areas.tree.settled (board.areas.tree.number + 1) old.slots board.slots ready.slots (All-weaker (λ leaving. leaving.tree ≤ old.areas.tree.number) (λ leaving. leaving.tree ≤ board.areas.tree.number + 1)
       (λ leaving upto. omega (arith, upto, ap (λ (t : AreaTreeView). t.tree.number) ready.areas)) old.slots.left rest.tree.leaving);
 }
   where
@@ -120,6 +120,6 @@ slots_suffice board changes rest few few_after = record {
 pub can_free : (areas later : AreaTreeView) (set after : SlotSet) (settled wanted : ℕ) → CanFree areas set wanted → later.tree.number ≡ areas.tree.number
     → IsFreed settled set after → CanFree later after wanted
 can_free areas later set after settled wanted can same freed = record {
-  left = subst (λ n. All (λ leaving. leaving.tree ≤ n) after.left) (sym same) (freed.leaving areas.tree.number can.left);
+  left = subst (λ n. All (λ leaving. leaving.tree ≤ n) after.left) (sym same) (freed_upto settled areas.tree.number set after freed can.left);
   enough = omega (arith, can.enough, freed.sum);
 }

@@ -36,13 +36,12 @@ adds (Add new) = 1
 abbrev pub adds_of : List Change → ℕ
 adds_of changes = sum_by adds changes
 
--- some of the slots that left by a tree are free, and those that left after it are left still
+-- just the slots that left by a tree are free beside those that were, and just those that left after it are left
 pub record IsFreed (settled : ℕ) (old new : SlotSet) : Type 0 where
   pub count : new.count ≡ old.count
   pub sum : length new.free + length new.left ≡ length old.free + length old.left
   pub each : (slot : ℕ) → times slot new.free + times_left slot new.left ≡ times slot old.free + times_left slot old.left
-  pub leaving : (tree : ℕ) → All (λ leaving. leaving.tree ≤ tree) old.left → All (λ leaving. leaving.tree ≤ tree) new.left
-  pub waits : (leaving : Leaving) → Contains old.left leaving → settled < leaving.tree → Contains new.left leaving
+  pub left : new.left ≡ gone_after settled old.left
 
 -- A tree of areas with its slots, of which so many can be free: each that left did so with a tree up to the present one, and is free
 -- once this one is settled.

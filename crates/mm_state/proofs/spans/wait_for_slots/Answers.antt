@@ -49,13 +49,18 @@ loop-preserved g c =
           (ap (λ (t : AreaTreeView). t.tree.number) tried.areas) tried.slots;
       areas = scanned_more c.args.areas.now c.loop.areas c.scan_for.new.areas was.areas tried.areas;
       settled = omega (arith, was.settled, tried.settled);
-      slots = freed_freed c.args.slots.now c.loop.slots c.scan_for.new.slots c.loop.areas.tree.settled c.scan_for.new.areas.tree.settled c.scan_for.new.areas.tree.settled
-          was.slots tried.slots tried.settled (omega arith);
+      slots = freed_freed c.args.slots.now c.loop.slots c.scan_for.new.slots c.loop.areas.tree.settled c.scan_for.new.areas.tree.settled
+          was.slots tried.slots tried.settled;
       few = tried.few c.if-scan_for.false;
       short = was.short;
       rounds = (was.rounds.0 + 1, omega (arith, was.rounds.1, tried.scans, was.readers));
       readers = tried.readers ∙ was.readers;
     }
+
+pub returns-then-scan_for-clause-slots : goal.returns-then-scan_for-clause-slots
+returns-then-scan_for-clause-slots g c =
+    freed_freed c.args.slots.now c.loop.slots c.scan_for.new.slots c.loop.areas.tree.settled c.scan_for.new.areas.tree.settled
+    c.loop.invariant.slots c.scan_for.ensures.slots c.scan_for.ensures.settled
 
 pub returns-then-scan_for-clause-scans : goal.returns-then-scan_for-clause-scans
 returns-then-scan_for-clause-scans g c =

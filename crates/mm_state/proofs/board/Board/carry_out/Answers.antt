@@ -21,7 +21,7 @@ use Rattle.mm_state.specs.Shelves.{Hangs}
 use Rattle.mm_state.specs.States.{MarksChanged, KeepsSlots, KeepsLeft, HaveLeft}
 use Rattle.mm_state.specs.Internal.Boards.{IsPackable, ChangesAtMost}
 use Rattle.mm_state.proofs.Changing.{tree_step}
-use Rattle.mm_state.proofs.Hanging.{hangs_permuted}
+use Rattle.mm_state.proofs.Hanging.{hangs_permuted, freed_waits}
 use Rattle.mm_state.proofs.Readying.{prepared, can_store, rows_then, areas_then, news_few, slots_suffice}
 use Rattle.mm_state.proofs.Staying.{stays}
 use Rattle.mm_state.proofs.board.Board.carry_out.Goals as goal
@@ -183,7 +183,7 @@ returns-clause-done g c =
       waits = subst (λ (s : SlotSet). KeepsLeft c.publish_areas.new.self.areas.tree.settled before.slots.left s.left (slots before.writer) (slots ended)) (sym set)
           (between (KeepsLeft c.publish_areas.new.self.areas.tree.settled before.slots.left board.slots.left)
           (slots before.writer) (slots opened) (slots board.writer) (slots ended) were are
-          (λ leaving member later. changing.waits leaving (ready.slots.waits leaving member (omega (arith, settled, later)))));
+          (λ leaving member later. changing.waits leaving (freed_waits start.areas.tree.settled before.slots start.slots ready.slots leaving member (omega (arith, settled, later)))));
       gone = subst (λ (s : SlotSet). HaveLeft c.publish_areas.new.self.areas.tree.number s.left (slots before.writer) (slots ended)) (sym set)
           (subst (λ n. HaveLeft n board.slots.left (slots before.writer) (slots ended)) (sym number)
           (between (HaveLeft (c.version-tree.result + 1) board.slots.left) (slots before.writer) (slots opened) (slots board.writer) (slots ended) were are changing.gone));
