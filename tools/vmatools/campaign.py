@@ -284,7 +284,9 @@ class Campaign:
             if self.is_stopping:
                 break
             try:
-                kind.shortest, kind.is_shrunk = self.shrunk(name, kind), not self.is_stopping
+                small = self.shrunk(name, kind)
+                if small and not self.is_stopping:
+                    kind.shortest, kind.is_shrunk = small, True
             except Failure:
                 if not self.is_stopping:  # what was ended failed
                     raise
@@ -295,8 +297,8 @@ class Campaign:
     def is_stopping(self) -> bool:
         return self.stopped is not None
 
-    def shrunk(self, name: str, kind: Kind) -> Finding:
-        """The smallest trace of a kind that was found, and its difference."""
+    def shrunk(self, name: str, kind: Kind) -> Optional[Finding]:
+        """The smallest trace of a kind that was found, and its difference; none where it differs now and then only."""
         found = kind.shortest
         wanted = outputs.kind_of(found.difference)
         trace = read_trace(found.trace.encode())
@@ -311,7 +313,7 @@ class Campaign:
             if difference and (difference.there in HANGS) == is_hang:
                 self.sides.confirm(small)
                 return Finding(name, difference, small.text(), found.source, found.repeat)
-        return found  # it differs now and then only
+        return None
 
     def shrunk_within(
         self, trace: Trace, difference: outputs.Difference, kind: tuple[str, str, str], seconds: float
@@ -344,7 +346,7 @@ class Campaign:
         if places:
             cut = trace.with_lines(trace.lines[: places[0] + 1])
             trace = cut if is_same(cut) else trace
-        small = shrinking.Shrinker(trace, first_same).shrink()
+        small = shrinking.Shrinker(trace, first_same, kind[2] in HANGS).shrink()
         self.progress.clear()
         return small
 

@@ -57,7 +57,7 @@ class Shadow:
         result = answer(self.space, line)[0][0]
         if line.word == "fault":
             self.touched(line, result)
-        elif line.word != "maps" and not result.startswith("-1"):
+        elif line.word == "mprotect" or line.word != "maps" and not result.startswith("-1"):
             self.called(line, result, before)
         self.tainted = tainted_areas(self.space.areas, self.tainted)
         self.moved = [

@@ -15,6 +15,7 @@ from .linux_borders import History, State, is_moved, list_name, overlaps, parsed
 from .linux_model import GUARD, HINT_MIN, HUGE, MUCH, STACK_PAGES, Prediction, predictions
 from .model import MOST_OBJECT_PAGES, Area, Space, area_at, areas_in, index_of, pages_of
 from .outputs import ITEM, Difference
+from .systems.empty import OWN, OWN_END
 from .traces import MAP, MREMAP, PAGE, PROT, Line, Trace
 
 VSYSCALL = 0xFFFFFFFFFF600  # the page of [vsyscall], which is none of the process
@@ -124,6 +125,11 @@ def is_shared_validate(seen: Seen) -> bool:
     both = SHARED | PRIVATE
     is_refused_here = seen.is_of("mmap", "-1 EINVAL") and seen.there in ("an address", "-1 EOPNOTSUPP")
     return is_refused_here and seen.arguments[3] & both == both and not seen.arguments[3] & ANONYMOUS
+
+
+def is_own_place(seen: Seen) -> bool:
+    place = seen.told("here") if seen.word in ("mmap", "mremap") and seen.fixed is None else -1
+    return 0 <= place < OWN_END and place + seen.new_pages * PAGE > OWN
 
 
 def is_hint_min(seen: Seen) -> bool:
@@ -295,6 +301,9 @@ def is_limit(seen: Seen) -> bool:
 
 
 CASES: list[Case] = [
+    Case(
+        "own-addresses", "a place among the addresses of `vma kernel` itself", is_own_place, lambda seen: ["-1 ENOMEM"]
+    ),
     Case("seal-split", "a call that a seal refuses leaves the first area split", is_seal_split),
     Case(
         "mremap-dontunmap",

@@ -148,7 +148,7 @@ def moves_of(trace: Trace) -> Iterator[dict[int, int]]:
 # Single words
 
 
-def plain_values(kind: str, value: Any) -> Sequence[Any]:
+def plain_values(kind: str, value: Any, is_timed: bool) -> Sequence[Any]:
     """Values that a word could have in place of this one, the plainest first."""
     if kind == "PROT":
         return PROTS
@@ -163,11 +163,11 @@ def plain_values(kind: str, value: Any) -> Sequence[Any]:
         return [1]
     if value <= LAST_PAGE * PAGE:  # a place or a length, which is moved with others: here it is only rounded
         powers = [1 << value.bit_length() - 1, 1 << value.bit_length()] if value > 1 << 32 else []
-        smaller = [PAGE * pages for pages in (2, 3, 4, 8, 16)] + halves(value)
+        smaller = [PAGE * pages for pages in (2, 3, 4, 8, 16)] + ([] if is_timed else halves(value))
         return [0, PAGE, *powers] + ([(value + PAGE - 1) & -PAGE, value & -PAGE] if value % PAGE else []) + smaller
     sizes = (1 << value.bit_length() - 1, 1 << 32, PAGE)
     rounded = [*(value & -size for size in sizes), *((value + size - 1) & -size for size in sizes)]
-    return [0, 1, PAGE, BASE * PAGE, *halves(value), *rounded]
+    return [0, 1, PAGE, BASE * PAGE, *([] if is_timed else halves(value)), *rounded]
 
 
 def halves(value: int) -> list[int]:
@@ -180,7 +180,7 @@ def halves(value: int) -> list[int]:
     return found[::-1]
 
 
-def plain_lines(line: Line) -> Iterator[Line]:
+def plain_lines(line: Line, is_timed: bool) -> Iterator[Line]:
     """Lines with one word, or words that belong together, made plainer."""
     if line.word == "mmap" and not line.arguments[3] & ANONYMOUS:
         address, length, prot, flags, _, _ = line.arguments
@@ -192,7 +192,7 @@ def plain_lines(line: Line) -> Iterator[Line]:
         *first, flags, _ = line.arguments
         yield line._replace(arguments=[*first, flags & ~MREMAP["MREMAP_FIXED"]])
     for place, kind in enumerate(FORMS[line.word][: len(line.arguments)]):
-        for value in plain_values(kind, line.arguments[place]):
+        for value in plain_values(kind, line.arguments[place], is_timed):
             if value != line.arguments[place] and (kind == "ACCESS" or value < 2**64):
                 yield line._replace(arguments=[*line.arguments[:place], value, *line.arguments[place + 1 :]])
 
@@ -242,8 +242,11 @@ class Shrinker:
     """Shrinks a trace. `first_same` is given traces, and returns the place of the first that still differs in the same
     way, or None."""
 
-    def __init__(self, trace: Trace, first_same: Callable[[list[Trace]], Optional[int]]) -> None:
-        self.trace, self.first_same = trace, first_same
+    def __init__(
+        self, trace: Trace, first_same: Callable[[list[Trace]], Optional[int]], is_timed: bool = False
+    ) -> None:
+        """`is_timed` is whether it differs in how long it takes: then no number is made so small that it just does."""
+        self.trace, self.first_same, self.is_timed = trace, first_same, is_timed
 
     def takes(self, candidates: Iterable[Trace]) -> bool:
         """Goes on with the first smaller trace that differs in the same way, if there is one."""
@@ -363,7 +366,7 @@ class Shrinker:
     def plain(self) -> bool:
         def candidates(trace: Trace) -> Iterator[Trace]:
             for place, line in enumerate(trace.lines):
-                for plainer in plain_lines(line):
+                for plainer in plain_lines(line, self.is_timed):
                     yield trace.with_lines(trace.lines[:place] + [plainer] + trace.lines[place + 1 :])
             for name, value in trace.settings.items():
                 for number in range(1, min(value, 9)) if name == "limit" else ():

@@ -235,7 +235,7 @@ def settings_of(options: argparse.Namespace) -> Settings:
         ("--lines", options.lines, 30),
         ("--threads", options.threads, 0),
         ("--seconds", options.seconds, 10),
-        ("--program", options.program, None),
+        ("--program", getattr(options, "given_program", options.program), None),
     ):
         words += [name, f"{value:g}" if isinstance(value, float) else str(value)] if value != default else []
     words += ["--profile", ",".join(options.profile)] if options.profile != generator.IN_TURN else []
@@ -400,6 +400,7 @@ def run(options: argparse.Namespace) -> int:
     beside.take_system(options)
     if not options.command:
         raise console.Failure("COMMAND is missing: the system under test stands behind --")
+    options.given_program = options.program
     options.program = program.find(options.program, options.verbose)
     if shutil.which(options.command[0]) is None:
         raise console.Failure(f"COMMAND {options.command[0]} is not there or cannot be run")
