@@ -1,19 +1,147 @@
-"""The command `vma`."""
+"""The command `vma`: its subcommands, how it finds the program, and how it ends."""
+from __future__ import annotations
+
+import os
+import re
+import signal
+import subprocess
 import sys
+import tempfile
+import time
 import unittest
 from pathlib import Path
+from typing import Any
+from unittest import mock
 
-sys.path.insert(0, str(Path(__file__).resolve().parents[2] / "tools"))
-from vmatools import cli  # noqa: E402
+TOP = Path(__file__).resolve().parents[2]
+sys.path.insert(0, str(TOP / "tools"))
+from vmatools import cli, console, program
+
+VMA = str(TOP / "tools/vma")
+TRACE = str(TOP / "examples/readme.trace")
+
+
+def run(*words: str, **more: Any) -> subprocess.CompletedProcess[str]:
+    ends: dict[str, Any] = {"capture_output": True, "timeout": 60, **more}
+    return subprocess.run([sys.executable, VMA, *words], text=True, **ends)
 
 
 class Commands(unittest.TestCase):
-    def test_each_command_has_its_words(self) -> None:
+    def test_each_command_has_its_words_and_an_example(self) -> None:
         for command in cli.COMMANDS.values():
             with self.subTest(command.name):
                 parser, module = cli.parser_of(command)
                 self.assertTrue(module.SUMMARY)
                 self.assertIn(f"vma {command.name}", parser.format_usage())
+                self.assertRegex(parser.format_help(), rf"\nexample:\n +vma {command.name} ")
 
-    def test_unknown_word(self) -> None:
+    def test_help_has_each_command_once(self) -> None:
+        text = cli.whole_help()
+        for name in cli.COMMANDS:
+            self.assertEqual(len(re.findall(rf"^  {name} ", text, re.MULTILINE)), 1, name)
+
+    def test_an_unknown_word_has_the_nearest(self) -> None:
         self.assertEqual(cli.unknown("compair"), "'compair' is no command; did you mean compare?")
+        self.assertEqual(cli.unknown("xyzzy"), "'xyzzy' is no command; `vma --help` lists them")
+        self.assertEqual(run("expalin").returncode, console.WRONG_USE)
+
+    def test_old_names_are_there(self) -> None:
+        for old in ("compare", "draw", "explain", "judge", "on-kernel", "kernel-rows", "record", "from-strace"):
+            done = subprocess.run([str(TOP / "tools" / old), "--help"], capture_output=True, text=True)
+            self.assertEqual(done.returncode, 0, old)
+            self.assertIn("usage: vma ", done.stdout)
+
+
+class Program(unittest.TestCase):
+    def test_the_first_place_that_names_one(self) -> None:
+        with tempfile.TemporaryDirectory() as folder:
+            made = {name: os.path.join(folder, name) for name in ("given", "variable", program.ON_PATH)}
+            for path in made.values():
+                Path(path).write_text("#!/bin/sh\n")
+                os.chmod(path, 0o755)
+            environment = {"PATH": folder, program.VARIABLE: made["variable"]}
+            with mock.patch.dict(os.environ, environment):
+                self.assertEqual(program.find(made["given"]), made["given"])
+                self.assertEqual(program.find(), made["variable"])
+                del os.environ[program.VARIABLE]
+                self.assertEqual(program.find(), made[program.ON_PATH])
+
+    def test_one_that_is_missing(self) -> None:
+        with self.assertRaises(console.Failure) as caught:
+            program.find("/no/program")
+        self.assertEqual(caught.exception.status, console.WRONG_USE)
+        self.assertIn("rt run", str(caught.exception))
+
+
+class Ends(unittest.TestCase):
+    def test_a_full_device(self) -> None:
+        with open("/dev/full", "w") as full:
+            done = run("draw", TRACE, capture_output=False, stdout=full, stderr=subprocess.PIPE)
+        self.assertEqual(done.returncode, console.NOT_WRITTEN)
+        self.assertEqual(done.stderr, "vma draw: standard output: No space left on device\n")
+
+    def test_a_closed_pipe(self) -> None:
+        read, write = os.pipe()
+        os.close(read)
+        done = run("draw", TRACE, capture_output=False, stdout=write, stderr=subprocess.PIPE)
+        os.close(write)
+        self.assertEqual(
+            (done.returncode, done.stderr), (console.NOT_READ_ON, "vma draw: standard output: nobody reads on\n")
+        )
+
+    def test_an_output_that_is_not_there(self) -> None:
+        done = subprocess.run(["sh", "-c", f"{VMA} explain {TRACE} >&-"], stderr=subprocess.PIPE, text=True)
+        self.assertEqual((done.returncode, "Traceback" in done.stderr), (console.NOT_WRITTEN, False))
+
+    def test_an_interruption(self) -> None:
+        command = [sys.executable, VMA, "explain", "-"]
+        with subprocess.Popen(
+            command, stdin=subprocess.PIPE, stdout=subprocess.PIPE, stderr=subprocess.PIPE
+        ) as process:
+            time.sleep(2)
+            process.send_signal(signal.SIGINT)
+            _, message = process.communicate(timeout=30)
+        self.assertEqual(process.returncode, console.INTERRUPTED)
+        self.assertNotIn(b"Traceback", message)
+
+    def test_a_file_that_cannot_be_read(self) -> None:
+        for path, why in (("/no/trace", "No such file or directory"), ("/", "Is a directory")):
+            done = run("explain", path)
+            self.assertEqual((done.returncode, done.stderr), (console.WRONG_USE, f"vma explain: {path}: {why}\n"))
+
+    def test_a_child_that_no_line_forked(self) -> None:
+        done = run("draw", "--child", "3", TRACE)
+        self.assertEqual((done.returncode, done.stderr), (console.WRONG_USE, "vma draw: there is no child 3\n"))
+        self.assertEqual(done.stdout, "")
+
+    def test_colour(self) -> None:
+        outputs = {
+            when: run("judge", "--color", when, TRACE, TRACE.replace("trace", "out")).stdout for when in console.WHEN
+        }
+        self.assertEqual(outputs["auto"], "legal\n")
+        self.assertEqual(outputs["never"], "legal\n")
+        self.assertEqual(outputs["always"], "\x1b[32mlegal\x1b[0m\n")
+
+
+class Statuses(unittest.TestCase):
+    def test_their_table_is_in_the_documents(self) -> None:
+        page = (TOP / "docs/COMPARE.md").read_text(encoding="utf-8")
+        rows = dict(
+            re.findall(r"^\| (\d+) \| (.*) \|$", page.split("## Exit statuses")[1].split("\n## ")[0], re.MULTILINE)
+        )
+        for status, what in console.STATUSES.items():
+            self.assertEqual(rows.get(str(status)), what)
+
+
+class Words(unittest.TestCase):
+    def test_what_can_be_shown(self) -> None:
+        self.assertEqual(console.printable("a\tb\r\x1b[2J\udcff"), "a\\tb\\r\\x1b[2J\\xff")
+        self.assertEqual(len(console.printable("x" * 1000)), 200)
+
+    def test_a_failure_of_the_system_has_no_number(self) -> None:
+        self.assertEqual(console.reason(OSError(2, "No such file", "/a")), "/a: No such file")
+        self.assertEqual(console.reason(OSError(28, "No space left"), "b"), "b: No space left")
+
+
+if __name__ == "__main__":
+    unittest.main()

@@ -6,6 +6,7 @@ import difflib
 import gc
 import importlib
 import sys
+import traceback
 from dataclasses import dataclass
 from types import ModuleType
 from typing import NoReturn
@@ -21,9 +22,10 @@ AFTER = "`vma COMMAND --help` has the words of each, with an example. The exit s
 
 @dataclass(frozen=True)
 class Command:
-    """A subcommand: its name, its module below vmatools.commands, and how it ends on wrong use."""
+    """A subcommand: its name, an example, its module below vmatools.commands, and how it ends on wrong use."""
 
     name: str
+    example: str
     module: str = ""
     wrong_use: int = console.WRONG_USE
 
@@ -33,16 +35,23 @@ class Command:
 
 GROUPS = {
     "Compare a system with the program": (
-        Command("compare"),
-        Command("merge"),
-        Command("emit"),
-        Command("conform"),
-        Command("kernel"),
-        Command("rows"),
-        Command("systems"),
+        Command("compare", "compare --runs 40 -- examples/page-table"),
+        Command("merge", "merge first.json second.json"),
+        Command("emit", "emit --runs 100 traces"),
+        Command("conform", "conform -- examples/page-table"),
+        Command("kernel", "kernel < examples/tour.trace"),
+        Command("rows", "rows limit-join"),
+        Command("systems", "systems --table"),
     ),
-    "Make traces of real programs": (Command("record", wrong_use=125), Command("import", "import_")),
-    "Look at a trace or an output": (Command("draw"), Command("explain"), Command("judge")),
+    "Make traces of real programs": (
+        Command("record", "record ls /", wrong_use=125),
+        Command("import", "import ls.log --maps ls.maps > ls.trace", "import_"),
+    ),
+    "Look at a trace or an output": (
+        Command("draw", "draw examples/tour.trace examples/tour.out > tour.html"),
+        Command("explain", "explain bad.trace"),
+        Command("judge", "judge examples/readme.trace examples/readme.out"),
+    ),
 }
 COMMANDS = {command.name: command for group in GROUPS.values() for command in group}
 
@@ -82,6 +91,7 @@ def parser_of(command: Command) -> tuple[Parser, ModuleType]:
         "--color", choices=console.WHEN, default="auto", metavar="WHEN", help="auto (on a terminal), always or never"
     )
     module.add_arguments(parser)
+    parser.epilog = "\n\n".join([*([parser.epilog] if parser.epilog else []), f"example:\n    vma {command.example}"])
     return parser, module
 
 
@@ -115,6 +125,9 @@ def main(words: list[str]) -> int:
         return failure.status
     except console.Failure as failure:
         return ended_early(failure)
+    except Exception:
+        traceback.print_exc()
+        return ended_early(console.Failure("that is a fault in this tool; please report it", console.FAULT))
 
 
 def finished(words: list[str]) -> int:

@@ -12,11 +12,12 @@ from typing import Any
 TOOL = "vma"
 
 # Exit statuses. Their table is in docs/COMPARE.md.
-DONE, FOUND, WRONG_USE, NOT_WRITTEN, INTERRUPTED, NOT_READ_ON = 0, 1, 2, 74, 130, 141
+DONE, FOUND, WRONG_USE, FAULT, NOT_WRITTEN, INTERRUPTED, NOT_READ_ON = 0, 1, 2, 70, 74, 130, 141
 STATUSES = {
     DONE: "the work is done, and nothing was found that differs, is wrong or is missing",
     FOUND: "something was found: a difference, a bad line, an output that is not legal, a row that is answered otherwise",
     WRONG_USE: "wrong use, or a file or program that is not there or cannot be read or run",
+    FAULT: "a fault in the tool itself, which it shows",
     NOT_WRITTEN: "standard output could not be written, as on a full device",
     INTERRUPTED: "interrupted by Ctrl-C; what there was until then is written",
     NOT_READ_ON: "whoever read standard output has closed it",

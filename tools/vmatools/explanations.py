@@ -203,7 +203,8 @@ def header(bad: BadLine, text: str, words: list[str], word: str) -> str:
     if "\0" in text or "\ufffd" in text[:2]:
         return f"the file is not UTF-8 text, but perhaps UTF-16: {wanted}"
     if not text:
-        return f"the file is empty, or begins with an empty line: {wanted}"
+        what = "the file is empty" if bad.about == "nothing" else "the first line is empty"
+        return f"{what}: {wanted}"
     if text.endswith("\r") and words_of(text.rstrip("\r")) in (["vmatrace", "1"], ["vmatrace", "2"]):
         return f"a carriage return stands at the end, and is part of the last word: {CARRIAGE_RETURNS}"
     if words[:1] == ["vmasteps"]:

@@ -299,7 +299,7 @@ class Texts:
             self.text_of(rest, is_ended=False)
         if not self.number:
             self.number = 1
-            raise BadLine("Header", "header")
+            raise BadLine("Header", "nothing")
 
     def text_of(self, raw: bytes, is_ended: bool = True) -> str:
         self.raw = raw

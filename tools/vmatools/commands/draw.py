@@ -7,9 +7,7 @@ changed is outlined, what it unmapped is dashed, and a fault points to its addre
 vmatools is marked.
 
 OUTPUT is what `vma_main serial` or `threads` wrote for TRACE, or another system in this form. Without it, the model answers the
-lines in their order. TRACE and OUTPUT are files, and one of them may be - for standard input. Example:
-
-    vma draw examples/tour.trace examples/tour.out > tour.html
+lines in their order. TRACE and OUTPUT are files, and one of them may be - for standard input.
 
 Exit status: 0 where OUTPUT is legal, as `vma judge` says it, 1 where it is not (the page is written all the same), and 2 on wrong
 use or where a file cannot be read.

@@ -2,9 +2,7 @@
 
 TRACE is a file, or - for standard input. The line and the cause are those of the program's own `trace line N cause K Name`,
 with which it ends with status 3; words are counted from 1, and the thread of an operation is the first. Of a maps text it
-says whether `retrace` takes it, and else why not. Example:
-
-    vma explain bad.trace
+says whether `retrace` takes it, and else why not.
 
 Exit status: 0 where TRACE is a trace, or a maps text that `retrace` takes, 1 where a line is bad, 2 on wrong use, or where TRACE
 cannot be read.
@@ -62,7 +60,8 @@ def explain_maps(data: bytes) -> int:
         show(f"line {refused.line}: {who}: {refused.why}", text, (0, max(len(text), 1)))
         print(f"(cause {maps_texts.CAUSES[refused.cause]}, {refused.cause}, in docs/TRACE.md)")
         return console.FOUND
-    print(f"a maps text with {len(rows)} areas, and no trace: `retrace` makes a trace of it, and `query` reads it")
+    areas = console.counted(len(rows), "area")
+    print(f"a maps text with {areas}, and no trace: `retrace` makes a trace of it, and `query` reads it")
     return console.DONE
 
 

@@ -3,9 +3,7 @@
 It is written from docs/TRACE.md and docs/MODEL.md alone, and shares no code with the program. What `serial` writes is a legal
 output too. TRACE and OUTPUT are files, and one of them may be - for standard input.
 
-Prints `legal`, or `not legal: line N: why`, for the first line of OUTPUT that is wrong. Example:
-
-    vma judge examples/readme.trace examples/readme.out
+Prints `legal`, or `not legal: line N: why`, for the first line of OUTPUT that is wrong.
 
 Exit status: 0 where OUTPUT is legal, 1 where it is not, 2 on wrong use, where a file cannot be read, and where TRACE is no trace.
 """
