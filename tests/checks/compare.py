@@ -16,6 +16,7 @@ import argparse
 import contextlib
 import io
 import os
+import pathlib
 import random
 import re
 import subprocess
@@ -24,6 +25,7 @@ import tempfile
 import time
 from concurrent.futures import ThreadPoolExecutor
 from typing import NoReturn
+from xml.etree import ElementTree
 
 from checking import Failed, main, passed
 from vmatools import cli, comparison, explanations, generator, mutants, program as programs, serial, traces
@@ -173,6 +175,88 @@ def check_rules(program: str) -> None:
         if kept[:3] != ["1-mmap.here", "1-mmap.there", "1-mmap.trace"]:
             fail(f"--keep leaves {kept}")
     told("--ignore and --keep", began)
+
+
+def check_baseline(program: str, folder: str) -> None:
+    """What is known does not fail, what does not come is told, and --strict fails on it."""
+    base, words = os.path.join(folder, "base"), ["--runs", "24", "--program", program, "--profile", "few,edges"]
+    known, gone = "munmap/-1 EINVAL/* # any range\n", "brk/* # gone\n"
+    for text, more, wanted in ((known, [], 0), (known + gone, ["--strict"], 1), (gone, [], 1)):
+        pathlib.Path(base).write_text(text)
+        status, report = compared([*words, "--baseline", base, *more, "--", "munmap-past-end"], OfModel)
+        if status != wanted or ("brk" in text) != ("did not come: brk/* # gone" in report):
+            fail(f"--baseline with {text!r}: status {status}\n{report[-2000:]}")
+
+
+def check_parts(program: str, folder: str) -> None:
+    """The parts of a comparison give one report, that of the whole; and a run that was cut goes on to the same end."""
+    words = ["--runs", "24", "--program", program, "--profile", "few,edges", "--lines", "12"]
+    _, whole = compared([*words, "--", "munmap-past-end"], OfModel)
+    parts = [os.path.join(folder, f"part{number}") for number in (1, 2)]
+    for number, part in enumerate(parts, 1):
+        compared([*words, "--shard", f"{number}/2", "--json", part, "--", "munmap-past-end"], OfModel)
+    merged = ran("merge", parts)
+    if titles(merged) != titles(whole):
+        fail(f"merge of two parts has {titles(merged)}, and the whole {titles(whole)}")
+    state = pathlib.Path(folder) / "state"
+    compared([*words, "--resume", str(state), "--", "munmap-past-end"], OfModel)
+    lines = state.read_text().splitlines(keepends=True)
+    state.write_text("".join(lines[:10]) + lines[10][:20])
+    _, again = compared([*words, "--resume", str(state), "--", "munmap-past-end"], OfModel)
+    if titles(again) != titles(whole):
+        fail(f"--resume comes to {titles(again)}, and not to {titles(whole)}")
+
+
+def titles(report: str) -> list[str]:
+    """The kinds of a report, and its last line."""
+    return re.findall(r"^\d+\. (.*?; --ignore '.*')\)$", report, re.MULTILINE) + report.splitlines()[-1:]
+
+
+def ran(command: str, words: list[str]) -> str:
+    """What another command of the tools prints."""
+    text = io.StringIO()
+    with contextlib.redirect_stdout(text):
+        parser, module = cli.parser_of(cli.COMMANDS[command])
+        module.run(parser.parse_args(words))
+    return text.getvalue()
+
+
+def check_files(program: str, folder: str) -> None:
+    """emit writes traces that --traces runs, JUnit's report is XML, and --coverage counts the rows of the tables."""
+    kept, report = os.path.join(folder, "kept"), os.path.join(folder, "report.xml")
+    ran("emit", ["--runs", "6", "--profile", "few,edges", kept])
+    ran("emit", ["--runs", "2", "--generate", "30", kept])
+    words = ["--program", program, "--traces", kept, "--junit", report, "--coverage", "--", "right"]
+    status, text = compared(words, OfModel)
+    has_row = re.search(r"^ +\d+  the range is cut out$", text, re.MULTILINE)
+    if status or not text.endswith("8 traces, 0 differ\n") or not has_row:
+        fail(f"--traces and --coverage: status {status}\n{text[-2000:]}")
+    if ElementTree.parse(report).getroot().get("failures") != "0":
+        fail(f"--junit: {pathlib.Path(report).read_text()}")
+
+
+def check_threads(program: str) -> None:
+    """What the program's threads do is legal, and what a wrong model does is found."""
+    words = ["--threads", "3", "--runs", "12", "--lines", "12", "--program", program]
+    status, text = compared([*words, "--", program, "threads"])
+    if (status, text) != (0, "12 traces, 0 differ\n"):
+        fail(f"--threads with the program: status {status}\n{text[-2000:]}")
+    wrong = ["env", f"PYTHONPATH={TOOLS}", sys.executable, "-m", "vmatools.mutants", "from-below"]
+    status, text = compared([*words, "--runs", "3", "--profile", "few", "--", *wrong])
+    if status != 1 or "mmap: legal here, illegal: an address there" not in text:
+        fail(f"--threads with a wrong model: status {status}\n{text[-2000:]}")
+
+
+def check_reports(program: str) -> None:
+    began = time.monotonic()
+    with tempfile.TemporaryDirectory() as folder:
+        check_baseline(program, folder)
+        check_parts(program, folder)
+        check_files(program, folder)
+    told("--baseline, --shard, merge, --resume, emit, --traces, --junit and --coverage", began)
+    began = time.monotonic()
+    check_threads(program)
+    told("--threads", began)
 
 
 def check_statuses(program: str) -> None:
@@ -367,6 +451,7 @@ def check(options: argparse.Namespace) -> None:
     check_mutants()
     check_wrong(program)
     check_rules(program)
+    check_reports(program)
     check_explanations(program, options.broken)
     check_adapter()
     check_statuses(program)
