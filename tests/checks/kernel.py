@@ -76,6 +76,29 @@ REFUSED: list[tuple[str, list[str], str, int, str]] = [
         4,
         "line 2: MAP_POPULATE",
     ),
+    (
+        "a search that comes to the tool's own addresses",
+        [],
+        f"vmatrace 1\n0 mmap 0x10000 {0x7FFFFF000000 - 0x10000} PROT_NONE MAP_PRIVATE|MAP_ANONYMOUS|MAP_FIXED -1 0\n"
+        "0 mmap 0 4096 PROT_READ MAP_PRIVATE|MAP_ANONYMOUS -1 0\n",
+        4,
+        "line 3: a search for a place comes to the addresses",
+    ),
+    (
+        "a window that is left",
+        ["--window", "0x10000-0x20000"],
+        "vmatrace 1\n0 munmap 0x1f000 8192\n",
+        4,
+        "line 2: it leaves the window from 0x10000 to 0x20000",
+    ),
+    (
+        "a system that is none",
+        ["--system", "bochs"],
+        "vmatrace 1\n",
+        2,
+        "bochs is no system; there are native, window,",
+    ),
+    ("a command that is none", ["--under", "/nowhere"], "vmatrace 1\n", 5, "/nowhere cannot be run: No such file"),
 ]
 
 

@@ -5,13 +5,12 @@ What a system answers otherwise is no failure: how much of it is equal is printe
 seen to answer otherwise are repeated. A system that is not installed is named and passed. Ends with status 1 where an
 adapter of examples/batch does not answer as it should, where a trace that was fitted to a window is refused for leaving
 it, or where the running kernel, in a window, answers an example otherwise than it stands there.
-
-usage: systems.py [--for SECONDS] [PROGRAM]      (at most so many seconds for all systems together: 60)
 """
 from __future__ import annotations
 
 import argparse
 import contextlib
+import platform
 import shutil
 import subprocess
 import sys
@@ -20,10 +19,10 @@ import time
 from collections.abc import Iterator
 from pathlib import Path
 
-from checking import TOOL, fail, passed, program_of
+from checking import TOOL, fail, main, passed, skipped
 from vmatools import console, generator
 from vmatools.program import TOP
-from vmatools.systems import batch, known, measuring, seen
+from vmatools.systems import batch, building, known, measuring, seen
 from vmatools.systems.places import Refused
 
 TRACES = 300
@@ -41,12 +40,25 @@ def adapters(folder: Path) -> Iterator[tuple[str, list[str]]]:
     }
     for language, command in compilers.items():
         if not shutil.which(command[0]):
-            print(f"{TOOL}: {command[0]} is not installed: the adapter in {language} was not run")
+            skipped(f"the adapter in {language}", f"{command[0]} is not installed")
             continue
         done = subprocess.run(command, capture_output=True, text=True, cwd=folder)
         if done.returncode:
             fail(f"the adapter in {language}", f"does not compile: {done.stderr[:300]}")
         yield language, [command[command.index("-o") + 1]]
+
+
+def check_runner() -> None:
+    """The runner compiles without a warning, for each processor whose compiler is here."""
+    for processor, words in building.COMPILERS.items():
+        if not shutil.which(words[0]) or words[0] == "cc" and platform.machine() != processor:
+            skipped(f"the runner for {processor}", "its compiler is not installed")
+            continue
+        flags = [*building.FLAGS, "-Wall", "-Wextra", "-Werror", "-Wl,-Ttext-segment=0x38000000", "-o", "/dev/null"]
+        done = subprocess.run([*words, *flags, str(building.SOURCES[0])], capture_output=True, text=True)
+        if done.returncode:
+            fail(f"the runner for {processor}", f"does not compile: {done.stderr[:300]}")
+        passed(f"the runner for {processor}, without a warning")
 
 
 def check_batch() -> None:
@@ -99,37 +111,34 @@ def check_examples(name: str) -> None:
 def check_system(system: known.System, path: str, seconds: float) -> None:
     packages = measuring.missing(system)
     if packages:
-        print(f"{TOOL}: {system.name} is not installed (Debian: apt-get install {packages}): passed")
-        return
+        return skipped(system.name, f"it is not installed (Debian: apt-get install {packages})")
     try:
         with contextlib.closing(measuring.Measuring(system, path, 2, 1)) as run_of:
             result = run_of.run(console.Progress(), seconds)
     except Refused as refused:
         if refused.status != 5:
             raise
-        print(f"{TOOL}: {system.name} cannot be run here: {refused}")
-        return
+        return skipped(system.name, f"it cannot be run here: {refused}")
     whole = measuring.Score()
     for score in result.profiles.values():
         whole.add(score)
     print(
         f"{TOOL}: {system.name} {result.version}: {result.traces} traces, {result.refused} refused, {whole.text()} %"
-        " of replies and lists"
-        " as the program",
+        " of replies and lists as the program",
         flush=True,
     )
     if system.name == "window" and result.refused:
         fail(system.name, "refuses traces that were fitted to it")
 
 
-def main() -> int:
-    parser = argparse.ArgumentParser(
-        prog="systems.py", description=__doc__, formatter_class=argparse.RawDescriptionHelpFormatter
+def add_arguments(parser: argparse.ArgumentParser) -> None:
+    parser.add_argument(
+        "--for", dest="most", type=float, default=60.0, metavar="SECONDS", help="for all systems together at most (60)"
     )
-    parser.add_argument("--for", dest="most", type=float, default=60.0, help="seconds for all systems together (60)")
-    parser.add_argument("program", nargs="?")
-    options = parser.parse_args()
-    path = program_of(options.program)
+
+
+def check(options: argparse.Namespace) -> None:
+    check_runner()
     check_batch()
     check_ends()
     systems = list(known.KNOWN.values())
@@ -138,11 +147,10 @@ def main() -> int:
         try:
             if system.name == "window" and not measuring.missing(system):
                 check_examples(system.name)
-            check_system(system, path, max((until - time.monotonic()) / (len(systems) - place), 3))
+            check_system(system, options.program, max((until - time.monotonic()) / (len(systems) - place), 3))
         except Refused as refused:
-            print(f"{TOOL}: {system.name} cannot be run here: {refused}")
-    return 0
+            skipped(system.name, f"it cannot be run here: {refused}")
 
 
 if __name__ == "__main__":
-    sys.exit(main())
+    main(check, add_arguments)

@@ -1,0 +1,170 @@
+"""A known system in a comparison: its words, how traces are fitted, and the running kernel beside it."""
+from __future__ import annotations
+
+import argparse
+import sys
+import unittest
+from pathlib import Path
+from typing import Optional
+from unittest import mock
+
+sys.path.insert(0, str(Path(__file__).resolve().parents[2] / "tools"))
+from vmatools import comparison, console, windows  # noqa: E402
+from vmatools.commands import compare  # noqa: E402
+from vmatools.outputs import Difference  # noqa: E402
+from vmatools.program import Ran  # noqa: E402
+from vmatools.systems import beside  # noqa: E402
+from vmatools.systems.places import Window  # noqa: E402
+from vmatools.systems.reference import Reference, unnamed  # noqa: E402
+from vmatools.traces import Trace, read_trace  # noqa: E402
+
+MAP = "0 mmap 0x10000 4096 PROT_READ MAP_PRIVATE|MAP_ANONYMOUS|MAP_FIXED -1 0"
+AREA = "00010000-00011000 r--p 00000000 00:00 0 "
+
+
+def trace_of(*lines: str) -> Trace:
+    return read_trace("".join(line + "\n" for line in ("vmatrace 1", *lines)).encode())
+
+
+def options_of(*words: str) -> argparse.Namespace:
+    parser = argparse.ArgumentParser()
+    compare.add_arguments(parser)
+    return parser.parse_args(words)
+
+
+class Words(unittest.TestCase):
+    def test_a_known_system_brings_what_belongs_to_it(self) -> None:
+        options = options_of("--system", "valgrind")
+        beside.take_system(options)
+        self.assertEqual(
+            options.command[1:], ["kernel", "--batch", "--system", "valgrind", "--window", "0x10000-0x2000000"]
+        )
+        self.assertTrue(options.batch and options.linux and options.window)
+        self.assertEqual((options.kernel, options.for_seconds), (False, beside.FOR_SECONDS))
+        self.assertEqual(beside.words_of(options), [])
+
+    def test_a_machine_is_one_and_its_rows_are_known(self) -> None:
+        options = options_of("--system", "machine", "--runs", "5")
+        beside.take_system(options)
+        self.assertEqual((options.kernel, options.linux, options.window, options.jobs), (True, False, None, 1))
+        self.assertIsNone(options.for_seconds)
+
+    def test_a_system_and_a_command_are_one_too_many(self) -> None:
+        with self.assertRaises(console.Failure):
+            beside.take_system(options_of("--system", "valgrind", "--", "true"))
+
+    def test_a_window_stands_in_the_command_that_repeats(self) -> None:
+        options = options_of("--batch", "--window", "0x10000-0x20000", "--linux", "--", "true")
+        self.assertEqual(beside.words_of(options), ["--batch", "--window", "0x10000-0x20000", "--linux"])
+
+    def test_windows(self) -> None:
+        self.assertEqual(beside.window_of("0x10000-131072"), Window(0x10000, 0x20000))
+        for wrong in ("0x10000", "0x10001-0x20000", "0x20000-0x10000", "-1-0x10000", "a-b"):
+            with self.subTest(wrong), self.assertRaises(argparse.ArgumentTypeError):
+                beside.window_of(wrong)
+
+
+class Answering(comparison.Sides):
+    """Both sides with outputs that are given."""
+
+    def __init__(self, output: str, fault: Optional[str] = None, here: str = "") -> None:
+        super().__init__("", [], 1, comparison.Rules())
+        self.output, self.fault, self.told = output, fault, here
+
+    def here(self, trace: Trace) -> str:
+        return self.told
+
+    def there(self, trace: Trace, seconds: Optional[float] = None) -> Ran:
+        has_seal = any(line.word == "mseal" for line in trace.lines)
+        return Ran(self.output, self.fault if has_seal or not self.output else None, "")
+
+
+class Fits(unittest.TestCase):
+    def test_a_call_that_a_system_has_not(self) -> None:
+        self.assertEqual(beside.lacks_of(Answering("maps 0\n", "ends with status 4"), 0x10000), ["mseal"])
+        self.assertEqual(beside.lacks_of(Answering("maps 0\n"), 0x10000), [])
+        self.assertEqual(beside.lacks_of(Answering("", "ends with status 4"), 0x10000), [])  # it runs nothing at all
+
+    def test_an_empty_space_of_another_kernel(self) -> None:
+        fit = windows.EmptyFit(4096, ["mseal"])
+        trace = fit.fitted(trace_of("min 0x10000", "top 0x100000", "limit areas 3", MAP, "0 mseal 0x10000 4096 0"))
+        self.assertEqual(trace.settings, {"min": 4096, "limit": 3})
+        self.assertEqual([line.word for line in trace.lines], ["mmap"])
+        self.assertTrue(fit.keeps(trace))
+        self.assertFalse(fit.keeps(trace_of("0 mseal 0x10000 4096 0")))
+        self.assertFalse(fit.keeps(trace_of("min 0x10000")))
+
+
+class Endings(unittest.TestCase):
+    def test_the_end_of_a_system_is_told_before_what_differs_above(self) -> None:
+        trace = trace_of(MAP, "0 munmap 0x10000 4096", "0 fault 0x10000 w")
+        sides = Answering(
+            "L2 t0 v1 = 0x20000\nL3 t0 v2 = hung\n",
+            None,
+            f"L2 t0 v1 = 0x10000\nL3 t0 v2 = 0\nL4 t0 v2 = served\n{AREA}\n",
+        )
+        found = sides.difference(trace)
+        self.assertEqual(found, Difference("munmap", "0", "hung", 3, ["L3 t0 v2 = 0"], ["L3 t0 v2 = hung"]))
+
+    def test_an_end_is_no_list(self) -> None:
+        self.assertIsNone(Answering("").end_in(trace_of(MAP), "L2 t0 v1 = 0x10000\nmaps 0\n"))
+
+
+class Linux(unittest.TestCase):
+    def setUp(self) -> None:
+        self.reference = object.__new__(Reference)
+        self.reference.window = Window(0x10000, 0x20000)
+        self.output = ""
+        patch = mock.patch.object(Reference, "answer", lambda _, trace: self.output)
+        patch.start()
+        self.addCleanup(patch.stop)
+
+    def difference(self, here: str, there: str, number: int | None, *lines: str, operation: str = "mmap") -> Difference:
+        return Difference(operation, here, there, number, [], list(lines))
+
+    def test_an_answer_that_linux_gives_too(self) -> None:
+        self.output = "L2 t0 v1 = -1 EEXIST\nmaps 0\n"
+        trace = trace_of(MAP)
+        self.assertTrue(
+            self.reference.agrees(trace, self.difference("an address", "-1 EEXIST", 2, "L2 t0 v7 = -1 EEXIST"))
+        )
+        self.assertFalse(
+            self.reference.agrees(trace, self.difference("an address", "-1 EINVAL", 2, "L2 t0 v1 = -1 EINVAL"))
+        )
+        self.assertFalse(
+            self.reference.agrees(trace, self.difference("a version", "another version", 2, "L2 t0 v2 = -1 EEXIST"))
+        )
+
+    def test_places_outside_of_the_window_are_one(self) -> None:
+        self.output = "L2 t0 v1 = 0x7ffff7ff0000\nmaps 0\n"
+        trace = trace_of(MAP)
+        self.assertTrue(
+            self.reference.agrees(trace, self.difference("an address", "another address", 2, "L2 t0 v1 = 0x400000000"))
+        )
+        self.assertFalse(
+            self.reference.agrees(trace, self.difference("an address", "another address", 2, "L2 t0 v1 = 0x12000"))
+        )
+
+    def test_lists(self) -> None:
+        self.output = f"L2 t0 v1 = 0x10000\nL3 t0 v1 = maps 1\n{AREA}\nmaps 1\n{AREA}\n"
+        trace = trace_of(MAP)
+        self.assertTrue(self.reference.agrees(trace, self.difference("list: joined", "list: apart", 2, "maps 1", AREA)))
+        self.assertTrue(
+            self.reference.agrees(
+                trace, self.difference("list: joined", "list: apart", None, "maps 1", AREA, operation="list")
+            )
+        )
+        self.assertFalse(self.reference.agrees(trace, self.difference("list: mapped", "list: not mapped", 2, "maps 0")))
+
+    def test_no_answer_agrees_with_none(self) -> None:
+        self.assertFalse(
+            self.reference.agrees(trace_of(MAP), self.difference("an address", "hung", 2, "L2 t0 v1 = hung"))
+        )
+
+    def test_names_of_heaps_are_not_compared(self) -> None:
+        named = "00010000-00011000 rw-p 00000000 00:00 0                                  [heap]\n"
+        self.assertEqual(unnamed(named), "00010000-00011000 rw-p 00000000 00:00 0 \n")
+
+
+if __name__ == "__main__":
+    unittest.main()
