@@ -181,7 +181,8 @@ def check_baseline(program: str, folder: str) -> None:
     """What is known does not fail, what does not come is told, and --strict fails on it."""
     base, words = os.path.join(folder, "base"), ["--runs", "24", "--program", program, "--profile", "few,edges"]
     known, gone = "munmap/-1 EINVAL/* # any range\n", "brk/* # gone\n"
-    for text, more, wanted in ((known, [], 0), (known + gone, ["--strict"], 1), (gone, [], 1)):
+    cases: list[tuple[str, list[str], int]] = [(known, [], 0), (known + gone, ["--strict"], 1), (gone, [], 1)]
+    for text, more, wanted in cases:
         pathlib.Path(base).write_text(text)
         status, report = compared([*words, "--baseline", base, *more, "--", "munmap-past-end"], OfModel)
         if status != wanted or ("brk" in text) != ("did not come: brk/* # gone" in report):

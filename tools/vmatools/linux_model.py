@@ -10,6 +10,7 @@ from __future__ import annotations
 import errno
 from collections.abc import Iterator
 from dataclasses import dataclass, replace
+from itertools import pairwise
 from typing import Any, NamedTuple, Optional, Union
 
 from .model import (
@@ -85,11 +86,13 @@ class Linux(Space):
         made = object.__new__(cls)
         made.__dict__.update(space.__dict__)
         made.kernel, made.tainted, made.sizes = kernel, tainted, sizes
-        made.count, made.splits = len(made.areas) + kernel.more, set()
+        # The heap is plain memory there, and joins such.
+        are_one = (joins(one, two._replace(heap=one.heap)) for one, two in pairwise(made.areas))
+        made.count, made.splits = len(made.areas) - sum(are_one) + kernel.more, set()
         return made
 
     def may_join(self, first: Optional[Area], second: Optional[Area]) -> bool:
-        if first is None or second is None or not joins(first, second):
+        if first is None or second is None or not joins(first, second._replace(heap=first.heap)):
             return False
         return not (
             self.kernel.is_apart
