@@ -10,7 +10,6 @@ from __future__ import annotations
 
 import argparse
 import contextlib
-import platform
 import shutil
 import subprocess
 import sys
@@ -50,12 +49,14 @@ def adapters(folder: Path) -> Iterator[tuple[str, list[str]]]:
 
 def check_runner() -> None:
     """The runner compiles without a warning, for each processor whose compiler is here."""
-    for processor, words in building.COMPILERS.items():
-        if not shutil.which(words[0]) or words[0] == "cc" and platform.machine() != processor:
+    for processor in building.PROCESSOR_FLAGS:
+        if not shutil.which(building.compiler_name(processor)):
             skipped(f"the runner for {processor}", "its compiler is not installed")
             continue
         flags = [*building.FLAGS, "-Wall", "-Wextra", "-Werror", "-Wl,-Ttext-segment=0x38000000", "-o", "/dev/null"]
-        done = subprocess.run([*words, *flags, str(building.SOURCES[0])], capture_output=True, text=True)
+        done = subprocess.run(
+            [*building.compiler_of(processor), *flags, str(building.SOURCES[0])], capture_output=True, text=True
+        )
         if done.returncode:
             fail(f"the runner for {processor}", f"does not compile: {done.stderr[:300]}")
         passed(f"the runner for {processor}, without a warning")

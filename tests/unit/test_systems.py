@@ -202,6 +202,8 @@ class Told(unittest.TestCase):
             self.told([*self.LINES[:8], "died 7", "Bail out!"], "ended with status 6")[-1],
             "L5 t1 v1 = killed by signal 7",
         )
+        ended = self.told([*self.LINES[:8], "ended 1"], "ended with status 6")
+        self.assertEqual(ended[-1], "L5 t1 v1 = ended with status 1")
         self.assertEqual(
             self.told([*self.LINES[:8], "Bail out! a b"], "killed by signal 6")[-1], "L5 t1 v1 = killed by signal 6"
         )

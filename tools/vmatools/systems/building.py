@@ -18,7 +18,7 @@ FLAGS = (
     "-O2 -static -nostdlib -ffreestanding -fno-builtin -fno-stack-protector -fPIE -no-pie -fno-asynchronous-unwind-tables"
     " -fno-tree-loop-distribute-patterns -Wl,-z,max-page-size=4096 -Wl,-z,noexecstack -Wl,--build-id=none"
 ).split()
-COMPILERS = {"x86_64": ["cc", "-fcf-protection=none"], "aarch64": ["aarch64-linux-gnu-gcc"]}
+PROCESSOR_FLAGS = {"x86_64": ["-fcf-protection=none"], "aarch64": []}
 
 
 def cache_folders() -> list[Path]:
@@ -37,21 +37,26 @@ def is_ours(folder: Path) -> bool:
     return is_private and os.access(folder, os.W_OK | os.X_OK)
 
 
+def compiler_name(processor: str) -> str:
+    """The compiler for a processor: that of this machine, or one for another."""
+    return "cc" if processor == platform.machine() else f"{processor}-linux-gnu-gcc"
+
+
 def compiler_of(processor: str) -> list[str]:
     """The compiler and its first words for a processor."""
-    if platform.system() != "Linux" or platform.machine() not in COMPILERS:
+    if platform.system() != "Linux" or platform.machine() not in PROCESSOR_FLAGS:
         raise Refused(
             5, f"it runs on Linux on x86-64 or aarch64 alone, and this is {platform.system()} on {platform.machine()}"
         )
-    words = ["cc"] if processor == platform.machine() == "aarch64" else COMPILERS[processor]
-    if not shutil.which(words[0]):
-        package = "gcc" if words[0] == "cc" else "gcc-aarch64-linux-gnu"
+    name = compiler_name(processor)
+    if not shutil.which(name):
+        package = "gcc" if name == "cc" else f"gcc-{processor.replace('_', '-')}-linux-gnu"
         raise Refused(
             5,
-            f"`{words[0]}` is missing: a C compiler makes the program that makes the calls"
+            f"`{name}` is missing: a C compiler makes the program that makes the calls"
             f" (Debian: apt-get install {package})",
         )
-    return words
+    return [name, *PROCESSOR_FLAGS[processor]]
 
 
 def built(processor: str, link: int) -> Path:

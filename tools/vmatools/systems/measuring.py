@@ -1,6 +1,7 @@
 """How much of what a system answers is as the program, and as the running kernel, answer: a table in Markdown."""
 from __future__ import annotations
 
+import platform
 import shutil
 import subprocess
 import time
@@ -14,6 +15,7 @@ from ..outputs import is_list, parts_of
 from ..traces import LIMITS, PAGE, Line, Trace
 from . import known, machines
 from .adapter import Adapter
+from .building import compiler_name
 from .known import System
 from .places import Refused
 
@@ -34,7 +36,7 @@ def missing(system: System) -> str | None:
     words = list(system.under[:1])
     if system.boots:
         words = ["linux.uml" if system.boots == "uml" else "qemu-system-x86_64"]
-    words += ["aarch64-linux-gnu-gcc"] if system.processor == "aarch64" else ["cc"]
+    words.append(compiler_name(system.processor or platform.machine()))
     if any(not shutil.which(word) for word in words):
         return system.packages or "gcc"
     try:

@@ -9,7 +9,7 @@
        fault LINE SIGNAL CODE MAPPED     of an access: 0 0 where it was served; whether the page was mapped before it
        list LINE / end                   of a read of the list, of a fork and of the end (line 0): between them its areas
        area TEXT                         below a reply or a fault: the line of the list that has the address
-       died SIGNAL                       a child of a fork was killed by a signal
+       died SIGNAL, ended STATUS         a child of a fork was killed by a signal, or ended so
        stop STATUS TEXT                  it ends with this status: 4 where the trace asks for what this system cannot do,
                                          5 where the system does not let it work
 
@@ -385,6 +385,8 @@ static void run_fork(const struct operation *operation, word next)
         return;
     if (status & 127)
         put_line("died", status & 127);
+    else
+        put_line("ended", status >> 8);
     flush();
     CALL(SYS_EXIT, DIED, 0, 0);
 }

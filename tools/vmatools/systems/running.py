@@ -13,6 +13,7 @@ import tempfile
 import time
 from collections.abc import Callable, Sequence
 from dataclasses import dataclass, field
+from pathlib import Path
 from typing import IO, Protocol
 
 from .places import Refused
@@ -50,8 +51,14 @@ def turn_randomisation_off() -> None:
             library.personality(ctypes.c_ulong(now | NO_RANDOMISATION))
 
 
+def make_first_to_go(process: subprocess.Popen[bytes]) -> None:
+    """Where memory runs out, this process is the one to be killed."""
+    with contextlib.suppress(OSError):
+        Path(f"/proc/{process.pid}/oom_score_adj").write_text("1000", encoding="ascii")
+
+
 def prepare_processes() -> None:
-    """Sets what all processes that are started have: where memory runs out, they are the ones to be killed."""
+    """Sets what all processes that are started have: addresses that are the same in each run, and no dumps."""
     turn_randomisation_off()
     resource.setrlimit(resource.RLIMIT_CORE, (0, 0))
 
@@ -104,8 +111,11 @@ class Once:
                 )
             except OSError as error:
                 raise Refused(5, f"{self.command[0]} cannot be run: {error.strerror}") from None
-            ending = HUNG if not has_ended(process, seconds) else ending_of(process.returncode)
-            end_group(process)
+            try:
+                make_first_to_go(process)
+                ending = HUNG if not has_ended(process, seconds) else ending_of(process.returncode)
+            finally:
+                end_group(process)
             return Ran(whole_lines(contents(output)), ending, contents(errors).decode(errors="replace"))
 
     def close(self) -> None:
@@ -147,6 +157,7 @@ def started(command: Sequence[str]) -> Port:
     except OSError as error:
         raise Refused(5, f"{command[0]} cannot be run: {error.strerror}") from None
     assert process.stdin is not None and process.stdout is not None
+    make_first_to_go(process)
     return Port(process, process.stdin.fileno(), process.stdout.fileno(), errors)
 
 

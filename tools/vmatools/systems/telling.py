@@ -52,7 +52,7 @@ SENT = {
 }
 
 
-WORDS = {"shift", "at", "reply", "fault", "list", "died"}  # of the runner, each with a number behind it
+WORDS = {"shift", "at", "reply", "fault", "list", "died", "ended"}  # of the runner, each with a number behind it
 
 
 def signal_text(number: int, code: int) -> str:
@@ -199,8 +199,8 @@ class Output:
         line = self.lines.get(int(number, 16))
         if name == "at":
             self.last = line
-        elif name == "died":
-            self.end(f"killed by signal {int(number, 16)}")
+        elif name in ("died", "ended"):
+            self.end(f"{'killed by signal' if name == 'died' else 'ended with status'} {int(number, 16)}")
         elif name == "reply" and line:
             self.reply(line, int(rest[0], 16), answers.area())
         elif name == "fault" and line:
