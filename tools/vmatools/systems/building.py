@@ -18,7 +18,7 @@ FLAGS = (
     "-O2 -static -nostdlib -ffreestanding -fno-builtin -fno-stack-protector -fPIE -no-pie -fno-asynchronous-unwind-tables"
     " -fno-tree-loop-distribute-patterns -Wl,-z,max-page-size=4096 -Wl,-z,noexecstack -Wl,--build-id=none"
 ).split()
-PROCESSOR_FLAGS = {"x86_64": ["-fcf-protection=none"], "aarch64": []}
+PROCESSOR_FLAGS: dict[str, list[str]] = {"x86_64": ["-fcf-protection=none"], "aarch64": []}
 
 
 def cache_folders() -> list[Path]:
