@@ -39,12 +39,12 @@ MOST_LINES = 5
 RUNS = 200  # of the wrong models
 WRONG = {  # of some wrong models: runs, profiles, and a pattern of the kind that has to be found
     "keeps-prefix": (30, "few,files,mremap", r"mprotect: list: .*"),
-    "from-below": (12, "few,files", r"mmap: an address here, another address there"),
-    "munmap-past-end": (60, "few,edges", r"munmap: -1 EINVAL here, -1 ENOMEM there"),
+    "from-below": (12, "few,files", r"mmap: program an address, yours another address"),
+    "munmap-past-end": (60, "few,edges", r"munmap: program -1 EINVAL, yours -1 ENOMEM"),
 }
 ENDS = {  # of those that are run as commands: runs, profiles, how many seconds each may take (more on a slow machine), kind
-    "crashes-at-zero": (60, "few", ["60"], r"munmap: an output here, ends with status 1 there"),
-    "hangs-on-move": (4, "mremap", ["2", "10", "40"], r"mremap: an output here, does not end there"),
+    "crashes-at-zero": (60, "few", ["60"], r"munmap: program an output, yours ends with status 1"),
+    "hangs-on-move": (4, "mremap", ["2", "10", "40"], r"mremap: program an output, yours does not end"),
 }
 
 
@@ -172,7 +172,7 @@ def check_rules(program: str) -> None:
     with tempfile.TemporaryDirectory() as folder:
         compared([*words, "--keep", folder, "--", "from-below"], OfModel)
         kept = sorted(os.listdir(folder))
-        if kept[:3] != ["1-mmap.here", "1-mmap.there", "1-mmap.trace"]:
+        if kept[:3] != ["1-mmap.program", "1-mmap.trace", "1-mmap.yours"]:
             fail(f"--keep leaves {kept}")
     told("--ignore and --keep", began)
 
@@ -244,7 +244,7 @@ def check_threads(program: str) -> None:
         fail(f"--threads with the program: status {status}\n{text[-2000:]}")
     wrong = ["env", f"PYTHONPATH={TOOLS}", sys.executable, "-m", "vmatools.mutants", "from-below"]
     status, text = compared([*words, "--runs", "3", "--profile", "few", "--", *wrong])
-    if status != 1 or "mmap: legal here, illegal: an address there" not in text:
+    if status != 1 or "mmap: program legal, yours illegal: an address" not in text:
         fail(f"--threads with a wrong model: status {status}\n{text[-2000:]}")
 
 

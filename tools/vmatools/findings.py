@@ -36,8 +36,8 @@ class Finding:
             "event": what,
             "name": self.name,
             "line": difference.number,
-            "here": difference.here_lines,
-            "there": difference.there_lines,
+            "program": difference.here_lines,
+            "yours": difference.there_lines,
             "trace": self.trace,
             "source": self.source,
             "repeat": self.repeat,
@@ -47,7 +47,7 @@ class Finding:
     @classmethod
     def of_event(cls, event: dict[str, Any]) -> Finding:
         operation, here, there = event["name"].split("/", 2)
-        difference = Difference(operation, here, there, event["line"], event["here"], event["there"])
+        difference = Difference(operation, here, there, event["line"], event["program"], event["yours"])
         return cls(event["name"], difference, event["trace"], event["source"], event["repeat"])
 
 
@@ -250,11 +250,11 @@ def junit(findings: Findings, is_strict: bool, stopped: Optional[str]) -> str:
         failure = failed(
             suite,
             name,
-            f"{difference.operation}: {difference.here} here, {difference.there} there ({kind.count} traces)",
+            f"{difference.operation}: program {difference.here}, yours {difference.there} ({kind.count} traces)",
         )
         failure.text = clean(
             "\n".join(
-                [finding.trace, "here:", *difference.here_lines, "there:", *difference.there_lines, finding.repeat]
+                [finding.trace, "program:", *difference.here_lines, "yours:", *difference.there_lines, finding.repeat]
             )
         )
     for known in findings.baseline.known:

@@ -10,18 +10,19 @@ that writes something else is a kind too. All differences of a trace are found: 
 rest is run again. Of each kind the shortest trace is made as small as it can be while it differs in the same way.
 
 A difference that is set aside, by --ignore or by --kernel, is counted. RULE is `list` (the lists at the end are not
-compared), `errors` (an error here and another one there), or a kind as it is printed, OPERATION/HERE/THERE, where `*`
-stands for anything. A --baseline has such kinds too, each with a reason; those are counted, and only others fail.
+compared), `errors` (an error of the program and another one of yours), or a kind as it is printed,
+OPERATION/PROGRAM/YOURS, where `*` stands for anything. A --baseline has such kinds
+too, each with a reason; those are counted, and only others fail.
 
 Exit status: 0 where nothing differs that is not known, 1 where something does (with --strict also where a known
 difference does not come), 2 on wrong use, or where the program or COMMAND cannot be run; 130 and 143 where a signal
 ended the run, after its report.
-
-Example: vma compare --runs 1000 --seed 2 -- ./my-adapter
 """
 from __future__ import annotations
 
 import argparse
+import difflib
+import fnmatch
 import os
 import shlex
 import shutil
@@ -41,6 +42,7 @@ from .. import (
     outputs,
     program,
     threaded,
+    traces,
 )
 from ..campaign import Campaign, Settings, sources
 from ..findings import Baseline, Findings, Journal, Kind
@@ -48,6 +50,7 @@ from ..systems import beside
 
 SUMMARY = "run random traces on the program and on a system of yours, and shrink what differs"
 SIGNALS = {"SIGINT": 130, "SIGTERM": 143}
+OPERATIONS = (*traces.FORMS, "list", "output", "run")  # of kinds
 
 
 # Words
@@ -83,8 +86,13 @@ def numbers_of(text: str) -> list[int]:
 
 
 def rule(text: str) -> str:
+    operation, slash, _ = text.partition("/")
     if text not in ("list", "errors") and text.count("/") < 2 and not text.startswith("*"):
-        raise argparse.ArgumentTypeError(f"{text} is neither `list` nor `errors` nor OPERATION/HERE/THERE")
+        raise argparse.ArgumentTypeError(f"{text} is neither `list` nor `errors` nor OPERATION/PROGRAM/YOURS")
+    if slash and not fnmatch.filter(OPERATIONS, operation):
+        near = difflib.get_close_matches(operation, OPERATIONS, 1, 0.5)
+        hint = f"; did you mean {near[0]}?" if near else f"; there are {', '.join(OPERATIONS)}"
+        raise argparse.ArgumentTypeError(f"{text}: there is no operation {operation}{hint}")
     return text
 
 
@@ -122,23 +130,21 @@ def add_traces(parser: argparse.ArgumentParser) -> None:
 
 
 def add_arguments(parser: argparse.ArgumentParser) -> None:
-    traces = parser.add_argument_group("which traces")
-    add_traces(traces)  # type: ignore[arg-type]
-    parser.epilog = traces.epilog  # type: ignore[attr-defined]
-    traces.add_argument(
+    group = parser.add_argument_group("which traces")
+    add_traces(group)  # type: ignore[arg-type]
+    parser.epilog = group.epilog  # type: ignore[attr-defined]
+    group.add_argument(
         "--for",
         type=time_limit,
         dest="for_seconds",
         metavar="SECONDS",
         help="run traces for so long, without --runs any number",
     )
-    traces.add_argument("--only", type=numbers_of, default=[], metavar="K[,K..]", help="only these traces of the seed")
-    traces.add_argument(
+    group.add_argument("--only", type=numbers_of, default=[], metavar="K[,K..]", help="only these traces of the seed")
+    group.add_argument(
         "--traces", type=Path, metavar="FOLDER", help="the files *.trace there, or one file, in place of random traces"
     )
-    traces.add_argument(
-        "--shard", type=shard_of, default=(1, 1), metavar="I/N", help="the Ith of N parts of the traces"
-    )
+    group.add_argument("--shard", type=shard_of, default=(1, 1), metavar="I/N", help="the Ith of N parts of the traces")
     aside = parser.add_argument_group("what is set aside")
     aside.add_argument(
         "--ignore",
@@ -154,7 +160,7 @@ def add_arguments(parser: argparse.ArgumentParser) -> None:
         help="set aside what Linux is known to answer otherwise (docs/KERNEL.md), where COMMAND answers that",
     )
     aside.add_argument(
-        "--baseline", type=Path, metavar="FILE", help="known differences: lines `OPERATION/HERE/THERE # reason`"
+        "--baseline", type=Path, metavar="FILE", help="known differences: lines `OPERATION/PROGRAM/YOURS # reason`"
     )
     aside.add_argument("--strict", action="store_true", help="fail where a known difference does not come")
     report = parser.add_argument_group("the report")
@@ -254,13 +260,13 @@ def write_kind(stream: TextIO, place: int, name: str, kind: Kind) -> None:
     """What is printed of a kind."""
     finding = kind.shortest
     operation, here, there = outputs.kind_of(finding.difference)
-    traces = f"{kind.count} {'trace' if kind.count == 1 else 'traces'}"
-    print(f"{place}. {operation}: {here} here, {there} there ({traces}; --ignore '{name}')", file=stream)
+    many = f"{kind.count} {'trace' if kind.count == 1 else 'traces'}"
+    print(f"{place}. {operation}: program {here}, yours {there} ({many}; --ignore '{name}')", file=stream)
     print("   the smallest trace:" if kind.is_shrunk else "   a trace, which was not made small:", file=stream)
     print("".join(f"     {line}\n" for line in finding.trace.splitlines()), end="", file=stream)
     for side, answer, lines in (
-        ("here", here, finding.difference.here_lines),
-        ("there", there, finding.difference.there_lines),
+        ("program", here, finding.difference.here_lines),
+        ("yours", there, finding.difference.there_lines),
     ):
         print(f"   {side}: {answer}", file=stream)
         print("".join(f"     {line[:300]}\n" for line in lines[:12]), end="", file=stream)
@@ -301,6 +307,10 @@ def make_folder(folder: Path) -> None:
         raise comparison.CannotRun(f"the folder {folder} cannot be made: {error.strerror}") from None
     if not os.access(folder, os.W_OK | os.X_OK):
         raise comparison.CannotRun(f"nothing can be written to the folder {folder}")
+    old = len(os.listdir(folder))
+    if old:
+        files = console.counted(old, "file")
+        console.say(f"the folder {folder} has {files} of before: those of other names than this run's stay there")
 
 
 def keep(folder: Path, findings: Findings, sides: comparison.Sides) -> None:
@@ -309,8 +319,8 @@ def keep(folder: Path, findings: Findings, sides: comparison.Sides) -> None:
         name, trace = f"{place}-{kind.shortest.difference.operation}", comparison.trace_of(kind.shortest.trace)
         for ending, text in (
             ("trace", kind.shortest.trace),
-            ("here", sides.here(trace)),
-            ("there", sides.there(trace).output),
+            ("program", sides.here(trace)),
+            ("yours", sides.there(trace).output),
         ):
             (folder / f"{name}.{ending}").write_text(text, encoding="utf-8")
 
@@ -364,6 +374,9 @@ def compare_sides(options: argparse.Namespace, settings: Settings, sides: compar
             journal.write(findings.end_event(status, campaign.stopped))
         if options.json != "-":
             write_report(sys.stdout, findings, options.coverage, campaign.stopped)
+        for pattern in sides.rules.patterns:
+            if not findings.aside[f"--ignore {pattern}"]:
+                console.say(f"--ignore {pattern}: no difference is of this kind")
         if campaign.stopped and options.resume:
             console.say(f"`--resume {shlex.quote(str(options.resume))}` goes on from here")
         if options.junit:
@@ -387,7 +400,7 @@ def try_mutants(options: argparse.Namespace) -> int:
         missed += shown is None
         if shown:
             operation, here, there = outputs.kind_of(shown[1].findings[0].difference)
-            print(f"{name:22} trace {shown[0].number:4}  {operation}: {here} here, {there} there", flush=True)
+            print(f"{name:22} trace {shown[0].number:4}  {operation}: program {here}, yours {there}", flush=True)
         else:
             print(f"{name:22} not found: {model.__doc__}", flush=True)
     print(f"{len(mutants.MUTANTS)} wrong models, {len(mutants.MUTANTS) - missed} found in {len(drawn)} traces")

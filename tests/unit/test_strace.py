@@ -1,0 +1,94 @@
+"""What strace writes, in each of its forms, and the trace that is made of it."""
+from __future__ import annotations
+
+import subprocess
+import sys
+import tempfile
+import unittest
+from pathlib import Path
+
+TOP = Path(__file__).resolve().parents[2]
+sys.path.insert(0, str(TOP / "tools"))
+from vmatools import traces
+
+VMA = str(TOP / "tools/vma")
+LOGS = TOP / "tests/logs"
+EXEC = '7 execve("/bin/a", ["a"], 0x1 /* 1 var */) = 0\n'
+MMAP = "mmap(NULL, 8192, PROT_READ, MAP_PRIVATE|MAP_ANONYMOUS, -1, 0) = 0x7ffff7ffd000"
+MUNMAP = "munmap(0x7ffff7ffd000, 8192)"
+OPERATIONS = ["0 mmap 0 8192 PROT_READ MAP_PRIVATE|MAP_ANONYMOUS -1 0", "0 munmap 0x7ffff7ffd000 8192"]
+
+# Forms of the same two calls.
+FORMS = {
+    "plain": f"7 {MMAP}\n7 {MUNMAP} = 0\n",
+    "with the time": f"7 12:00:00.000100 {MMAP}\n7 12:00:00.000200 {MUNMAP} = 0\n",
+    "with the time that each takes": f"7 {MMAP} <0.000010>\n7 {MUNMAP} = 0 <0.000020>\n",
+    "with [pid]": f"[pid     7] {MMAP}\n[pid     7] {MUNMAP} = 0\n",
+    "unfinished": f"7 {MMAP}\n7 munmap(0x7ffff7ffd000, 8192 <unfinished ...>\n7 <... munmap resumed>) = 0\n",
+    "with signals and ends": f"7 {MMAP}\n7 --- SIGCHLD {{si_signo=SIGCHLD}} ---\n7 {MUNMAP} = 0\n7 +++ exited with 0 +++\n",
+}
+MANY = "9" * 4301
+
+
+def imported(log: str, *words: str) -> subprocess.CompletedProcess[str]:
+    command = [sys.executable, VMA, "import", "-", "--elsewhere", *words]
+    return subprocess.run(command, input=log, capture_output=True, text=True, timeout=60)
+
+
+def operations(text: str) -> list[str]:
+    return [traces.line_text(line) for line in traces.read_trace(text.encode()).lines]
+
+
+class Forms(unittest.TestCase):
+    def test_each_form_is_the_same_trace(self) -> None:
+        for name, lines in FORMS.items():
+            with self.subTest(name):
+                done = imported(EXEC + lines)
+                self.assertEqual(done.returncode, 0, done.stderr)
+                self.assertEqual(operations(done.stdout), OPERATIONS)
+
+    def test_the_saved_logs(self) -> None:
+        logs: dict[str, list[str]] = {"plain": [], "mixed": ["--maps", str(LOGS / "mixed.maps")]}
+        for name, more in logs.items():
+            done = imported((LOGS / f"{name}.log").read_text(), "--hints", *more)
+            self.assertEqual(done.stdout, (LOGS / f"{name}.trace").read_text())
+
+    def test_numbers_of_many_digits(self) -> None:
+        calls = (f"mmap(NULL, {MANY}, PROT_READ, MAP_PRIVATE, 3, 0) = 0x7ffff7ffd000", f"munmap(0x1000, 1) = {MANY}")
+        for call in (*calls, f"close_range({MANY}, {MANY}, 0) = 0", f'openat({MANY}, "x", O_RDONLY) = {MANY}'):
+            done = imported(EXEC + f"7 {call}\n7 {MMAP}\n{MANY} {MMAP}\n")
+            self.assertEqual(done.returncode, 0, done.stderr)
+            self.assertNotIn("Traceback", done.stderr)
+            self.assertEqual(operations(done.stdout), OPERATIONS[:1])
+
+
+class Maps(unittest.TestCase):
+    AREA = "555555554000-555555555000 r--p 00000000 fe:00 7".ljust(73) + "{}\n"
+
+    def warned(self, name: str) -> bool:
+        with tempfile.NamedTemporaryFile("w", suffix=".maps") as maps:
+            maps.write(self.AREA.format(name))
+            maps.flush()
+            done = imported(EXEC + FORMS["plain"], "--maps", maps.name)
+        self.assertEqual(done.returncode, 0, done.stderr)
+        return "are these the areas of another program?" in done.stderr
+
+    def test_maps_of_another_program_are_warned_of(self) -> None:
+        self.assertFalse(self.warned("/bin/a"))
+        self.assertFalse(self.warned("/bin/a.real"))
+        self.assertTrue(self.warned("/bin/other"))
+
+
+class Refused(unittest.TestCase):
+    def test_what_is_no_log(self) -> None:
+        for text in ("", "hello\n", "\0\0\0\n"):
+            self.assertEqual(imported(text).returncode, 2)
+
+    def test_replies_that_cannot_be_written(self) -> None:
+        done = imported(EXEC + FORMS["plain"], "--replies", "/no/such/folder/replies")
+        self.assertEqual((done.returncode, done.stdout), (2, ""))
+        self.assertIn("/no/such/folder/replies: No such file or directory", done.stderr)
+
+
+if __name__ == "__main__":
+    unittest.main()
