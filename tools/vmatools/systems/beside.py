@@ -10,7 +10,7 @@ from ..campaign import Settings
 from ..comparison import CANNOT_RUN, Sides
 from ..traces import PAGE, Trace, read_trace
 from .batch import Adapters
-from .known import KNOWN, WINDOW, system_of
+from .known import KNOWN, MACHINE_SECONDS, WINDOW, system_of
 from .places import Window
 from .reference import Reference, unnamed
 
@@ -68,7 +68,8 @@ def take_system(options: argparse.Namespace) -> None:
     else:
         options.kernel = True
     options.kernel = options.kernel or system.name == "window"
-    options.jobs = 1 if system.boots else options.jobs
+    if system.boots:  # one at a time; and the trace that finds it not yet begun waits for it
+        options.jobs, options.seconds, options.shrink_seconds = 1, MACHINE_SECONDS, MACHINE_SECONDS
     if not options.runs and not options.for_seconds and not options.only and not options.traces:
         options.for_seconds = FOR_SECONDS
 
