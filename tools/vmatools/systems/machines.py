@@ -12,7 +12,7 @@ from collections.abc import Callable, Sequence
 from pathlib import Path
 
 from .places import Refused
-from .running import Port
+from .running import Port, die_with_parent
 
 BURST = 2048  # bytes that a serial line takes at once; runner.c has the same
 IMAGES = "/boot/vmlinuz-*-cloud-amd64"
@@ -119,6 +119,7 @@ def starts(runner: Path, command: Callable[[str, int], Sequence[str]]) -> Callab
                 stderr=errors,
                 pass_fds=[theirs.fileno()],
                 start_new_session=True,
+                preexec_fn=die_with_parent,
                 env={**os.environ, "TMPDIR": folder.name},
             )
         return Port(process, ours.fileno(), ours.fileno(), errors, [ours, folder], BURST)

@@ -19,6 +19,8 @@ from typing import IO, Protocol
 from .places import Refused
 
 NO_RANDOMISATION = 0x0040000
+PR_SET_PDEATHSIG = 1
+LIBRARY = ctypes.CDLL(None)  # the C library
 MOST_OUTPUT = 256 << 20
 HUNG = "hung"
 
@@ -44,11 +46,14 @@ class Runner(Protocol):
 
 def turn_randomisation_off() -> None:
     """What is executed from now on has the same addresses in each run. Where that is forbidden, the runner says so."""
-    with contextlib.suppress(OSError, AttributeError):
-        library = ctypes.CDLL(None)
-        now = library.personality(ctypes.c_ulong(0xFFFFFFFF))
-        if now >= 0:
-            library.personality(ctypes.c_ulong(now | NO_RANDOMISATION))
+    now = LIBRARY.personality(ctypes.c_ulong(0xFFFFFFFF))
+    if now >= 0:
+        LIBRARY.personality(ctypes.c_ulong(now | NO_RANDOMISATION))
+
+
+def die_with_parent() -> None:
+    """In a process that is started: it is killed where the one that started it ends, by whatever."""
+    LIBRARY.prctl(PR_SET_PDEATHSIG, signal.SIGKILL, 0, 0, 0)
 
 
 def make_first_to_go(process: subprocess.Popen[bytes]) -> None:
@@ -108,6 +113,7 @@ class Once:
                     start_new_session=True,
                     env=self.environment,
                     pass_fds=self.descriptors,
+                    preexec_fn=die_with_parent if self.environment is None else None,
                 )
             except OSError as error:
                 raise Refused(5, f"{self.command[0]} cannot be run: {error.strerror}") from None
@@ -152,7 +158,12 @@ def started(command: Sequence[str]) -> Port:
     errors = tempfile.TemporaryFile()
     try:
         process = subprocess.Popen(
-            command, stdin=subprocess.PIPE, stdout=subprocess.PIPE, stderr=errors, start_new_session=True
+            command,
+            stdin=subprocess.PIPE,
+            stdout=subprocess.PIPE,
+            stderr=errors,
+            start_new_session=True,
+            preexec_fn=die_with_parent,
         )
     except OSError as error:
         raise Refused(5, f"{command[0]} cannot be run: {error.strerror}") from None
