@@ -88,7 +88,7 @@ PROFILES = {
         "areas that grow downwards", {**BASIC, "map_growing": 8, "touch_below": 16}, settings=("lowest",)
     ),
     "brk": Profile(
-        "the break of a heap", {**BASIC, "brk": 14, "map_over_break": 2, "seal_heap": 1}, settings=("heap", "few")
+        "the break of a heap", {**BASIC, "brk": 14, "map_over_break": 3, "seal_heap": 2}, settings=("heap", "few")
     ),
     "mseal": Profile("sealed pages", {**BASIC, "seal": 4, "protect_to_sealed": 2, "cut_sealed": 2}),
     "fork": Profile(
@@ -366,7 +366,10 @@ class Generator:
         low, now = self.space.heap * PAGE, self.space.break_
         higher, lower = now + PAGE * self.random.randint(1, 5), now - PAGE * self.random.randint(1, 4)
         odd = now + self.pick([-100, 100, 3 * PAGE - 1])
-        return "brk", [max(self.pick([higher] * 4 + [lower] * 3 + [low, now, 0, now + 8, odd]), 0)]
+        end = -(-now // PAGE)
+        # A break within an area that goes on above it leaves both of its ends.
+        cut = [(area.lo + 1) * PAGE for area in self.space.areas if area.lo < end - 1 and area.hi > end]
+        return "brk", [max(self.pick([higher] * 4 + [lower] * 3 + [low, now, 0, now + 8, odd] + cut * 6), 0)]
 
     def map_over_break(self) -> Drawn:
         """At a fixed place from below the break to above it, so that a lower break leaves both ends."""
