@@ -38,7 +38,7 @@ Job = tuple[str, list[str], int, str]  # a tool, its words, its status, and what
 MOST_LINES = 5
 RUNS = 200  # of the wrong models
 WRONG = {  # of some wrong models: runs, profiles, and a pattern of the kind that has to be found
-    "keeps-prefix": (30, "few,files,mremap", r"mprotect: list: .*"),
+    "keeps-prefix": (30, "few,files,mremap", r"mprotect: program list: .*"),
     "from-below": (12, "few,files", r"mmap: program an address, yours another address"),
     "munmap-past-end": (60, "few,edges", r"munmap: program -1 EINVAL, yours -1 ENOMEM"),
 }
