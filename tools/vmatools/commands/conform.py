@@ -9,6 +9,7 @@ out: the system can't run it.
     vma conform -- ./my-adapter
     vma conform --only mremap --only brk/raise -- ./my-adapter
     vma conform --as linux --junit report.xml -- tools/vma kernel
+    vma conform --system qemu-x86_64
 
 Exit status: 0 where all cases pass, 1 where one doesn't, 2 on wrong use, or where the suite or COMMAND can't be
 read or run.
@@ -16,6 +17,7 @@ read or run.
 from __future__ import annotations
 
 import argparse
+import contextlib
 import os
 import shutil
 import sys
@@ -25,8 +27,12 @@ from pathlib import Path
 
 from .. import conformance, console
 from ..conformance import Case, Result, Verdict
+from ..program import TOP, Ran
 from ..program import run as run_command
+from ..systems.batch import Adapters
+from ..systems.known import KNOWN, MACHINE_SECONDS
 
+VMA = (sys.executable, str(TOP / "tools/vma"))
 SUMMARY = "measure a system case by case, by the conformance suite"
 FORMS: dict[str, Callable[[Sequence[Result]], Iterator[str]]] = {
     "tap": conformance.as_tap,
@@ -66,21 +72,54 @@ def add_arguments(parser: argparse.ArgumentParser) -> None:
             help=f"write what came of each case there as {form.upper()}, or - for standard output",
         )
     parser.add_argument(
+        "--batch", action="store_true", help="COMMAND answers many traces in one process (docs/SYSTEMS.md)"
+    )
+    parser.add_argument("--system", metavar="NAME", help=f"one that is known, in place of COMMAND: {', '.join(KNOWN)}")
+    parser.add_argument(
         "command", metavar="COMMAND", nargs="*", help="the system under test and its arguments, behind --"
     )
 
 
-def all_results(cases: Sequence[Case], command: Sequence[str], seconds: float, jobs: int) -> list[Result]:
+@contextlib.contextmanager
+def runs(options: argparse.Namespace) -> Iterator[Callable[[Case], Ran]]:
+    """Runs a case: in a process of its own, or with --batch in one that answers many."""
+    if not options.batch:
+        yield lambda case: run_command(options.command, case.trace.encode(), options.seconds)
+        return
+    adapters = Adapters(options.command)
+
+    def ran(case: Case) -> Ran:
+        answer = adapters.run(case.trace.encode(), options.seconds)
+        return Ran(answer.output, answer.fault, answer.message)
+
+    try:
+        yield ran
+    finally:
+        adapters.close()
+
+
+def all_results(cases: Sequence[Case], options: argparse.Namespace) -> list[Result]:
     """What a system makes of each case, with a line that says how far it is."""
     progress, results = console.Progress(), []
-    with ThreadPoolExecutor(max_workers=jobs) as pool:
-        for result in pool.map(
-            lambda case: conformance.judged(case, run_command(command, case.trace.encode(), seconds)), cases
-        ):
+    with runs(options) as run_case, ThreadPoolExecutor(max_workers=options.jobs) as pool:
+        for result in pool.map(lambda case: conformance.judged(case, run_case(case)), cases):
             results.append(result)
             progress.tell(f"{len(results)} of {len(cases)} cases")
     progress.clear()
     return results
+
+
+def take_system(options: argparse.Namespace) -> None:
+    """Takes a known system in the place of COMMAND. A machine of its own runs one case at a time, and takes its time to begin."""
+    if not options.system:
+        return
+    if options.command:
+        raise console.Failure("--system stands in the place of COMMAND: only one of them can be given")
+    if options.system not in KNOWN:
+        raise console.Failure(f"{options.system} is no system that is known: {', '.join(KNOWN)}")
+    options.command, options.batch = [*VMA, "kernel", "--batch", "--system", options.system], True
+    if KNOWN[options.system].boots:
+        options.jobs, options.seconds = 1, MACHINE_SECONDS
 
 
 def report(results: Sequence[Result]) -> None:
@@ -113,11 +152,12 @@ def run(options: argparse.Namespace) -> int:
     if options.list:
         print("\n".join(f"{case.where}: {case.says}" for case in cases))
         return 0
+    take_system(options)
     if not options.command:
         raise console.Failure("no COMMAND: give the system under test behind --")
     if not shutil.which(options.command[0]):
         raise console.Failure(f"{options.command[0]} cannot be run")
-    results = all_results(cases, options.command, options.seconds, options.jobs)
+    results = all_results(cases, options)
     if not write_forms(options, results):
         report(results)
     return 0 if all(result.verdict in (Verdict.PASSED, Verdict.LEFT_OUT) for result in results) else 1
