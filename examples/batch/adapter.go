@@ -1,5 +1,5 @@
-// An adapter that answers many traces in one process: `vma compare --batch -- ./adapter`, made by `go build adapter.go`.
-// Its system knows no call. Yours does: put it in the place of answer.
+// An adapter that answers many traces in one process: `vma compare --batch --profile few -- ./adapter`, made by
+// `go build adapter.go`. Its system has no memory: yours has, in the place of answer. Traces with a fork are left to yours.
 package main
 
 import (
@@ -9,11 +9,14 @@ import (
 	"strings"
 )
 
-func answer(call string) string {
-	if call == "fault" {
-		return "SIGSEGV SEGV_MAPERR"
+func answer(call string) (result string, isCall int) {
+	switch call {
+	case "fault":
+		return "SIGSEGV SEGV_MAPERR", 0
+	case "maps":
+		return "maps 0", 0
 	}
-	return "-1 ENOSYS"
+	return "-1 ENOSYS", 1
 }
 
 func main() {
@@ -26,11 +29,10 @@ func main() {
 		} else if words[0] == "end" { // end N: the output is wanted, and the same line behind it
 			fmt.Fprintf(output, "maps 0\n%s\n", lines.Text())
 			output.Flush()
-		} else if number++; words[0] < "a" && words[0] > "/" && words[1] != "maps" && words[1] != "fork" {
-			if words[1] != "fault" {
-				version++
-			}
-			fmt.Fprintf(output, "L%d t%s v%d = %s\n", number, words[0], version, answer(words[1]))
+		} else if number++; words[0] < "a" && words[0] > "/" {
+			result, isCall := answer(words[1])
+			version += isCall
+			fmt.Fprintf(output, "L%d t%s v%d = %s\n", number, words[0], version, result)
 		}
 	}
 }

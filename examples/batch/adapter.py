@@ -1,13 +1,15 @@
 #!/usr/bin/env python3
-"""An adapter that answers many traces in one process: `vma compare --batch -- examples/batch/adapter.py`.
+"""An adapter that answers many traces in one process: `vma compare --batch --profile few -- examples/batch/adapter.py`.
 
-Its system knows no call. Yours does: put it in the place of `answer`.
+Its system has no memory: yours has, in the place of `answer`. Traces with a fork are left to yours too.
 """
 import sys
 
+READS = {"fault": "SIGSEGV SEGV_MAPERR", "maps": "maps 0"}  # what changes nothing
+
 
 def answer(words: list[str]) -> str:
-    return "SIGSEGV SEGV_MAPERR" if words[1] == "fault" else "-1 ENOSYS"
+    return READS.get(words[1], "-1 ENOSYS")
 
 
 number, version, output = 0, 0, []
@@ -20,6 +22,6 @@ for line in sys.stdin:
         print(*output, "maps 0", line, sep="\n", end="", flush=True)
         continue
     number += 1
-    if words[0].isdigit() and words[1] not in ("maps", "fork"):
-        version += words[1] != "fault"
+    if words[0].isdigit():
+        version += words[1] not in READS
         output.append(f"L{number} t{words[0]} v{version} = {answer(words)}")

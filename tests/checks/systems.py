@@ -25,8 +25,8 @@ from vmatools.systems import batch, building, known, measuring, seen
 from vmatools.systems.places import Refused
 
 TRACES = 300
-WANTED = "L2 t0 v1 = -1 ENOSYS\nL3 t0 v1 = SIGSEGV SEGV_MAPERR\nmaps 0\n"
-TRACE = b"vmatrace 1\n0 munmap 0x10000 4096\n0 fault 0x10000 r\n"
+WANTED = "L3 t0 v1 = -1 ENOSYS\nL4 t3 v1 = SIGSEGV SEGV_MAPERR\nL6 t0 v1 = maps 0\nmaps 0\n"
+TRACE = b"vmatrace 1\n# a comment\n0 munmap 0x10000 4096\n3 fault 0x10000 r\n\n0 maps\n"
 ADAPTERS = TOP / "examples/batch"
 
 
