@@ -32,11 +32,8 @@ Exit statuses, each but 0 with a line on standard error:
   2  wrong words, or the trace cannot be read
   3  the input is no trace: the first bad line and its cause, as the program names it
   4  the trace asks for what this system cannot do: the line, and why
-  5  this system cannot run it at all: no compiler, another processor or system, an older kernel, or a sandbox that
-  forbids it
+  5  this system cannot run it at all: no compiler, another processor or system, an older kernel, a sandbox that forbids it
   6  the system did not come to the trace
-
-Example: vma kernel < examples/tour.trace | diff - examples/tour.out
 """
 from __future__ import annotations
 

@@ -8,8 +8,6 @@ differ. A row that this machine cannot run, as one with another lowest address, 
 
 Exit status: 0 where all rows are as they stand, 1 where one is not, 2 on wrong use, or where a run fails that should
 not.
-
-Example: vma rows grow-far
 """
 from __future__ import annotations
 

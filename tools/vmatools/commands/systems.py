@@ -11,8 +11,6 @@ With --seen the traces of examples/systems run again: each is a bug of a system,
 it. It says whether the version that is installed has it still.
 
 Exit status: 0, or 2 on wrong use or where the program is missing. A system that cannot be run is named and left out.
-
-Example: vma systems --table --runs 4 valgrind
 """
 from __future__ import annotations
 

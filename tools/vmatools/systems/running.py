@@ -9,6 +9,7 @@ import select
 import signal
 import struct
 import subprocess
+import sys
 import tempfile
 import time
 from collections.abc import Callable, Sequence
@@ -46,6 +47,8 @@ class Runner(Protocol):
 
 def turn_randomisation_off() -> None:
     """What is executed from now on has the same addresses in each run. Where that is forbidden, the runner says so."""
+    if sys.platform != "linux":
+        return  # where the runner is not compiled either
     now = LIBRARY.personality(ctypes.c_ulong(0xFFFFFFFF))
     if now >= 0:
         LIBRARY.personality(ctypes.c_ulong(now | NO_RANDOMISATION))
