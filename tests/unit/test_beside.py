@@ -33,6 +33,16 @@ def options_of(*words: str) -> argparse.Namespace:
 
 
 class Words(unittest.TestCase):
+    def setUp(self) -> None:
+        patch = mock.patch.object(beside, "missing", return_value=None)
+        patch.start()
+        self.addCleanup(patch.stop)
+
+    def test_a_system_that_is_not_installed(self) -> None:
+        with mock.patch.object(beside, "missing", return_value="runsc"):
+            with self.assertRaisesRegex(console.Failure, "gvisor is not installed .Debian: apt-get install runsc"):
+                beside.take_system(options_of("--system", "gvisor"))
+
     def test_a_known_system_brings_what_belongs_to_it(self) -> None:
         options = options_of("--system", "valgrind")
         beside.take_system(options)

@@ -11,6 +11,7 @@ from ..comparison import CANNOT_RUN, Sides
 from ..traces import PAGE, Trace, read_trace
 from .batch import Adapters
 from .known import KNOWN, MACHINE_SECONDS, WINDOW, system_of
+from .measuring import missing
 from .places import Window
 from .reference import Reference, unnamed
 
@@ -59,6 +60,9 @@ def take_system(options: argparse.Namespace) -> None:
     if options.command:
         raise console.Failure("--system stands in the place of COMMAND: only one of them can be given")
     system = system_of(options.system)
+    packages = missing(system)
+    if packages:
+        raise console.Failure(f"{system.name} is not installed (Debian: apt-get install {packages})")
     options.command = [VMA, "kernel", "--batch", "--system", options.system]
     options.batch = True
     if system.window:
