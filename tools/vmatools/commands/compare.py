@@ -261,14 +261,15 @@ def write_kind(stream: TextIO, place: int, name: str, kind: Kind) -> None:
     finding = kind.shortest
     operation, here, there = outputs.kind_of(finding.difference)
     many = f"{kind.count} {'trace' if kind.count == 1 else 'traces'}"
-    print(f"{place}. {operation}: program {here}, yours {there} ({many}; --ignore '{name}')", file=stream)
+    title = console.painted(f"{place}. {operation}: program {here}, yours {there}", "bold")
+    print(f"{title} ({many}; --ignore '{name}')", file=stream)
     print("   the smallest trace:" if kind.is_shrunk else "   a trace, which was not made small:", file=stream)
     print("".join(f"     {line}\n" for line in finding.trace.splitlines()), end="", file=stream)
-    for side, answer, lines in (
-        ("program", here, finding.difference.here_lines),
-        ("yours", there, finding.difference.there_lines),
+    for side, answer, lines, colour in (
+        ("program", here, finding.difference.here_lines, "green"),
+        ("yours", there, finding.difference.there_lines, "red"),
     ):
-        print(f"   {side}: {answer}", file=stream)
+        print(f"   {console.painted(side, colour)}: {answer}", file=stream)
         print("".join(f"     {line[:300]}\n" for line in lines[:12]), end="", file=stream)
     print(f"   found in {finding.source}; again:\n     {finding.repeat}\n", file=stream)
 
@@ -361,6 +362,7 @@ def compare_sides(options: argparse.Namespace, settings: Settings, sides: compar
         if options.json:
             journal = Journal(sys.stdout if options.json == "-" else opened(options.json, stack))
             journal.write({"event": "begin", "identity": settings.identity(), "runs": settings.runs})
+        junit = opened(str(options.junit), stack) if options.junit else None
         campaign = Campaign(settings, sides, findings, journal)
         if options.resume:
             campaign.go_on(options.resume)
@@ -379,8 +381,8 @@ def compare_sides(options: argparse.Namespace, settings: Settings, sides: compar
                 console.say(f"--ignore {pattern}: no difference is of this kind")
         if campaign.stopped and options.resume:
             console.say(f"`--resume {shlex.quote(str(options.resume))}` goes on from here")
-        if options.junit:
-            opened(str(options.junit), stack).write(found.junit(findings, options.strict, campaign.stopped))
+        if junit:
+            junit.write(found.junit(findings, options.strict, campaign.stopped))
         if options.keep:
             keep(options.keep, findings, sides)
     return status

@@ -88,7 +88,8 @@ def run_again(row: Row, path: str | None, kernel: Kernel | None) -> Row:
 def differing(first: str, second: str) -> list[str]:
     """The lines in which two outputs differ."""
     lines = difflib.unified_diff(first.splitlines(), second.splitlines(), lineterm="", n=0)
-    return [line for line in lines if not line.startswith(("---", "+++", "@@"))]
+    shown = (line for line in lines if not line.startswith(("---", "+++", "@@")))
+    return [console.painted(line, "green" if line.startswith("-") else "red") for line in shown]
 
 
 def show(row: Row) -> None:
