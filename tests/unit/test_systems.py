@@ -106,6 +106,13 @@ class Fits(unittest.TestCase):
             self.assertFalse(fit.keeps(trace_of(line)), line)
         self.assertTrue(leaves(trace_of("0 fault 0x1000 r").lines[0], WINDOW.low, WINDOW.high))
 
+    def test_a_hint_below_a_growing_area_becomes_a_place(self) -> None:
+        growing = f"0 mmap 0x11000 4096 PROT_READ {MAP}|MAP_FIXED|MAP_GROWSDOWN -1 0"
+        hint = f"0 mmap 0x10000 4096 PROT_READ {MAP} -1 0"
+        first = windows.Fit(WINDOW).fitted(trace_of(growing, hint)).lines[1]
+        self.assertFalse(finds_place(first))
+        self.assertTrue(finds_place(windows.Fit(WINDOW).fitted(trace_of(hint)).lines[0]))
+
     def test_what_is_mapped_is_touched_at_the_end(self) -> None:
         trace = windows.Fit(WINDOW).fitted(trace_of(f"0 mmap 0x10000 4096 PROT_WRITE {MAP}|MAP_FIXED -1 0"))
         self.assertEqual([(line.word, line.arguments[0]) for line in trace.lines[1:]], [("fault", 0x10000)])

@@ -29,6 +29,7 @@ PROFILES = [
     "mix",
 ]  # those that keep to a part of memory
 FIXED = MAP["MAP_FIXED"]
+GUARD = 257  # pages that Linux keeps free below a growing area, and one
 MOST_PAGES = 0x200  # of a mapping whose place is chosen here
 TRIES = 200
 MOST_TOUCHED = 8  # areas that are touched at the end of a trace
@@ -76,6 +77,11 @@ class EmptyFit:
         return trace.settings.get("min", self.lowest) == self.lowest and not any(
             line.word in self.lacks for line in trace.lines
         )
+
+
+def is_guarded(space: model.Space, start: int, pages: int) -> bool:
+    """Whether a place lies so near below a growing area that Linux passes it over as a hint."""
+    return any(area.grows and start < area.lo < start + pages + GUARD for area in space.areas)
 
 
 class Fitting:
@@ -129,7 +135,7 @@ class Fitting:
         values = list(line.arguments)
         length = model.pages_of(values[1 if line.word == "mmap" else 2])
         found = model.answer(copy.copy(space), line)[0][0]
-        is_searched = values[0] < PAGE if line.word == "mmap" else False
+        is_searched = line.word == "mmap" and (values[0] < PAGE or is_guarded(space, values[0] // PAGE, length))
         if not is_searched and (not found.startswith("0x") or int(found, 16) == values[0] // PAGE * PAGE):
             return line
         place = self.free_place(space, length)
