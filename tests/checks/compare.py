@@ -63,6 +63,13 @@ class OfModel(comparison.Sides):
         return programs.Ran(serial.serial_output(trace, (mutants.MUTANTS | mutants.ENDING)[self.command[0]]), None, "")
 
 
+class InProcess(OfModel):
+    """The same, with the model on both sides: what is tried is the report."""
+
+    def here(self, trace: traces.Trace) -> str:
+        return serial.serial_output(trace)
+
+
 def compared(words: list[str], sides_type: type[comparison.Sides] | None = None) -> tuple[int, str]:
     """Status and text of a comparison with these words."""
     parser, _ = cli.parser_of(cli.COMMANDS["compare"])
@@ -184,7 +191,7 @@ def check_baseline(program: str, folder: str) -> None:
     cases: list[tuple[str, list[str], int]] = [(known, [], 0), (known + gone, ["--strict"], 1), (gone, [], 1)]
     for text, more, wanted in cases:
         pathlib.Path(base).write_text(text)
-        status, report = compared([*words, "--baseline", base, *more, "--", "munmap-past-end"], OfModel)
+        status, report = compared([*words, "--baseline", base, *more, "--", "munmap-past-end"], InProcess)
         if status != wanted or ("brk" in text) != ("did not come: brk/* # gone" in report):
             fail(f"--baseline with {text!r}: status {status}\n{report[-2000:]}")
 
@@ -192,18 +199,18 @@ def check_baseline(program: str, folder: str) -> None:
 def check_parts(program: str, folder: str) -> None:
     """The parts of a comparison give one report, that of the whole; and a run that was cut goes on to the same end."""
     words = ["--runs", "24", "--program", program, "--profile", "few,edges", "--lines", "12"]
-    _, whole = compared([*words, "--", "munmap-past-end"], OfModel)
+    _, whole = compared([*words, "--", "munmap-past-end"], InProcess)
     parts = [os.path.join(folder, f"part{number}") for number in (1, 2)]
     for number, part in enumerate(parts, 1):
-        compared([*words, "--shard", f"{number}/2", "--json", part, "--", "munmap-past-end"], OfModel)
+        compared([*words, "--shard", f"{number}/2", "--json", part, "--", "munmap-past-end"], InProcess)
     merged = ran("merge", parts)
     if titles(merged) != titles(whole):
         fail(f"merge of two parts has {titles(merged)}, and the whole {titles(whole)}")
     state = pathlib.Path(folder) / "state"
-    compared([*words, "--resume", str(state), "--", "munmap-past-end"], OfModel)
+    compared([*words, "--resume", str(state), "--", "munmap-past-end"], InProcess)
     lines = state.read_text().splitlines(keepends=True)
     state.write_text("".join(lines[:10]) + lines[10][:20])
-    _, again = compared([*words, "--resume", str(state), "--", "munmap-past-end"], OfModel)
+    _, again = compared([*words, "--resume", str(state), "--", "munmap-past-end"], InProcess)
     if titles(again) != titles(whole):
         fail(f"--resume comes to {titles(again)}, and not to {titles(whole)}")
 
@@ -228,7 +235,7 @@ def check_files(program: str, folder: str) -> None:
     ran("emit", ["--runs", "6", "--profile", "few,edges", kept])
     ran("emit", ["--runs", "2", "--generate", "30", kept])
     words = ["--program", program, "--traces", kept, "--junit", report, "--coverage", "--", "right"]
-    status, text = compared(words, OfModel)
+    status, text = compared(words, InProcess)
     has_row = re.search(r"^ +\d+  the range is cut out$", text, re.MULTILINE)
     if status or not text.endswith("8 traces, 0 differ\n") or not has_row:
         fail(f"--traces and --coverage: status {status}\n{text[-2000:]}")
