@@ -46,6 +46,7 @@ GROUPS = {
     "Make traces of real programs": (
         Command("record", "record ls /", wrong_use=125),
         Command("import", "import ls.log --maps ls.maps > ls.trace", "import_"),
+        Command("lists", "lists ls.out ls.final"),
     ),
     "Look at a trace or an output": (
         Command("draw", "draw examples/tour.trace examples/tour.out > tour.html"),

@@ -1,14 +1,21 @@
-"""Runs a command under strace, and keeps its log together with the areas that it begins with.
+"""Runs a command under strace, and keeps its log together with the lists of areas of each program in it.
 
-Writes two files. NAME.log is the log of strace, with the calls that `vma import` reads: of memory, of processes, and
-those that open files or tell their sizes. NAME.maps is /proc/PID/maps of the moment after the execve, before the
-first instruction. Randomisation of addresses is off, and so the same command has the same addresses each time. NAME
+Writes three files. NAME.log is the log of strace, with the calls that `vma import` reads: of memory, of processes, and
+those that open files or tell their sizes. NAME.maps is /proc/PID/maps of the moment after the execve, before the first
+instruction. NAME.lists has the lists of all processes of the command: before each execve, when the new program begins,
+and before its end. Randomisation of addresses is off, and so the same command has the same addresses each time. NAME
 is the command's name. Then:
+
+    tools/vma import NAME.log --maps NAME.lists --all FOLDER
+
+makes a trace of each address space, or, of the first alone:
 
     tools/vma import NAME.log --maps NAME.maps --replies NAME.kernel > NAME.trace
 
 The command has this terminal and this environment. The log has its words and the names of the files that it opens,
-but neither its environment nor what it reads.
+but neither its environment nor what it reads. The lists are read while the command waits in a call, by a filter of
+seccomp(2): a command that has a listener of such filters itself, as a container's runtime may, needs --no-lists. Under
+strace, and by the filter, programs with a set-user-ID bit have no more rights than you.
 
 The status is that of the command, or 128 and the number of the signal that ended it; 125 where strace is not there or
 may not trace, and on wrong use; 127 where the command is not there.
@@ -23,9 +30,10 @@ import signal
 import subprocess
 import sys
 import time
-from typing import NoReturn
+from typing import BinaryIO, NoReturn
 
 from ..console import Failure, say
+from . import watching
 
 ADDR_NO_RANDOMIZE = 0x0040000
 PTRACE_TRACEME, PTRACE_DETACH = 0, 17
@@ -46,25 +54,45 @@ def fail(status: int, text: str) -> NoReturn:
     raise Failure(text, status)
 
 
-def started(path: str, words: list[str]) -> int:
-    """A child that stands still right after its execve, with randomisation off."""
+def started(path: str, words: list[str], lists: BinaryIO | None) -> tuple[int, watching.Watcher | None]:
+    """A child that stands still right after its execve, with randomisation off, and who reads its lists."""
+    reader, writer = os.pipe()
     child = os.fork()
     if child == 0:
         try:
+            os.close(reader)
             LIBC.personality(ctypes.c_ulong(ADDR_NO_RANDOMIZE))
             LIBC.prctl(PR_SET_PTRACER, ctypes.c_ulong(ANY & 2**64 - 1), 0, 0, 0)  # strace, a sibling, may trace it
             if LIBC.ptrace(PTRACE_TRACEME, 0, None, None) == -1:
                 os.write(2, b"vma record: ptrace(2) is forbidden here\n")
                 os._exit(125)
+            if lists:
+                os.write(writer, b"%d" % watching.install())
+            os.close(writer)
             os.execv(path, words)
         except OSError as error:
             os.write(2, f"vma record: {path}: {error.strerror}\n".encode())
         finally:
             os._exit(127)
+    os.close(writer)
+    watcher = watcher_of(child, reader, lists) if lists else None
     _, status = os.waitpid(child, 0)
     if not os.WIFSTOPPED(status):
         sys.exit(os.waitstatus_to_exitcode(status) if os.WIFEXITED(status) else 125)
-    return child
+    return child, watcher
+
+
+def watcher_of(child: int, reader: int, lists: BinaryIO) -> watching.Watcher | None:
+    """Who reads the lists of a child that has said where its filter is heard; none where it may have no filter."""
+    with open(reader, "rb") as told:
+        number = int(told.read() or b"-1")
+    listener = watching.taken_from(child, number) if number >= 0 else None
+    if listener is None:
+        say("a seccomp filter is forbidden here: the lists of the programs after the first are not kept")
+        return None
+    watcher = watching.Watcher(listener, lists)
+    watcher.start()
+    return watcher
 
 
 def quoted(word: str) -> str:
@@ -133,24 +161,32 @@ def waited(child: int) -> int:
 
 
 def add_arguments(parser: argparse.ArgumentParser) -> None:
-    parser.usage = "vma record [-h] [-o NAME] COMMAND ..."
-    parser.add_argument(
-        "-o", dest="name", metavar="NAME", help="the front of the two files' names (the command's name)"
-    )
+    parser.usage = "vma record [-h] [-o NAME] [--no-lists] COMMAND ..."
+    parser.add_argument("-o", dest="name", metavar="NAME", help="the front of the files' names (the command's name)")
+    parser.add_argument("--no-lists", action="store_true", help="keeps the list of the first program alone")
     parser.add_argument("command", metavar="COMMAND", nargs=argparse.REMAINDER, help="the command and its words")
+
+
+def path_of(word: str) -> str:
+    path = shutil.which(word)
+    if path is None:
+        fail(127, f"{word}: no such command")
+    if shutil.which("strace") is None:
+        fail(125, "strace is not there (Debian: apt-get install strace)")
+    return path
 
 
 def run(choices: argparse.Namespace) -> int:
     words = choices.command[1:] if choices.command[:1] == ["--"] else choices.command
     if not words:
         fail(125, "no command; `vma record --help` says how")
-    path = shutil.which(words[0])
-    if path is None:
-        fail(127, f"{words[0]}: no such command")
-    if shutil.which("strace") is None:
-        fail(125, "strace is not there (Debian: apt-get install strace)")
+    path = path_of(words[0])
     choices.name = choices.name or os.path.basename(words[0])
-    child = started(path, words)
+    try:
+        lists = open(choices.name + ".lists", "wb") if watching.is_able() and not choices.no_lists else None
+    except OSError as error:
+        fail(125, f"{error.filename}: {error.strerror}")
+    child, watcher = started(path, words, lists)
     try:
         keep_beginning(child, path, words, choices)
     except OSError as error:
@@ -165,5 +201,8 @@ def run(choices: argparse.Namespace) -> int:
     except (subprocess.TimeoutExpired, KeyboardInterrupt):
         tracer.terminate()
         tracer.wait()
-    say(f"{choices.name}.log and {choices.name}.maps are written")
+    if watcher:
+        watcher.end()
+    kept = [choices.name + end for end in (".log", ".maps", *([".lists"] if watcher else []))]
+    say(f"{', '.join(kept[:-1])} and {kept[-1]} are written")
     return status

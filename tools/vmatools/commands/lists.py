@@ -1,0 +1,56 @@
+"""Compares the list of areas that a run leaves with the one that the kernel had.
+
+OUTPUT is what `serial` wrote for a trace that `vma import` made, and MAPS the list that `vma import` wrote beside it
+(--final, --all), or a saved /proc/PID/maps. The lists are compared page by page. What a log can't tell is said, and is
+no difference: borders between areas that look alike, which the kernel keeps by accounting, pages by which faults made a
+stack grow, and areas above user memory, as [vsyscall]. Names such as [stack] and [vdso] are those of plain memory. A
+file is compared by its name, and by device and inode where both lists have them.
+
+Exit status: 0 where nothing else differs, 1 where something does, 2 on wrong use, or where a file cannot be read.
+"""
+from __future__ import annotations
+
+import argparse
+
+from ..console import Failure, counted, open_input, painted, reading
+from ..strace.areas import Area, area_of, read_sections
+from ..strace.lists import compare
+
+SUMMARY = "compare the last list of a run with that of the kernel"
+
+
+def add_arguments(parser: argparse.ArgumentParser) -> None:
+    parser.add_argument("output", metavar="OUTPUT", help="what `serial` wrote for the trace, or - for standard input")
+    parser.add_argument("maps", metavar="MAPS", help="the list that the kernel had last")
+
+
+def text_in(path: str) -> str:
+    with open_input(path) as source, reading(path):
+        return source.read().decode("utf-8", "surrogateescape")
+
+
+def last_list(text: str, path: str) -> list[Area]:
+    """The list with which an output ends, or, where children follow, that of the parent."""
+    lines = text.split("\nchild ", 1)[0].splitlines()
+    places = [place for place, line in enumerate(lines) if line.startswith("maps ")]
+    if not places:
+        raise Failure(f"{path}: it has no list: is it an output of `serial`?")
+    areas = [area_of(line) for line in lines[places[-1] + 1 :]]
+    if None in areas:
+        raise Failure(f"{path}: line {places[-1] + 2 + areas.index(None)} is no line of a list")
+    return [area for area in areas if area]
+
+
+def run(options: argparse.Namespace) -> int:
+    ours = last_list(text_in(options.output), options.output)
+    theirs = read_sections(text_in(options.maps), options.maps)[-1].areas
+    found = compare(ours, theirs)
+    for line in found.told():
+        print(line)
+    for line in found.others:
+        print(painted(line, "red"))
+    print(
+        f"{counted(len(ours), 'area')} in the run, {counted(len(theirs), 'area')} in the kernel; "
+        f"{counted(len(found.others), 'range')} differ"
+    )
+    return 1 if found.others else 0
