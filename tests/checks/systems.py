@@ -1,10 +1,9 @@
 #!/usr/bin/env python3
 """Runs the batch protocol with the adapters of examples/batch, and random traces in each system that is installed here.
 
-What a system answers otherwise is no failure: how much of it is equal is printed, and the examples that a version was
-seen to answer otherwise are repeated. A system that is not installed is named and passed. Ends with status 1 where an
-adapter of examples/batch does not answer as it should, where a trace that was fitted to a window is refused for leaving
-it, or where the running kernel, in a window, answers an example otherwise than it stands there.
+What a system answers otherwise is no failure: how much of it is equal is printed. A system that is not installed is
+named and passed. Ends with status 1 where the runner does not compile without a warning, where an adapter of
+examples/batch does not answer as it should, or where a trace that was fitted to a window is refused for leaving it.
 """
 from __future__ import annotations
 
@@ -100,13 +99,16 @@ def check_ends() -> None:
 
 
 def check_examples(name: str) -> None:
-    """The running kernel answers the examples of other systems as Linux does."""
+    """Whether the running kernel answers the examples of other systems as Linux does: it may be another one."""
+    others = 0
     for example in seen.examples():
         with contextlib.closing(seen.adapter_of(name)) as adapter:
             now = example.now(adapter)
         if now:
-            fail(f"examples/systems/{example.name}", f"Linux itself answers otherwise at line {now.line}: {now.answer}")
-    passed("the examples of systems, on the running kernel")
+            others += 1
+            print(f"{TOOL}: {example.name}: this kernel answers otherwise: line {now.line}: {now.answer}")
+    if not others:
+        passed("the examples of systems, on the running kernel")
 
 
 def check_system(system: known.System, path: str, seconds: float) -> None:
