@@ -1,6 +1,7 @@
 """What `vma compare` finds, what it sets aside, and what it writes."""
 from __future__ import annotations
 
+import io
 import json
 import tempfile
 import unittest
@@ -8,7 +9,18 @@ from collections import Counter
 from pathlib import Path
 from xml.etree import ElementTree
 
-from vmatools import comparison, console, coverage, findings, generator, linux_cases, mutants, shrinking
+from vmatools import (
+    campaign,
+    comparison,
+    console,
+    coverage,
+    findings,
+    generator,
+    linux_cases,
+    mutants,
+    shrinking,
+    threaded,
+)
 from vmatools.linux_borders import History
 from vmatools.linux_model import Kernel, Linux, predictions
 from vmatools.model import Space
@@ -198,6 +210,64 @@ class Reports(unittest.TestCase):
         told.add([self.finding(), self.finding("brk/\x00/b")], Counter())
         suite = ElementTree.fromstring(findings.junit(told, True, None).split("\n", 1)[1])
         self.assertEqual([suite.get(name) for name in ("tests", "failures", "skipped", "errors")], ["4", "2", "1", "0"])
+
+
+class Runs(unittest.TestCase):
+    """A run of many traces: what it finds, and that it goes on where it stopped."""
+
+    def campaign(
+        self, told: findings.Findings, runs: int, journal: findings.Journal | None = None
+    ) -> campaign.Campaign:
+        settings = campaign.Settings(["model"], ["few", "edges"], runs, 12, words=["--lines", "12"])
+        sides = comparison.InProcess(mutants.MunmapPastEnd, comparison.Rules())
+        return campaign.Campaign(settings, sides, told, journal)
+
+    def test_kinds_are_counted_and_shrunk(self) -> None:
+        told, stream = findings.Findings(), io.StringIO()
+        run = self.campaign(told, 16, findings.Journal(stream))
+        run.run()
+        run.shrink()
+        (name, kind), *others = told.in_order()
+        self.assertEqual((name, others), ("munmap/-1 EINVAL/-1 ENOMEM", []))
+        self.assertEqual(read_trace(kind.shortest.trace.encode()).lines[0].word, "munmap")
+        self.assertIn("--lines 12 --only", kind.shortest.repeat)
+        events = [json.loads(line)["event"] for line in stream.getvalue().splitlines()]
+        self.assertEqual(events, ["finding"] * kind.count + ["smallest"])
+
+    def test_a_run_goes_on_where_it_stopped(self) -> None:
+        whole = findings.Findings()
+        self.campaign(whole, 12).run()
+        with tempfile.TemporaryDirectory() as folder:
+            state = Path(folder) / "state"
+            first = self.campaign(findings.Findings(), 5)
+            first.go_on(state)
+            first.run()
+            first.close()
+            told = findings.Findings()
+            second = self.campaign(told, 12)
+            second.go_on(state)
+            self.assertEqual(told.traces, 5)
+            second.run()
+            second.close()
+            other = self.campaign(findings.Findings(), 12)
+            other.settings.seed = 2
+            with self.assertRaises(console.Failure):
+                other.go_on(state)
+        self.assertEqual((told.traces, told.differing), (whole.traces, whole.differing))
+
+    def test_shards_part_the_traces(self) -> None:
+        numbers = []
+        for part in (1, 2, 3):
+            settings = campaign.Settings([], ["few"], 10, shard=(part, 3))
+            numbers += [source.number for source in campaign.sources(settings)]
+        self.assertEqual(sorted(numbers), list(range(10)))
+
+    def test_an_output_of_threads_is_blamed_on_its_line(self) -> None:
+        trace = read_trace(TWO)
+        found = threaded.illegal(trace, "L2 t0 v1 = 0x100000\nL3 t0 v2 = -1 ENOMEM\n", 2)
+        self.assertEqual((*kind_of(found), found.number), ("mmap", "legal", "illegal: -1 ENOMEM", 3))
+        self.assertEqual(found.here_lines, ["it is `L3 t0 v2 = -1 ENOMEM` and not `L3 t0 v2 = 0x101000`"])
+        self.assertEqual(kind_of(threaded.illegal(trace, "", 1)), ("output", "legal", "illegal: the output ends"))
 
 
 if __name__ == "__main__":

@@ -176,6 +176,11 @@ class Campaign:
         if fresh:
             self.state.write({"event": "begin", "identity": self.settings.identity()})
 
+    def close(self) -> None:
+        """Ends what is kept for a run that goes on."""
+        if self.state:
+            self.state.stream.close()
+
     def take(self, event: dict[str, Any]) -> None:
         if event["event"] == "trace" and event["number"] not in self.done:
             self.done.add(event["number"])

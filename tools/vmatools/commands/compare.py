@@ -369,6 +369,7 @@ def compare_sides(options: argparse.Namespace, settings: Settings, sides: compar
         with campaign.stoppable():
             campaign.run()
             campaign.shrink()
+        campaign.close()
         if campaign.stopped:
             program.end_all()
         status = status_of(findings, options.strict, campaign.stopped)
