@@ -3,8 +3,9 @@ from __future__ import annotations
 
 import platform
 import shlex
-from collections.abc import Callable
+from collections.abc import Callable, Sequence
 from dataclasses import dataclass, replace
+from enum import Enum
 
 from . import empty, machines
 from .building import built
@@ -14,10 +15,15 @@ from .running import Once, Runner, Served, started
 WINDOW = Window(0x10000, 0x2000000)
 LOW_LINK = 0x38000000  # above the window, and below what an emulator has of its own
 BEGIN_SECONDS, MACHINE_SECONDS, MACHINE_GRACE = 60.0, 300.0, 60.0
-GUEST = empty.Kernel(
-    lowest=4096, most_areas=2000, is_wide=False
-)  # as the runner sets it up, as the first process of a machine
+GUEST = empty.Kernel(lowest=4096, most_areas=2000, is_wide=False)  # as the first process of a machine sets it up
 EMPTY_SECONDS = 60.0
+
+
+class Boot(Enum):
+    """A machine of its own, which has to be booted."""
+
+    USER_MODE = "user-mode Linux"
+    KERNEL = "a kernel under qemu-system"
 
 
 @dataclass(frozen=True)
@@ -31,7 +37,7 @@ class System:
     processor: str = ""  # that of this machine by default
     link: int = LOW_LINK
     window: Window | None = WINDOW
-    boots: str = ""  # `uml` or `kernel`: a machine of its own
+    boots: Boot | None = None
     image: str = ""  # its kernel, the newest that is installed by default
     seconds: float = 5.0  # how long a trace may take there
 
@@ -39,16 +45,17 @@ class System:
         """What runs scripts in this system: in a process for all of them, or in one for each."""
         program = built(self.processor or platform.machine(), self.link)
         if self.boots:
-            command = (
-                machines.user_mode_linux
-                if self.boots == "uml"
-                else machines.qemu_system(self.image or machines.newest_image())
-            )
-            return Served(machines.starts(program, command), MACHINE_SECONDS, MACHINE_GRACE)
+            return Served(machines.starts(program, self.boot_command()), MACHINE_SECONDS, MACHINE_GRACE)
         words = [*self.under, str(program)]
         if self.window and is_served:
             return Served(lambda: started([*words, "serve"]), BEGIN_SECONDS)
         return Once(words, None if self.under else {})
+
+    def boot_command(self) -> Callable[[str, int], Sequence[str]]:
+        """The command of its machine, by its initramfs and the descriptor of its serial line."""
+        if self.boots == Boot.USER_MODE:
+            return machines.user_mode_linux
+        return machines.qemu_system(self.image or machines.newest_image())
 
     def kernel(self) -> empty.Kernel:
         """What the kernel of an empty space has."""
@@ -93,14 +100,14 @@ KNOWN = {
             "runsc",
             ("runsc", "--rootless", "--network=none", "--platform=ptrace", "do"),
         ),
-        System("uml", "user-mode Linux", "user-mode-linux", boots="uml", seconds=20),
+        System("uml", "user-mode Linux", "user-mode-linux", boots=Boot.USER_MODE, seconds=20),
         System(
             "machine",
             "a kernel of Debian under qemu-system",
             "qemu-system-x86 linux-image-cloud-amd64",
             link=empty.LINK,
             window=None,
-            boots="kernel",
+            boots=Boot.KERNEL,
             seconds=20,
         ),
     )
@@ -121,6 +128,3 @@ def system_under(command: str) -> System:
     if not words:
         raise Refused(2, "--under has no command")
     return System("yours", "the command of --under", under=words)
-
-
-Change = Callable[[System], System]

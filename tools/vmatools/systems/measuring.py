@@ -16,7 +16,7 @@ from ..traces import LIMITS, PAGE, Line, Trace
 from . import known, machines
 from .adapter import Adapter
 from .building import compiler_name
-from .known import System
+from .known import Boot, System
 from .places import Refused
 
 LINES = 30
@@ -35,12 +35,12 @@ def missing(system: System) -> str | None:
     """What has to be installed for a system, or None where it is there."""
     words = list(system.under[:1])
     if system.boots:
-        words = ["linux.uml" if system.boots == "uml" else "qemu-system-x86_64"]
+        words = ["linux.uml" if system.boots == Boot.USER_MODE else "qemu-system-x86_64"]
     words.append(compiler_name(system.processor or platform.machine()))
     if any(not shutil.which(word) for word in words):
         return system.packages or "gcc"
     try:
-        if system.boots == "kernel" and not system.image:
+        if system.boots == Boot.KERNEL and not system.image:
             machines.newest_image()
     except Refused:
         return system.packages
@@ -49,7 +49,7 @@ def missing(system: System) -> str | None:
 
 def version_of(system: System) -> str:
     """The version of a system that is installed, as it says it."""
-    if system.boots == "kernel":
+    if system.boots == Boot.KERNEL:
         return Path(system.image or machines.newest_image()).name.removeprefix("vmlinuz-")
     if system.name not in VERSIONS:
         return " ".join(Path("/proc/sys/kernel/osrelease").read_text(encoding="ascii").split())
