@@ -15,7 +15,7 @@ import tomllib
 from checking import TOP, fail, main, passed, skipped
 
 FOLDERS = ("tools/vmatools", "tests", "dev")
-PROGRAMS = ("tools/vma", "tests/run", "dev/chart", "dev/measure", "dev/measure-faults")
+PROGRAMS = ("tools/vma", "tests/run", "dev/chart", "dev/measure", "dev/measure-faults", "dev/real-programs")
 MOST = 4_000  # characters of what is printed
 
 

@@ -70,7 +70,7 @@ def check_logs(folder: str) -> None:
         # What is left out is named.
         for word in {
             "plain": ["MAP_HUGETLB 1", "madvise 1", "--exec 2 takes it"],
-            "mixed": ["MAP_LOCKED 2", "shmat 1", "of a child"],
+            "mixed": ["MAP_LOCKED 2", "shmat 1", "of 1 child"],
         }[log]:
             if word.encode() not in done.stderr:
                 fail(name, f"{word} stands nowhere on standard error")

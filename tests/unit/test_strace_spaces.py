@@ -245,6 +245,13 @@ class Orders(unittest.TestCase):
         self.assertEqual([step.answer for step in trace.steps][1:], ["0x7ffff7ffe000", "0x7ffff7ffd000"])
         self.assertEqual((trace.moved > 0, trace.different), (True, 0))
 
+    def test_each_call_is_there_once(self) -> None:
+        text = self.THREADS + "".join(f"{7 + at % 2} munmap({hex(4096 * at)}, 4096) = 0\n" for at in range(1, 900))
+        text = text.replace("7 munmap(0x64000, 4096) = 0", "7 munmap(0x64000, 4096) = -1 EINVAL (Invalid argument)")
+        trace = made(text)
+        self.assertEqual([step.begin for step in trace.steps], sorted(step.begin for step in trace.steps))
+        self.assertEqual((len(trace.steps), trace.moved, trace.different), (900, 0, 1))
+
     def test_what_no_order_explains_is_told(self) -> None:
         text = self.THREADS + f"7 {MAP} = 0x7ffff7000000\n8 {MAP} = 0x7ffff7ffe000\n"
         self.assertEqual(made(text).different, 1)
@@ -277,6 +284,9 @@ class Lists(unittest.TestCase):
         found = lists.compare(run, kernel)
         self.assertEqual((found.joined, found.apart, found.others), ([0x7FFFF7FFC000], [], []))
         self.assertEqual((len(found.grown), found.above), (1, ["[vsyscall]"]))
+        kernel[0] = kernel[0]._replace(name="/bin/a (deleted)")
+        self.assertEqual(lists.compare(run, kernel).removed, {"/bin/a"})
+        self.assertEqual(lists.compare(run, kernel).others, [])
         kernel[0] = kernel[0]._replace(perms="r-xp")
         self.assertEqual(len(lists.compare(run, kernel).others), 1)
         self.assertEqual(len(lists.compare(run, kernel[1:]).others), 1)

@@ -59,6 +59,8 @@ def explain_maps(data: bytes) -> int:
         text = data.split(b"\n", refused.line)[refused.line - 1][: maps_texts.MOST_LINE].decode("utf-8", "replace")
         show(f"line {refused.line}: {who}: {refused.why}", text, (0, max(len(text), 1)))
         print(f"(cause {maps_texts.CAUSES[refused.cause]}, {refused.cause}, in docs/TRACE.md)")
+        if refused.cause == "NotOurs":
+            print("`vma import --maps` makes a trace of it all the same, which goes on as the process would")
         return console.FOUND
     areas = console.counted(len(rows), "area")
     print(f"a maps text with {areas}, and no trace: `retrace` makes a trace of it, and `query` reads it")

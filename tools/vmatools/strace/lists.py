@@ -5,7 +5,7 @@ import bisect
 from collections.abc import Iterator
 from dataclasses import dataclass, field
 
-from ..console import counted
+from ..console import counted, printable
 from ..traces import PAGE
 from .areas import USER_END, Area
 
@@ -20,6 +20,7 @@ class Comparison:
     apart: list[int] = field(default_factory=list)  # borders that the run has alone
     grown: list[tuple[int, int]] = field(default_factory=list)  # pages of a stack that faults added
     above: list[str] = field(default_factory=list)  # areas above user memory
+    removed: set[str] = field(default_factory=set)  # files that were removed while they were mapped
     others: list[str] = field(default_factory=list)
 
     def told(self) -> Iterator[str]:
@@ -29,6 +30,8 @@ class Comparison:
             yield f"apart in the run, one area in the kernel: {counted(len(self.apart), 'border')}{places(self.apart)}"
         for lo, hi in self.grown:
             yield f"a stack grew by faults, which are in no log: {counted((hi - lo) // PAGE, 'page')}, {lo:x}-{hi:x}"
+        for name in sorted(self.removed):
+            yield f"removed while it was mapped, of which a trace says nothing: {printable(name)}"
         for name in self.above:
             yield f"above user memory, and in no trace: {name}"
 
@@ -40,8 +43,17 @@ def places(borders: list[int]) -> str:
 def attributes(area: Area, at: int, known: bool) -> Attributes:
     """What a page is mapped to. Names in brackets are those of plain memory; of a file, the trace may not know the inode."""
     if area.is_file and not area.name.startswith("["):
-        return area.perms, area.name, area.offset + at - area.lo, (area.major, area.minor, area.inode) if known else ()
+        return (
+            area.perms,
+            name_of(area),
+            area.offset + at - area.lo,
+            (area.major, area.minor, area.inode) if known else (),
+        )
     return area.perms, "shared" if area.perms[3] == "s" else "[heap]" if area.name == "[heap]" else ""
+
+
+def name_of(area: Area) -> str:
+    return area.name.removesuffix(" (deleted)")
 
 
 def area_at(areas: list[Area], begins: list[int], at: int) -> Area | None:
@@ -86,6 +98,8 @@ def compare_pages(found: Comparison, here: Area | None, there: Area | None, lo: 
         assert area
         found.others.append(f"{lo:x}-{hi:x} {area.perms} {area.name or 'without a name'}: {which}")
         return
+    if here.name != there.name and name_of(here) == name_of(there):
+        found.removed.add(name_of(here))
     is_known = bool(here.inode) and bool(there.inode)
     ours, theirs = (attributes(area, lo, is_known) for area in (here, there))
     if ours != theirs:

@@ -113,7 +113,8 @@ class Order:
     def search(self, model: Model, heads: Heads) -> tuple[list[int], Model, Heads]:
         """The longest order from here on in which all answers are equal, as far as few tries tell; model and place then."""
         path: list[int] = []
-        best, left = (path, model, heads), MOST_STEPS
+        best: tuple[list[int], Model, Heads] = ([], model, heads)
+        left = MOST_STEPS
         stack: list[tuple[Model, Heads, Iterator[tuple[int, int]]]] = [(model, heads, iter(self.next_ones(heads)))]
         while left and self.tries > 0 and len(path) < MOST_PATH:
             model, heads, ones = stack[-1]

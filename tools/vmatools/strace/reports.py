@@ -58,8 +58,9 @@ def headline(trace: Trace, space: Space) -> str:
     threads = counted(len(set(trace.threads.values())), "thread")
     begins = "the areas of the maps" if space.parent is None else "the areas at the fork"
     text = f"{printable(space.label)}: {calls} of {threads}, after {len(trace.of_maps)} for {begins}"
-    for place, (_, operations) in enumerate(trace.of_children):
-        text += f"; {'and ' * bool(place)}{counted(len(operations), 'call')} of a child"
+    if trace.of_children:
+        of_children = sum(len(operations) for _, operations in trace.of_children)
+        text += f"; {counted(of_children, 'call')} of {counted(len(trace.of_children), 'child', 'children')}"
     return f"{text}; {counted(len(trace.files), 'opening')} of files"
 
 
