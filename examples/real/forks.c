@@ -1,4 +1,3 @@
-#include <stdlib.h>
 #include <string.h>
 #include <sys/mman.h>
 #include <sys/wait.h>
@@ -8,8 +7,6 @@ static void work(int which) {
     char *place = mmap(NULL, 4096 * (2 + which), PROT_READ | PROT_WRITE, MAP_PRIVATE | MAP_ANONYMOUS, -1, 0);
     memset(place, 1, 4096);
     mprotect(place, 4096, PROT_READ);
-    void *heap = malloc(200000 * (1 + which));
-    free(heap);
     if (which == 2 && fork() == 0) {
         munmap(place, 4096 * (2 + which));
         _exit(0);
@@ -22,7 +19,7 @@ int main(void) {
     for (int which = 0; which < 3; which++) {
         if (fork() == 0) {
             work(which);
-            exit(0);
+            _exit(0);
         }
         munmap(shared + 4096 * which, 4096);
     }
