@@ -32,7 +32,7 @@ MANY = "9" * 4301
 
 def imported(log: str, *words: str) -> subprocess.CompletedProcess[str]:
     command = [sys.executable, VMA, "import", "-", "--elsewhere", *words]
-    return subprocess.run(command, input=log, capture_output=True, text=True, timeout=60)
+    return subprocess.run(command, input=log, capture_output=True, text=True, timeout=300)
 
 
 def operations(text: str) -> list[str]:
