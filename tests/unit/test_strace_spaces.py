@@ -5,6 +5,7 @@ import struct
 import subprocess
 import sys
 import tempfile
+import time
 import unittest
 from pathlib import Path
 from unittest import mock
@@ -233,6 +234,22 @@ class Spaces(unittest.TestCase):
             )
             for wrong in (["--most", "-1"], ["--all", "x", "--replies", "y"]):
                 self.assertEqual(subprocess.run([*words[:4], *wrong], capture_output=True).returncode, 2)
+
+
+class Costs(unittest.TestCase):
+    def test_a_log_of_many_files_takes_less_than_two_seconds(self) -> None:
+        """As `ls -lR` over 12,000 files has them: statx of each, and an opening of each folder."""
+        stat = "STATX_ALL, {stx_mask=STATX_ALL, stx_mode=S_IFREG|0644, stx_ino=1, stx_size=9, stx_dev_major=8, stx_dev_minor=2}) = 0\n"
+        text = [BEGIN]
+        for at in range(12_000):
+            text.append(f'7 statx(AT_FDCWD</srv>, "d/file{at}", AT_SYMLINK_NOFOLLOW, {stat}')
+            if at % 10 == 0:
+                text.append(
+                    f'7 openat(AT_FDCWD</srv>, "d{at}", O_RDONLY|O_DIRECTORY) = 3</srv/d{at}>\n7 close(3</srv/d{at}>) = 0\n'
+                )
+        begin = time.process_time()
+        made("".join(text))
+        self.assertLess(time.process_time() - begin, 2)
 
 
 class Orders(unittest.TestCase):

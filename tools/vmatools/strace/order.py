@@ -12,6 +12,7 @@ HUGE = 2 * 1024 * 1024  # the kernel aligns mappings of this size and more, wher
 # The bounds of a search: the tries without success from one place, and the calls at once; and all tries, besides those of each
 # call.
 MOST_STEPS, MOST_PATH, MOST_TRIES = 3_000, 400, 40_000
+LEAST_STEPS = 60  # the tries from one place where few are left
 FIXED = MAP["MAP_FIXED"] | MAP["MAP_FIXED_NOREPLACE"]
 
 Heads = tuple[int, ...]  # how many calls of each thread are placed
@@ -114,14 +115,14 @@ class Order:
         """The longest order from here on in which all answers are equal, as far as few tries tell; model and place then."""
         path: list[int] = []
         best: tuple[list[int], Model, Heads] = ([], model, heads)
-        left = MOST_STEPS
+        left = most = min(MOST_STEPS, max(LEAST_STEPS, self.tries // 20))
         stack: list[tuple[Model, Heads, Iterator[tuple[int, int]]]] = [(model, heads, iter(self.next_ones(heads)))]
         while left and self.tries > 0 and len(path) < MOST_PATH:
             model, heads, ones = stack[-1]
             one = next(ones, None)
             if one is None:
                 if len(path) > len(best[0]):
-                    best, left = (list(path), model, heads), MOST_STEPS
+                    best, left = (list(path), model, heads), most
                 stack.pop()
                 if not stack or sum(heads) == len(self.steps):
                     break
