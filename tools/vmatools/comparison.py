@@ -7,6 +7,7 @@ from collections import Counter
 from collections.abc import Callable, Iterable, Iterator, Sequence
 from dataclasses import dataclass, field
 from fnmatch import fnmatchcase
+from functools import lru_cache
 from typing import NamedTuple, Optional
 
 from . import linux_cases
@@ -415,6 +416,12 @@ def examine(sides: Sides, trace: Trace, most: int = MOST_FINDINGS) -> Examined:
     return told
 
 
+@lru_cache(maxsize=1024)
+def model_output(text: str) -> str:
+    """What the model writes for a trace, which is kept since many wrong models are compared with it."""
+    return serial_output(trace_of(text))
+
+
 class InProcess(Sides):
     """The model, here, and one of its kind that is wrong, there."""
 
@@ -423,7 +430,7 @@ class InProcess(Sides):
         self.model = model
 
     def here(self, trace: Trace) -> str:
-        return serial_output(trace)
+        return model_output(trace.text())
 
     def there(self, trace: Trace, seconds: Optional[float] = None) -> Ran:
         return Ran(serial_output(trace, self.model), None, "")
