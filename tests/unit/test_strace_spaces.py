@@ -12,6 +12,8 @@ from unittest import mock
 
 TOP = Path(__file__).resolve().parents[2]
 sys.path.insert(0, str(TOP / "tools"))
+from vmatools.commands.lists import last_list
+from vmatools.console import Failure
 from vmatools.model import Space as Model, answer
 from vmatools.strace import importing, lists, watching
 from vmatools.strace.areas import Area, area_of, read_sections, top_of
@@ -239,14 +241,12 @@ class Spaces(unittest.TestCase):
 class Costs(unittest.TestCase):
     def test_a_log_of_many_files_takes_less_than_two_seconds(self) -> None:
         """As `ls -lR` over 12,000 files has them: statx of each, and an opening of each folder."""
-        stat = "STATX_ALL, {stx_mask=STATX_ALL, stx_mode=S_IFREG|0644, stx_ino=1, stx_size=9, stx_dev_major=8, stx_dev_minor=2}) = 0\n"
+        stat = "STATX_ALL, {stx_mask=STATX_ALL, stx_mode=S_IFREG|0644, stx_ino=1, stx_size=9}) = 0\n"
         text = [BEGIN]
         for at in range(12_000):
             text.append(f'7 statx(AT_FDCWD</srv>, "d/file{at}", AT_SYMLINK_NOFOLLOW, {stat}')
             if at % 10 == 0:
-                text.append(
-                    f'7 openat(AT_FDCWD</srv>, "d{at}", O_RDONLY|O_DIRECTORY) = 3</srv/d{at}>\n7 close(3</srv/d{at}>) = 0\n'
-                )
+                text.append(f'7 openat(AT_FDCWD, "d{at}", O_RDONLY) = 3</srv/d{at}>\n7 close(3</srv/d{at}>) = 0\n')
         begin = time.process_time()
         made("".join(text))
         self.assertLess(time.process_time() - begin, 2)
@@ -307,6 +307,14 @@ class Lists(unittest.TestCase):
         kernel[0] = kernel[0]._replace(perms="r-xp")
         self.assertEqual(len(lists.compare(run, kernel).others), 1)
         self.assertEqual(len(lists.compare(run, kernel[1:]).others), 1)
+
+    def test_the_list_of_a_child(self) -> None:
+        parent, child = "00010000-00011000 rw-p 00000000 00:00 0 \n", "00020000-00021000 r--p 00000000 00:00 0 \n"
+        output = f"L2 t0 v1 = 0x10000\nL3 t0 v1 = child 1 areas 1\nmaps 1\n{parent}child 1 of L3 v1\nmaps 1\n{child}"
+        self.assertEqual([area.lo for area in last_list(output, "out")], [0x10000])
+        self.assertEqual([area.lo for area in last_list(output, "out", 1)], [0x20000])
+        with self.assertRaises(Failure):
+            last_list(output, "out", 2)
 
     def test_a_line_is_written_as_it_was_read(self) -> None:
         for line in MAPS.splitlines():

@@ -21,6 +21,7 @@ SUMMARY = "compare the last list of a run with that of the kernel"
 
 def add_arguments(parser: argparse.ArgumentParser) -> None:
     parser.add_argument("output", metavar="OUTPUT", help="what `serial` wrote for the trace, or - for standard input")
+    parser.add_argument("--child", metavar="C", type=int, help="the list of this child, and not that of the parent")
     parser.add_argument("maps", metavar="MAPS", help="the list that the kernel had last")
 
 
@@ -29,20 +30,24 @@ def text_in(path: str) -> str:
         return source.read().decode("utf-8", "surrogateescape")
 
 
-def last_list(text: str, path: str) -> list[Area]:
-    """The list with which an output ends, or, where children follow, that of the parent."""
-    lines = text.split("\nchild ", 1)[0].splitlines()
+def last_list(text: str, path: str, child: int | None = None) -> list[Area]:
+    """The list with which the part of an output ends that is the parent's, or a child's."""
+    front = "" if child is None else f"{child} of "
+    part = next((part for part in f"\n{text}".split("\nchild ")[child is not None :] if part.startswith(front)), None)
+    if part is None:
+        raise Failure(f"{path}: it has no child {child}")
+    lines = part.splitlines()
     places = [place for place, line in enumerate(lines) if line.startswith("maps ")]
     if not places:
         raise Failure(f"{path}: it has no list: is it an output of `serial`?")
     areas = [area_of(line) for line in lines[places[-1] + 1 :]]
     if None in areas:
-        raise Failure(f"{path}: line {places[-1] + 2 + areas.index(None)} is no line of a list")
+        raise Failure(f"{path}: below `{lines[places[-1]]}` there is a line that is none of a list")
     return [area for area in areas if area]
 
 
 def run(options: argparse.Namespace) -> int:
-    ours = last_list(text_in(options.output), options.output)
+    ours = last_list(text_in(options.output), options.output, options.child)
     theirs = read_sections(text_in(options.maps), options.maps)[-1].areas
     found = compare(ours, theirs)
     for line in found.told():

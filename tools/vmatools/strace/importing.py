@@ -324,10 +324,14 @@ def write_beside(trace: Trace, space: Space, replies: str | None, final: str | N
     if replies:
         Path(replies).write_text(trace.replies(), encoding="utf-8")
     if final and space.final:
-        text = "".join(f"{area.line()}\n" for area in space.final[1])
-        Path(final).write_bytes(text.encode("utf-8", "surrogateescape"))
+        write_list(final, space.final[1])
     elif final:
         raise Failure(f"{printable(space.label)}: no list is known that the kernel had last, so {final} is not written")
+
+
+def write_list(path: str, areas: list[Area]) -> None:
+    text = "".join(f"{area.line()}\n" for area in areas)
+    Path(path).write_bytes(text.encode("utf-8", "surrogateescape"))
 
 
 def run_all(options: argparse.Namespace, importer: Importer) -> int:
@@ -342,6 +346,9 @@ def run_all(options: argparse.Namespace, importer: Importer) -> int:
         name = folder / space.name()
         name.with_suffix(".trace").write_text(trace.text(), encoding="utf-8")
         write_beside(trace, space, f"{name}.kernel", f"{name}.maps" if space.final else None)
+        for step in trace.steps:
+            if step.fork and step.fork.final and step.text:
+                write_list(f"{name}.child{step.text.split()[1]}.maps", step.fork.final[1])
         written.append((space, trace))
     report_all(written, importer.log, importer.processes)
     return 0 if written else 1
