@@ -175,7 +175,7 @@ def main() -> int:
         prog="tests/run documents", description=__doc__, formatter_class=argparse.RawDescriptionHelpFormatter
     ).parse_args()
     os.chdir(TOP)
-    checks = (check_names, check_links, check_paths, check_crates, check_pictures, check_manual)
+    checks = (check_names, check_links, check_paths, check_crates, check_reference, check_pictures, check_manual)
     wrong = [line for check in checks for line in check()]
     right = (
         "documents: every name, path and link leads somewhere, and the reference and each picture are of their sources"
