@@ -161,7 +161,7 @@ def libraries() -> str:
     """mm_space and all that it stands on, as crates.txt names them."""
     for line in open(os.path.join(TOP, "crates.txt")):
         name, _, below = line.partition(":")
-        if name.split()[0] == "mm_space":
+        if name.split()[:1] == ["mm_space"]:
             return below.strip() + " mm_space"
     fail("crates.txt", "has no mm_space")
 
