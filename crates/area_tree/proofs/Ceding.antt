@@ -111,7 +111,7 @@ module _ (fields : Inside) (view : AreaTreeView) (old : Record) (shown other : S
   pub ceded_shown : (tree : SpanView) → tree.pairs ≡ overwritten other.area.span.lo other.area.span.hi (other.slot + 1) fields.tree.pairs
       → (rest : List ShownArea) × IsPermutation (record { slot = shown.slot; area = old } ∷ rest) (shown_of view)
       × IsPermutation (shown ∷ (other ∷ rest))
-      (shown_of (record { tree = tree; records = set (set fields.records shown.slot shown.area) other.slot other.area; bounds = fields.bounds }))
+      (shown_of (record { tree = tree; records = set (set fields.records shown.slot shown.area) other.slot other.area; bounds = fields.bounds; sealed = fields.sealed }))
   ceded_shown tree stored = (
     ceded_told.rest,
     subst (λ (v : AreaTreeView). IsPermutation (record { slot = shown.slot; area = old } ∷ ceded_told.rest) (shown_of v)) is ceded_told.before,

@@ -50,12 +50,12 @@ less_area fields view area kept is order member =
 
 pub less_shown : (fields : Inside) (view : AreaTreeView) (tree : SpanView) (slot : ℕ) (area : Record) → IsAreaTree fields → view_of fields ≡ view → InOrder fields
     → tree.pairs ≡ overwritten area.span.lo area.span.hi 0 fields.tree.pairs → Contains (shown_of view) (record { slot = slot; area = area })
-    → IsPermutation (record { slot = slot; area = area } ∷ shown_of (record { tree = tree; records = fields.records; bounds = fields.bounds })) (shown_of view)
+    → IsPermutation (record { slot = slot; area = area } ∷ shown_of (record { tree = tree; records = fields.records; bounds = fields.bounds; sealed = fields.sealed })) (shown_of view)
 less_shown fields view tree slot area kept is order stored member =
     let shown : ShownArea = record { slot = slot; area = area } in
     let told = less fields view slot area kept is order member in
-    subst (λ (v : AreaTreeView). IsPermutation (shown ∷ shown_of (record { tree = tree; records = fields.records; bounds = fields.bounds })) (shown_of v)) is
-    (subst (λ ps. IsPermutation (shown ∷ shown_of (record { tree = record tree { pairs = ps }; records = fields.records; bounds = fields.bounds })) (shown_of (view_of fields)))
+    subst (λ (v : AreaTreeView). IsPermutation (shown ∷ shown_of (record { tree = tree; records = fields.records; bounds = fields.bounds; sealed = fields.sealed })) (shown_of v)) is
+    (subst (λ ps. IsPermutation (shown ∷ shown_of (record { tree = record tree { pairs = ps }; records = fields.records; bounds = fields.bounds; sealed = fields.sealed })) (shown_of (view_of fields)))
     (sym stored) told.shown_is)
 
 -- a slot for free pages is put in
@@ -74,10 +74,10 @@ more fields view shown kept is order pages free slot none =
 pub more_shown : (fields : Inside) (view : AreaTreeView) (tree : SpanView) (shown : ShownArea) → view_of fields ≡ view
     → tree.pairs ≡ overwritten shown.area.span.lo shown.area.span.hi (shown.slot + 1) fields.tree.pairs
     → IsOneMore fields.records shown fields.tree.pairs (overwritten shown.area.span.lo shown.area.span.hi (shown.slot + 1) fields.tree.pairs)
-    → IsPermutation (shown ∷ shown_of view) (shown_of (record { tree = tree; records = set fields.records shown.slot shown.area; bounds = fields.bounds }))
+    → IsPermutation (shown ∷ shown_of view) (shown_of (record { tree = tree; records = set fields.records shown.slot shown.area; bounds = fields.bounds; sealed = fields.sealed }))
 more_shown fields view tree shown is stored told =
-    subst (λ (v : AreaTreeView). IsPermutation (shown ∷ shown_of v) (shown_of (record { tree = tree; records = set fields.records shown.slot shown.area; bounds = fields.bounds }))) is
-    (subst (λ ps. IsPermutation (shown ∷ shown_of (view_of fields)) (shown_of (record { tree = record tree { pairs = ps }; records = set fields.records shown.slot shown.area; bounds = fields.bounds })))
+    subst (λ (v : AreaTreeView). IsPermutation (shown ∷ shown_of v) (shown_of (record { tree = tree; records = set fields.records shown.slot shown.area; bounds = fields.bounds; sealed = fields.sealed }))) is
+    (subst (λ ps. IsPermutation (shown ∷ shown_of (view_of fields)) (shown_of (record { tree = record tree { pairs = ps }; records = set fields.records shown.slot shown.area; bounds = fields.bounds; sealed = fields.sealed })))
     (sym stored) told.shown_is)
 
 -- a slot that shows an area has a record
@@ -101,7 +101,7 @@ same_pages fields view slot old area kept is order member same =
 pub changed : (fields : Inside) (view : AreaTreeView) (slot : ℕ) (old area : Record) → IsAreaTree fields → view_of fields ≡ view → InOrder fields
     → times_shown slot (shown_of view) ≤ 1 → Contains (shown_of view) (record { slot = slot; area = old })
     → (rest : List ShownArea) × IsPermutation (record { slot = slot; area = old } ∷ rest) (shown_of view)
-    × IsPermutation (record { slot = slot; area = area } ∷ rest) (shown_of (record { tree = fields.tree; records = set fields.records slot area; bounds = fields.bounds }))
+    × IsPermutation (record { slot = slot; area = area } ∷ rest) (shown_of (record { tree = fields.tree; records = set fields.records slot area; bounds = fields.bounds; sealed = fields.sealed }))
 changed fields view slot old area kept is order once member =
     let told = updated fields.records slot old area fields.tree.pairs (within fields view slot old kept is order member)
     (subst (λ (v : AreaTreeView). times_shown slot (shown_of v) ≤ 1) (sym is) once)

@@ -62,11 +62,11 @@ second_insert tree shown holds is =
     (can_insert tree (shown_pages 0 30 34 ∷ []) (shown_pages 3 16 20) holds (omega arith) (omega arith) refl (omega arith) refl (omega arith))
 
 -- one more
-pub holds_more : (old new : AreaTreeView) (records : List Record) (before : List ShownArea) (shown one : ShownArea) → Holds old before → shown ≡ one
+pub holds_more : (old new : AreaTreeView) (records : List Record) (sealed : Bool) (before : List ShownArea) (shown one : ShownArea) → Holds old before → shown ≡ one
     → IsPermutation (shown ∷ shown_of old) (shown_of new)
-    → new ≡ record old { tree = record old.tree { pairs = new.tree.pairs; changed = true }; records = records }
+    → new ≡ record old { tree = record old.tree { pairs = new.tree.pairs; changed = true; free = new.tree.free }; records = records; sealed = sealed }
     → Holds new (one ∷ before)
-holds_more old new records before shown one holds is more same = record {
+holds_more old new records sealed before shown one holds is more same = record {
   areas = ap (λ (v : AreaTreeView). v.tree.areas) same ∙ holds.areas;
   limit = ap (λ (v : AreaTreeView). v.tree.limit) same ∙ holds.limit;
   number = ap (λ (v : AreaTreeView). v.tree.number) same ∙ holds.number;

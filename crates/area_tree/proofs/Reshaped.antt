@@ -211,7 +211,7 @@ module _ (fields : Inside) (view : AreaTreeView) (old : Record) (shown : ShownAr
   -- what a store makes of the areas
   pub told_shown : (tree : SpanView) (others : List Pair) → tree.pairs ≡ others → IsReshaped fields.records fields.tree.limit old shown fields.tree.pairs others
       → (rest : List ShownArea) × IsPermutation (record { slot = shown.slot; area = old } ∷ rest) (shown_of view)
-      × IsPermutation (shown ∷ rest) (shown_of (record { tree = tree; records = set fields.records shown.slot shown.area; bounds = fields.bounds }))
+      × IsPermutation (shown ∷ rest) (shown_of (record { tree = tree; records = set fields.records shown.slot shown.area; bounds = fields.bounds; sealed = fields.sealed }))
   told_shown tree others stored told = (
     told.rest,
     subst (λ (v : AreaTreeView). IsPermutation (record { slot = shown.slot; area = old } ∷ told.rest) (shown_of v)) is told.before,

@@ -121,7 +121,7 @@ module _ (fields : Inside) (view : AreaTreeView) (kept : IsAreaTree fields) (is 
 
   pub taken_shown : (tree : SpanView) (taken : List ShownArea) → tree.pairs ≡ overwritten lo hi 0 fields.tree.pairs
       → AreLess fields.records fields.tree.limit lo hi taken fields.tree.pairs (overwritten lo hi 0 fields.tree.pairs)
-      → IsPermutation (taken ++ shown_of (record { tree = tree; records = fields.records; bounds = fields.bounds })) (shown_of view)
+      → IsPermutation (taken ++ shown_of (record { tree = tree; records = fields.records; bounds = fields.bounds; sealed = fields.sealed })) (shown_of view)
   taken_shown tree taken stored told =
-      subst (λ (v : AreaTreeView). IsPermutation (taken ++ shown_of (record { tree = tree; records = fields.records; bounds = fields.bounds })) (shown_of v)) is
+      subst (λ (v : AreaTreeView). IsPermutation (taken ++ shown_of (record { tree = tree; records = fields.records; bounds = fields.bounds; sealed = fields.sealed })) (shown_of v)) is
       (subst (λ (ps : List Pair). IsPermutation (taken ++ slots_of fields.records ps) (slots_of fields.records fields.tree.pairs)) (sym stored) told.shown_is)

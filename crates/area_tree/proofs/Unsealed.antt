@@ -1,8 +1,8 @@
 -- For what records and a tree say of seals: where no record is sealed, no area is.
-use Rattle.std.proofs.Common.{ℕ, ◌≡◌, Bool, true, false, ◌||◌, inl, inr, List, [], ◌∷◌, ◌++◌, length, map, All, set, refl, sym, subst}
+use Rattle.std.proofs.Common.{ℕ, ◌≡◌, Bool, true, false, ◌||◌, inl, inr, List, [], ◌∷◌, length, map, replicate, All, set, refl, sym, subst}
 use Rattle.std.proofs.lemmas.Bool.{cases_lt}
 use Rattle.std.proofs.lemmas.List.{get_or_past}
-use Rattle.std.proofs.lemmas.List.Elements.{All-nil, All-cons, All-append, All-get_or, All-set}
+use Rattle.std.proofs.lemmas.List.Elements.{All-nil, All-cons, All-replicate, All-get_or, All-set}
 use Rattle.mm_types.specs.declared.area.Record.{Record}
 use Rattle.maple_node.specs.Trees.{Pair}
 use Rattle.area_tree.specs.AreaTrees.{area_in, no_area, shown_at, areas_shown}
@@ -24,9 +24,9 @@ areas_open records [] open_all = All-nil IsOpen
 areas_open records (pair ∷ pairs) open_all =
     All-cons IsOpen (area_in records pair.slot) (areas_shown (map (shown_at records) pairs)) (slot_open records pair.slot open_all) (areas_open records pairs open_all)
 
--- one more record of no area
-pub push_open : (records : List Record) → All IsOpen records → All IsOpen (records ++ no_area ∷ [])
-push_open records open_all = All-append IsOpen records (no_area ∷ []) open_all (All-cons IsOpen no_area [] refl (All-nil IsOpen))
+-- records of no area
+pub none_open : (slots : ℕ) → All IsOpen (replicate slots no_area)
+none_open slots = All-replicate IsOpen slots no_area refl
 
 -- another record, where neither it nor one before is sealed
 pub set_open : (records : List Record) (slot : ℕ) (area : Record) (sealed : Bool) → (sealed ≡ false → All IsOpen records)

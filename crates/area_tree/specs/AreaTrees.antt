@@ -1,5 +1,5 @@
 -- What contracts see of a tree of areas.
-use Rattle.std.specs.Prelude.{ℕ, ◌≡◌, ◌≤◌, ◌<◌, ◌-◌, ◌⊎◌, nat_eq, if◌then◌else◌, true, false, List, [], ◌∷◌, All, map, sum_by, slice_index_or}
+use Rattle.std.specs.Prelude.{ℕ, Bool, ◌≡◌, ◌≤◌, ◌<◌, ◌-◌, ◌⊎◌, nat_eq, if◌then◌else◌, true, false, List, [], ◌∷◌, All, map, sum_by, slice_index_or}
 use Rattle.mm_types.specs.declared.area.Span.{Span}
 use Rattle.mm_types.specs.declared.area.Prot.{Prot}
 use Rattle.mm_types.specs.declared.area.Record.{Record}
@@ -11,11 +11,13 @@ use Rattle.area_slots.specs.Slots.{one_at}
 use Rattle.span_tree.specs.SpanTrees.{SpanView}
 use Rattle.area_tree.specs.declared.shown.ShownArea.{ShownArea}
 
--- the tree of spans and slots, what each slot shows or showed last, and the pages between which areas are placed
+-- the tree of spans and slots, what each slot shows or showed last, the pages between which areas are placed, and whether a slot ever
+-- showed a sealed area
 pub record AreaTreeView : Type 0 where
   pub tree : SpanView
   pub records : List Record
   pub bounds : Bounds
+  pub sealed : Bool
 
 -- no access
 abbrev pub none : Prot

@@ -1,5 +1,5 @@
 -- What the fields of a tree of areas keep.
-use Rattle.std.specs.Prelude.{◌≡◌, ◌≤◌, [], length}
+use Rattle.std.specs.Prelude.{◌≡◌, ◌≤◌, false, [], length, All}
 use Rattle.std.specs.Vec.{vec_capacity}
 use Rattle.mm_types.specs.Config.{slots_for}
 use Rattle.area_rules.specs.declared.placement.TheConstants.{WINDOW_END}
@@ -8,10 +8,11 @@ use Rattle.area_tree.specs.AreaTrees.{AreaTreeView, AreRecords}
 
 -- the tree of areas that the fields are
 abbrev pub view_of : Inside → AreaTreeView
-view_of fields = record { tree = fields.tree; records = fields.records; bounds = fields.bounds }
+view_of fields = record { tree = fields.tree; records = fields.records; bounds = fields.bounds; sealed = fields.sealed }
 
 -- Each slot of the tree shows an area with the pages of its pair. The count is theirs, the most areas are those of the tree,
--- and there is a record for each slot. Areas are placed up to the tree's limit, and there is room to hand them out.
+-- and there is a record for each slot. Areas are placed up to the tree's limit, and there is room to hand them out. Before a slot
+-- showed a sealed area no record is sealed.
 pub record IsAreaTree (fields : Inside) : Type 0 where
   pub spans : AreRecords fields.records fields.tree.pairs
   pub counted : fields.count ≡ length fields.tree.pairs
@@ -22,3 +23,4 @@ pub record IsAreaTree (fields : Inside) : Type 0 where
   pub window : WINDOW_END ≤ fields.bounds.limit
   pub empty : fields.list.items ≡ []
   pub room : fields.tree.areas ≤ vec_capacity fields.list
+  pub unsealed : fields.sealed ≡ false → All (λ area. area.attr.sealed ≡ false) fields.records

@@ -45,6 +45,7 @@ impl AreaTree {
             bounds: _,
             most: _,
             count: _,
+            sealed: _,
             mut list,
         } = self;
         append(&tree, &records, &mut list);

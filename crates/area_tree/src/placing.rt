@@ -1,7 +1,7 @@
 //! The areas beside a page, and where new areas go, by searches of the tree.
-ghost use Rattle.std.specs.Prelude.{◌≡◌, Option};
+ghost use Rattle.std.specs.Prelude.{◌≡◌, false, Option, All};
 ghost use Rattle.std.specs.Option.{option_map};
-ghost use Rattle.area_tree.specs.AreaTrees.{area_in};
+ghost use Rattle.area_tree.specs.AreaTrees.{area_in, areas_of};
 
 use crate::records::Records;
 use crate::tree::AreaTree;
@@ -50,7 +50,11 @@ impl Areas for AreaTree {
         self.tree.highest(len, bounds.low, bounds.limit)
     }
 
-    fn may_be_sealed(&self) -> bool {
-        self.records.may_be_sealed()
+    /// Whether a slot ever showed a sealed area.
+    fn may_be_sealed(&self) -> bool
+        ensures ever { result ≡ self.now.sealed }
+        ensures unsealed { result ≡ false → All (λ area. area.attr.sealed ≡ false) (areas_of self.now) }
+    {
+        self.sealed
     }
 }

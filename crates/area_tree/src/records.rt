@@ -1,5 +1,5 @@
 //! What each slot shows, by slot.
-ghost use Rattle.std.specs.Prelude.{◌≡◌, ◌<◌, false, List, length, replicate, slice_set, All, IfOk};
+ghost use Rattle.std.specs.Prelude.{◌≡◌, ◌<◌, List, length, replicate, slice_set, IfOk};
 ghost use Rattle.mm_types.specs.declared.area.Record.{Record};
 ghost use Rattle.area_tree.specs.AreaTrees.{area_in, no_area};
 
@@ -16,8 +16,6 @@ pub(crate) struct Records {
     shown: Vec<Record>,
     /// How many slots there are: contracts read it.
     slots: u32,
-    /// Whether a slot showed a sealed area.
-    sealed: bool,
 }
 
 impl Model for Records {
@@ -41,7 +39,6 @@ impl Records {
         Ok(Records {
             shown: Vec::with_capacity(alloc, slots as usize)?,
             slots,
-            sealed: false,
         })
     }
 
@@ -65,13 +62,5 @@ impl Records {
             self.shown.push_reserved(NO_AREA);
         }
         self.shown[place] = area;
-        self.sealed |= area.attr.sealed;
-    }
-
-    /// Whether a record may be sealed: true from the first sealed area on that a slot showed.
-    pub(crate) fn may_be_sealed(&self) -> bool
-        ensures { result ≡ false → All (λ area. area.attr.sealed ≡ false) self.now }
-    {
-        self.sealed
     }
 }

@@ -1,5 +1,5 @@
 //! Areas that get fewer pages, or more, in one store.
-ghost use Rattle.std.specs.Prelude.{◌≡◌, ◌≤◌, ◌<◌, ◌-◌, ◌∷◌, ◌&&◌, nat_le, true, List, length, slice_set, Contains, IsPermutation};
+ghost use Rattle.std.specs.Prelude.{◌≡◌, ◌≤◌, ◌<◌, ◌-◌, ◌∷◌, ◌&&◌, ◌||◌, nat_le, true, List, length, slice_set, Contains, IsPermutation};
 ghost use Rattle.mm_types.specs.Config.{slots_for};
 ghost use Rattle.area_rules.specs.Placement.{is_free};
 ghost use Rattle.area_tree.specs.declared.shown.ShownArea.{ShownArea};
@@ -52,12 +52,14 @@ impl AreaTree {
         ensures shown { (rest : List ShownArea) × IsPermutation (record { slot = shown.slot; area = old.now } ∷ rest) (shown_of self.old)
             × IsPermutation (shown ∷ rest) (shown_of self.new) }
         ensures same { self.new ≡ record self.old {
-          tree = record self.old.tree { pairs = self.new.tree.pairs; changed = true };
+          tree = record self.old.tree { pairs = self.new.tree.pairs; changed = true; free = self.new.tree.free };
           records = slice_set self.old.records shown.slot shown.area;
+          sealed = self.old.sealed || shown.area.attr.sealed;
         } }
     {
         self.tree.facts();
         self.records.show(shown.slot, shown.area);
+        self.sealed |= shown.area.attr.sealed;
         self.tree.store(beside(shown.area.span, old.span), None);
     }
 
@@ -75,13 +77,16 @@ impl AreaTree {
         ensures shown { (rest : List ShownArea) × IsPermutation (record { slot = shown.slot; area = old.now } ∷ rest) (shown_of self.old)
             × IsPermutation (shown ∷ other ∷ rest) (shown_of self.new) }
         ensures same { self.new ≡ record self.old {
-          tree = record self.old.tree { pairs = self.new.tree.pairs; changed = true };
+          tree = record self.old.tree { pairs = self.new.tree.pairs; changed = true; free = self.new.tree.free };
           records = slice_set (slice_set self.old.records shown.slot shown.area) other.slot other.area;
+          sealed = (self.old.sealed || shown.area.attr.sealed) || other.area.attr.sealed;
         } }
     {
         self.tree.facts();
         self.records.show(shown.slot, shown.area);
+        self.sealed |= shown.area.attr.sealed;
         self.records.show(other.slot, other.area);
+        self.sealed |= other.area.attr.sealed;
         self.tree.store(other.area.span, Some(Slot(other.slot)));
         self.count += 1;
     }
@@ -95,12 +100,14 @@ impl AreaTree {
         ensures shown { (rest : List ShownArea) × IsPermutation (record { slot = shown.slot; area = old.now } ∷ rest) (shown_of self.old)
             × IsPermutation (shown ∷ rest) (shown_of self.new) }
         ensures same { self.new ≡ record self.old {
-          tree = record self.old.tree { pairs = self.new.tree.pairs; changed = true };
+          tree = record self.old.tree { pairs = self.new.tree.pairs; changed = true; free = self.new.tree.free };
           records = slice_set self.old.records shown.slot shown.area;
+          sealed = self.old.sealed || shown.area.attr.sealed;
         } }
     {
         self.tree.facts();
         self.records.show(shown.slot, shown.area);
+        self.sealed |= shown.area.attr.sealed;
         self.tree.store(shown.area.span, Some(Slot(shown.slot)));
     }
 }

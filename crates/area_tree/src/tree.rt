@@ -1,11 +1,11 @@
 //! The tree of areas.
-ghost use Rattle.std.specs.Prelude.{◌≡◌, ◌≤◌, ◌<◌, ◌+◌, ◌^◌, ◌-◌, ◌∷◌, ◌++◌, ℕ, true, false, nat_eq, nat_le, List, [], length, map, replicate, slice_set, All, Contains, IsPermutation, IfOk};
+ghost use Rattle.std.specs.Prelude.{◌≡◌, ◌≤◌, ◌<◌, ◌+◌, ◌^◌, ◌-◌, ◌*◌, ◌∷◌, ◌++◌, ◌||◌, ℕ, true, false, nat_eq, nat_le, List, [], length, map, replicate, slice_set, All, Contains, IsPermutation, IfOk};
 ghost use Rattle.mm_types.specs.declared.area.Record.{Record};
 ghost use Rattle.mm_types.specs.Config.{IsValidConfig, slots_for};
 ghost use Rattle.area_list.specs.Areas.{page_of};
 ghost use Rattle.area_rules.specs.Placement.{bounds_of, is_free};
-ghost use Rattle.node_slots.specs.Seats.{pins_of, AreOut};
-ghost use Rattle.span_tree.specs.SpanTrees.{IsFreshWriter};
+ghost use Rattle.node_slots.specs.Seats.{pins_of, free_of, AreOut};
+ghost use Rattle.span_tree.specs.SpanTrees.{IsFreshWriter, enough};
 ghost use Rattle.area_tree.specs.declared.shown.ShownArea.{ShownArea};
 ghost use Rattle.maple_gap.specs.Gaps.{span_of};
 ghost use Rattle.area_tree.specs.AreaTrees.{no_area, shown_of, areas_of, areas_shown, times_shown, Adjoin, AreasRise};
@@ -33,6 +33,8 @@ pub struct AreaTree {
     pub(crate) most: u32,
     /// How many areas there are.
     pub(crate) count: u64,
+    /// Whether a slot ever showed a sealed area.
+    pub(crate) sealed: bool,
     /// Where the areas are handed out in order: empty until then.
     pub(crate) list: Vec<Record>,
 }
@@ -68,9 +70,11 @@ impl AreaTree {
             roomy = false;
             scans = 0;
             pins = pins_of nodes;
+            free = length (free_of nodes);
           };
           records = replicate (slots_for config.now.areas) no_area;
           bounds = bounds_of config.now;
+          sealed = false;
         }) }
     {
         let tree = SpanTree::new(config.areas, Page(page_of(config.limit)), nodes)?;
@@ -80,6 +84,7 @@ impl AreaTree {
             bounds: bounds_of(config),
             most: config.areas,
             count: 0,
+            sealed: false,
             list: Vec::with_capacity(alloc, config.areas as usize)?,
         })
     }
@@ -102,7 +107,7 @@ impl AreaTree {
         requires member { Contains (areas_of self.old) area.now }
         ensures shown { (slot : ℕ) → Contains (shown_of self.old) (record { slot = slot; area = area.now })
             → IsPermutation (record { slot = slot; area = area.now } ∷ shown_of self.new) (shown_of self.old) }
-        ensures same { self.new ≡ record self.old { tree = record self.old.tree { pairs = self.new.tree.pairs; changed = true } } }
+        ensures same { self.new ≡ record self.old { tree = record self.old.tree { pairs = self.new.tree.pairs; changed = true; free = self.new.tree.free } } }
     {
         self.tree.facts();
         self.tree.store(area.span, None);
@@ -116,7 +121,7 @@ impl AreaTree {
             × (length taken ≡ count) × (0 < count) }
         ensures shown { (taken : List ShownArea) → All (Contains (shown_of self.old)) taken → Adjoin span.lo span.hi (areas_shown taken)
             → IsPermutation (taken ++ shown_of self.new) (shown_of self.old) }
-        ensures same { self.new ≡ record self.old { tree = record self.old.tree { pairs = self.new.tree.pairs; changed = true } } }
+        ensures same { self.new ≡ record self.old { tree = record self.old.tree { pairs = self.new.tree.pairs; changed = true; free = self.new.tree.free } } }
     {
         self.tree.facts();
         self.tree.store(span, None);
@@ -137,10 +142,14 @@ impl AreaTree {
         ensures shown { (old : Record) → Contains (shown_of self.old) (record { slot = shown.slot; area = old })
             → (rest : List ShownArea) × IsPermutation (record { slot = shown.slot; area = old } ∷ rest) (shown_of self.old)
             × IsPermutation (shown ∷ rest) (shown_of self.new) }
-        ensures same { self.new ≡ record self.old { records = slice_set self.old.records shown.slot shown.area } }
+        ensures same { self.new ≡ record self.old {
+          records = slice_set self.old.records shown.slot shown.area;
+          sealed = self.old.sealed || shown.area.attr.sealed;
+        } }
     {
         self.tree.facts();
         self.records.show(shown.slot, shown.area);
+        self.sealed |= shown.area.attr.sealed;
     }
 
     /// A slot that shows no area of the tree shows one at free pages.
@@ -153,12 +162,14 @@ impl AreaTree {
         requires few { length (areas_of self.old) < self.old.tree.areas }
         ensures shown { IsPermutation (shown ∷ shown_of self.old) (shown_of self.new) }
         ensures same { self.new ≡ record self.old {
-          tree = record self.old.tree { pairs = self.new.tree.pairs; changed = true };
+          tree = record self.old.tree { pairs = self.new.tree.pairs; changed = true; free = self.new.tree.free };
           records = slice_set self.old.records shown.slot shown.area;
+          sealed = self.old.sealed || shown.area.attr.sealed;
         } }
     {
         self.tree.facts();
         self.records.show(shown.slot, shown.area);
+        self.sealed |= shown.area.attr.sealed;
         self.tree.store(shown.area.span, Some(Slot(shown.slot)));
         self.count += 1;
     }
@@ -174,10 +185,16 @@ impl AreaTree {
             settled = self.new.tree.settled;
             scans = self.new.tree.scans;
             pins = self.new.tree.pins;
+            free = self.new.tree.free;
           };
         } }
         ensures settled { self.old.tree.settled ≤ self.new.tree.settled }
         ensures shown { self.old.tree.shown ≡ self.old.tree.pairs }
+        ensures readers { length self.new.tree.pins ≡ length self.old.tree.pins }
+        // each pin is looked at once, and once more for each try after the first
+        ensures scans { (more : ℕ) × (self.new.tree.scans ≡ self.old.tree.scans + (more + 1) * length self.old.tree.pins) }
+        // and just once where enough rows are free already
+        ensures once { enough self.old.tree.areas ≤ self.old.tree.free → self.new.tree.scans ≡ self.old.tree.scans + length self.old.tree.pins }
     {
         self.tree.prepare(rt);
     }
@@ -217,6 +234,7 @@ impl AreaTree {
             settled = self.new.tree.settled;
             scans = self.old.tree.scans + length self.old.tree.pins;
             pins = self.new.tree.pins;
+            free = self.new.tree.free;
           };
         } }
         ensures settled { self.old.tree.settled ≤ self.new.tree.settled }

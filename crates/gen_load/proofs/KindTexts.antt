@@ -8,6 +8,9 @@ use Rattle.flag_table.specs.Tables.{map_flags, mremap_flags}
 use Rattle.trace_reader.specs.Fields.{prot_of_bits}
 use Rattle.trace_text.specs.LineTexts.{address_word, prot_word, call_words, op_words, line_words, text_of, line_text}
 use Rattle.trace_text.proofs.Numerals.{address_word-some}
+use Rattle.gen_load.specs.declared.draw.Kind.{Kind}
+use Rattle.gen_load.specs.declared.draw.Kind.TheVariants.{MapExactly, MapNear, MapAnywhere, Unmap, Protect, Move}
+use Rattle.gen_load.specs.declared.draw.Kind.TheVariants as kinds
 use Rattle.gen_load.specs.Loads.{kind_of, thread_of, address_of, length_of, prot_bits_of, new_length_of, mapping, exactly, anywhere, operation, line_of}
 
 address_of-some : (draw : ℕ) → 0 < address_of draw
@@ -25,52 +28,52 @@ unfolding text_of line_words op_words call_words mapping
 mapping_text thread address flags draw = rw (decimal_digit 0 (omega arith), decimal_digit 1 (omega arith)) (simp append_assoc)
 
 -- a line by its kind
-by_kind : (kind draw : ℕ) → kind_of draw ≡ kind
+by_kind : (kind : Kind) (draw : ℕ) → kind_of draw ≡ kind
     → line_text (line_of 0 draw) ≡ line_text (record { number = 0; thread = thread_of draw; op = operation kind draw; after = None })
-by_kind kind draw is = ap (λ (k : ℕ). line_text (record { number = 0; thread = thread_of draw; op = operation k draw; after = None })) is
+by_kind kind draw is = ap (λ (k : Kind). line_text (record { number = 0; thread = thread_of draw; op = operation k draw; after = None })) is
 
-pub exactly_text : (draw : ℕ) → kind_of draw ≡ 0 → line_text (line_of 0 draw) ≡ decimal (thread_of draw)
+pub exactly_text : (draw : ℕ) → kind_of draw ≡ MapExactly → line_text (line_of 0 draw) ≡ decimal (thread_of draw)
     ++ (codes " mmap 0x" ++ (digits 16 false (address_of draw) ++ (codes " " ++ (decimal (length_of draw) ++ (codes " "
     ++ (prot_word (prot_of_bits (prot_bits_of draw)) ++ codes " MAP_PRIVATE|MAP_FIXED|MAP_ANONYMOUS -1 0\n"))))))
 unfolding operation printed map_flags
-exactly_text draw is = by_kind 0 draw is ∙ mapping_text (thread_of draw) (address_of draw) exactly draw
+exactly_text draw is = by_kind MapExactly draw is ∙ mapping_text (thread_of draw) (address_of draw) exactly draw
     ∙ rw (address_word-some (address_of draw) (address_of-some draw)) refl
 
-pub near_text : (draw : ℕ) → kind_of draw ≡ 1 → line_text (line_of 0 draw) ≡ decimal (thread_of draw)
+pub near_text : (draw : ℕ) → kind_of draw ≡ MapNear → line_text (line_of 0 draw) ≡ decimal (thread_of draw)
     ++ (codes " mmap 0x" ++ (digits 16 false (address_of draw) ++ (codes " " ++ (decimal (length_of draw) ++ (codes " "
     ++ (prot_word (prot_of_bits (prot_bits_of draw)) ++ codes " MAP_PRIVATE|MAP_ANONYMOUS -1 0\n"))))))
 unfolding operation printed map_flags
-near_text draw is = by_kind 1 draw is ∙ mapping_text (thread_of draw) (address_of draw) anywhere draw
+near_text draw is = by_kind MapNear draw is ∙ mapping_text (thread_of draw) (address_of draw) anywhere draw
     ∙ rw (address_word-some (address_of draw) (address_of-some draw)) refl
 
-pub anywhere_text : (draw : ℕ) → kind_of draw ≡ 2 → line_text (line_of 0 draw) ≡ decimal (thread_of draw)
+pub anywhere_text : (draw : ℕ) → kind_of draw ≡ MapAnywhere → line_text (line_of 0 draw) ≡ decimal (thread_of draw)
     ++ (codes " mmap 0 " ++ (decimal (length_of draw) ++ (codes " "
     ++ (prot_word (prot_of_bits (prot_bits_of draw)) ++ codes " MAP_PRIVATE|MAP_ANONYMOUS -1 0\n"))))
 unfolding operation printed map_flags address_word
-anywhere_text draw is = by_kind 2 draw is ∙ mapping_text (thread_of draw) 0 anywhere draw
+anywhere_text draw is = by_kind MapAnywhere draw is ∙ mapping_text (thread_of draw) 0 anywhere draw
 
-pub unmap_text : (draw : ℕ) → kind_of draw ≡ 3 → line_text (line_of 0 draw) ≡ decimal (thread_of draw)
+pub unmap_text : (draw : ℕ) → kind_of draw ≡ Unmap → line_text (line_of 0 draw) ≡ decimal (thread_of draw)
     ++ (codes " munmap 0x" ++ (digits 16 false (address_of draw) ++ (codes " " ++ (decimal (length_of draw) ++ codes "\n"))))
 unfolding operation text_of line_words op_words call_words
-unmap_text draw is = by_kind 3 draw is ∙ rw (address_word-some (address_of draw) (address_of-some draw)) (simp append_assoc)
+unmap_text draw is = by_kind Unmap draw is ∙ rw (address_word-some (address_of draw) (address_of-some draw)) (simp append_assoc)
 
-pub protect_text : (draw : ℕ) → kind_of draw ≡ 4 → line_text (line_of 0 draw) ≡ decimal (thread_of draw)
+pub protect_text : (draw : ℕ) → kind_of draw ≡ Protect → line_text (line_of 0 draw) ≡ decimal (thread_of draw)
     ++ (codes " mprotect 0x" ++ (digits 16 false (address_of draw) ++ (codes " " ++ (decimal (length_of draw) ++ (codes " " ++ (prot_word (prot_of_bits (prot_bits_of draw)) ++ codes "\n"))))))
 unfolding operation text_of line_words op_words call_words
-protect_text draw is = by_kind 4 draw is ∙ rw (address_word-some (address_of draw) (address_of-some draw)) (simp append_assoc)
+protect_text draw is = by_kind Protect draw is ∙ rw (address_word-some (address_of draw) (address_of-some draw)) (simp append_assoc)
 
-pub move_text : (draw : ℕ) → kind_of draw ≡ 5 → line_text (line_of 0 draw) ≡ decimal (thread_of draw)
+pub move_text : (draw : ℕ) → kind_of draw ≡ Move → line_text (line_of 0 draw) ≡ decimal (thread_of draw)
     ++ (codes " mremap 0x" ++ (digits 16 false (address_of draw) ++ (codes " " ++ (decimal (length_of draw) ++ (codes " "
     ++ (decimal (new_length_of draw) ++ codes " MREMAP_MAYMOVE\n"))))))
 unfolding operation text_of line_words op_words call_words printed mremap_flags
-move_text draw is = by_kind 5 draw is ∙ rw (address_word-some (address_of draw) (address_of-some draw)) (simp append_assoc)
+move_text draw is = by_kind Move draw is ∙ rw (address_word-some (address_of draw) (address_of-some draw)) (simp append_assoc)
 
-pub read_text : (draw : ℕ) → kind_of draw ≡ 6 → line_text (line_of 0 draw) ≡ decimal (thread_of draw)
+pub read_text : (draw : ℕ) → kind_of draw ≡ kinds.Read → line_text (line_of 0 draw) ≡ decimal (thread_of draw)
     ++ (codes " fault 0x" ++ (digits 16 false (address_of draw) ++ codes " r\n"))
 unfolding operation text_of line_words op_words
-read_text draw is = by_kind 6 draw is ∙ rw (page_address draw, address_word-some (address_of draw) (address_of-some draw)) (simp append_assoc)
+read_text draw is = by_kind kinds.Read draw is ∙ rw (page_address draw, address_word-some (address_of draw) (address_of-some draw)) (simp append_assoc)
 
-pub write_text : (draw : ℕ) → kind_of draw ≡ 7 → line_text (line_of 0 draw) ≡ decimal (thread_of draw)
+pub write_text : (draw : ℕ) → kind_of draw ≡ kinds.Write → line_text (line_of 0 draw) ≡ decimal (thread_of draw)
     ++ (codes " fault 0x" ++ (digits 16 false (address_of draw) ++ codes " w\n"))
 unfolding operation text_of line_words op_words
-write_text draw is = by_kind 7 draw is ∙ rw (page_address draw, address_word-some (address_of draw) (address_of-some draw)) (simp append_assoc)
+write_text draw is = by_kind kinds.Write draw is ∙ rw (page_address draw, address_word-some (address_of draw) (address_of-some draw)) (simp append_assoc)

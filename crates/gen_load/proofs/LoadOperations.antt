@@ -1,6 +1,5 @@
 -- For `loads_are_traces`: the operations of a load have values that fit and short words.
-use Rattle.std.proofs.Common.{◌≡◌, ℕ, ◌*◌, ◌/◌, ◌^◌, ◌<◌, ◌≤◌, Bool, true, false, nat_eq, length, None, refl, arith, if◌then◌else◌, lit≤}
-use Rattle.std.proofs.lemmas.Bool.{cond_both}
+use Rattle.std.proofs.Common.{◌≡◌, ℕ, ◌*◌, ◌/◌, ◌^◌, ◌<◌, ◌≤◌, Bool, true, false, length, None, refl, arith, lit≤}
 use Rattle.std.proofs.lemmas.Fmt.{length-decimal-le}
 use Rattle.std.proofs.lemmas.Int.{ints}
 use Rattle.mm_types.specs.declared.area.Access.{Access}
@@ -16,6 +15,9 @@ use Rattle.trace_reader.specs.declared.trace.Op.TheVariants as ops
 use Rattle.trace_reader.specs.Fields.{prot_of_bits}
 use Rattle.trace_reader.specs.Values.{IsOpValue, is_maps, child_of}
 use Rattle.trace_text.specs.LineTexts.{prot_word, access_word, call_words, op_words, HasNames}
+use Rattle.gen_load.specs.declared.draw.Kind.{Kind}
+use Rattle.gen_load.specs.declared.draw.Kind.TheVariants.{MapExactly, MapNear, MapAnywhere, Unmap, Protect, Move}
+use Rattle.gen_load.specs.declared.draw.Kind.TheVariants as kinds
 use Rattle.gen_load.specs.Loads.{address_of, length_of, prot_bits_of, new_length_of, mapping, exactly, anywhere, operation}
 use Rattle.trace_text.proofs.PlainWords.{room_of}
 use Rattle.trace_text.proofs.Numerals.{length-address, length-number}
@@ -135,22 +137,16 @@ fault-loaded page wanted small = record {
   room = let a = length-address (PAGE_SIZE * page) (omega arith) in let w = length-access wanted in omega arith;
 }
 
-choice : (test : Bool) (x y : Op) → IsLoaded x → IsLoaded y → IsLoaded (if test then x else y)
-choice test x y hx hy = cond_both test x y IsLoaded (λ _. hx) (λ _. hy)
-
 -- each operation of a load
-pub operation-loaded : (kind draw : ℕ) → IsLoaded (operation kind draw)
+pub operation-loaded : (kind : Kind) (draw : ℕ) → IsLoaded (operation kind draw)
 unfolding operation
-operation-loaded kind draw =
-    let address : address_of draw < 2 ^ 64 = omega arith in
-    let len : length_of draw < 2 ^ 64 = omega arith in
-    let new : new_length_of draw < 2 ^ 64 = omega arith in
-    let page : address_of draw / PAGE_SIZE < 2 ^ 52 = omega arith in
-    choice (nat_eq kind 0) _ _ (mapping-loaded (address_of draw) exactly draw address exactly-short)
-    (choice (nat_eq kind 1) _ _ (mapping-loaded (address_of draw) anywhere draw address anywhere-short)
-    (choice (nat_eq kind 2) _ _ (mapping-loaded 0 anywhere draw (omega arith) anywhere-short)
-    (choice (nat_eq kind 3) _ _ (unmap-loaded (address_of draw) (length_of draw) address len)
-    (choice (nat_eq kind 4) _ _ (protect-loaded (address_of draw) (length_of draw) (prot_of_bits (prot_bits_of draw)) address len)
-    (choice (nat_eq kind 5) _ _ (move-loaded (address_of draw) (length_of draw) (new_length_of draw) address len new)
-    (choice (nat_eq kind 6) _ _ (fault-loaded (address_of draw / PAGE_SIZE) Read page)
-    (fault-loaded (address_of draw / PAGE_SIZE) Write page)))))))
+operation-loaded MapExactly draw = mapping-loaded (address_of draw) exactly draw (omega arith) exactly-short
+operation-loaded MapNear draw = mapping-loaded (address_of draw) anywhere draw (omega arith) anywhere-short
+operation-loaded MapAnywhere draw = mapping-loaded 0 anywhere draw (omega arith) anywhere-short
+operation-loaded Unmap draw = unmap-loaded (address_of draw) (length_of draw) (omega arith) (omega arith)
+operation-loaded Protect draw =
+    protect-loaded (address_of draw) (length_of draw) (prot_of_bits (prot_bits_of draw)) (omega arith) (omega arith)
+operation-loaded Move draw =
+    move-loaded (address_of draw) (length_of draw) (new_length_of draw) (omega arith) (omega arith) (omega arith)
+operation-loaded kinds.Read draw = fault-loaded (address_of draw / PAGE_SIZE) Read (omega arith)
+operation-loaded kinds.Write draw = fault-loaded (address_of draw / PAGE_SIZE) Write (omega arith)

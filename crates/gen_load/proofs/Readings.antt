@@ -3,7 +3,7 @@ use Rattle.std.proofs.Common.{◌≡◌, ℕ, zero, suc, ◌+◌, ◌*◌, ◌^�
 use Rattle.std.proofs.lemmas.List.Elements.{All-nil, All-cons}
 use Rattle.mm_types.specs.Config.{default_config}
 use Rattle.trace_reader.specs.Grammar.{nothing, config_of, lines_read, trace_of}
-use Rattle.trace_reader.specs.Lines.{trace_limit}
+use Rattle.text_lexer.specs.Lines.{input_limit}
 use Rattle.trace_text.specs.LineTexts.{op_words, text_of, line_text}
 use Rattle.trace_text.proofs.PrintedLines.{printed_line}
 use Rattle.trace_text.proofs.LinesRead.{IsReadableBy, AreNumberedFrom, with_lines, length-text, after_all, lines_read-header, trace_of-read}
@@ -59,7 +59,7 @@ length-lines number (suc count) last fits =
 -- the lines of a load are read
 lines_read-load : (count seed : ℕ) → count ≤ 400000
     → lines_read (load_text count seed) ≡ Ok (with_lines nothing (load_lines count seed))
-unfolding load_text trace_limit text_of
+unfolding load_text input_limit text_of
 lines_read-load count seed few =
     let rest = flat_map line_text (load_lines count seed) in
     let many = length-lines_after 2 count seed in

@@ -10,20 +10,30 @@ use Rattle.trace_reader.specs.declared.trace.Op.{Op}
 use Rattle.trace_reader.specs.declared.trace.Op.TheVariants.{Call, Fault}
 use Rattle.trace_reader.specs.declared.trace.Trace.{Trace}
 use Rattle.trace_reader.specs.declared.trace.TraceLine.{TraceLine}
-use Rattle.gen_load.specs.declared.draw.TheConstants.{MULTIPLIER, INCREMENT, FIRST_ADDRESS}
+use Rattle.draws.specs.Numbers.{next_state, number_below}
+use Rattle.gen_load.specs.declared.draw.Kind.{Kind}
+use Rattle.gen_load.specs.declared.draw.Kind.TheVariants.{MapExactly, MapNear, MapAnywhere, Unmap, Protect, Move}
+use Rattle.gen_load.specs.declared.draw.Kind.TheVariants as kinds
+use Rattle.gen_load.specs.declared.draw.TheConstants.{FIRST_ADDRESS, DRAWS}
 use Rattle.trace_text.specs.LineTexts.{header, line_text}
 
--- the number after a number: a linear congruential generator of 64 bits
+-- the number after a number
 abbrev pub next_of : ℕ → ℕ
-next_of number = (number * MULTIPLIER + INCREMENT) % 2 ^ 64
+next_of number = next_state number
 
--- the draw of a number: its upper 31 bits
+-- the draw of a number: 31 bits
 abbrev pub draw_of : ℕ → ℕ
-draw_of number = number / 2 ^ 33
+draw_of number = number_below DRAWS number
 
--- which of the eight kinds of operation a draw is
-abbrev pub kind_of : ℕ → ℕ
-kind_of draw = draw % 8
+-- the kind of operation of each remainder by eight
+unfoldable pub kind_at : ℕ → Kind
+kind_at place = if nat_eq place 0 then MapExactly else (if nat_eq place 1 then MapNear else (if nat_eq place 2 then MapAnywhere
+    else (if nat_eq place 3 then Unmap else (if nat_eq place 4 then Protect else (if nat_eq place 5 then Move
+    else (if nat_eq place 6 then kinds.Read else kinds.Write))))))
+
+-- which kind of operation a draw is
+abbrev pub kind_of : ℕ → Kind
+kind_of draw = kind_at (draw % 8)
 
 -- its thread, one of four
 abbrev pub thread_of : ℕ → ℕ
@@ -65,15 +75,15 @@ abbrev pub exactly : ℕ
 exactly = bit_or MAP_PRIVATE (bit_or MAP_FIXED MAP_ANONYMOUS)
 
 -- the operation of a kind: three ways to map, then unmap, protect, move, read and write
-unfoldable pub operation : ℕ → ℕ → Op
-operation kind draw = if nat_eq kind 0 then mapping (address_of draw) exactly draw
-    else (if nat_eq kind 1 then mapping (address_of draw) anywhere draw
-    else (if nat_eq kind 2 then mapping 0 anywhere draw
-    else (if nat_eq kind 3 then Call (Munmap (address_of draw) (length_of draw))
-    else (if nat_eq kind 4 then Call (Mprotect (address_of draw) (length_of draw) (prot_of_bits (prot_bits_of draw)))
-    else (if nat_eq kind 5 then Call (Mremap (address_of draw) (length_of draw) (new_length_of draw) MREMAP_MAYMOVE 0)
-    else (if nat_eq kind 6 then Fault (record { 0 = address_of draw / PAGE_SIZE }) Read
-    else Fault (record { 0 = address_of draw / PAGE_SIZE }) Write))))))
+unfoldable pub operation : Kind → ℕ → Op
+operation MapExactly draw = mapping (address_of draw) exactly draw
+operation MapNear draw = mapping (address_of draw) anywhere draw
+operation MapAnywhere draw = mapping 0 anywhere draw
+operation Unmap draw = Call (Munmap (address_of draw) (length_of draw))
+operation Protect draw = Call (Mprotect (address_of draw) (length_of draw) (prot_of_bits (prot_bits_of draw)))
+operation Move draw = Call (Mremap (address_of draw) (length_of draw) (new_length_of draw) MREMAP_MAYMOVE 0)
+operation kinds.Read draw = Fault (record { 0 = address_of draw / PAGE_SIZE }) Read
+operation kinds.Write draw = Fault (record { 0 = address_of draw / PAGE_SIZE }) Write
 
 -- the operation of a draw
 abbrev pub operation_of : ℕ → Op

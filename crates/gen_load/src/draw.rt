@@ -1,17 +1,11 @@
-//! The numbers of a load, and what each of them draws.
+//! What each number of a load draws.
 
-ghost use Rattle.std.specs.Prelude.{◌≡◌, ◌<◌};
+ghost use Rattle.std.specs.Prelude.{◌≡◌};
 ghost use Rattle.trace_reader.specs.Fields.{prot_of_bits};
 ghost use Rattle.trace_text.specs.LineTexts.{prot_word};
-ghost use Rattle.gen_load.specs.Loads.{next_of, draw_of, kind_of, thread_of, address_of, length_of, prot_bits_of, new_length_of};
+ghost use Rattle.gen_load.specs.Loads.{kind_of, thread_of, address_of, length_of, prot_bits_of, new_length_of};
 
 use mm_types::PAGE_SIZE;
-
-/// What the generator multiplies a number by.
-pub const MULTIPLIER: u64 = 6_364_136_223_846_793_005;
-
-/// What the generator then adds.
-pub const INCREMENT: u64 = 1_442_695_040_888_963_407;
 
 /// The lowest address of an operation, in bytes.
 pub const FIRST_ADDRESS: u64 = 0x1000_0000;
@@ -19,31 +13,43 @@ pub const FIRST_ADDRESS: u64 = 0x1000_0000;
 /// How many pages have operations, from the first address on.
 const PAGES: u64 = 0x1_0000;
 
-/// The number after a number.
-pub(crate) fn next_number(number: u64) -> u64
-    ensures { result ≡ next_of number }
-{
-    number.wrapping_mul(MULTIPLIER).wrapping_add(INCREMENT)
+/// How many draws there are: one is a number of 31 bits.
+pub(crate) const DRAWS: u64 = 0x8000_0000;
+
+/// The kinds of operation: three ways to map, exactly at an address, near it and where there is room, and then to unmap, to protect,
+/// to move, to read and to write.
+#[derive(Clone, Copy, Debug, PartialEq, Eq)]
+pub(crate) enum Kind {
+    MapExactly,
+    MapNear,
+    MapAnywhere,
+    Unmap,
+    Protect,
+    Move,
+    Read,
+    Write,
 }
 
 /// What a line asks for, as 31 bits.
 #[derive(Clone, Copy, Debug, PartialEq, Eq)]
-pub(crate) struct Draw(u64);
+pub(crate) struct Draw(pub(crate) u64);
 
 impl Draw {
-    /// The draw of a number: its upper bits, which repeat much later than the lower ones.
-    pub(crate) fn of(number: u64) -> Draw
-        ensures { result.0 ≡ draw_of number }
+    /// Which kind of operation it is.
+    #[tactic(auto, unfolding(crate::specs::Loads::kind_at))]
+    pub(crate) fn kind(self) -> Kind
+        ensures { result ≡ kind_of self.0 }
     {
-        Draw(number >> 33)
-    }
-
-    /// Which of the eight kinds of operation it is.
-    pub(crate) fn kind(self) -> u64
-        ensures value { result ≡ kind_of self.0 }
-        ensures below { result < 8 }
-    {
-        self.0 % 8
+        match self.0 % 8 {
+            0 => Kind::MapExactly,
+            1 => Kind::MapNear,
+            2 => Kind::MapAnywhere,
+            3 => Kind::Unmap,
+            4 => Kind::Protect,
+            5 => Kind::Move,
+            6 => Kind::Read,
+            _ => Kind::Write,
+        }
     }
 
     /// Its thread.

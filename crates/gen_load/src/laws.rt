@@ -1,11 +1,11 @@
 //! Laws over the definitions: empty functions whose contracts are proved.
 
-ghost use Rattle.std.specs.Prelude.{◌≡◌, ◌≤◌, ℕ, length, codes, Ok};
+ghost use Rattle.std.specs.Prelude.{◌≡◌, ◌≤◌, ◌^◌, ℕ, length, codes, Ok};
 ghost use Rattle.mm_types.specs.declared.flags.TheConstants.{MREMAP_MAYMOVE};
 ghost use Rattle.flag_table.specs.Tables.{map_flags, mremap_flags};
 ghost use Rattle.flag_table.specs.Printing.{printed};
 ghost use Rattle.trace_reader.specs.Grammar.{trace_of};
-ghost use Rattle.gen_load.specs.declared.draw.TheConstants.{MULTIPLIER, INCREMENT, FIRST_ADDRESS};
+ghost use Rattle.gen_load.specs.declared.draw.TheConstants.{FIRST_ADDRESS, DRAWS};
 ghost use Rattle.gen_load.specs.declared.loading.TheConstants.{MOST_OPERATIONS};
 ghost use Rattle.gen_load.specs.Loads.{exactly, anywhere, load_trace, load_text};
 
@@ -23,10 +23,9 @@ pub fn flags_are_printed()
     ensures may_move { printed mremap_flags MREMAP_MAYMOVE ≡ codes "MREMAP_MAYMOVE" }
 {}
 
-/// The numbers of the generator, and how large its loads may be.
+/// Which draws there are, the lowest address, and how large a load may be.
 pub fn generator_numbers()
-    ensures multiplier { MULTIPLIER ≡ 6364136223846793005 }
-    ensures increment { INCREMENT ≡ 1442695040888963407 }
+    ensures draws { DRAWS ≡ 2 ^ 31 }
     ensures first { FIRST_ADDRESS ≡ 0x10000000 }
     ensures most { MOST_OPERATIONS ≡ 400000 }
 {}

@@ -5,7 +5,8 @@ ghost use Rattle.std.specs.Fmt.{digits};
 ghost use Rattle.trace_text.specs.LineTexts.{line_text};
 ghost use Rattle.gen_load.specs.Loads.{line_of, load_text};
 
-use crate::draw::{Draw, next_number};
+use crate::draw::{DRAWS, Draw, Kind};
+use draws::Draws;
 use maps_print::{push_decimal, push_hex};
 use mm_types::NoMemory;
 use std::alloc::Global;
@@ -32,10 +33,10 @@ pub fn load(alloc: Global, count: u32, seed: u64) -> Result<Vec<u8>, NoMemory>
 {
     let mut text = Vec::with_capacity(alloc, HEADER.len() + count as usize * LINE_ROOM)?;
     text.extend_from_slice(HEADER)?;
-    let mut number = seed;
+    let mut draws = Draws::new(seed);
     for _ in 0..count {
-        number = next_number(number);
-        push_line(&mut text, Draw::of(number))?;
+        let draw = draws.below(DRAWS);
+        push_line(&mut text, Draw(draw))?;
     }
     Ok(text)
 }
@@ -94,32 +95,32 @@ fn push_line(text: &mut Vec<u8>, draw: Draw) -> Result<(), NoMemory>
     let length = draw.length();
     push_decimal(text, draw.thread())?;
     match draw.kind() {
-        0 => {
+        Kind::MapExactly => {
             push_address(text, b" mmap 0x", address)?;
             push_prot(text, length, draw.prot(), EXACTLY)
         }
-        1 => {
+        Kind::MapNear => {
             push_address(text, b" mmap 0x", address)?;
             push_prot(text, length, draw.prot(), ANYWHERE)
         }
-        2 => {
+        Kind::MapAnywhere => {
             text.extend_from_slice(b" mmap 0")?;
             push_prot(text, length, draw.prot(), ANYWHERE)
         }
-        3 => {
+        Kind::Unmap => {
             push_address(text, b" munmap 0x", address)?;
             push_number(text, length)?;
             Ok(text.push(b'\n')?)
         }
-        4 => {
+        Kind::Protect => {
             push_address(text, b" mprotect 0x", address)?;
             push_prot(text, length, draw.prot(), b"\n")
         }
-        5 => {
+        Kind::Move => {
             push_address(text, b" mremap 0x", address)?;
             push_lengths(text, length, draw.new_length())
         }
-        6 => push_fault(text, address, b" r\n"),
-        _ => push_fault(text, address, b" w\n"),
+        Kind::Read => push_fault(text, address, b" r\n"),
+        Kind::Write => push_fault(text, address, b" w\n"),
     }
 }

@@ -19,7 +19,7 @@ const ROUNDS: u32 = 3400;
 
 /// Whose history it is: that of a trace without a child, of a parent, or of a child, which began with these entries.
 #[derive(Clone, Copy)]
-enum Whose<'a> {
+pub(crate) enum Whose<'a> {
     Alone,
     Parent,
     Child(&'a [Entry]),
@@ -57,7 +57,7 @@ fn told(judged: Result<(), CheckError>) -> Result<Option<Bad>, Fail> {
 }
 
 /// What is bad of a history, by the judge of such histories.
-fn bad_of(
+pub(crate) fn bad_of(
     rt: &(impl Abort + AllocGlobal),
     trace: &Trace,
     whose: Whose<'_>,

@@ -41,7 +41,7 @@ fn push_front(text: &mut Vec<u8>, area: &Record, mapped: &Mapped) -> Result<(), 
     ensures no_memory { OnErr result (AppendsFront text.old.items text.new.items (front_text area.now mapped.now)) }
 {
     push_range(text, area)?;
-    let place = place_part(area.offset, mapped)?;
+    let place = place_part(area.offset, mapped);
     text.extend_from_slice(place.as_slice())?;
     Ok(())
 }
@@ -52,7 +52,7 @@ pub fn push_range(text: &mut Vec<u8>, area: &Record) -> Result<(), NoMemory>
     ensures ok { OnOk result (text.new.items ≡ text.old.items ++ range_text area.now) }
     ensures no_memory { OnErr result (AppendsFront text.old.items text.new.items (range_text area.now)) }
 {
-    let addresses = span_part(area.span.lo, area.span.hi)?;
+    let addresses = span_part(area.span.lo, area.span.hi);
     text.extend_from_slice(addresses.as_slice())?;
     text.extend_from_slice(&perms(area))?;
     Ok(())
@@ -60,15 +60,15 @@ pub fn push_range(text: &mut Vec<u8>, area: &Record) -> Result<(), NoMemory>
 
 /// The addresses of a span, in bytes, and a space. In hexadecimal an address is its page with three zeros after it.
 #[tactic(auto, unfolding(mm_types::specs::MapsText::span_text))]
-fn span_part(lo: u64, hi: u64) -> Result<Part, NoMemory>
-    ensures { IfOk result (λ part. part.items ≡ span_text (record { lo = lo; hi = hi }) ++ codes " ") }
+fn span_part(lo: u64, hi: u64) -> Part
+    ensures { result.items ≡ span_text (record { lo = lo; hi = hi }) ++ codes " " }
 {
     let mut part = Part::new();
-    add_padded(&mut part, lo, 5)?;
-    add(&mut part, b"000-")?;
-    add_padded(&mut part, hi, 5)?;
-    add(&mut part, b"000 ")?;
-    Ok(part)
+    add_padded(&mut part, lo, 5);
+    add(&mut part, b"000-");
+    add_padded(&mut part, hi, 5);
+    add(&mut part, b"000 ");
+    part
 }
 
 /// Four letters: what is allowed, with a dash for what is not, and whether the area is shared.
@@ -95,20 +95,20 @@ fn letter(allowed: bool, access: u8) -> u8
 
 /// A space, the offset within what is mapped, in bytes, the device and the inode of that, and a space.
 #[tactic(auto, unfolding(mm_types::specs::MapsText::place_text))]
-fn place_part(offset: u64, mapped: &Mapped) -> Result<Part, NoMemory>
-    ensures { IfOk result (λ part. part.items ≡ codes " " ++ place_text offset mapped.now ++ codes " ") }
+fn place_part(offset: u64, mapped: &Mapped) -> Part
+    ensures { result.items ≡ codes " " ++ place_text offset mapped.now ++ codes " " }
 {
     let mut part = Part::new();
-    add(&mut part, b" ")?;
-    add_padded(&mut part, offset, 5)?;
-    add(&mut part, b"000 ")?;
-    add_padded(&mut part, u64::from(mapped.major), 2)?;
-    add(&mut part, b":")?;
-    add_padded(&mut part, u64::from(mapped.minor), 2)?;
-    add(&mut part, b" ")?;
-    add_decimal(&mut part, mapped.inode)?;
-    add(&mut part, b" ")?;
-    Ok(part)
+    add(&mut part, b" ");
+    add_padded(&mut part, offset, 5);
+    add(&mut part, b"000 ");
+    add_padded(&mut part, u64::from(mapped.major), 2);
+    add(&mut part, b":");
+    add_padded(&mut part, u64::from(mapped.minor), 2);
+    add(&mut part, b" ");
+    add_decimal(&mut part, mapped.inode);
+    add(&mut part, b" ");
+    part
 }
 
 /// Appends the name after so many characters of the line, and nothing where there is no name.

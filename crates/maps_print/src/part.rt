@@ -1,14 +1,15 @@
 //! Parts of a line that are put together before they are appended, and the numbers in them.
-ghost use Rattle.std.specs.Prelude.{◌≡◌, ◌≤◌, ◌<◌, ◌++◌, ◌%◌, false, decimal, drop, length, replicate, take, OnErr, OnOk};
+ghost use Rattle.std.specs.Prelude.{◌≡◌, ◌≤◌, ◌<◌, ◌+◌, ◌++◌, ◌%◌, false, decimal, drop, length, replicate, take, OnErr, OnOk};
 ghost use Rattle.std.specs.Fmt.{digit_glyph, digits};
+ghost use Rattle.arrayvec.specs.ArrayVec.{array_vec_len};
 ghost use Rattle.mm_types.specs.MapsText.{hex};
 
 use arrayvec::ArrayVec;
 use itoa::Buffer;
 use mm_types::NoMemory;
 
-/// Room for the longest addresses and the longest place that numbers of 64 bits make, of 40 and 60 characters.
-const MOST_CHARACTERS: usize = 64;
+/// Room for each part: the addresses take at most 40 characters, and a place at most 96, as far as `add_padded` and `add_decimal` say.
+pub(crate) const MOST_CHARACTERS: usize = 96;
 
 /// A part of a line, before it is appended.
 pub(crate) type Part = ArrayVec<u8, MOST_CHARACTERS>;
@@ -16,19 +17,23 @@ pub(crate) type Part = ArrayVec<u8, MOST_CHARACTERS>;
 /// How many digits a number of 64 bits has at most in hexadecimal.
 const MOST_DIGITS: usize = 16;
 
-/// Adds bytes to a part.
-pub(crate) fn add(part: &mut Part, bytes: &[u8]) -> Result<(), NoMemory>
-    ensures { OnOk result (part.new.items ≡ part.old.items ++ bytes.now) }
+/// At least as many digits as a number of 64 bits has in decimal.
+const MOST_DECIMAL: usize = 40;
+
+/// Adds bytes to a part that has room for them.
+pub(crate) fn add(part: &mut Part, bytes: &[u8])
+    requires { array_vec_len part.old + length bytes.now ≤ MOST_CHARACTERS }
+    ensures items { part.new.items ≡ part.old.items ++ bytes.now }
+    ensures len { array_vec_len part.new ≡ array_vec_len part.old + length bytes.now }
 {
-    match part.try_extend_from_slice(bytes) {
-        Ok(()) => Ok(()),
-        Err(_) => Err(NoMemory),
-    }
+    part.try_extend_from_slice(bytes).unwrap()
 }
 
 /// Adds a number in decimal.
-pub(crate) fn add_decimal(part: &mut Part, number: u64) -> Result<(), NoMemory>
-    ensures { OnOk result (part.new.items ≡ part.old.items ++ decimal number) }
+pub(crate) fn add_decimal(part: &mut Part, number: u64)
+    requires { array_vec_len part.old + MOST_DECIMAL ≤ MOST_CHARACTERS }
+    ensures items { part.new.items ≡ part.old.items ++ decimal number }
+    ensures len { array_vec_len part.new ≤ array_vec_len part.old + MOST_DECIMAL }
 {
     let mut buffer = Buffer::new();
     add(part, buffer.format(number).as_bytes())
@@ -36,9 +41,11 @@ pub(crate) fn add_decimal(part: &mut Part, number: u64) -> Result<(), NoMemory>
 
 /// Adds a number in hexadecimal, filled with leading zeros up to this width.
 #[tactic(auto, unfolding(mm_types::specs::MapsText::hex))]
-pub(crate) fn add_padded(part: &mut Part, number: u64, width: usize) -> Result<(), NoMemory>
-    requires { width ≤ MOST_DIGITS }
-    ensures { OnOk result (part.new.items ≡ part.old.items ++ hex width number) }
+pub(crate) fn add_padded(part: &mut Part, number: u64, width: usize)
+    requires width { width ≤ MOST_DIGITS }
+    requires room { array_vec_len part.old + MOST_DIGITS ≤ MOST_CHARACTERS }
+    ensures items { part.new.items ≡ part.old.items ++ hex width number }
+    ensures len { array_vec_len part.new ≤ array_vec_len part.old + MOST_DIGITS }
 {
     let (text, first) = hex_digits(number);
     add(part, &text[first.min(MOST_DIGITS - width)..])

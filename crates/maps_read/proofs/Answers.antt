@@ -4,10 +4,9 @@ use Rattle.std.specs.List.{position_or_len}
 use Rattle.std.proofs.lemmas.Bool.{ltb-true}
 use Rattle.std.proofs.lemmas.List.{take_all, length-drop, drop_more}
 use Rattle.std.proofs.lemmas.Option.{slice_get-get_or}
-use Rattle.trace_reader.specs.declared.error.BadLine.{BadLine}
-use Rattle.trace_reader.specs.Lines.{trace_limit}
-use Rattle.trace_reader.specs.RawLines.{RawLine, lines_from, raw_lines}
-use Rattle.trace_reader.proofs.RawPieces.{lines_from-nil}
+use Rattle.text_lexer.specs.declared.error.BadLine.{BadLine}
+use Rattle.text_lexer.specs.Lines.{input_limit, RawLine, lines_from, raw_lines}
+use Rattle.text_lexer.proofs.RawPieces.{lines_from-nil}
 use Rattle.maps_read.specs.declared.maps.MapsLine.{MapsLine}
 use Rattle.maps_read.specs.Maps.{maps_of}
 use Rattle.maps_read.specs.Query.{first_above, answered, query_text, query_answer}
@@ -19,7 +18,7 @@ was_read address bytes text (Ok lines) e = (lines, refl)
 was_read address bytes text (Err first) e = absurd cc
 
 -- bytes with an answer are within the limit
-pub query_answer-within : (address : ℕ) (bytes text : List ℕ) → query_answer address bytes ≡ Ok text → length bytes ≤ trace_limit
+pub query_answer-within : (address : ℕ) (bytes text : List ℕ) → query_answer address bytes ≡ Ok text → length bytes ≤ input_limit
 unfolding query_answer
 query_answer-within address bytes text e =
     let read = was_read address bytes text (maps_of bytes) e in
@@ -32,12 +31,12 @@ answered-same address front bytes (Ok lines) same = ap (λ (bs : List ℕ). Ok (
 answered-same address front bytes (Err first) same = refl
 
 -- one byte more than the limit settles the answer
-pub query_answer-front : (address : ℕ) (bytes : List ℕ) → query_answer address (take (trace_limit + 1) bytes) ≡ query_answer address bytes
+pub query_answer-front : (address : ℕ) (bytes : List ℕ) → query_answer address (take (input_limit + 1) bytes) ≡ query_answer address bytes
 unfolding query_answer
 query_answer-front address bytes =
-    ap (answered address (take (trace_limit + 1) bytes)) (maps_of-front bytes)
-    ∙ answered-same address (take (trace_limit + 1) bytes) bytes (maps_of bytes)
-    (λ lines read. take_all (trace_limit + 1) bytes (omega (arith, maps_within bytes lines read)))
+    ap (answered address (take (input_limit + 1) bytes)) (maps_of-front bytes)
+    ∙ answered-same address (take (input_limit + 1) bytes) bytes (maps_of bytes)
+    (λ lines read. take_all (input_limit + 1) bytes (omega (arith, maps_within bytes lines read)))
 
 placed : (address : ℕ) (lines : List MapsLine) (b : Bool) → nat_lt (position_or_len (λ line. nat_lt address line.hi) lines) (length lines) ≡ b
     → IfSome (cond b (Some (position_or_len (λ line. nat_lt address line.hi) lines)) None) (λ place. place < length lines)

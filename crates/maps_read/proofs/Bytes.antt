@@ -3,12 +3,11 @@ use Rattle.std.proofs.Common.{◌≡◌, ℕ, suc, ◌+◌, ◌<◌, ◌≤◌, 
 use Rattle.std.specs.List.{slice_split}
 use Rattle.std.proofs.lemmas.List.Splits.{length-slice_split}
 use Rattle.std.proofs.lemmas.List.Sums.{count_by-le-length}
-use Rattle.trace_reader.specs.declared.error.BadLine.{BadLine}
-use Rattle.trace_reader.specs.Lines.{trace_limit}
-use Rattle.trace_reader.specs.RawLines.{RawLine, raw_line, is_newline, lines_of_pieces, lines_from, raw_lines}
-use Rattle.trace_reader.proofs.Beginnings.{IsLimited, lines_leave-front, lines_leave-within}
-use Rattle.trace_reader.proofs.FirstBad.{lines_leave-Err}
-use Rattle.trace_reader.proofs.LineTests.{text_within-past}
+use Rattle.text_lexer.specs.declared.error.BadLine.{BadLine}
+use Rattle.text_lexer.specs.Lines.{input_limit, RawLine, raw_line, is_newline, lines_of_pieces, lines_from, raw_lines}
+use Rattle.text_lexer.proofs.Beginnings.{IsLimited, lines_leave-front, lines_leave-within}
+use Rattle.text_lexer.proofs.FirstBad.{lines_leave-Err}
+use Rattle.text_lexer.proofs.LineTests.{text_within-past}
 use Rattle.maps_read.specs.declared.maps.MapsLine.{MapsLine}
 use Rattle.maps_read.specs.declared.reading.TheConstants.{MAPS_LINE_LIMIT}
 use Rattle.maps_read.specs.Laws.{AreRead, IsFirstBad}
@@ -21,19 +20,19 @@ unfolding maps_of
 maps_of-Err bytes first e = lines_leave-Err after_line [] bytes first e
 
 -- the lines are limited
-after_line-limited : IsLimited trace_limit after_line
+after_line-limited : IsLimited input_limit after_line
 unfolding after_line next_line
-after_line-limited before line past = rw (text_within-past MAPS_LINE_LIMIT trace_limit line past) refl
+after_line-limited before line past = rw (text_within-past MAPS_LINE_LIMIT input_limit line past) refl
 
 -- so one byte more than the limit settles them
-pub maps_of-front : (bytes : List ℕ) → maps_of (take (trace_limit + 1) bytes) ≡ maps_of bytes
+pub maps_of-front : (bytes : List ℕ) → maps_of (take (input_limit + 1) bytes) ≡ maps_of bytes
 unfolding maps_of
-maps_of-front bytes = lines_leave-front trace_limit after_line after_line-limited [] bytes
+maps_of-front bytes = lines_leave-front input_limit after_line after_line-limited [] bytes
 
 -- and bytes with lines are within it
-pub maps_within : (bytes : List ℕ) (lines : List MapsLine) → maps_of bytes ≡ Ok lines → length bytes ≤ trace_limit
+pub maps_within : (bytes : List ℕ) (lines : List MapsLine) → maps_of bytes ≡ Ok lines → length bytes ≤ input_limit
 unfolding maps_of
-maps_within bytes lines e = lines_leave-within trace_limit after_line after_line-limited [] lines bytes e
+maps_within bytes lines e = lines_leave-within input_limit after_line after_line-limited [] lines bytes e
 
 -- each line that was read is that of its raw line
 pub maps_are_read : (bytes : List ℕ) (lines : List MapsLine) → maps_of bytes ≡ Ok lines → AreRead (raw_lines bytes) lines
@@ -66,8 +65,8 @@ lines_bound : (number start : ℕ) (bytes : List ℕ) → length (lines_from num
 unfolding lines_from
 lines_bound number start bytes = omega (arith, pieces_bound number start (slice_split is_newline bytes), length-slice_split is_newline bytes, count_by-le-length is_newline bytes)
 
-limit_fits : trace_limit + 1 < 2 ^ 32
-unfolding trace_limit
+limit_fits : input_limit + 1 < 2 ^ 32
+unfolding input_limit
 limit_fits = lit< tt
 
 -- the lines are in order

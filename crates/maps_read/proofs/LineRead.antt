@@ -1,12 +1,11 @@
 -- For the laws: what it means that a line was read behind others, and that lines were.
 use Rattle.std.proofs.Common.{◌≡◌, ℕ, Bool, true, false, List, [], ◌∷◌, ◌++◌, Option, Some, None, Result, Ok, Err, if◌then◌else◌, refl, ap, subst, ◌∙◌}
-use Rattle.trace_reader.specs.declared.error.Cause.{Cause}
-use Rattle.trace_reader.specs.declared.error.Cause.TheVariants.{MapsOrder}
-use Rattle.trace_reader.specs.declared.error.BadLine.{BadLine}
-use Rattle.trace_reader.specs.Causes.{◌>>=◌, unless}
-use Rattle.trace_reader.specs.Grammar.{at_line}
-use Rattle.trace_reader.specs.Lines.{trace_limit}
-use Rattle.trace_reader.specs.RawLines.{RawLine, text_within}
+use Rattle.text_lexer.specs.declared.error.Cause.{Cause}
+use Rattle.text_lexer.specs.declared.error.Cause.TheVariants.{MapsOrder}
+use Rattle.text_lexer.specs.declared.error.BadLine.{BadLine}
+use Rattle.text_lexer.specs.Causes.{◌>>=◌, unless}
+use Rattle.text_lexer.specs.BadLines.{at_line}
+use Rattle.text_lexer.specs.Lines.{input_limit, RawLine, text_within}
 use Rattle.maps_read.specs.declared.maps.MapsLine.{MapsLine}
 use Rattle.maps_read.specs.declared.reading.TheConstants.{MAPS_LINE_LIMIT}
 use Rattle.maps_read.specs.Fields.{line_of}
@@ -39,10 +38,10 @@ if_Ok false line found e = absurd cc
 next_line-Ok : (end : ℕ) (raw : RawLine) (line : MapsLine) → next_line end raw ≡ Ok line → (line_of raw.text ≡ Ok line) × (is_in_order end line ≡ true)
 unfolding next_line
 next_line-Ok end raw line e =
-    let text = then_Ok (text_within MAPS_LINE_LIMIT trace_limit raw) _ line e in
+    let text = then_Ok (text_within MAPS_LINE_LIMIT input_limit raw) _ line e in
     let said = then_Ok (line_of text.0) _ line text.2 in
     let order = if_Ok (is_in_order end said.0) said.0 line said.2 in (
-      ap line_of (text_within-Ok MAPS_LINE_LIMIT trace_limit raw text.0 text.1) ∙ said.1 ∙ ap Ok order.1,
+      ap line_of (text_within-Ok MAPS_LINE_LIMIT input_limit raw text.0 text.1) ∙ said.1 ∙ ap Ok order.1,
       subst (λ (l : MapsLine). is_in_order end l ≡ true) order.1 order.0,
     )
 

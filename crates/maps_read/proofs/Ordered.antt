@@ -6,8 +6,8 @@ use Rattle.std.proofs.lemmas.List.{get_or_push}
 use Rattle.std.proofs.lemmas.List.Elements.{All-push}
 use Rattle.std.proofs.lemmas.List.Quantifiers.{all_pairs_push}
 use Rattle.std.proofs.lemmas.Option.{slice_get-get_or}
-use Rattle.trace_reader.specs.Grammar.{lines_leave}
-use Rattle.trace_reader.specs.RawLines.{RawLine}
+use Rattle.text_lexer.specs.BadLines.{lines_leave}
+use Rattle.text_lexer.specs.Lines.{RawLine}
 use Rattle.maps_read.specs.declared.maps.MapsLine.{MapsLine}
 use Rattle.maps_read.specs.Fields.{line_of}
 use Rattle.maps_read.specs.Maps.{hi_or_zero, end_of, is_in_order, after_line}

@@ -6,10 +6,10 @@ use Rattle.std.proofs.lemmas.Bool.{not-false}
 use Rattle.std.proofs.lemmas.Bool.Decides.{nat_tests}
 use Rattle.std.proofs.lemmas.List.Sums.{fails_before_first}
 use Rattle.std.proofs.lemmas.Str.{IsCharBoundary-start, IsCharBoundary-after_ascii}
-use Rattle.trace_reader.specs.declared.error.Cause.{Cause}
-use Rattle.trace_reader.specs.Numbers.{digits_of, is_lower_digit, lower_hexadecimal_of}
-use Rattle.trace_reader.proofs.Digits.{part_fits}
-use Rattle.trace_reader.proofs.WordParts.{position_or_len-le}
+use Rattle.text_lexer.specs.declared.error.Cause.{Cause}
+use Rattle.text_lexer.specs.Numbers.{digits_of, is_lower_digit, lower_hexadecimal_of}
+use Rattle.text_lexer.proofs.Digits.{part_fits}
+use Rattle.text_lexer.proofs.WordParts.{position_or_len-le}
 use Rattle.maps_read.specs.Fields.{is_part, leading_spaces, hexadecimal}
 
 space_is_ascii : (c : ℕ) → nat_eq c (byte " ") ≡ true → c < 128

@@ -3,10 +3,11 @@ use Rattle.std.specs.Prelude.{ℕ, zero, suc, Bool, true, false, not, List, [], 
 use Rattle.std.specs.List.{before_first, after_first, position_or_len}
 use Rattle.std.specs.Str.{byte}
 use Rattle.mm_types.specs.declared.area.Prot.{Prot}
-use Rattle.trace_reader.specs.declared.error.Cause.{Cause}
-use Rattle.trace_reader.specs.declared.error.Cause.TheVariants as causes
-use Rattle.trace_reader.specs.Causes.{◌>>=◌}
-use Rattle.trace_reader.specs.Numbers.{decimal_of, lower_hexadecimal_of}
+use Rattle.text_lexer.specs.declared.error.Cause.{Cause}
+use Rattle.text_lexer.specs.declared.error.Cause.TheVariants as causes
+use Rattle.text_lexer.specs.Causes.{◌>>=◌}
+use Rattle.text_lexer.specs.Numbers.{decimal_of, lower_hexadecimal_of}
+use Rattle.maps_read.specs.declared.fields.LineNumbers.{LineNumbers}
 use Rattle.maps_read.specs.declared.maps.MapsLine.{MapsLine}
 
 -- what stands before the first of these bytes in a text, or all of it where there is none
@@ -73,6 +74,20 @@ perms (r ∷ w ∷ x ∷ s ∷ []) = do
   shared ← letter (byte "s") (byte "p") s
   Ok (record { read = read; write = write; exec = exec }, shared)
 perms _ = Err causes.MapsLine
+
+-- the line of these numbers and this name
+abbrev pub with_name : LineNumbers → List ℕ → MapsLine
+with_name numbers name = record {
+  lo = numbers.lo;
+  hi = numbers.hi;
+  prot = numbers.prot;
+  shared = numbers.shared;
+  offset = numbers.offset;
+  major = numbers.major;
+  minor = numbers.minor;
+  inode = numbers.inode;
+  name = name;
+}
 
 -- the line of these words and this name
 unfoldable pub line_of_words : List ℕ → List ℕ → List ℕ → List ℕ → List ℕ → List ℕ → Result MapsLine Cause

@@ -1,9 +1,9 @@
 -- What the lines of a maps text, and its first bad line, are.
 use Rattle.std.specs.Prelude.{ℕ, ◌≡◌, List, [], Ok}
 use Rattle.std.specs.List.{AllZip}
-use Rattle.trace_reader.specs.declared.error.BadLine.{BadLine}
-use Rattle.trace_reader.specs.Laws.{IsFirstBadBy}
-use Rattle.trace_reader.specs.RawLines.{RawLine}
+use Rattle.text_lexer.specs.declared.error.BadLine.{BadLine}
+use Rattle.text_lexer.specs.BadLines.{IsFirstBadBy}
+use Rattle.text_lexer.specs.Lines.{RawLine}
 use Rattle.maps_read.specs.declared.maps.MapsLine.{MapsLine}
 use Rattle.maps_read.specs.Fields.{line_of}
 use Rattle.maps_read.specs.Maps.{after_line}

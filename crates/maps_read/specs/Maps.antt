@@ -1,12 +1,11 @@
 -- Which list of lines a maps text is, or else which line is bad first and for which cause.
 use Rattle.std.specs.Prelude.{ℕ, ◌-◌, ◌^◌, ◌<◌, ◌≤◌, Bool, ◌&&◌, List, [], ◌∷◌, ◌++◌, length, nat_lt, nat_le, slice_get, Option, Some, None, Result, Ok, Err, All, AllPairs, if◌then◌else◌}
-use Rattle.trace_reader.specs.declared.error.Cause.{Cause}
-use Rattle.trace_reader.specs.declared.error.Cause.TheVariants.{MapsOrder}
-use Rattle.trace_reader.specs.declared.error.BadLine.{BadLine}
-use Rattle.trace_reader.specs.Causes.{◌>>=◌}
-use Rattle.trace_reader.specs.Grammar.{lines_leave}
-use Rattle.trace_reader.specs.Lines.{trace_limit}
-use Rattle.trace_reader.specs.RawLines.{RawLine, raw_lines, text_within}
+use Rattle.text_lexer.specs.declared.error.Cause.{Cause}
+use Rattle.text_lexer.specs.declared.error.Cause.TheVariants.{MapsOrder}
+use Rattle.text_lexer.specs.declared.error.BadLine.{BadLine}
+use Rattle.text_lexer.specs.Causes.{◌>>=◌}
+use Rattle.text_lexer.specs.BadLines.{lines_leave}
+use Rattle.text_lexer.specs.Lines.{input_limit, RawLine, raw_lines, text_within}
 use Rattle.maps_read.specs.declared.maps.MapsLine.{MapsLine}
 use Rattle.maps_read.specs.declared.reading.TheConstants.{MAPS_LINE_LIMIT}
 use Rattle.maps_read.specs.Fields.{line_of}
@@ -33,7 +32,7 @@ is_in_order end line = nat_lt line.lo line.hi && nat_le end line.lo
 -- the line that a raw line is, behind lines that end here
 unfoldable pub next_line : ℕ → RawLine → Result MapsLine Cause
 next_line end raw = do
-  text ← text_within MAPS_LINE_LIMIT trace_limit raw
+  text ← text_within MAPS_LINE_LIMIT input_limit raw
   line ← line_of text
   if is_in_order end line then Ok line else Err MapsOrder
 

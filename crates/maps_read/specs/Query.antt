@@ -2,8 +2,8 @@
 use Rattle.std.specs.Prelude.{ℕ, ◌-◌, ◌++◌, List, length, take, codes, nat_eq, nat_lt, position, slice_get, Option, Some, None, Result, Ok, Err}
 use Rattle.std.specs.List.{suffix_len}
 use Rattle.std.specs.Str.{byte}
-use Rattle.trace_reader.specs.declared.error.BadLine.{BadLine}
-use Rattle.trace_reader.specs.RawLines.{RawLine, raw_lines}
+use Rattle.text_lexer.specs.declared.error.BadLine.{BadLine}
+use Rattle.text_lexer.specs.Lines.{RawLine, raw_lines}
 use Rattle.maps_read.specs.declared.maps.MapsLine.{MapsLine}
 use Rattle.maps_read.specs.Maps.{maps_of}
 

@@ -1,15 +1,15 @@
 //! What is printed for an address.
 
 ghost use Rattle.std.specs.Prelude.{◌≡◌, ◌<◌, IfOk, IfErr, IfSome, Ok, length, slice_get};
-ghost use Rattle.trace_reader.specs.RawLines.{raw_lines};
+ghost use Rattle.text_lexer.specs.Lines.{raw_lines};
 ghost use Rattle.maps_read.specs.Query.{query_answer, query_text, without_spaces_after};
-ghost use Rattle.trace_reader.specs.Reading.{IsErrorOf};
+ghost use Rattle.text_lexer.specs.Reading.{IsErrorOf};
 
 use crate::querying::query;
 use crate::reading::read_maps;
 use mm_types::{NoMemory, Steps};
 use std::alloc::Global;
-use trace_reader::{ReadError, first_line};
+use text_lexer::{ReadError, first_line};
 
 /// The name of the counter of `answer_of`.
 struct Comparisons;
@@ -27,10 +27,7 @@ pub fn answer_of(alloc: Global, bytes: &[u8], address: u64) -> Result<Vec<u8>, R
     let maps = read_maps(alloc, bytes)?;
     let mut steps = Steps::<Comparisons>::new();
     let place = query(&maps, address, &mut steps);
-    match query_text(alloc, bytes, place) {
-        Ok(text) => Ok(text),
-        Err(NoMemory) => Err(ReadError::NoMemory),
-    }
+    Ok(query_text(alloc, bytes, place)?)
 }
 
 /// The line of the bytes that has so many lines before it, as it stands there, without the spaces at its end, and a newline; or

@@ -1,13 +1,12 @@
 //! What the text of a line says.
 
-ghost use Rattle.std.specs.Prelude.{◌≡◌, ◌<◌, ◌≤◌};
-ghost use Rattle.trace_reader.specs.Reading.{Gives};
-ghost use Rattle.maps_read.specs.Fields.{front, behind, leading_spaces, without_leading_spaces, hexadecimal, decimal, bounds, device, letter, perms, line_of_words, line_of};
+ghost use Rattle.std.specs.Prelude.{ℕ, ◌≡◌, ◌<◌, ◌≤◌, List};
+ghost use Rattle.text_lexer.specs.Reading.{Reads};
+ghost use Rattle.maps_read.specs.Fields.{front, behind, leading_spaces, without_leading_spaces, hexadecimal, decimal, bounds, device, letter, perms, line_of_words, line_of, with_name};
 
 use crate::maps::MapsLine;
 use mm_types::{Prot, Text};
-use std::alloc::Global;
-use trace_reader::{CallError, Cause, decimal_of, lower_hexadecimal_of};
+use text_lexer::{Cause, decimal_of, lower_hexadecimal_of};
 
 /// What stands before the first such character of a text, and what follows it: all of the text and nothing where there is none.
 fn cut(text: &str, at: char) -> (&str, &str)
@@ -39,24 +38,24 @@ fn without_leading_spaces(text: &str) -> &str
 
 /// A number of 1 to so many digits of lower-case hexadecimal.
 #[tactic(auto, unfolding(crate::specs::Fields::hexadecimal))]
-fn hexadecimal(word: &str, most: usize) -> Result<u64, CallError>
-    ensures { Gives (λ n. n) result (hexadecimal most word.now) }
+fn hexadecimal(word: &str, most: usize) -> Result<u64, Cause>
+    ensures { Reads (λ n. n) result (hexadecimal most word.now) }
 {
-    lower_hexadecimal_of(word, most).ok_or(CallError::Bad(Cause::MapsLine))
+    lower_hexadecimal_of(word, most).ok_or(Cause::MapsLine)
 }
 
 /// A number of 1 to 20 decimal digits, below 2^64.
 #[tactic(auto, unfolding(crate::specs::Fields::decimal))]
-fn decimal(word: &str) -> Result<u64, CallError>
-    ensures { Gives (λ n. n) result (decimal word.now) }
+fn decimal(word: &str) -> Result<u64, Cause>
+    ensures { Reads (λ n. n) result (decimal word.now) }
 {
-    decimal_of(word).ok_or(CallError::Bad(Cause::MapsLine))
+    decimal_of(word).ok_or(Cause::MapsLine)
 }
 
 /// The addresses of a line, `<lo>-<hi>`.
 #[tactic(auto, unfolding(crate::specs::Fields::bounds))]
-fn bounds(word: &str) -> Result<(u64, u64), CallError>
-    ensures { Gives (λ pair. (pair.0, pair.1)) result (bounds word.now) }
+fn bounds(word: &str) -> Result<(u64, u64), Cause>
+    ensures { Reads (λ pair. (pair.0, pair.1)) result (bounds word.now) }
 {
     let (lo, hi) = cut(word, '-');
     let lo = hexadecimal(lo, 16)?;
@@ -65,8 +64,8 @@ fn bounds(word: &str) -> Result<(u64, u64), CallError>
 }
 
 /// A half of the number of a device.
-fn device_part(word: &str) -> Result<u32, CallError>
-    ensures { Gives (λ n. n) result (hexadecimal 8 word.now) }
+fn device_part(word: &str) -> Result<u32, Cause>
+    ensures { Reads (λ n. n) result (hexadecimal 8 word.now) }
 {
     let part = hexadecimal(word, 8)?;
     Ok(part as u32)
@@ -74,8 +73,8 @@ fn device_part(word: &str) -> Result<u32, CallError>
 
 /// The major and the minor half of the number of a device.
 #[tactic(auto, unfolding(crate::specs::Fields::device))]
-fn device(word: &str) -> Result<(u32, u32), CallError>
-    ensures { Gives (λ pair. (pair.0, pair.1)) result (device word.now) }
+fn device(word: &str) -> Result<(u32, u32), Cause>
+    ensures { Reads (λ pair. (pair.0, pair.1)) result (device word.now) }
 {
     let (major, minor) = cut(word, ':');
     let major = device_part(major)?;
@@ -85,22 +84,22 @@ fn device(word: &str) -> Result<(u32, u32), CallError>
 
 /// One of two letters: whether it is the first of them.
 #[tactic(auto, unfolding(crate::specs::Fields::letter))]
-fn letter(byte: u8, set: u8, unset: u8) -> Result<bool, CallError>
-    ensures { Gives (λ allowed. allowed) result (letter set unset byte) }
+fn letter(byte: u8, set: u8, unset: u8) -> Result<bool, Cause>
+    ensures { Reads (λ allowed. allowed) result (letter set unset byte) }
 {
     if byte == set {
         Ok(true)
     } else if byte == unset {
         Ok(false)
     } else {
-        Err(CallError::Bad(Cause::MapsLine))
+        Err(Cause::MapsLine)
     }
 }
 
 /// What is allowed, and whether it is shared: four letters.
 #[tactic(auto, unfolding(crate::specs::Fields::perms))]
-fn perms(word: &str) -> Result<(Prot, bool), CallError>
-    ensures { Gives (λ pair. (pair.0, pair.1)) result (perms word.now) }
+fn perms(word: &str) -> Result<(Prot, bool), Cause>
+    ensures { Reads (λ pair. (pair.0, pair.1)) result (perms word.now) }
 {
     match word.as_bytes() {
         [read, write, exec, sharing] => {
@@ -112,30 +111,58 @@ fn perms(word: &str) -> Result<(Prot, bool), CallError>
             let shared = letter(*sharing, b's', b'p')?;
             Ok((prot, shared))
         }
-        _ => Err(CallError::Bad(Cause::MapsLine)),
+        _ => Err(Cause::MapsLine),
     }
 }
 
-/// The line of these words and this name.
+/// What a line says, its name left out. None of it takes memory.
+#[derive(Clone, Copy, Debug, PartialEq, Eq)]
+pub(crate) struct LineNumbers {
+    pub(crate) lo: u64,
+    pub(crate) hi: u64,
+    pub(crate) prot: Prot,
+    pub(crate) shared: bool,
+    pub(crate) offset: u64,
+    pub(crate) major: u32,
+    pub(crate) minor: u32,
+    pub(crate) inode: u64,
+}
+
+/// The line of these numbers and this name.
+pub(crate) fn with_name(numbers: LineNumbers, name: Text) -> MapsLine
+    ensures { result ≡ with_name numbers name }
+{
+    MapsLine {
+        lo: numbers.lo,
+        hi: numbers.hi,
+        prot: numbers.prot,
+        shared: numbers.shared,
+        offset: numbers.offset,
+        major: numbers.major,
+        minor: numbers.minor,
+        inode: numbers.inode,
+        name,
+    }
+}
+
+/// The numbers of these words, whatever the name of their line is.
 #[tactic(auto, unfolding(crate::specs::Fields::line_of_words))]
-fn line_of_words(
-    alloc: Global,
+fn numbers_of_words(
     addresses: &str,
     letters: &str,
     start: &str,
     numbers: &str,
     node: &str,
-    name: &str,
-) -> Result<MapsLine, CallError>
-    ensures { Gives (λ line. line) result (line_of_words addresses.now letters.now start.now numbers.now node.now name.now) }
+) -> Result<LineNumbers, Cause>
+    ensures { (name : List ℕ) → Reads (λ found. with_name found name) result
+        (line_of_words addresses.now letters.now start.now numbers.now node.now name) }
 {
     let (lo, hi) = bounds(addresses)?;
     let (prot, shared) = perms(letters)?;
     let offset = hexadecimal(start, 16)?;
     let (major, minor) = device(numbers)?;
     let inode = decimal(node)?;
-    let name = Text::of(String::from_str(alloc, name)?);
-    Ok(MapsLine {
+    Ok(LineNumbers {
         lo,
         hi,
         prot,
@@ -144,20 +171,19 @@ fn line_of_words(
         major,
         minor,
         inode,
-        name,
     })
 }
 
-/// What the text of a line says.
+/// What the text of a line says: its numbers, and its name where it stands in the text.
 #[tactic(auto, unfolding(crate::specs::Fields::line_of))]
-pub(crate) fn line_of(alloc: Global, text: &str) -> Result<MapsLine, CallError>
-    ensures { Gives (λ line. line) result (line_of text.now) }
+pub(crate) fn line_of(text: &str) -> Result<(LineNumbers, &str), Cause>
+    ensures { Reads (λ found. with_name found.0 found.1.now) result (line_of text.now) }
 {
     let (addresses, rest) = cut(text, ' ');
     let (letters, rest) = cut(rest, ' ');
     let (start, rest) = cut(rest, ' ');
     let (numbers, rest) = cut(rest, ' ');
     let (node, rest) = cut(rest, ' ');
-    let name = without_leading_spaces(rest);
-    line_of_words(alloc, addresses, letters, start, numbers, node, name)
+    let found = numbers_of_words(addresses, letters, start, numbers, node)?;
+    Ok((found, without_leading_spaces(rest)))
 }

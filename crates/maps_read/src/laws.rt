@@ -1,9 +1,8 @@
 //! Laws of the definitions. Nothing runs here.
 
 ghost use Rattle.std.specs.Prelude.{◌≡◌, ◌≤◌, ◌+◌, ℕ, List, length, take, Ok, Err};
-ghost use Rattle.trace_reader.specs.Lines.{trace_limit};
-ghost use Rattle.trace_reader.specs.RawLines.{raw_lines};
-ghost use Rattle.trace_reader.specs.declared.error.BadLine.{BadLine};
+ghost use Rattle.text_lexer.specs.Lines.{input_limit, raw_lines};
+ghost use Rattle.text_lexer.specs.declared.error.BadLine.{BadLine};
 ghost use Rattle.maps_read.specs.declared.maps.MapsLine.{MapsLine};
 ghost use Rattle.maps_read.specs.declared.reading.TheConstants.{MAPS_LINE_LIMIT};
 ghost use Rattle.maps_read.specs.Laws.{AreRead, IsFirstBad};
@@ -23,14 +22,14 @@ pub fn lines_are_read()
 
 /// One byte more than the limit of a trace settles the lines of bytes, or which is bad first; and what is printed for an address.
 pub fn front_is_enough()
-    ensures lines { (bytes : List ℕ) → maps_of (take (trace_limit + 1) bytes) ≡ maps_of bytes }
-    ensures answer { (address : ℕ) (bytes : List ℕ) → query_answer address (take (trace_limit + 1) bytes) ≡ query_answer address bytes }
+    ensures lines { (bytes : List ℕ) → maps_of (take (input_limit + 1) bytes) ≡ maps_of bytes }
+    ensures answer { (address : ℕ) (bytes : List ℕ) → query_answer address (take (input_limit + 1) bytes) ≡ query_answer address bytes }
 {}
 
 /// Bytes that are a maps text have no byte past the limit of a trace.
 pub fn maps_are_within()
-    ensures lines { (bytes : List ℕ) (lines : List MapsLine) → maps_of bytes ≡ Ok lines → length bytes ≤ trace_limit }
-    ensures answer { (address : ℕ) (bytes text : List ℕ) → query_answer address bytes ≡ Ok text → length bytes ≤ trace_limit }
+    ensures lines { (bytes : List ℕ) (lines : List MapsLine) → maps_of bytes ≡ Ok lines → length bytes ≤ input_limit }
+    ensures answer { (address : ℕ) (bytes text : List ℕ) → query_answer address bytes ≡ Ok text → length bytes ≤ input_limit }
 {}
 
 /// A line has at most 8,192 bytes.

@@ -1,14 +1,16 @@
 //! Which maps text bytes are.
 
-ghost use Rattle.std.specs.Prelude.{◌≡◌, IfOk, IfErr, Ok};
-ghost use Rattle.trace_reader.specs.Reading.{Gives, IsErrorOf, line_view};
-ghost use Rattle.maps_read.specs.Maps.{maps_of, after_line, end_of, is_in_order, next_line};
+ghost use Rattle.std.specs.Prelude.{◌≡◌, ◌&&◌, nat_le, nat_lt, IfOk, IfErr, Ok};
+ghost use Rattle.text_lexer.specs.Reading.{GivesTested, IsErrorOf, Reads, line_view};
+ghost use Rattle.maps_read.specs.Fields.{with_name};
+ghost use Rattle.maps_read.specs.Maps.{maps_of, after_line, end_of, next_line};
 
-use crate::fields::line_of;
+use crate::fields::{LineNumbers, line_of, with_name};
 use crate::maps::{MapsLine, MapsText};
+use mm_types::Text;
 use std::alloc::Global;
-use trace_reader::{
-    CallError, Cause, RawLine, ReadError, TRACE_LIMIT, error_at, first_line, text_within,
+use text_lexer::{
+    CallError, Cause, INPUT_LIMIT, RawLine, ReadError, error_at, first_line, text_within,
 };
 
 /// The most bytes of a line of a maps text, its newline not counted.
@@ -37,27 +39,28 @@ pub fn read_maps(alloc: Global, bytes: &[u8]) -> Result<MapsText, ReadError>
     Ok(MapsText::of(lines))
 }
 
-/// Reads a line behind those so far.
+/// Reads a line behind those so far. All tests of the line come before its name takes memory.
 #[tactic(auto, unfolding(crate::specs::Maps::after_line))]
 fn push_line(alloc: Global, lines: &mut Vec<MapsLine>, line: &RawLine) -> Result<(), CallError>
-    ensures { Gives (λ _. lines.new.items) result (after_line lines.old.items (line_view line.now)) }
+    ensures { GivesTested (λ _. lines.new.items) result (after_line lines.old.items (line_view line.now)) }
 {
-    let next = next_line(alloc, end_of(lines), line)?;
-    lines.push(next)?;
+    let (numbers, name) = next_line(end_of(lines), line)?;
+    let name = Text::of(String::from_str(alloc, name)?);
+    lines.push(with_name(numbers, name))?;
     Ok(())
 }
 
-/// The line that a raw line is, behind lines that end at this address.
-#[tactic(auto, unfolding(crate::specs::Maps::next_line, trace_reader::specs::Lines::trace_limit))]
-fn next_line(alloc: Global, end: u64, raw: &RawLine) -> Result<MapsLine, CallError>
-    ensures { Gives (λ line. line) result (next_line end (line_view raw.now)) }
+/// What the line that a raw line is says, behind lines that end at this address.
+#[tactic(auto, unfolding(crate::specs::Maps::next_line, text_lexer::specs::Lines::input_limit))]
+fn next_line<'a>(end: u64, raw: &RawLine<'a>) -> Result<(LineNumbers, &'a str), Cause>
+    ensures { Reads (λ found. with_name found.0 found.1.now) result (next_line end (line_view raw.now)) }
 {
-    let text = text_within(raw, MAPS_LINE_LIMIT, TRACE_LIMIT)?;
-    let line = line_of(alloc, text)?;
-    if is_in_order(end, &line) {
-        Ok(line)
+    let text = text_within(raw, MAPS_LINE_LIMIT, INPUT_LIMIT)?;
+    let (numbers, name) = line_of(text)?;
+    if is_in_order(end, &numbers) {
+        Ok((numbers, name))
     } else {
-        Err(CallError::Bad(Cause::MapsOrder))
+        Err(Cause::MapsOrder)
     }
 }
 
@@ -72,8 +75,8 @@ fn end_of(lines: &[MapsLine]) -> u64
 }
 
 /// Whether a line begins below its end, and not below the end of the lines before it.
-fn is_in_order(end: u64, line: &MapsLine) -> bool
-    ensures { result ≡ is_in_order end line.now }
+fn is_in_order(end: u64, line: &LineNumbers) -> bool
+    ensures { result ≡ (nat_lt line.now.lo line.now.hi && nat_le end line.now.lo) }
 {
     line.lo < line.hi && end <= line.lo
 }

@@ -2,7 +2,7 @@ use crate::{MAPS_LINE_LIMIT, answer_of, read_maps};
 use std::alloc::Global;
 use std::process::Abort;
 use std::test::Fail;
-use trace_reader::{BadLine, Cause, ReadError};
+use text_lexer::{BadLine, Cause, ReadError};
 
 /// Two pages that may be read and written, with a page between them.
 const TWO_PAGES: &str = "\

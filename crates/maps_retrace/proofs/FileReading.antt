@@ -6,16 +6,17 @@ use Rattle.std.proofs.lemmas.Bool.Decides.{nat_tests}
 use Rattle.mm_types.specs.declared.files.FileRow.{FileRow}
 use Rattle.mm_types.specs.Config.{default_config}
 use Rattle.mm_types.specs.Rows.{first_row}
-use Rattle.trace_reader.specs.declared.error.Cause.{Cause}
-use Rattle.trace_reader.specs.declared.error.Cause.TheVariants.{Header, Word, TooLong, NoEnd, Utf8}
-use Rattle.trace_reader.specs.Causes.{◌>>=◌, unless}
-use Rattle.trace_reader.specs.Grammar.{bad_line, nothing, at_line, after_lines, lines_read, config_of, whole, trace_of}
-use Rattle.trace_reader.specs.Lines.{SoFar, trace_limit, with_limit, with_top, with_min, with_heap, has_descriptor, with_file, after_setting, is_comment, begins_with_digit, with_line, with_one, after_words, after_line}
+use Rattle.text_lexer.specs.declared.error.Cause.{Cause}
+use Rattle.text_lexer.specs.declared.error.Cause.TheVariants.{Header, Word, TooLong, NoEnd, Utf8}
+use Rattle.text_lexer.specs.Causes.{◌>>=◌, unless}
+use Rattle.text_lexer.specs.BadLines.{bad_line, at_line}
+use Rattle.trace_reader.specs.Grammar.{nothing, after_lines, lines_read, config_of, whole, trace_of}
+use Rattle.trace_reader.specs.Lines.{SoFar, with_limit, with_top, with_min, with_heap, has_descriptor, with_file, after_setting, with_line, with_one, after_words, after_line}
+use Rattle.text_lexer.specs.Lines.{input_limit, raw_line, is_newline, is_longer_than, text_within}
+use Rattle.text_lexer.specs.Words.{is_comment, begins_with_digit, words_of, text_after_words}
 use Rattle.trace_reader.specs.Operations.{line_of}
 use Rattle.trace_reader.specs.Settings.{limit_of, bound_of, file_of}
-use Rattle.trace_reader.specs.RawLines.{raw_line, is_newline, is_longer_than, text_within}
-use Rattle.trace_reader.specs.Words.{words_of, text_after_words}
-use Rattle.trace_reader.proofs.RawPieces.{lines_from-nil}
+use Rattle.text_lexer.proofs.RawPieces.{lines_from-nil}
 use Rattle.trace_text.proofs.LinesRead.{text_of-utf8, lines_from-text, lines_read-header}
 use Rattle.trace_text.specs.LineTexts.{header}
 use Rattle.maps_retrace.specs.FileLines.{files_of, files_opened}
@@ -139,13 +140,13 @@ by_tests false false text rest next e = absurd (cc e)
 alone : (text : List ℕ) (next : SoFar) → after_line nothing (raw_line 2 11 text true) ≡ Ok next → IsAlone text next
 unfolding after_line text_within is_longer_than
 alone text next e =
-    let parts = by_tests (nat_lt 4096 (length text) || nat_lt trace_limit (11 + length text + 1)) (is_utf8 text) text
+    let parts = by_tests (nat_lt 4096 (length text) || nat_lt input_limit (11 + length text + 1)) (is_utf8 text) text
     (λ t. after_words nothing 2 t (words_of t)) next e in
-    record { utf8 = parts.1; short = short_test (length text) (11 + length text + 1) trace_limit parts.0; words = parts.2 }
+    record { utf8 = parts.1; short = short_test (length text) (11 + length text + 1) input_limit parts.0; words = parts.2 }
 
 -- a line that leaves this file behind nothing adds it to others, of which none has its descriptor
 line_adds : (so_far next : SoFar) (file : FileRow) (number start : ℕ) (text : List ℕ) → so_far.lines ≡ []
-    → has_descriptor so_far.files file.fd ≡ false → length so_far.files < 1024 → 1 < number → start + length text + 1 ≤ trace_limit
+    → has_descriptor so_far.files file.fd ≡ false → length so_far.files < 1024 → 1 < number → start + length text + 1 ≤ input_limit
     → after_line nothing (raw_line 2 11 text true) ≡ Ok next → next.files ≡ file ∷ []
     → after_line so_far (raw_line number start text true) ≡ Ok (with_files so_far (file ∷ []))
 unfolding after_line
@@ -183,7 +184,7 @@ leaves text file single opened =
 
 -- a line that opens this file in a trace of it alone adds it to others, of which none has its descriptor
 pub opens_behind : (so_far : SoFar) (file : FileRow) (number start : ℕ) (text : List ℕ) → so_far.lines ≡ []
-    → has_descriptor so_far.files file.fd ≡ false → length so_far.files < 1024 → 1 < number → start + length text + 1 ≤ trace_limit
+    → has_descriptor so_far.files file.fd ≡ false → length so_far.files < 1024 → 1 < number → start + length text + 1 ≤ input_limit
     → All (λ c. is_newline c ≡ false) text → files_opened (text ++ codes "\n") ≡ file ∷ []
     → after_line so_far (raw_line number start text true) ≡ Ok (with_files so_far (file ∷ []))
 opens_behind so_far file number start text before new room later within single opened =

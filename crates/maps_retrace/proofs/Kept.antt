@@ -7,9 +7,9 @@ use Rattle.mm_types.specs.declared.area.Record.{Record}
 use Rattle.mm_types.specs.declared.files.FileRow.{FileRow}
 use Rattle.mm_types.specs.Packed.{is_valid}
 use Rattle.mm_types.proofs.PackedWords.{tests_valid}
-use Rattle.trace_reader.specs.declared.error.Cause.{Cause}
-use Rattle.trace_reader.specs.declared.error.Cause.TheVariants.{NotOurs}
-use Rattle.trace_reader.specs.Causes.{◌>>=◌}
+use Rattle.text_lexer.specs.declared.error.Cause.{Cause}
+use Rattle.text_lexer.specs.declared.error.Cause.TheVariants.{NotOurs}
+use Rattle.text_lexer.specs.Causes.{◌>>=◌}
 use Rattle.maps_read.specs.declared.maps.MapsLine.{MapsLine}
 use Rattle.maps_retrace.specs.FileLines.{same_file, file_place, file_text, files_opened, are_one_file}
 use Rattle.maps_retrace.specs.Retracing.{Taken, nothing_taken, area_of, may_follow, is_text_of, is_ours, areas_with, with_area, with_next_file, with_file_at, with_file, file_at, with_line}

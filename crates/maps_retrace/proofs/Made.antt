@@ -7,8 +7,8 @@ use Rattle.mm_types.specs.declared.files.FileRow.{FileRow}
 use Rattle.mm_types.specs.Config.{default_config}
 use Rattle.area_list.specs.Areas.{page_of, IsSound}
 use Rattle.area_list.proofs.Order.{IsGood, good_from_canonical}
-use Rattle.trace_reader.specs.declared.error.BadLine.{BadLine}
-use Rattle.trace_reader.specs.RawLines.{raw_lines}
+use Rattle.text_lexer.specs.declared.error.BadLine.{BadLine}
+use Rattle.text_lexer.specs.Lines.{raw_lines}
 use Rattle.maps_read.specs.declared.maps.MapsLine.{MapsLine}
 use Rattle.maps_read.specs.Maps.{maps_of}
 use Rattle.maps_retrace.specs.Laws.{MakesMaps}

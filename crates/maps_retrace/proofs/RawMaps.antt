@@ -6,12 +6,11 @@ use Rattle.std.proofs.lemmas.Bool.{cond_both, eqb-true}
 use Rattle.std.proofs.lemmas.List.Elements.{All-nil, All-cons, All-drop}
 use Rattle.std.proofs.lemmas.List.Splits.{join_with_byte-slice_split}
 use Rattle.mm_types.specs.Rows.{first_row}
-use Rattle.trace_reader.specs.declared.error.Cause.{Cause}
-use Rattle.trace_reader.specs.declared.error.Cause.TheVariants.{TooLong, NoEnd, Utf8, MapsOrder}
-use Rattle.trace_reader.specs.Causes.{◌>>=◌, unless}
-use Rattle.trace_reader.specs.Grammar.{at_line, lines_leave}
-use Rattle.trace_reader.specs.Lines.{trace_limit}
-use Rattle.trace_reader.specs.RawLines.{RawLine, raw_line, is_newline, is_longer_than, text_within, lines_of_pieces, lines_from, raw_lines}
+use Rattle.text_lexer.specs.declared.error.Cause.{Cause}
+use Rattle.text_lexer.specs.declared.error.Cause.TheVariants.{TooLong, NoEnd, Utf8, MapsOrder}
+use Rattle.text_lexer.specs.Causes.{◌>>=◌, unless}
+use Rattle.text_lexer.specs.BadLines.{at_line, lines_leave}
+use Rattle.text_lexer.specs.Lines.{input_limit, RawLine, raw_line, is_newline, is_longer_than, text_within, lines_of_pieces, lines_from, raw_lines}
 use Rattle.maps_read.specs.declared.maps.MapsLine.{MapsLine}
 use Rattle.maps_read.specs.Fields.{behind, behind_words, word, leading_spaces, without_leading_spaces, hexadecimal, decimal, bounds, device, perms, line_of_words, line_of}
 use Rattle.maps_read.specs.Maps.{end_of, is_in_order, next_line, after_line, maps_of}
@@ -68,7 +67,7 @@ ordered end (Err cause) line e = absurd (cc e)
 next_read : (end : ℕ) (raw : RawLine) (line : MapsLine) → next_line end raw ≡ Ok line → IsReadAs raw line
 unfolding next_line text_within
 next_read end raw line e =
-    let parts = tests (is_longer_than 8192 trace_limit raw) raw.ended (is_utf8 raw.text) raw.text
+    let parts = tests (is_longer_than 8192 input_limit raw) raw.ended (is_utf8 raw.text) raw.text
     (λ text. line_of text >>= λ a. if is_in_order end a then Ok a else Err MapsOrder) line e in
     record { ended = parts.0; reads = ordered end (line_of raw.text) line parts.1 }
 

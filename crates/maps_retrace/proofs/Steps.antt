@@ -4,15 +4,15 @@ use Rattle.std.specs.List.{position_or_len}
 use Rattle.std.proofs.lemmas.Bool.{cond-false}
 use Rattle.std.proofs.lemmas.List.{drop_all}
 use Rattle.mm_types.specs.declared.area.Record.{Record}
-use Rattle.trace_reader.specs.declared.error.CallError.{CallError}
-use Rattle.trace_reader.specs.declared.error.CallError.TheVariants as calls
-use Rattle.trace_reader.specs.declared.error.Cause.{Cause}
-use Rattle.trace_reader.specs.declared.error.BadLine.{BadLine}
-use Rattle.trace_reader.specs.Causes.{◌>>=◌}
-use Rattle.trace_reader.specs.Grammar.{at_line}
-use Rattle.trace_reader.specs.RawLines.{RawLine, lines_from}
-use Rattle.trace_reader.specs.Reading.{Fails, Gives}
-use Rattle.trace_reader.proofs.RawPieces.{lines_from-nil}
+use Rattle.text_lexer.specs.declared.error.CallError.{CallError}
+use Rattle.text_lexer.specs.declared.error.CallError.TheVariants as calls
+use Rattle.text_lexer.specs.declared.error.Cause.{Cause}
+use Rattle.text_lexer.specs.declared.error.BadLine.{BadLine}
+use Rattle.text_lexer.specs.Causes.{◌>>=◌}
+use Rattle.text_lexer.specs.BadLines.{at_line}
+use Rattle.text_lexer.specs.Lines.{RawLine, lines_from}
+use Rattle.text_lexer.specs.Reading.{Fails, Gives}
+use Rattle.text_lexer.proofs.RawPieces.{lines_from-nil}
 use Rattle.maps_read.specs.declared.maps.MapsLine.{MapsLine}
 use Rattle.maps_retrace.specs.FileLines.{file_place, file_text, file_texts}
 use Rattle.maps_retrace.specs.Retracing.{Taken, areas_with, with_next_file, with_file_at, with_file, file_at, with_line, with_lines}

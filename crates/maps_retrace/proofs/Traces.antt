@@ -19,8 +19,8 @@ use Rattle.mm_types.specs.Records.{IsValid}
 use Rattle.flag_table.specs.Printing.{printed}
 use Rattle.flag_table.specs.Tables.{prot_flags}
 use Rattle.trace_reader.specs.Grammar.{nothing, after_lines, lines_read, config_of, trace_of}
-use Rattle.trace_reader.specs.Lines.{SoFar, trace_limit, has_descriptor}
-use Rattle.trace_reader.specs.RawLines.{is_newline, lines_from}
+use Rattle.trace_reader.specs.Lines.{SoFar, has_descriptor}
+use Rattle.text_lexer.specs.Lines.{input_limit, is_newline, lines_from}
 use Rattle.trace_text.specs.LineTexts.{header, hexadecimal, prot_word, line_text_by, text_by}
 use Rattle.trace_text.proofs.Numerals.{length-address, length-number, length-hexadecimal}
 use Rattle.trace_text.proofs.Operations.{IsNumberWord, decimal_is_word, hexadecimal_is_word, mapping_read_from}
@@ -134,7 +134,7 @@ files_short fd (line ∷ named) [] are = absurd are
 -- the files are read one after another
 pub files_read : (fd : ℕ) (named : List MapsLine) (opened : List (List FileRow)) (so_far : SoFar) (number start : ℕ) (rest : List ℕ)
     → AreFilesOf fd named opened → so_far.lines ≡ [] → Each (HasFdBelow fd) so_far.files → length so_far.files + length named ≤ 1024
-    → 1 < number → start + length (file_texts fd named) ≤ trace_limit
+    → 1 < number → start + length (file_texts fd named) ≤ input_limit
     → after_lines so_far (lines_from number start (file_texts fd named ++ rest))
     ≡ after_lines (with_files so_far (all_files opened)) (lines_from (number + length named) (start + length (file_texts fd named)) rest)
 unfolding file_texts
@@ -306,7 +306,7 @@ module _ (named : List MapsLine) (opened : List (List FileRow)) (areas : List Re
     (shown : Each IsShownArea areas) (room : length areas ≤ 65530) where
   text_read : lines_read (header ++ (file_texts 3 named ++ flat_map mapping_text areas))
       ≡ Ok (with_lines (with_files nothing (all_files opened)) (mapping_lines (2 + length named) areas))
-  unfolding trace_limit
+  unfolding input_limit
   text_read =
       let text = flat_map mapping_text areas in
       let lines = mapping_lines (2 + length named) areas in

@@ -11,10 +11,10 @@ use Rattle.mm_types.specs.declared.files.FileRow.{FileRow}
 use Rattle.mm_types.specs.Config.{default_config}
 use Rattle.mm_types.specs.MapsText.{perms, range_text, backing, front_text, name_text, area_text, list_text}
 use Rattle.area_list.specs.Areas.{IsSound}
-use Rattle.trace_reader.specs.declared.error.Cause.{Cause}
-use Rattle.trace_reader.specs.Causes.{◌>>=◌}
-use Rattle.trace_reader.specs.Grammar.{at_line}
-use Rattle.trace_reader.specs.RawLines.{RawLine}
+use Rattle.text_lexer.specs.declared.error.Cause.{Cause}
+use Rattle.text_lexer.specs.Causes.{◌>>=◌}
+use Rattle.text_lexer.specs.BadLines.{at_line}
+use Rattle.text_lexer.specs.Lines.{RawLine}
 use Rattle.maps_read.specs.declared.maps.MapsLine.{MapsLine}
 use Rattle.maps_retrace.specs.FileLines.{same_file, file_place, file_text, files_opened, are_one_file}
 use Rattle.maps_retrace.specs.Retracing.{Taken, nothing_taken, files_taken, area_of, areas_with, with_area, with_next_file, with_file_at, with_file, file_at, with_line, with_lines}

@@ -3,7 +3,7 @@ use Rattle.std.specs.Prelude.{ℕ, ◌+◌, Bool, false, ◌&&◌, List, [], ◌
 use Rattle.std.specs.Ordering.{int_eq}
 use Rattle.mm_types.specs.declared.files.FileRow.{FileRow}
 use Rattle.mm_types.specs.MapsText.{hex}
-use Rattle.trace_reader.specs.declared.error.BadLine.{BadLine}
+use Rattle.text_lexer.specs.declared.error.BadLine.{BadLine}
 use Rattle.trace_reader.specs.declared.trace.Trace.{Trace}
 use Rattle.trace_reader.specs.Grammar.{trace_of}
 use Rattle.trace_text.specs.LineTexts.{header}

@@ -7,12 +7,12 @@ use Rattle.mm_types.specs.declared.files.FileRow.{FileRow}
 use Rattle.mm_types.specs.MapsText.{area_text}
 use Rattle.mm_types.specs.Packed.{is_valid}
 use Rattle.area_list.specs.Areas.{page_of, joins}
-use Rattle.trace_reader.specs.declared.error.Cause.{Cause}
-use Rattle.trace_reader.specs.declared.error.Cause.TheVariants.{NotOurs}
-use Rattle.trace_reader.specs.declared.error.BadLine.{BadLine}
-use Rattle.trace_reader.specs.Causes.{◌>>=◌}
-use Rattle.trace_reader.specs.Grammar.{at_line}
-use Rattle.trace_reader.specs.RawLines.{RawLine, raw_lines}
+use Rattle.text_lexer.specs.declared.error.Cause.{Cause}
+use Rattle.text_lexer.specs.declared.error.Cause.TheVariants.{NotOurs}
+use Rattle.text_lexer.specs.declared.error.BadLine.{BadLine}
+use Rattle.text_lexer.specs.Causes.{◌>>=◌}
+use Rattle.text_lexer.specs.BadLines.{at_line}
+use Rattle.text_lexer.specs.Lines.{RawLine, raw_lines}
 use Rattle.maps_read.specs.declared.maps.MapsLine.{MapsLine}
 use Rattle.maps_read.specs.Maps.{maps_of}
 use Rattle.maps_retrace.specs.declared.file_lines.TheConstants.{FIRST_DESCRIPTOR}

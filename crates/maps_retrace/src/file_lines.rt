@@ -1,12 +1,16 @@
 //! The lines of a trace that open files.
 
-ghost use Rattle.std.specs.Prelude.{◌≡◌, ◌<◌, ◌^◌, ◌++◌, OnOk, IfOk, position, string_bytes};
-ghost use Rattle.maps_retrace.specs.FileLines.{same_file, file_text, files_opened, are_one_file};
+ghost use Rattle.std.specs.Prelude.{◌≡◌, ◌<◌, ◌^◌, ◌++◌, Result, Err, IsErr, OnOk, IfOk, position, string_bytes};
+ghost use Rattle.maps_retrace.specs.FileLines.{same_file, file_text, files_of, files_opened, are_one_file};
+ghost use Rattle.text_lexer.specs.declared.error.BadLine.{BadLine};
+ghost use Rattle.trace_reader.specs.Reading.{GivesTrace};
+ghost use Rattle.trace_reader.specs.declared.trace.Trace.{Trace};
 
 use maps_read::MapsLine;
 use mm_types::{FileRow, Files, NoMemory};
 use std::alloc::{AllocError, Global};
-use trace_reader::{ReadError, read};
+use text_lexer::ReadError;
+use trace_reader::{Trace, read};
 
 /// The descriptor of the first file of a trace that was made from a maps text: those below are a process's standard streams.
 pub const FIRST_DESCRIPTOR: u32 = 3;
@@ -54,7 +58,15 @@ pub(crate) fn files_opened(alloc: Global, fd: u32, line: &MapsLine) -> Result<Fi
     let mut text = String::new(alloc);
     text.push_str(HEADER)?;
     push_file_line(&mut text, fd, line)?;
-    match read(alloc, text.as_str().as_bytes()) {
+    files_read(alloc, read(alloc, text.as_str().as_bytes()))
+}
+
+/// The files of what was read as a trace: none where it is no trace. Fails exactly where memory ran out before.
+fn files_read(alloc: Global, read: Result<Trace, ReadError>) -> Result<Files, NoMemory>
+    ensures files { (given : Result Trace BadLine) → GivesTrace read given → IfOk result (λ files. files ≡ files_of given) }
+    ensures memory { IsErr result → read ≡ Err ReadError.NoMemory }
+{
+    match read {
         Ok(trace) => Ok(trace.config.files),
         Err(ReadError::Bad(_)) => Ok(Files::of(Vec::new(alloc))),
         Err(ReadError::NoMemory) => Err(NoMemory),

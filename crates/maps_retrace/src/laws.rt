@@ -5,7 +5,7 @@ ghost use Rattle.mm_types.specs.declared.area.Record.{Record};
 ghost use Rattle.mm_types.specs.declared.files.FileRow.{FileRow};
 ghost use Rattle.mm_types.specs.Config.{default_config};
 ghost use Rattle.area_list.specs.Areas.{IsSound};
-ghost use Rattle.trace_reader.specs.Lines.{trace_limit};
+ghost use Rattle.text_lexer.specs.Lines.{input_limit};
 ghost use Rattle.maps_retrace.specs.declared.file_lines.TheConstants.{FIRST_DESCRIPTOR};
 ghost use Rattle.maps_retrace.specs.Laws.{MakesMaps};
 ghost use Rattle.maps_retrace.specs.Retracing.{may_follow, retraced_of};
@@ -24,12 +24,12 @@ pub fn sound_lists_go_on()
 
 /// One byte more than the limit of a trace settles which trace makes bytes, or which of their lines is bad first.
 pub fn front_is_enough()
-    ensures { (bytes : List ℕ) → retraced_of (take (trace_limit + 1) bytes) ≡ retraced_of bytes }
+    ensures { (bytes : List ℕ) → retraced_of (take (input_limit + 1) bytes) ≡ retraced_of bytes }
 {}
 
 /// Bytes that a trace makes have no byte past the limit of a trace.
 pub fn maps_are_within()
-    ensures { (bytes text : List ℕ) → retraced_of bytes ≡ Ok text → length bytes ≤ trace_limit }
+    ensures { (bytes text : List ℕ) → retraced_of bytes ≡ Ok text → length bytes ≤ input_limit }
 {}
 
 /// The descriptor of the first file.

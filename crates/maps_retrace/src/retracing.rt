@@ -2,7 +2,7 @@
 
 ghost use Rattle.std.specs.Prelude.{◌≡◌, IfOk, IfErr, Ok, string_bytes};
 ghost use Rattle.maps_read.specs.Maps.{maps_of};
-ghost use Rattle.trace_reader.specs.Reading.{IsErrorOf};
+ghost use Rattle.text_lexer.specs.Reading.{IsErrorOf};
 ghost use Rattle.maps_retrace.specs.Retracing.{lines_taken, taken_text, retraced_of};
 ghost use Rattle.maps_retrace.specs.Internal.Taking.{IsTaken, what_taken};
 
@@ -12,7 +12,7 @@ use crate::taking::Taken;
 use maps_read::{MapsLine, MapsText, read_maps};
 use mm_types::NoMemory;
 use std::alloc::Global;
-use trace_reader::{ReadError, error_at, first_line};
+use text_lexer::{ReadError, error_at, first_line};
 
 /// Reads bytes as a maps text, and makes the trace that ends with this text.
 ///

@@ -1,7 +1,7 @@
 //! What is taken of a maps text, line by line.
 
-ghost use Rattle.std.specs.Prelude.{◌≡◌, ◌≤◌, length};
-ghost use Rattle.trace_reader.specs.Reading.{Gives};
+ghost use Rattle.std.specs.Prelude.{◌≡◌, ◌≤◌, ◌<◌, length, Err};
+ghost use Rattle.text_lexer.specs.Reading.{Gives};
 ghost use Rattle.mm_types.specs.declared.config.TheConstants.{MOST_FILES};
 ghost use Rattle.maps_retrace.specs.Retracing.{nothing_taken, areas_with, with_next_file, with_file, with_line};
 ghost use Rattle.maps_retrace.specs.Internal.Taking.{IsTaken, what_taken};
@@ -11,7 +11,7 @@ use crate::file_lines::{FIRST_DESCRIPTOR, are_one_file, file_place, files_opened
 use maps_read::MapsLine;
 use mm_types::{DEFAULT_MIN, Files, MOST_FILES, NoMemory, Record};
 use std::alloc::Global;
-use trace_reader::{CallError, Cause};
+use text_lexer::{CallError, Cause};
 
 /// What was taken of the lines so far.
 #[derive(Drop)]
@@ -63,11 +63,13 @@ impl<'a> Taken<'a> {
         )
     }
 
-    /// The place of the file of a line, which is taken where the line shows it first.
+    /// The place of the file of a line, which is taken where the line shows it first. Where there is no room for one more, memory does
+    /// not run out.
     #[tactic(auto, unfolding(crate::specs::Retracing::with_file))]
     fn place_of(&mut self, alloc: Global, line: &'a MapsLine) -> Result<usize, CallError>
         requires { IsTaken (what_taken self.old) }
-        ensures { Gives (λ place. (what_taken self.new, place)) result (with_file (what_taken self.old) line.now) }
+        ensures place { Gives (λ place. (what_taken self.new, place)) result (with_file (what_taken self.old) line.now) }
+        ensures memory { result ≡ Err CallError.NoMemory → length self.old.named.items < MOST_FILES }
     {
         match file_place(&self.named, line) {
             Some(place) => Ok(place),
@@ -81,11 +83,12 @@ impl<'a> Taken<'a> {
         }
     }
 
-    /// Takes the file of a line that shows it first.
+    /// Takes the file of a line that shows it first. Where there is no room for one more, memory does not run out.
     #[tactic(auto, unfolding(crate::specs::Retracing::with_next_file))]
     fn add_file(&mut self, alloc: Global, line: &'a MapsLine) -> Result<(), CallError>
         requires { IsTaken (what_taken self.old) }
-        ensures { Gives (λ _. what_taken self.new) result (with_next_file (what_taken self.old) line.now) }
+        ensures file { Gives (λ _. what_taken self.new) result (with_next_file (what_taken self.old) line.now) }
+        ensures memory { result ≡ Err CallError.NoMemory → length self.old.named.items < MOST_FILES }
     {
         let place = self.named.len();
         if MOST_FILES <= place {

@@ -1,7 +1,7 @@
 use crate::retraced;
 use std::alloc::Global;
 use std::test::Fail;
-use trace_reader::{Cause, ReadError};
+use text_lexer::{Cause, ReadError};
 
 /// Two pages that may be read and written, with a page between them.
 const TWO_LINES: &[u8] =

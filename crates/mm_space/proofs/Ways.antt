@@ -30,17 +30,19 @@ use Rattle.lock_core.specs.declared.stage.Stage.TheVariants.{Out}
 use Rattle.vma_lock.specs.declared.seats.ReaderSeat.{ReaderSeat}
 use Rattle.vma_lock.specs.Seats.{seen, stage, HasTurn}
 use Rattle.vma_lock.specs.Seats as areas
+use Rattle.vma_lock.specs.Views.{look_at}
 use Rattle.node_slots.specs.Seats.{view}
 use Rattle.fault_path.specs.declared.fast.Miss.{Miss}
 use Rattle.fault_path.specs.Passes.{PassView, IsPass, IsLater, caller, config, seen_by, made_by}
 use Rattle.fault_path.proofs.Passes.{gone_on}
 use Rattle.fault_path.specs.Faults.{IsAnswer, Misses}
+use Rattle.mm_space.specs.Names.{SpaceId}
 use Rattle.mm_space.specs.declared.space.Faulted.{Faulted}
 use Rattle.mm_space.specs.declared.space.Found.{Found}
 use Rattle.mm_space.specs.declared.space.Found.TheVariants.{Answered, Entered}
 use Rattle.mm_space.specs.declared.space.Path.{Path}
 use Rattle.mm_space.specs.declared.space.Path.TheVariants.{Fast, Slow}
-use Rattle.mm_space.specs.Spaces.{Answers, Calls, Finds, Hears, Grows, IsDone, IsWay, LooksOnce, entry_by}
+use Rattle.mm_space.specs.Spaces.{Answers, Calls, Finds, Hears, Grows, IsDone, IsWay, LooksOnce, Meets, entry_by}
 
 -- a pass with another log, and another number of operations left
 abbrev pub relogged : PassView → List Seen → ℕ → PassView
@@ -230,6 +232,23 @@ behind_call told asked made before old new call reply place page access done cal
 -- so the reply of a touch that grew has index 0
 pub grown_first : (reply : Reply) (area grown : Record) (index : ℕ) → reply ≡ Grown area 0 → reply ≡ Grown grown index → reply ≡ Grown grown 0
 grown_first reply area grown index is shown = let same : Grown area 0 ≡ Grown grown index = sym is ∙ shown in cc
+
+-- a seat that saw the whole journal by a look has met the state
+pub met_by_look : (name : SpaceId) (before journal : List Entry) (old new : ReaderSeat) → IsLegalJournal name.config journal → new.seat.table_id ≡ name.table
+    → (found : ℕ) → areas.view new ≡ look_at (areas.view old) found journal Out → HasTurn old → StartsWith before (seen old)
+    → calls_by (areas.view old).caller before ≡ calls_by (areas.view old).caller (seen old) → Meets name before journal old new
+met_by_look name before journal old new legal table found is turn later own = record {
+  table = table;
+  legal = legal;
+  all = ap (λ v. v.seen) is;
+  same = (ap (λ v. v.caller) is, ap (λ v. v.config) is);
+  turn = ap (λ v. v.turn) is ∙ turn ∙ ap Some (sym (ap (λ v. v.caller) is));
+  free = ap (λ v. v.stage) is;
+  looks = ap (λ v. v.trace.looks) is;
+  look = (found, is ∙ ap (λ (j : List Entry). look_at (areas.view old) found j Out) (sym (ap (λ v. v.seen) is)));
+  later = later;
+  own = own;
+}
 
 -- a pass that looked under the lock and holds nothing
 pub met_pass : (old shown : PassView) (seat : ReaderSeat) (reserved : ℕ) (settings : Config) (now before : List Entry) → IsPass old reserved → old ≡ shown

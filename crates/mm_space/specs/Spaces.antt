@@ -15,16 +15,18 @@ use Rattle.mm_types.specs.declared.area.Page.{Page}
 use Rattle.area_rules.specs.Growing.{grows}
 use Rattle.area_rules.specs.Verdicts.{verdict}
 use Rattle.lock_core.specs.Facts.{list_after}
-use Rattle.area_rules.specs.Journals.{version_of, IsReadRight}
+use Rattle.area_rules.specs.Journals.{version_of, calls_by, IsReadRight}
+use Rattle.area_rules.specs.Steps.{IsLegalJournal}
 use Rattle.lock_core.specs.Core.{StartsWith}
 use Rattle.lock_core.specs.Events.{longer}
 use Rattle.fault_path.specs.declared.fast.Miss.{Miss}
 use Rattle.lock_core.specs.declared.stage.Stage.TheVariants.{Out}
 use Rattle.vma_lock.specs.declared.seats.ReaderSeat.{ReaderSeat}
-use Rattle.vma_lock.specs.Seats.{view, seen}
+use Rattle.vma_lock.specs.Seats.{view, seen, stage, HasTurn}
 use Rattle.vma_lock.specs.Views.{look_at}
 use Rattle.fault_path.specs.Passes.{PassView, IsLater, caller, config, seen_by, made_by, looks_of, walker}
 use Rattle.fault_path.specs.Faults.{IsAnswer, Misses}
+use Rattle.mm_space.specs.Names.{SpaceId}
 use Rattle.mm_space.specs.declared.space.Faulted.{Faulted}
 use Rattle.mm_space.specs.declared.space.Found.{Found}
 use Rattle.mm_space.specs.declared.space.Found.TheVariants.{Answered, Entered}
@@ -84,6 +86,20 @@ pub record Hears (old : PassView) (told : List Entry) (new : PassView) : Type 0 
 -- a seat looked once, and took no other step
 abbrev pub LooksOnce : ReaderSeat → ReaderSeat → Type 0
 LooksOnce old new = (found : ℕ) × (view new ≡ look_at (view old) found (seen new) Out)
+
+-- A seat with the turn of its caller has met the state of a space, whose journal these entries began: it has seen the whole journal, by
+-- one look more, and has its turn again. What it had seen lies before that, and no entry behind it there is of its caller.
+pub record Meets (name : SpaceId) (before journal : List Entry) (old new : ReaderSeat) : Type 0 where
+  pub table : new.seat.table_id ≡ name.table
+  pub legal : IsLegalJournal name.config journal
+  pub all : seen new ≡ journal
+  pub same : ((view new).caller ≡ (view old).caller) × ((view new).config ≡ (view old).config)
+  pub turn : HasTurn new
+  pub free : stage new ≡ Out
+  pub looks : (view new).trace.looks ≡ (view old).trace.looks + 1
+  pub look : LooksOnce old new
+  pub later : StartsWith before (seen old)
+  pub own : calls_by (view old).caller before ≡ calls_by (view old).caller (seen old)
 
 -- A fault missed without the lock, for this cause, and then its seat looked once more, under the lock, and took no other step.
 pub record MissesFirst (page : ℕ) (miss : Miss) (old new : PassView) : Type 0 where

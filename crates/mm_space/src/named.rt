@@ -11,7 +11,7 @@ ghost use Rattle.lock_core.specs.Core.{StartsWith};
 ghost use Rattle.lock_core.specs.Facts.{list_after};
 ghost use Rattle.vma_lock.specs.Seats.{view, seen, stage, HasTurn};
 ghost use Rattle.mm_space.specs.Names.{Within, since, IsNamed};
-ghost use Rattle.mm_space.specs.Spaces.{LooksOnce};
+ghost use Rattle.mm_space.specs.Spaces.{Meets};
 
 use crate::name::SpaceName;
 use mm_state::MmState;
@@ -58,18 +58,9 @@ impl<N: SpaceName> Named<N> {
         requires turn { HasTurn seat.old }
         requires free { stage seat.old ≡ Out }
         requires room { length (calls_by (view seat.old).caller (seen seat.old)) < slice_index_or N.name.operations (view seat.old).caller 0 }
-        ensures table { seat.new.seat.table_id ≡ N.name.table }
+        ensures meets { Meets N.name self.old.journal self.new.journal seat.old seat.new }
         ensures entry { self.new.journal ≡ self.old.journal ++ record { caller = (view seat.old).caller; call = call.now; reply = result } ∷ [] }
-        ensures legal { IsLegalJournal N.name.config self.new.journal }
-        ensures seen { seen seat.new ≡ self.new.journal }
-        ensures same { ((view seat.new).caller ≡ (view seat.old).caller) × ((view seat.new).config ≡ (view seat.old).config) }
-        ensures turn { HasTurn seat.new }
-        ensures free { stage seat.new ≡ Out }
-        ensures looks { (view seat.new).trace.looks ≡ (view seat.old).trace.looks + 1 }
-        ensures look { LooksOnce seat.old seat.new }
         ensures reply { result ≡ (step N.name.config (after N.name.config self.old.journal) call.now).reply }
-        ensures later { StartsWith self.old.journal (seen seat.old) }
-        ensures own { calls_by (view seat.old).caller self.old.journal ≡ calls_by (view seat.old).caller (seen seat.old) }
     {
         let reply = self.state.apply(rt, seat, call);
         self.state.facts();
@@ -90,17 +81,8 @@ impl<N: SpaceName> Named<N> {
         requires free { stage seat.old ≡ Out }
         requires room { length (calls_by (view seat.old).caller (seen seat.old)) < slice_index_or N.name.operations (view seat.old).caller 0 }
         requires grows { grows N.name.config (list_after N.name.config self.old.journal) page.0 access ≡ true }
-        ensures table { seat.new.seat.table_id ≡ N.name.table }
+        ensures meets { Meets N.name self.old.journal self.new.journal seat.old seat.new }
         ensures entry { self.new.journal ≡ self.old.journal ++ record { caller = (view seat.old).caller; call = Touch page access; reply = Grown result 0 } ∷ [] }
-        ensures legal { IsLegalJournal N.name.config self.new.journal }
-        ensures seen { seen seat.new ≡ self.new.journal }
-        ensures same { ((view seat.new).caller ≡ (view seat.old).caller) × ((view seat.new).config ≡ (view seat.old).config) }
-        ensures turn { HasTurn seat.new }
-        ensures free { stage seat.new ≡ Out }
-        ensures looks { (view seat.new).trace.looks ≡ (view seat.old).trace.looks + 1 }
-        ensures look { LooksOnce seat.old seat.new }
-        ensures later { StartsWith self.old.journal (seen seat.old) }
-        ensures own { calls_by (view seat.old).caller self.old.journal ≡ calls_by (view seat.old).caller (seen seat.old) }
     {
         match self.apply(rt, seat, &Call::Touch { page, access }) {
             Reply::Grown { area, index: _ } => area,
@@ -113,17 +95,8 @@ impl<N: SpaceName> Named<N> {
         requires table { seat.old.seat.table_id ≡ N.name.table }
         requires turn { HasTurn seat.old }
         requires free { stage seat.old ≡ Out }
-        ensures table { seat.new.seat.table_id ≡ N.name.table }
+        ensures meets { Meets N.name self.old.journal self.new.journal seat.old seat.new }
         ensures state { self.new ≡ self.old }
-        ensures legal { IsLegalJournal N.name.config self.new.journal }
-        ensures seen { seen seat.new ≡ self.new.journal }
-        ensures same { ((view seat.new).caller ≡ (view seat.old).caller) × ((view seat.new).config ≡ (view seat.old).config) }
-        ensures turn { HasTurn seat.new }
-        ensures free { stage seat.new ≡ Out }
-        ensures looks { (view seat.new).trace.looks ≡ (view seat.old).trace.looks + 1 }
-        ensures look { LooksOnce seat.old seat.new }
-        ensures later { StartsWith self.old.journal (seen seat.old) }
-        ensures own { calls_by (view seat.old).caller self.old.journal ≡ calls_by (view seat.old).caller (seen seat.old) }
     {
         self.state.facts();
         self.state.meet(seat);

@@ -108,7 +108,7 @@ gone_more old states slot state tree between after gone more here within other =
 -- a tree that changed but for its pairs, and changes so again
 pub tree_step : (first second third : AreaTreeView) → IsSameTree first second → IsSameTree second third → IsSameTree first third
 tree_step first second third one two = two
-    ∙ ap (λ (t : AreaTreeView). record t { tree = record t.tree { pairs = third.tree.pairs; changed = third.tree.changed }; records = third.records }) one
+    ∙ ap (λ (t : AreaTreeView). record t { tree = record t.tree { pairs = third.tree.pairs; changed = third.tree.changed; free = third.tree.free }; records = third.records; sealed = third.sealed }) one
 
 -- an area stands on one side of another
 abbrev Beside : Record → Record → Type 0
@@ -326,6 +326,13 @@ old_pages limit start (first ∷ areas) area (begins, some, upto, rest) member =
   | inr later ↦ old_pages limit first.span.hi areas area rest later
 ]
 
+pub old_within : (limit start : ℕ) (areas : List Record) (area : Record) → AreasRise limit start areas → Contains areas area → area.span.lo ≤ limit
+old_within limit start [] area rises member = absurd (omega (arith, member.1))
+old_within limit start (first ∷ areas) area (begins, some, upto, rest) member = elim (contains_cases first areas area member) [
+  | inl here ↦ subst (λ (b : Record). b.span.lo ≤ limit) here (omega (arith, some, upto))
+  | inr later ↦ old_within limit first.span.hi areas area rest later
+]
+
 -- an area that stands beside another has no page of it
 no_page : (area : Record) (s t : ShownArea) → HasPageOf area s.area → Beside area t.area → s ≡ t → ⊥
 no_page area s t meets (inl under) same = omega (arith, under, ap (λ (u : ShownArea). u.area.span.hi) same, meets.0)
@@ -370,7 +377,8 @@ is_moved board after slot area changed moves = by moves.after
     now = record { slot = slot; area = changed }
 
     by : (IsPermutation (now ∷ moves.rest) (shown_of after.areas) × (after.moved.items ≡ board.moved.items) × HasPageOf area changed)
-        ⊎ (IsPermutation moves.rest (shown_of after.areas) × (after.moved.items ≡ board.moved.items ++ now ∷ []))
+        ⊎ (IsPermutation moves.rest (shown_of after.areas) × (after.moved.items ≡ board.moved.items ++ now ∷ [])
+        × ¬ (IsEndOf changed.span area.span) × ¬ (IsRoomFor board.areas.tree.limit (areas_of board.areas) area.span changed.span))
         ⊎ ((other : ShownArea) × IsPermutation (now ∷ other ∷ moves.rest) (shown_of after.areas) × (board.moved.items ≡ after.moved.items ++ other ∷ [])
         × HasPageOf area changed × HasPageOf area other.area) → IsMoved board after moves.rest slot area changed
     by (inl (in_place, moved, meets)) = record {
@@ -380,7 +388,7 @@ is_moved board after slot area changed moves = by moves.after
           (IsPermutation-append_left board.moved.items (now ∷ moves.rest) (shown_of after.areas) in_place);
       few = omega (arith, ap length moved);
     }
-    by (inr (inl (out, moved))) = record {
+    by (inr (inl (out, moved, _, _))) = record {
       is = altered_out (shown_of board.areas) (shown_of after.areas) moves.rest [] slot area moves.before out (All-nil (λ s. HasPageOf area s.area));
       all = subst (λ (list : List ShownArea). IsPermutation (now ∷ (moves.rest ++ board.moved.items)) (shown_of after.areas ++ list)) (sym moved)
           (at_end moves.rest (shown_of after.areas) board.moved.items now out);

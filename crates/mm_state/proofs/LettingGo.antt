@@ -274,7 +274,7 @@ module _ (start board : Board) (changes : List Change) (left lo hi limit tree : 
       × (0 < length changes)
   can_remove = (all_let_go.gone, all_there, all_adjoin, sym (length-map all_let_go.gone goes) ∙ ap length all_let_go.is, some)
 
-  pub detached_all : (areas : AreaTreeView) → areas ≡ record board.areas { tree = record board.areas.tree { pairs = areas.tree.pairs; changed = true } }
+  pub detached_all : (areas : AreaTreeView) → areas ≡ record board.areas { tree = record board.areas.tree { pairs = areas.tree.pairs; changed = true; free = areas.tree.free } }
       → ((taken : List ShownArea) → All (Contains (shown_of board.areas)) taken → Adjoin lo hi (areas_shown taken) → IsPermutation (taken ++ shown_of areas) (shown_of board.areas))
       → CarriesAll start (record board { areas = areas }) changes tree
   detached_all areas same shown = all_gone start areas tree

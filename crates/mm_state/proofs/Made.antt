@@ -1,7 +1,10 @@
 -- For `MmState::apply` and `MmState::apply_before`: a call that was planned and carried out keeps the state.
-use Rattle.std.proofs.Common.{ℕ, ◌≡◌, ◌≢◌, ◌≤◌, ◌<◌, ◌++◌, ◌∷◌, [], List, None, length, subst, sym, ap, ◌∙◌, arith, length-append, vec_capacity, ◌⊎◌, inl, inr}
+use Rattle.std.proofs.Common.{ℕ, ◌≡◌, ◌≢◌, ◌≤◌, ◌<◌, ◌++◌, ◌∷◌, [], List, None, length, refl, subst, sym, ap, ◌∙◌, arith, length-append, vec_capacity, ◌⊎◌, inl, inr}
 use Rattle.std.specs.List.{Contains}
 use Rattle.mm_types.specs.declared.area.Record.{Record}
+use Rattle.mm_types.specs.declared.area.Access.{Access}
+use Rattle.mm_types.specs.declared.area.Page.{Page}
+use Rattle.mm_types.specs.declared.call.Call.TheVariants.{Touch}
 use Rattle.mm_types.specs.declared.call.Entry.{Entry}
 use Rattle.area_rules.specs.declared.placement.Bounds.{Bounds}
 use Rattle.area_rules.specs.Steps.{step, after, IsLegalJournal}
@@ -14,12 +17,12 @@ use Rattle.split_merge.specs.Plans.{PlanView, IsKept, applied}
 use Rattle.split_merge.proofs.Counting.{contains_cases}
 use Rattle.sys_seal.specs.Guards.{IsPlannedWhole}
 use Rattle.sys_calls.proofs.Keeping.{made_space}
-use Rattle.vma_lock.specs.Seats.{config_of, sight, slots}
+use Rattle.vma_lock.specs.Seats.{config_of, table_of, sight, slots}
 use Rattle.area_tree.specs.AreaTrees.{areas_of}
 use Rattle.mm_state.specs.declared.state.MmState.TheInside.{Inside}
 use Rattle.mm_state.specs.Internal.Boards.{IsAtRest, ChangesAtMost, IsEntered, IsCarriedOut}
-use Rattle.mm_state.specs.Kept.{IsState}
-use Rattle.mm_state.specs.States.{KeepsSlots, ChangesOne}
+use Rattle.mm_state.specs.Kept.{IsState, state_of}
+use Rattle.mm_state.specs.States.{KeepsSlots, ChangesOne, Enters}
 use Rattle.mm_state.proofs.Entering.{space_after, entered}
 
 -- a call was planned on a state that had room
@@ -53,7 +56,7 @@ list_then old entry answer plan entries asked pushed = asked.planned.planned.mak
     ∙ ap (after old.config) (sym pushed))
 
 -- where a plan has one change at most, all slots but one at most are as they were
-pub one_slot : (count : ℕ) (old new : List SlotState) → count ≤ 1 → ChangesAtMost count old new → ChangesOne old new
+one_slot : (count : ℕ) (old new : List SlotState) → count ≤ 1 → ChangesAtMost count old new → ChangesOne old new
 one_slot count old new one ([], short, same) = (0, λ other apart. same other (λ member. omega (arith, member.1)))
 one_slot count old new one (slot ∷ [], short, same) = (slot, λ other apart. same other (λ member. no_other other apart (contains_cases slot [] other member)))
   where
@@ -63,7 +66,7 @@ one_slot count old new one (slot ∷ [], short, same) = (slot, λ other apart. s
 one_slot count old new one (slot ∷ next ∷ rest, short, same) = absurd (omega (arith, one, short))
 
 -- an area of the lists before and after keeps its slot
-pub stays_made : (old : Inside) (entry : Entry) (answer : Planned) (plan : PlanView) (entries : List Entry) (new : List SlotState) → IsAsked old entry answer plan
+stays_made : (old : Inside) (entry : Entry) (answer : Planned) (plan : PlanView) (entries : List Entry) (new : List SlotState) → IsAsked old entry answer plan
     → entries ≡ old.journal.items ++ entry ∷ [] → KeepsSlots (areas_of old.board.areas) (applied plan.changes (areas_of old.board.areas)) (slots old.board.writer) new
     → KeepsSlots (list_after old.config old.journal.items) (list_after old.config entries) (slots old.board.writer) new
 stays_made old entry answer plan entries new asked pushed stays =
@@ -119,4 +122,20 @@ module _ (old new : Inside) (entry : Entry) (answer : Planned) (plan : PlanView)
     room = omega (arith, ap length made.pushed, length-append old.journal.items (entry ∷ []), made.asked.spare);
     entries = made.asked.state.entries;
     reserved = omega (arith, made.capacity, made.asked.state.reserved);
+  }
+
+  -- and the call was entered
+  pub call_entered : ((page : Page) (access : Access) → entry.call ≡ Touch page access → length plan.changes ≤ 1)
+      → Enters (state_of old) (state_of (record old { board = new.board; counters = new.counters; plan = new.plan; journal = new.journal }))
+      entry.caller entry.call entry.reply
+  call_entered one = record {
+    entry = made.pushed;
+    same = (ap table_of made.table, refl, refl);
+    nodes = made.done.nodes;
+    reply = made.asked.reply ∙ made.asked.planned.planned.reply ∙ ap (λ (space : AddressSpace). (step old.config space entry.call).reply) made.asked.state.space;
+    touch = λ page access is. one_slot (length plan.changes) (slots old.board.writer) (slots new.board.writer) (one page access is) made.done.few;
+    marks = made.done.marks;
+    stays = stays_made old entry answer plan new.journal.items (slots new.board.writer) made.asked made.pushed made.done.stays;
+    waits = made.done.waits;
+    gone = made.done.gone;
   }

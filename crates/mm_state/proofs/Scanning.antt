@@ -1,5 +1,5 @@
 -- For `scan_for` and `wait_for_slots`: what scans change, and what is free once no reader is inside.
-use Rattle.std.proofs.Common.{ℕ, ◌≡◌, ◌≤◌, ◌<◌, ◌++◌, ◌∙◌, ◌⊎◌, inl, inr, true, nat_le, List, length, get_or, All, sym, ap, arith, length-append}
+use Rattle.std.proofs.Common.{ℕ, ◌≡◌, ◌≤◌, ◌<◌, ◌+◌, ◌*◌, ◌++◌, ◌∙◌, ◌⊎◌, inl, inr, Bool, true, false, nat_le, refl, List, [], ◌∷◌, length, get_or, All, sym, ap, arith, length-append}
 use Rattle.std.proofs.lemmas.Bool.Decides.{nat_tests}
 use Rattle.std.proofs.lemmas.List.{length-map}
 use Rattle.std.proofs.lemmas.List.Elements.{recursion_from_All}
@@ -13,13 +13,87 @@ use Rattle.mm_state.specs.Internal.Boards.{CanFree, IsScanned}
 
 -- a scan is one of scans
 pub scanned : (old new : AreaTreeView) (scans : ℕ)
-    → new ≡ record old { tree = record old.tree { settled = new.tree.settled; scans = scans; pins = new.tree.pins } } → IsScanned old new
+    → new ≡ record old { tree = record old.tree { settled = new.tree.settled; scans = scans; pins = new.tree.pins; free = new.tree.free } } → IsScanned old new
 scanned old new scans same = same
-    ∙ ap (λ n. record old { tree = record old.tree { settled = new.tree.settled; scans = n; pins = new.tree.pins } }) (sym (ap (λ (t : AreaTreeView). t.tree.scans) same))
+    ∙ ap (λ n. record old { tree = record old.tree { settled = new.tree.settled; scans = n; pins = new.tree.pins; free = new.tree.free } }) (sym (ap (λ (t : AreaTreeView). t.tree.scans) same))
 
 pub scanned_more : (first second third : AreaTreeView) → IsScanned first second → IsScanned second third → IsScanned first third
 scanned_more first second third one two = two
-    ∙ ap (λ (t : AreaTreeView). record t { tree = record t.tree { settled = third.tree.settled; scans = third.tree.scans; pins = third.tree.pins } }) one
+    ∙ ap (λ (t : AreaTreeView). record t { tree = record t.tree { settled = third.tree.settled; scans = third.tree.scans; pins = third.tree.pins; free = third.tree.free } }) one
+
+-- a tree that was prepared, and then scanned
+pub readied : (old prepared new : AreaTreeView) (changed : Bool)
+    → prepared ≡ record old {
+      tree = record old.tree {
+        changed = changed;
+        roomy = true;
+        settled = prepared.tree.settled;
+        scans = prepared.tree.scans;
+        pins = prepared.tree.pins;
+        free = prepared.tree.free;
+      };
+    }
+    → IsScanned prepared new
+    → new ≡ record old {
+      tree = record old.tree {
+        changed = new.tree.changed;
+        roomy = true;
+        settled = new.tree.settled;
+        scans = new.tree.scans;
+        pins = new.tree.pins;
+        free = new.tree.free;
+      };
+    }
+readied old prepared new changed same scanned_on =
+    let one = ap (λ (t : AreaTreeView). record t {
+      tree = record t.tree {
+        settled = new.tree.settled;
+        scans = new.tree.scans;
+        pins = new.tree.pins;
+        free = new.tree.free;
+      };
+    }) same in
+    let stays : new.tree.changed ≡ changed = ap (λ (t : AreaTreeView). t.tree.changed) scanned_on ∙ ap (λ (t : AreaTreeView). t.tree.changed) same in
+    scanned_on ∙ one ∙ ap (λ b. record old {
+      tree = record old.tree {
+        changed = b;
+        roomy = true;
+        settled = new.tree.settled;
+        scans = new.tree.scans;
+        pins = new.tree.pins;
+        free = new.tree.free;
+      };
+    }) (sym stays)
+
+times_sum : (tries rounds pins : ℕ) → (tries + rounds + 1) * pins ≡ (tries + 1) * pins + rounds * pins
+times_sum tries rounds pins = grind arith
+
+-- scans of each pin, and more of them
+pub scans_together : (first mid last pins later tries rounds : ℕ) → mid ≡ first + (tries + 1) * pins → last ≡ mid + rounds * later → later ≡ pins
+    → last ≡ first + (tries + rounds + 1) * pins
+scans_together first mid last pins later tries rounds one two same =
+    let more = ap (λ k. rounds * k) same in
+    let sum = times_sum tries rounds pins in
+    omega (arith, one, two, more, sum)
+
+-- as many or more are gone by a later tree
+one_more : (settled later : ℕ) → settled ≤ later → (l : Leaving) (left : List Leaving) → length (gone_by settled left) ≤ length (gone_by later left)
+    → length (gone_by settled (l ∷ left)) ≤ length (gone_by later (l ∷ left))
+one_more settled later upto l left rest = first (nat_le l.tree settled) refl
+  where
+    first : (b : Bool) → nat_le l.tree settled ≡ b → length (gone_by settled (l ∷ left)) ≤ length (gone_by later (l ∷ left))
+    first true gone =
+        let too : nat_le l.tree later ≡ true = grind (arith, nat_tests) in
+        rw (gone, too) (omega (arith, rest))
+    first false stays = rw stays (second (nat_le l.tree later) refl)
+      where
+        second : (b : Bool) → nat_le l.tree later ≡ b → length (gone_by settled left) ≤ length (gone_by later (l ∷ left))
+        second true gone = rw gone (omega (arith, rest))
+        second false still = rw still rest
+
+pub gone_more : (settled later : ℕ) → settled ≤ later → (left : List Leaving) → length (gone_by settled left) ≤ length (gone_by later left)
+gone_more settled later upto [] = omega arith
+gone_more settled later upto (l ∷ left) = one_more settled later upto l left (gone_more settled later upto left)
 
 -- each of those that left by a tree is gone by it
 all_gone : (tree : ℕ) (left : List Leaving) → All (λ leaving. leaving.tree ≤ tree) left → gone_by tree left ≡ left

@@ -1,8 +1,14 @@
 -- What contracts see of the state behind the mmap lock.
-use Rattle.std.specs.Prelude.{ℕ, ◌≡◌, ◌≢◌, ◌<◌, true, false, Option, List, map, Contains}
+use Rattle.std.specs.Prelude.{ℕ, ◌≡◌, ◌≢◌, ◌<◌, true, false, Option, List, [], ◌∷◌, ◌++◌, map, Contains}
+use Rattle.mm_types.specs.declared.area.Access.{Access}
+use Rattle.mm_types.specs.declared.area.Page.{Page}
 use Rattle.mm_types.specs.declared.area.Record.{Record}
+use Rattle.mm_types.specs.declared.call.Call.{Call}
+use Rattle.mm_types.specs.declared.call.Call.TheVariants.{Touch}
 use Rattle.mm_types.specs.declared.call.Entry.{Entry}
+use Rattle.mm_types.specs.declared.call.Reply.{Reply}
 use Rattle.mm_types.specs.declared.config.Config.{Config}
+use Rattle.area_rules.specs.Steps.{step, after}
 use Rattle.lock_core.specs.declared.stage.SlotState.{SlotState}
 use Rattle.lock_core.specs.Facts.{list_after}
 use Rattle.mm_types.specs.Packed.{packed}
@@ -65,3 +71,17 @@ KeepsLeft settled before after old new = (leaving : Leaving) → Contains before
 abbrev pub HaveLeft : (tree : ℕ) → (left : List Leaving) → (old new : List SlotState) → Type 0
 HaveLeft tree left old new = (slot : ℕ) → is_detached (slot_at old slot).row ≡ false → is_detached (slot_at new slot).row ≡ true
     → Contains left (record { slot = slot; tree = tree })
+
+-- A call was made and entered: the journal has exactly one entry more, of this caller, with the reply of the call's step. A touch
+-- leaves all slots but one at most as they were. A slot that was marked shows another row, an area of both lists keeps its slot, a
+-- slot that left is used again only once its tree is settled, and one whose area went left with the tree after the call.
+pub record Enters (old new : StateView) (caller : ℕ) (call : Call) (answer : Reply) : Type 0 where
+  pub entry : new.journal ≡ old.journal ++ record { caller = caller; call = call; reply = answer } ∷ []
+  pub same : (new.table ≡ old.table) × (new.config ≡ old.config) × (new.room ≡ old.room)
+  pub nodes : new.nodes ≡ old.nodes
+  pub reply : answer ≡ (step old.config (after old.config old.journal) call).reply
+  pub touch : (page : Page) (access : Access) → call ≡ Touch page access → ChangesOne old.slots new.slots
+  pub marks : MarksChanged old.slots new.slots
+  pub stays : KeepsSlots (list_of old) (list_of new) old.slots new.slots
+  pub waits : KeepsLeft new.settled old.left new.left old.slots new.slots
+  pub gone : HaveLeft new.number new.left old.slots new.slots

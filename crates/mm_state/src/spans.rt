@@ -1,5 +1,5 @@
 //! Slots that are free again, and areas that moved, as a call needs them.
-ghost use Rattle.std.specs.Prelude.{ℕ, ◌*◌, ◌≡◌, ◌≤◌, ◌<◌, ◌+◌, ◌++◌, ◌∷◌, [], true, false, List, Some, length, vec_capacity, option_to_list, IfSome, IsPermutation};
+ghost use Rattle.std.specs.Prelude.{ℕ, ◌*◌, ◌≡◌, ◌↔◌, ◌≤◌, ◌<◌, ◌+◌, ◌++◌, ◌∷◌, [], true, false, List, Some, length, vec_capacity, option_to_list, IfSome, IsPermutation, IsTrue};
 ghost use Rattle.node_slots.specs.Seats.{HasOpen};
 ghost use Rattle.area_slots.specs.Slots.{slots_of, gone_by, gone_after};
 ghost use Rattle.area_tree.specs.declared.shown.ShownArea.{ShownArea};
@@ -124,7 +124,7 @@ pub(crate) fn pop_moved_at(
 /// Whether a span is a part of another that has one of its ends.
 pub(crate) fn is_end(part: Span, whole: Span) -> bool
     requires { part.lo < part.hi }
-    ensures { result ≡ true → IsEndOf part whole }
+    ensures { IsTrue result ↔ IsEndOf part whole }
 {
     if part.lo == whole.lo {
         part.hi < whole.hi
@@ -135,7 +135,8 @@ pub(crate) fn is_end(part: Span, whole: Span) -> bool
 
 /// Whether a span has the pages of another, and those that it adds are free.
 pub(crate) fn has_room(areas: &AreaTree, old: Span, new: Span) -> bool
-    ensures { result ≡ true → IsRoomFor areas.now.tree.limit (areas_of areas.now) old new }
+    ensures room { result ≡ true → IsRoomFor areas.now.tree.limit (areas_of areas.now) old new }
+    ensures found { old.lo ≤ areas.now.tree.limit → IsRoomFor areas.now.tree.limit (areas_of areas.now) old new → result ≡ true }
 {
     new.lo <= old.lo
         && old.hi <= new.hi

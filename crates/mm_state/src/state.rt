@@ -2,10 +2,9 @@
 ghost use Rattle.std.specs.Prelude.{◌≡◌, ◌≤◌, ◌<◌, ◌+◌, ◌/◌, ◌%◌, ◌^◌, ◌++◌, ◌∷◌, [], ℕ, false, IfOk, All, length, replicate, None};
 ghost use Rattle.mm_types.specs.declared.area.Access.{Access};
 ghost use Rattle.mm_types.specs.declared.area.Page.{Page};
-ghost use Rattle.mm_types.specs.declared.call.Call.TheVariants.{Touch};
 ghost use Rattle.mm_types.specs.Config.{IsValidConfig};
 ghost use Rattle.area_rules.specs.Journals.{calls_by};
-ghost use Rattle.area_rules.specs.Steps.{step, after, IsLegalJournal};
+ghost use Rattle.area_rules.specs.Steps.{IsLegalJournal};
 ghost use Rattle.area_rules.specs.Growing.{grows};
 ghost use Rattle.area_rules.specs.Verdicts.{verdict};
 ghost use Rattle.lock_core.specs.declared.stage.Stage.TheVariants.{Out};
@@ -52,7 +51,7 @@ impl Model for MmState {
 }
 
 impl MmState {
-    ghost use Rattle.mm_state.specs.States.{list_of, ArePairsOf, ChangesOne, MarksChanged, KeepsSlots, KeepsLeft, HaveLeft};
+    ghost use Rattle.mm_state.specs.States.{list_of, ArePairsOf, Enters};
 
     /// The state of a new table, of which the writer is given, with room for so many entries. Its trees stand in a new table of
     /// nodes, of which the writer is given: it has the rows and the slots for so many areas.
@@ -105,26 +104,12 @@ impl MmState {
         requires turn { HasTurn seat.old }
         requires free { stage seat.old ≡ Out }
         ensures table { seat.new.seat.table_id ≡ self.old.table }
-        // exactly one entry: the seat's caller, the call, the step's reply
-        ensures entry { self.new.journal ≡ self.old.journal ++ record { caller = (view seat.old).caller; call = call.now; reply = result } ∷ [] }
-        ensures same { (self.new.table ≡ self.old.table) × (self.new.config ≡ self.old.config) × (self.new.room ≡ self.old.room) }
-        ensures nodes { self.new.nodes ≡ self.old.nodes }
-        ensures reply { result ≡ (step self.old.config (after self.old.config self.old.journal) call.now).reply }
+        ensures enters { Enters self.old self.new (view seat.old).caller call.now result }
         // the seat has then seen the whole journal, by one look more, and has its turn again
         ensures view { (found : ℕ) × (found / 2 ≡ length self.new.journal + 1) × (view seat.new ≡ look_at (view seat.old) found self.new.journal Out) }
         // what it had seen lies before this entry, and no entry between is of its caller
         ensures later { StartsWith self.old.journal (seen seat.old) }
         ensures own { calls_by (view seat.old).caller self.old.journal ≡ calls_by (view seat.old).caller (seen seat.old) }
-        // a touch leaves all slots but one at most as they were
-        ensures touch { (page : Page) (access : Access) → call.now ≡ Touch page access → ChangesOne self.old.slots self.new.slots }
-        // a slot whose mark rose shows another row than before
-        ensures marks { MarksChanged self.old.slots self.new.slots }
-        // an area that is in the list before and after keeps its slot, which is not marked
-        ensures stays { KeepsSlots (list_of self.old) (list_of self.new) self.old.slots self.new.slots }
-        // a slot that left is used again only once its tree is settled
-        ensures waits { KeepsLeft self.new.settled self.old.left self.new.left self.old.slots self.new.slots }
-        // a slot whose area the call took away left with the tree after the call
-        ensures gone { HaveLeft self.new.number self.new.left self.old.slots self.new.slots }
     {
         let called = plan_call(
             &self.config,
@@ -149,20 +134,7 @@ impl MmState {
     pub fn apply_before<R: Wait>(&mut self, rt: &R, caller: u32, call: &Call) -> Reply
         requires room { length self.old.journal < self.old.room }
         requires nobody { 64 ≤ caller }
-        ensures entry { self.new.journal ≡ self.old.journal ++ record { caller = caller; call = call.now; reply = result } ∷ [] }
-        ensures same { (self.new.table ≡ self.old.table) × (self.new.config ≡ self.old.config) × (self.new.room ≡ self.old.room) }
-        ensures nodes { self.new.nodes ≡ self.old.nodes }
-        ensures reply { result ≡ (step self.old.config (after self.old.config self.old.journal) call.now).reply }
-        // a touch leaves all slots but one at most as they were
-        ensures touch { (page : Page) (access : Access) → call.now ≡ Touch page access → ChangesOne self.old.slots self.new.slots }
-        // a slot whose mark rose shows another row than before
-        ensures marks { MarksChanged self.old.slots self.new.slots }
-        // an area that is in the list before and after keeps its slot, which is not marked
-        ensures stays { KeepsSlots (list_of self.old) (list_of self.new) self.old.slots self.new.slots }
-        // a slot that left is used again only once its tree is settled
-        ensures waits { KeepsLeft self.new.settled self.old.left self.new.left self.old.slots self.new.slots }
-        // a slot whose area the call took away left with the tree after the call
-        ensures gone { HaveLeft self.new.number self.new.left self.old.slots self.new.slots }
+        ensures { Enters self.old self.new caller call.now result }
     {
         let called = plan_call(
             &self.config,

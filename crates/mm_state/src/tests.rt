@@ -4,3 +4,4 @@ mod bench;
 mod calls;
 mod kinds;
 mod runs;
+mod waiting;

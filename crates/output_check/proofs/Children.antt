@@ -9,28 +9,29 @@ use Rattle.mm_types.specs.declared.area.Access.{Access}
 use Rattle.mm_types.specs.declared.call.Call.{Call}
 use Rattle.mm_types.specs.declared.config.TheConstants.{PAGE_SIZE}
 use Rattle.mm_types.specs.declared.files.FileRow.{FileRow}
-use Rattle.trace_reader.specs.declared.error.Cause.{Cause}
-use Rattle.trace_reader.specs.declared.error.Cause.TheVariants.{Header, Word, Number, Arity, Thread, Child}
-use Rattle.trace_reader.specs.declared.error.BadLine.{BadLine}
+use Rattle.text_lexer.specs.declared.error.Cause.{Cause}
+use Rattle.text_lexer.specs.declared.error.Cause.TheVariants.{Header, Word, Number, Arity, Thread, Child}
+use Rattle.text_lexer.specs.declared.error.BadLine.{BadLine}
 use Rattle.trace_reader.specs.declared.trace.Op.{Op}
 use Rattle.trace_reader.specs.declared.trace.Op.TheVariants as ops
 use Rattle.trace_reader.specs.declared.trace.Trace.{Trace}
 use Rattle.trace_reader.specs.declared.trace.TraceLine.{TraceLine}
 use Rattle.trace_reader.specs.Calls.{call_named, brk_of, mseal_of}
-use Rattle.trace_reader.specs.Causes.{◌>>=◌, unless}
-use Rattle.trace_reader.specs.Fields.{number, access}
-use Rattle.trace_reader.specs.Grammar.{bad_line, nothing, at_line, lines_leave, lines_read, whole, trace_of}
-use Rattle.trace_reader.specs.Laws.{Follow}
-use Rattle.trace_reader.specs.Lines.{SoFar, version_of, with_header, with_one, with_line, once, with_limit, with_top, with_min, with_heap, with_file, after_setting, is_comment, begins_with_digit, after_words, after_line, text_of}
-use Rattle.trace_reader.specs.Numbers.{thread_of}
+use Rattle.text_lexer.specs.Causes.{◌>>=◌, unless}
+use Rattle.text_lexer.specs.Numbers.{number}
+use Rattle.trace_reader.specs.Fields.{access, thread_of}
+use Rattle.text_lexer.specs.BadLines.{bad_line, at_line, lines_leave}
+use Rattle.trace_reader.specs.Grammar.{nothing, lines_read, whole, trace_of}
+use Rattle.text_lexer.specs.Laws.{Follow}
+use Rattle.trace_reader.specs.Lines.{SoFar, version_of, with_header, with_one, with_line, once, with_limit, with_top, with_min, with_heap, with_file, after_setting, after_words, after_line}
+use Rattle.text_lexer.specs.Words.{is_comment, begins_with_digit, words_of, text_after_words}
+use Rattle.text_lexer.specs.Lines.{text_of, RawLine, lines_from, raw_lines}
 use Rattle.trace_reader.specs.Operations as operations
 use Rattle.trace_reader.specs.Operations.{fault_of, maps_of, fork_of, called, op_named, op_of, note_of, without_note, line_named, op_has_its_new, line_of}
-use Rattle.trace_reader.specs.RawLines.{RawLine, lines_from, raw_lines}
 use Rattle.trace_reader.specs.Settings.{limit_of, bound_of, file_of}
 use Rattle.trace_reader.specs.Values.{child_of}
-use Rattle.trace_reader.specs.Words.{words_of, text_after_words}
-use Rattle.trace_reader.proofs.RawLaws.{raw_lines-AreLinesOf}
-use Rattle.trace_reader.proofs.RawPieces.{lines_from-nil}
+use Rattle.text_lexer.proofs.RawLaws.{raw_lines-AreLinesOf}
+use Rattle.text_lexer.proofs.RawPieces.{lines_from-nil}
 use Rattle.output_check.specs.Input.{plain_line, plain_trace_of}
 use Rattle.output_check.specs.Internal.Forks.{are_fork_words, is_fork_text, is_fork, first_fork, without_forks}
 

@@ -4,32 +4,33 @@ use Rattle.std.specs.Prelude.{count_by}
 use Rattle.std.proofs.lemmas.Bool.{cases_lt, le-leb, lt-leb, lt-ltb}
 use Rattle.std.proofs.lemmas.Bool.Decides.{nat_tests}
 use Rattle.std.proofs.lemmas.List.{length-take, length-drop, take-take, take_all}
-use Rattle.trace_reader.specs.declared.error.Cause.TheVariants.{Header, TooLong, NoEnd}
-use Rattle.trace_reader.specs.declared.error.BadLine.{BadLine}
+use Rattle.text_lexer.specs.declared.error.Cause.TheVariants.{Header, TooLong, NoEnd}
+use Rattle.text_lexer.specs.declared.error.BadLine.{BadLine}
 use Rattle.trace_reader.specs.declared.trace.Trace.{Trace}
-use Rattle.trace_reader.specs.Grammar.{bad_line, nothing, lines_leave, whole}
-use Rattle.trace_reader.specs.Lines.{SoFar, trace_limit}
-use Rattle.trace_reader.specs.RawLines.{is_newline, raw_lines}
-use Rattle.trace_reader.proofs.Beginnings.{lines_leave-front}
+use Rattle.text_lexer.specs.BadLines.{bad_line, lines_leave}
+use Rattle.trace_reader.specs.Grammar.{nothing, whole}
+use Rattle.trace_reader.specs.Lines.{SoFar}
+use Rattle.text_lexer.specs.Lines.{input_limit, is_newline, raw_lines}
+use Rattle.text_lexer.proofs.Beginnings.{lines_leave-front}
 use Rattle.output_check.specs.declared.input.TheConstants.{TEXT_LIMIT}
 use Rattle.output_check.specs.Input.{CheckInput, mark_from, plain_line, plain_trace_of, line_at, after_trace, with_given, parted, input_of, check_limit}
 use Rattle.output_check.proofs.Inputs.{plain_line-limited, plain_within}
 use Rattle.output_check.proofs.Marks.{seen_in, mark_front, mark_within}
 
 -- one byte more than the limit of a trace settles what is read where no line may fork
-plain_front : (bytes : List ℕ) → plain_trace_of (take (trace_limit + 1) bytes) ≡ plain_trace_of bytes
+plain_front : (bytes : List ℕ) → plain_trace_of (take (input_limit + 1) bytes) ≡ plain_trace_of bytes
 unfolding plain_trace_of
 plain_front bytes =
-    let front = take (trace_limit + 1) bytes in
-    let none : nat_eq (length front) 0 ≡ nat_eq (length bytes) 0 = grind (arith, nat_tests, length-take (trace_limit + 1) bytes) in
+    let front = take (input_limit + 1) bytes in
+    let none : nat_eq (length front) 0 ≡ nat_eq (length bytes) 0 = grind (arith, nat_tests, length-take (input_limit + 1) bytes) in
     ap (λ (b : Bool). if b then Err (bad_line 1 Header) else whole (lines_leave plain_line nothing (raw_lines front))) none
     ∙ ap (λ (read : Result SoFar BadLine). if nat_eq (length bytes) 0 then Err (bad_line 1 Header) else whole read)
-    (lines_leave-front trace_limit plain_line plain_line-limited nothing bytes)
+    (lines_leave-front input_limit plain_line plain_line-limited nothing bytes)
 
 -- so do more bytes
-plain_beginning : (count : ℕ) (bytes : List ℕ) → trace_limit + 1 ≤ count → plain_trace_of (take count bytes) ≡ plain_trace_of bytes
+plain_beginning : (count : ℕ) (bytes : List ℕ) → input_limit + 1 ≤ count → plain_trace_of (take count bytes) ≡ plain_trace_of bytes
 plain_beginning count bytes enough =
-    sym (plain_front (take count bytes)) ∙ ap plain_trace_of (take-take (trace_limit + 1) count bytes enough) ∙ plain_front bytes
+    sym (plain_front (take count bytes)) ∙ ap plain_trace_of (take-take (input_limit + 1) count bytes enough) ∙ plain_front bytes
 
 -- a trace that is bad decides, whatever follows
 bad_decides : (read other : Result Trace BadLine) (f g : Trace → Result CheckInput BadLine) → read ≡ other

@@ -2,44 +2,45 @@
 use Rattle.std.proofs.Common.{◌≡◌, ℕ, ◌+◌, ◌≤◌, true, nat_eq, nat_lt, if◌then◌else◌, List, length, take, drop, Option, Some, None, Result, Ok, Err, refl, ap, subst, arith}
 use Rattle.std.proofs.lemmas.Bool.{cond_both, eqb-true, ltb-false}
 use Rattle.std.proofs.lemmas.List.{length-drop, length-take}
-use Rattle.trace_reader.specs.declared.error.Cause.{Cause}
-use Rattle.trace_reader.specs.declared.error.Cause.TheVariants.{Header, TooLong, NoEnd, Child}
-use Rattle.trace_reader.specs.declared.error.BadLine.{BadLine}
-use Rattle.trace_reader.specs.declared.limits.TheConstants.{LINE_LIMIT}
+use Rattle.text_lexer.specs.declared.error.Cause.{Cause}
+use Rattle.text_lexer.specs.declared.error.Cause.TheVariants.{Header, TooLong, NoEnd, Child}
+use Rattle.text_lexer.specs.declared.error.BadLine.{BadLine}
+use Rattle.text_lexer.specs.declared.limits.TheConstants.{LINE_LIMIT}
 use Rattle.trace_reader.specs.declared.trace.Trace.{Trace}
-use Rattle.trace_reader.specs.Causes.{◌>>=◌}
-use Rattle.trace_reader.specs.Grammar.{bad_line, nothing, lines_leave, whole}
-use Rattle.trace_reader.specs.Lines.{SoFar, after_line, after_words, with_header, trace_limit}
-use Rattle.trace_reader.specs.RawLines.{raw_lines}
+use Rattle.text_lexer.specs.Causes.{◌>>=◌}
+use Rattle.text_lexer.specs.BadLines.{bad_line, lines_leave}
+use Rattle.trace_reader.specs.Grammar.{nothing, whole}
+use Rattle.trace_reader.specs.Lines.{SoFar, after_line, after_words, with_header}
+use Rattle.text_lexer.specs.Lines.{input_limit, raw_lines}
 use Rattle.trace_reader.specs.Values.{IsTraceValue}
-use Rattle.trace_reader.specs.Words.{words_of}
-use Rattle.trace_reader.proofs.Beginnings.{IsLimited, lines_leave-within}
-use Rattle.trace_reader.proofs.LineTests.{text_within-past}
+use Rattle.text_lexer.specs.Words.{words_of}
+use Rattle.text_lexer.proofs.Beginnings.{IsLimited, lines_leave-within}
+use Rattle.text_lexer.proofs.LineTests.{text_within-past}
 use Rattle.trace_reader.proofs.TraceValues.{trace_of-value}
 use Rattle.output_check.specs.declared.input.TheConstants.{TEXT_LIMIT}
 use Rattle.output_check.specs.Input.{CheckInput, mark_from, plain_line, plain_trace_of, line_at, after_trace, with_given, parted, input_of, check_limit}
 use Rattle.output_check.proofs.Children.{plain_good}
 
 -- the lines of a trace are limited
-pub plain_line-limited : IsLimited trace_limit plain_line
+pub plain_line-limited : IsLimited input_limit plain_line
 unfolding plain_line after_line
 plain_line-limited before line past =
     ap (λ (r : Result (List ℕ) Cause). (r >>= λ text. if nat_eq line.number 1 then with_header before (words_of text)
     else after_words before line.number text (words_of text)) >>= λ next. if nat_eq (length next.children) 0 then Ok next else Err Child)
-    (text_within-past LINE_LIMIT trace_limit line past)
+    (text_within-past LINE_LIMIT input_limit line past)
 
 whole_read : (r : Result SoFar BadLine) (trace : Trace) → whole r ≡ Ok trace → (read : SoFar) × (r ≡ Ok read)
 whole_read (Ok read) trace is = (read, refl)
 whole_read (Err first) trace is = absurd cc
 
 -- a trace that does not fork has no byte past the limit
-pub plain_within : (bytes : List ℕ) (trace : Trace) → plain_trace_of bytes ≡ Ok trace → length bytes ≤ trace_limit
+pub plain_within : (bytes : List ℕ) (trace : Trace) → plain_trace_of bytes ≡ Ok trace → length bytes ≤ input_limit
 unfolding plain_trace_of
 plain_within bytes trace = cond_both (nat_eq (length bytes) 0) (Err (bad_line 1 Header)) (whole (lines_leave plain_line nothing (raw_lines bytes)))
-    (λ r. r ≡ Ok trace → length bytes ≤ trace_limit)
+    (λ r. r ≡ Ok trace → length bytes ≤ input_limit)
     (λ none is. omega (arith, eqb-true (length bytes) 0 none))
     (λ _ is. let read = whole_read (lines_leave plain_line nothing (raw_lines bytes)) trace is in
-    lines_leave-within trace_limit plain_line plain_line-limited nothing read.0 bytes read.1)
+    lines_leave-within input_limit plain_line plain_line-limited nothing read.0 bytes read.1)
 
 good_trace : (read : Result Trace BadLine) (rest : Trace → Result CheckInput BadLine) (input : CheckInput) → after_trace read rest ≡ Ok input
     → (trace : Trace) × (read ≡ Ok trace) × (rest trace ≡ Ok input)

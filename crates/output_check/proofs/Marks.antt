@@ -7,7 +7,7 @@ use Rattle.std.proofs.lemmas.Bool.{cases_lt, cond_both, and_parts, le-leb, lt-le
 use Rattle.std.proofs.lemmas.List.{length-drop, length-take, take-take, drop_all}
 use Rattle.std.proofs.lemmas.Slice.Eq.{slice_eq-Decides}
 use Rattle.std.proofs.lemmas.Bool.Decides.{Decides-eqb}
-use Rattle.trace_reader.specs.RawLines.{is_newline}
+use Rattle.text_lexer.specs.Lines.{is_newline}
 use Rattle.output_check.specs.Input.{mark, mark_from}
 
 -- whether bytes begin with the mark

@@ -1,7 +1,7 @@
 -- What is answered to an input.
 use Rattle.std.specs.Prelude.{◌≡◌, ℕ, List}
-use Rattle.output_judge.specs.declared.judgement.Judgement.{Judgement}
-use Rattle.output_judge.specs.Judgements.{IsJudged, judgement_text}
+use Rattle.output_check.specs.declared.judgement.Judgement.{Judgement}
+use Rattle.output_check.specs.Judgements.{IsJudged, judgement_text}
 use Rattle.output_check.specs.Input.{CheckInput}
 
 -- a text tells what is judged of an input

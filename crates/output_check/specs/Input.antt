@@ -1,14 +1,15 @@
 -- What a check reads: a trace, a line `==`, and the text behind it that is judged.
 use Rattle.std.specs.Prelude.{ℕ, suc, ◌+◌, Bool, true, ◌&&◌, List, [], ◌∷◌, length, take, drop, codes, count_by, nat_eq, nat_lt, Option, Some, None, option_map, Result, Ok, Err, if◌then◌else◌}
 use Rattle.std.specs.List.{starts_with}
-use Rattle.trace_reader.specs.declared.error.Cause.{Cause}
-use Rattle.trace_reader.specs.declared.error.Cause.TheVariants.{Header, TooLong, NoEnd, Child}
-use Rattle.trace_reader.specs.declared.error.BadLine.{BadLine}
+use Rattle.text_lexer.specs.declared.error.Cause.{Cause}
+use Rattle.text_lexer.specs.declared.error.Cause.TheVariants.{Header, TooLong, NoEnd, Child}
+use Rattle.text_lexer.specs.declared.error.BadLine.{BadLine}
 use Rattle.trace_reader.specs.declared.trace.Trace.{Trace}
-use Rattle.trace_reader.specs.Causes.{◌>>=◌}
-use Rattle.trace_reader.specs.Grammar.{bad_line, nothing, lines_leave, whole}
-use Rattle.trace_reader.specs.Lines.{SoFar, after_line, trace_limit}
-use Rattle.trace_reader.specs.RawLines.{RawLine, is_newline, raw_lines}
+use Rattle.text_lexer.specs.Causes.{◌>>=◌}
+use Rattle.text_lexer.specs.BadLines.{bad_line, lines_leave}
+use Rattle.trace_reader.specs.Grammar.{nothing, whole}
+use Rattle.trace_reader.specs.Lines.{SoFar, after_line}
+use Rattle.text_lexer.specs.Lines.{input_limit, RawLine, is_newline, raw_lines}
 use Rattle.output_check.specs.declared.input.TheConstants.{TEXT_LIMIT}
 
 -- a trace, and the text that is judged
@@ -61,4 +62,4 @@ input_of bytes = parted (mark_from true bytes) bytes
 
 -- how many bytes an input may have: those of a trace, the mark and a text
 unfoldable pub check_limit : ℕ
-check_limit = trace_limit + 3 + TEXT_LIMIT
+check_limit = input_limit + 3 + TEXT_LIMIT

@@ -1,2 +1,4 @@
 -- What no clause of a public function cites: it follows the code, and may change with it.
 pub mod Forks
+pub mod Printed
+pub mod Judging

@@ -1,8 +1,8 @@
 -- What is read of the bytes of a check: what the definition gives, unless memory runs out.
 use Rattle.std.specs.Prelude.{◌≡◌, Result, Ok, Err}
-use Rattle.trace_reader.specs.declared.error.ReadError.{ReadError}
-use Rattle.trace_reader.specs.declared.error.BadLine.{BadLine}
-use Rattle.trace_reader.specs.Reading.{IsErrorOf}
+use Rattle.text_lexer.specs.declared.error.ReadError.{ReadError}
+use Rattle.text_lexer.specs.declared.error.BadLine.{BadLine}
+use Rattle.text_lexer.specs.Reading.{IsErrorOf}
 use Rattle.output_check.specs.declared.input.Input.{Input}
 use Rattle.output_check.specs.Input.{CheckInput}
 

@@ -1,16 +1,16 @@
 //! What is answered to the bytes of a check.
-ghost use Rattle.std.specs.Prelude.{◌≡◌, IfOk, IfErr, IsOkAnd};
-ghost use Rattle.trace_reader.specs.Reading.{IsErrorOf};
+ghost use Rattle.std.specs.Prelude.{◌≡◌, IfOk, IfErr, IsErrOf, IsOk, IsOkAnd};
+ghost use Rattle.text_lexer.specs.Reading.{IsErrorOf};
 ghost use Rattle.trace_reader.specs.Values.{IsTraceValue};
 ghost use Rattle.output_check.specs.Input.{input_of};
 ghost use Rattle.output_check.specs.Checked.{IsCheckedAs};
 ghost use Rattle.output_check.specs.Reading.{input_view};
 
 use crate::input::{Input, read_input};
-use mm_types::NoMemory;
-use output_judge::{judge_output, judgement_text};
+use crate::judgement::judgement_text;
+use crate::judging::judge_output;
 use std::alloc::Global;
-use trace_reader::ReadError;
+use text_lexer::ReadError;
 
 /// Whether the text behind the line `==` is a legal output of the trace before it: `legal`, or `bad` and the number of the first bad
 /// line of the text, counted from 1 behind that line.
@@ -21,18 +21,17 @@ pub fn checked(alloc: Global, bytes: &[u8]) -> Result<Vec<u8>, ReadError>
     ensures text { IfOk result (λ text. IsOkAnd (input_of bytes.now) (λ input. IsCheckedAs input text.items)) }
     ensures bad { IfErr result (λ error. IsErrorOf error (input_of bytes.now)) }
 {
-    let input = read_input(alloc, bytes)?;
-    match judged(alloc, &input) {
-        Ok(text) => Ok(text),
-        Err(NoMemory) => Err(ReadError::NoMemory),
-    }
+    judged(alloc, read_input(alloc, bytes))
 }
 
-/// The judgement of an input as a line of text. Fails only where memory runs out.
-fn judged(alloc: Global, input: &Input) -> Result<Vec<u8>, NoMemory>
-    requires { IsTraceValue input.now.trace }
-    ensures { IfOk result (λ text. IsCheckedAs (input_view input.now) text.items) }
+/// The judgement of an input as a line of text, where it was read; else why it was not.
+fn judged(alloc: Global, read: Result<Input<'_>, ReadError>) -> Result<Vec<u8>, ReadError>
+    requires { IfOk read (λ input. IsTraceValue input.trace) }
+    ensures text { IfOk result (λ text. IsOkAnd read.entry (λ input. IsCheckedAs (input_view input) text.items)) }
+    ensures unread { IfErr read.entry (IsErrOf result) }
+    ensures memory { IsOk read.entry → IfErr result (λ error. error ≡ ReadError.NoMemory) }
 {
+    let input = read?;
     let judgement = judge_output(alloc, &input.trace, input.given)?;
-    judgement_text(alloc, judgement)
+    Ok(judgement_text(alloc, judgement)?)
 }

@@ -1,12 +1,12 @@
 //! Which lines of a trace fork, by their words.
-ghost use Rattle.std.specs.Prelude.{◌≡◌, IfOk, map};
-ghost use Rattle.trace_reader.specs.RawLines.{raw_lines};
-ghost use Rattle.trace_reader.specs.Reading.{line_view};
+ghost use Rattle.std.specs.Prelude.{◌≡◌, IfOk, IsErr, IsOk, map};
+ghost use Rattle.text_lexer.specs.Lines.{raw_lines, text_of};
+ghost use Rattle.text_lexer.specs.Reading.{line_view};
 ghost use Rattle.output_check.specs.Internal.Forks.{first_fork, is_fork, are_fork_words};
 
 use mm_types::NoMemory;
 use std::alloc::Global;
-use trace_reader::{CallError, RawLine, begins_with_digit, first_line, set_words, text_of};
+use text_lexer::{RawLine, begins_with_digit, first_line, set_words, text_of};
 
 /// The number of the first line that forks, as its words say. Fails only where memory runs out.
 pub(crate) fn first_fork(alloc: Global, bytes: &[u8]) -> Result<Option<u64>, NoMemory>
@@ -30,12 +30,12 @@ pub(crate) fn first_fork(alloc: Global, bytes: &[u8]) -> Result<Option<u64>, NoM
 /// where memory runs out.
 #[tactic(auto, unfolding(crate::specs::Internal::Forks::is_fork))]
 fn is_fork<'a>(words: &mut Vec<&'a str>, line: &RawLine<'a>) -> Result<bool, NoMemory>
-    ensures { IfOk result (λ forks. forks ≡ is_fork (line_view line.now)) }
+    ensures forks { IfOk result (λ forks. forks ≡ is_fork (line_view line.now)) }
+    ensures bad { IsErr (text_of (line_view line.now)) → IsOk result }
 {
     let text = match text_of(line) {
         Ok(text) => text,
-        Err(CallError::Bad(_)) => return Ok(false),
-        Err(CallError::NoMemory) => return Err(NoMemory),
+        Err(_) => return Ok(false),
     };
     set_words(words, text)?;
     Ok(line.number != 1 && are_fork_words(words.as_slice()))

@@ -1,16 +1,19 @@
 //! The trace and the text that the bytes of a check are.
-ghost use Rattle.std.specs.Prelude.{◌≡◌, ◌+◌, ◌≤◌, true, length, IfSome, Result};
-ghost use Rattle.trace_reader.specs.Grammar.{bad_line};
+ghost use Rattle.std.specs.Prelude.{◌≡◌, ◌+◌, ◌≤◌, true, length, IfOk, IfSome, IsErr, IsErrOf, IsOk, Result};
+ghost use Rattle.text_lexer.specs.BadLines.{bad_line};
+ghost use Rattle.text_lexer.specs.Reading.{IsErrorOf};
 ghost use Rattle.trace_reader.specs.Reading.{GivesTrace};
-ghost use Rattle.trace_reader.specs.declared.error.BadLine.{BadLine};
+ghost use Rattle.text_lexer.specs.declared.error.BadLine.{BadLine};
 ghost use Rattle.trace_reader.specs.declared.trace.Trace.{Trace};
 ghost use Rattle.output_check.specs.Internal.Forks.{without_forks};
-ghost use Rattle.output_check.specs.Input.{input_of, line_at, mark_from, plain_trace_of};
+ghost use Rattle.output_check.specs.Input.{after_trace, input_of, line_at, mark_from, plain_trace_of, with_given};
 ghost use Rattle.output_check.specs.Reading.{GivesInput};
 
 use crate::forks::first_fork;
+use mm_types::NoMemory;
 use std::alloc::Global;
-use trace_reader::{BadLine, Cause, ReadError, Trace, read};
+use text_lexer::{BadLine, Cause, ReadError};
+use trace_reader::{Trace, read};
 
 /// The line behind a trace, with its newline.
 const MARK: &[u8] = b"==\n";
@@ -30,16 +33,40 @@ pub(crate) struct Input<'a> {
 pub(crate) fn read_input(alloc: Global, bytes: &[u8]) -> Result<Input<'_>, ReadError>
     ensures { GivesInput result (input_of bytes.now) }
 {
-    let Some(place) = mark_of(bytes) else {
-        let _trace = read_plain(alloc, bytes)?;
-        return Err(bad_at(bytes, bytes.len(), Cause::NoEnd));
-    };
-    let trace = read_plain(alloc, &bytes[..place])?;
+    match mark_of(bytes) {
+        Some(place) => with_given(read_plain(alloc, &bytes[..place]), bytes, place),
+        None => Err(without_mark(read_plain(alloc, bytes), bytes)),
+    }
+}
+
+/// What was read of a trace, with the text behind the mark at this offset, if that has not too many bytes.
+fn with_given(
+    trace: Result<Trace, ReadError>,
+    bytes: &[u8],
+    place: usize,
+) -> Result<Input<'_>, ReadError>
+    requires { place + 3 ≤ length bytes.now }
+    ensures input { (all : Result Trace BadLine) → GivesTrace trace all → GivesInput result (after_trace all (with_given place bytes.now)) }
+    ensures memory { IsErrOf result ReadError.NoMemory → IsErrOf trace ReadError.NoMemory }
+{
+    let trace = trace?;
     let given = &bytes[place + MARK.len()..];
     if TEXT_LIMIT < given.len() {
         return Err(bad_at(bytes, place + MARK.len() + TEXT_LIMIT, Cause::TooLong));
     }
     Ok(Input { trace, given })
+}
+
+/// What is wrong with bytes without a mark, of which this was read as a trace.
+fn without_mark(trace: Result<Trace, ReadError>, bytes: &[u8]) -> ReadError
+    ensures bad { (all : Result Trace BadLine) → GivesTrace trace all
+        → IsErrorOf result (after_trace all (λ _. Err (bad_line (line_at (length bytes.now) bytes.now) Cause.NoEnd))) }
+    ensures memory { result ≡ ReadError.NoMemory → IsErrOf trace ReadError.NoMemory }
+{
+    match trace {
+        Ok(_) => bad_at(bytes, bytes.len(), Cause::NoEnd),
+        Err(error) => error,
+    }
 }
 
 /// The offset of the first line that is `==` and ends.
@@ -75,17 +102,20 @@ fn bad_at(bytes: &[u8], offset: usize, cause: Cause) -> ReadError
 fn read_plain(alloc: Global, bytes: &[u8]) -> Result<Trace, ReadError>
     ensures { GivesTrace result (plain_trace_of bytes.now) }
 {
-    let Ok(fork) = first_fork(alloc, bytes) else {
-        return Err(ReadError::NoMemory);
-    };
+    let fork = first_fork(alloc, bytes);
     without_forks(read(alloc, bytes), fork)
 }
 
 /// What was read, where the first line that forks has this number: it is the first bad line unless one comes before it.
-fn without_forks(read: Result<Trace, ReadError>, fork: Option<u64>) -> Result<Trace, ReadError>
-    ensures { (all : Result Trace BadLine) → GivesTrace read all → GivesTrace result (without_forks fork all) }
+fn without_forks(
+    read: Result<Trace, ReadError>,
+    fork: Result<Option<u64>, NoMemory>,
+) -> Result<Trace, ReadError>
+    ensures trace { IfOk fork (λ fork. (all : Result Trace BadLine) → GivesTrace read all → GivesTrace result (without_forks fork all)) }
+    ensures unknown { IsErr fork → IsErrOf result ReadError.NoMemory }
+    ensures memory { IsOk fork → IsErrOf result ReadError.NoMemory → IsErrOf read ReadError.NoMemory }
 {
-    let Some(line) = fork else {
+    let Some(line) = fork? else {
         return read;
     };
     match read {

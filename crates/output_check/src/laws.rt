@@ -1,7 +1,14 @@
 //! Laws of the definitions. Nothing runs here.
 ghost use Rattle.std.specs.Prelude.{◌≡◌, ◌≤◌, ◌+◌, ℕ, List, length, take, Ok};
+ghost use Rattle.trace_reader.specs.declared.trace.Trace.{Trace};
 ghost use Rattle.output_check.specs.Input.{CheckInput, check_limit, input_of};
 ghost use Rattle.output_check.specs.declared.input.TheConstants.{TEXT_LIMIT};
+ghost use Rattle.output_check.specs.Judgements.{IsLegalText, IsFirstBad};
+
+/// A text with a first bad line is not legal, so `judge_output` says `Legal` of exactly the legal texts.
+pub fn first_bad_is_not_legal()
+    ensures { (trace : Trace) (given : List ℕ) (line : ℕ) → IsFirstBad trace given line → IsLegalText trace given → ⊥ }
+{}
 
 /// One byte more than the limit settles which input bytes are, or which line is bad first.
 pub fn front_is_enough()

@@ -1,7 +1,7 @@
 //! Inputs of a check, right ones and wrong ones.
 use crate::checked;
 use std::test::Fail;
-use trace_reader::{BadLine, Cause, ReadError};
+use text_lexer::{BadLine, Cause, ReadError};
 
 /// Whether this is answered to the bytes.
 fn says(rt: &impl AllocGlobal, bytes: &[u8], wanted: &[u8]) -> bool {

@@ -13,7 +13,7 @@ use Rattle.node_slots.specs.declared.seats.NodeTable.{NodeTable}
 use Rattle.node_slots.specs.declared.seats.NodeWriter.{NodeWriter}
 use Rattle.node_slots.specs.declared.tree.Tree.{Tree}
 use Rattle.node_slots.specs.Trees.{first_root, empty_row, first_tree, grace_tree}
-use Rattle.node_slots.specs.Seats.{Writes, desk, row_count, is_present, pins_of}
+use Rattle.node_slots.specs.Seats.{Writes, desk, row_count, is_present, pins_of, free_of}
 use Rattle.node_slots.specs.Built.{IsBlank, pairs_now}
 use Rattle.node_slots.proofs.Starting.{first_has, first_else}
 use Rattle.maple_write.proofs.Blanks.{blank_new}
@@ -114,6 +114,7 @@ pub fresh_view : (areas : ℕ) (writer : NodeWriter) (nodes : NodeTable) (tree :
       roomy = false;
       scans = 0;
       pins = pins_of writer;
+      free = length (free_of writer);
     }
 fresh_view areas writer nodes tree limit fresh writes root height same =
     let pairs = fresh_pairs areas writer tree fresh root height in

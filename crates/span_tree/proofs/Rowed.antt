@@ -75,9 +75,9 @@ few_pairs tree count is few =
     let areas = is.wide.areas in
     omega arith
 
-pub next_row : (old new : SpanView) (count : ℕ) → IsRow old count
-    → new ≡ record old { pairs = overwritten (16 + 2 * count) (16 + 2 * count + 1) (count + 1) old.pairs; changed = true } → IsRow new (count + 1)
-next_row old new count is told =
+pub next_row : (old new : SpanView) (count free : ℕ) → IsRow old count
+    → new ≡ record old { pairs = overwritten (16 + 2 * count) (16 + 2 * count + 1) (count + 1) old.pairs; changed = true; free = free } → IsRow new (count + 1)
+next_row old new count free is told =
     let Goal : SpanView → Type 0 = λ v. IsRow v (count + 1) in
     subst Goal (sym told) (record {
       wide = record { areas = is.wide.areas; limit = is.wide.limit; number = is.wide.number };

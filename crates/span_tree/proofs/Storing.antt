@@ -7,7 +7,7 @@ use Rattle.maple_node.specs.Trees.{Pair}
 use Rattle.node_slots.specs.declared.view.NodeView.{NodeView}
 use Rattle.node_slots.specs.declared.seats.NodeWriter.{NodeWriter}
 use Rattle.node_slots.specs.declared.tree.Tree.{Tree}
-use Rattle.node_slots.specs.Seats.{Writes, desk, is_waiting, row_count}
+use Rattle.node_slots.specs.Seats.{Writes, desk, is_waiting, row_count, free_of}
 use Rattle.node_slots.specs.Built.{IsBuilt, pairs_now}
 use Rattle.maple_write.specs.Tables.{FillsRows}
 use Rattle.span_tree.specs.declared.tree.SpanTree.TheInside.{Inside}
@@ -77,7 +77,7 @@ stored_kept fields new tree roomy writes stores built limit few room kept =
 -- what contracts see of it
 pub stored_view : (fields : Inside) (new : NodeWriter) (tree : Tree) (pairs : List Pair) → FillsRows fields.writer new → tree.limit ≡ fields.tree.limit
     → pairs_now new tree ≡ pairs
-    → view_of (record fields { writer = new; tree = tree; changed = true }) ≡ record (view_of fields) { pairs = pairs; changed = true }
+    → view_of (record fields { writer = new; tree = tree; changed = true }) ≡ record (view_of fields) { pairs = pairs; changed = true; free = length (free_of new) }
 stored_view fields new tree pairs stores limit is =
     let settled = stored_settled fields.writer new stores in
     let shown = stored_shown fields.writer new stores in

@@ -2,7 +2,7 @@
 use Rattle.std.specs.Prelude.{ℕ, ◌≡◌, ◌<◌, ◌≤◌, true, false, [], length}
 use Rattle.mm_types.specs.declared.config.TheConstants.{MOST_AREAS}
 use Rattle.mm_types.specs.Config.{rows_for, slots_for}
-use Rattle.node_slots.specs.Seats.{table_of, Writes, sight, desk, row_count, is_present, is_kept, pins_of}
+use Rattle.node_slots.specs.Seats.{table_of, Writes, sight, desk, row_count, is_present, is_kept, pins_of, free_of}
 use Rattle.node_slots.specs.Built.{IsBuilt, IsWriters, pairs_now}
 use Rattle.span_tree.specs.declared.tree.SpanTree.TheInside.{Inside}
 use Rattle.span_tree.specs.SpanTrees.{SpanView, enough}
@@ -22,6 +22,7 @@ view_of fields = record {
   roomy = fields.roomy;
   scans = (sight fields.writer).scans;
   pins = pins_of fields.writer;
+  free = length (free_of fields.writer);
 }
 
 -- The writer is of the table, which has this size, and shows the tree of its own view, or nothing was built yet. This tree has

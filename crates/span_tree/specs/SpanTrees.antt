@@ -12,7 +12,7 @@ use Rattle.node_slots.specs.Seats.{sight, free_of, left_of}
 -- A tree of spans and slots as contracts see it: the table that it is published in, the most pairs that it may have, the page
 -- where it ends, the number of the present tree, the greatest tree that is settled, the pairs of the tree that is built and
 -- those of the present tree, whether something was stored since the last publish, whether enough rows are free for all stores up
--- to the next one, how many pins of readers were looked at, and the pin of each reader that was found last.
+-- to the next one, how many pins of readers were looked at, the pin of each reader that was found last, and how many rows are free.
 pub record SpanView : Type 0 where
   pub table : TableId
   pub areas : ℕ
@@ -25,6 +25,7 @@ pub record SpanView : Type 0 where
   pub roomy : Bool
   pub scans : ℕ
   pub pins : List ℕ
+  pub free : ℕ
 
 -- Pairs from a page on stand in order, and no two of them have a page in common. Each has a page, and a slot below so many, and
 -- the last ends at the limit or below it.

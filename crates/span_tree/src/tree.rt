@@ -4,8 +4,8 @@ ghost use Rattle.mm_types.specs.declared.config.TheConstants.{MOST_AREAS};
 ghost use Rattle.mm_types.specs.Config.{slots_for};
 ghost use Rattle.maple_node.specs.Words.{slot_word};
 ghost use Rattle.maple_items.specs.Pairs.{overwritten};
-ghost use Rattle.node_slots.specs.Seats.{pins_of, AreOut};
-ghost use Rattle.span_tree.specs.SpanTrees.{IsFreshWriter, ArePairs};
+ghost use Rattle.node_slots.specs.Seats.{pins_of, free_of, AreOut};
+ghost use Rattle.span_tree.specs.SpanTrees.{IsFreshWriter, ArePairs, enough};
 
 mod searching;
 
@@ -65,6 +65,7 @@ impl SpanTree {
           roomy = false;
           scans = 0;
           pins = pins_of writer;
+          free = length (free_of writer);
         }) }
     {
         let nodes = writer.table()?;
@@ -83,12 +84,14 @@ impl SpanTree {
     /// none is inside, enough are. Where tree 0 is present, which has no entries, a tree of one gap is built.
     pub fn prepare<R: Wait>(&mut self, rt: &R)
         requires { self.old.changed ≡ false }
-        ensures view { self.new ≡ record self.old { changed = nat_eq self.old.number 0; roomy = true; settled = self.new.settled; scans = self.new.scans; pins = self.new.pins } }
+        ensures view { self.new ≡ record self.old { changed = nat_eq self.old.number 0; roomy = true; settled = self.new.settled; scans = self.new.scans; pins = self.new.pins; free = self.new.free } }
         ensures settled { self.old.settled ≤ self.new.settled }
         ensures shown { self.old.shown ≡ self.old.pairs }
         ensures readers { length self.new.pins ≡ length self.old.pins }
         // each pin is looked at once, and once more for each try after the first
         ensures scans { (more : ℕ) × (self.new.scans ≡ self.old.scans + (more + 1) * length self.old.pins) }
+        // and just once where enough rows are free already
+        ensures once { enough self.old.areas ≤ self.old.free → self.new.scans ≡ self.old.scans + length self.old.pins }
     {
         wait_for_rows(rt, &self.nodes, &mut self.writer, self.areas / 2 + 60);
         if self.number == 0 {
@@ -108,7 +111,7 @@ impl SpanTree {
         requires span { (span.lo < span.hi) × (span.hi ≤ self.old.limit) }
         requires slot { slot_word slot ≤ slots_for self.old.areas }
         requires few { length (overwritten span.lo span.hi (slot_word slot) self.old.pairs) ≤ self.old.areas }
-        ensures { self.new ≡ record self.old { pairs = overwritten span.lo span.hi (slot_word slot) self.old.pairs; changed = true } }
+        ensures { self.new ≡ record self.old { pairs = overwritten span.lo span.hi (slot_word slot) self.old.pairs; changed = true; free = self.new.free } }
     {
         store(&self.nodes, &mut self.writer, &mut self.tree, span, slot);
         self.changed = true;
@@ -156,7 +159,7 @@ impl SpanTree {
 
     /// Looks at the pin of each reader once: rows that no reader may read any more are free again.
     pub fn scan(&mut self)
-        ensures view { self.new ≡ record self.old { settled = self.new.settled; scans = self.old.scans + length self.old.pins; pins = self.new.pins } }
+        ensures view { self.new ≡ record self.old { settled = self.new.settled; scans = self.old.scans + length self.old.pins; pins = self.new.pins; free = self.new.free } }
         ensures settled { self.old.settled ≤ self.new.settled }
         ensures readers { length self.new.pins ≡ length self.old.pins }
         // once it finds every reader closed, every tree is settled

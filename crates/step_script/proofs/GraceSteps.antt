@@ -7,7 +7,7 @@ use Rattle.grace_core.specs.declared.events.GraceEvent.TheVariants.{Open, Root, 
 use Rattle.grace_core.specs.Core.{Core, pin_at}
 use Rattle.grace_core.specs.Events.{after_event}
 use Rattle.grace_core.proofs.Moves.{exists_looked}
-use Rattle.step_script.specs.declared.script.GraceLine.{GraceLine}
+use Rattle.step_script.specs.declared.script.EventLine.{EventLine}
 use Rattle.step_script.specs.GraceTexts.{grace_after, grace_line_text, grace_lines_text}
 use Rattle.step_script.specs.Values.{IsGraceEvent, IsGraceState}
 
@@ -34,19 +34,19 @@ kept_after readers rows core (Split reader) fits kept = absurd fits
 kept_after readers rows core (Join first second) fits kept = absurd fits
 
 -- one line more is printed
-pub one_printed : (line : GraceLine) (lines rest : List GraceLine) (core next : Core) (before after all : List ℕ) → lines ≡ line ∷ rest
+pub one_printed : (line : EventLine GraceEvent) (lines rest : List (EventLine GraceEvent)) (core next : Core) (before after all : List ℕ) → lines ≡ line ∷ rest
     → before ++ grace_lines_text core lines ≡ all → after ≡ before ++ grace_line_text core line → next ≡ grace_after core line.event
     → after ++ grace_lines_text next rest ≡ all
 one_printed line lines rest core next before after all first so_far printed is =
     ap (λ (t : List ℕ). t ++ grace_lines_text next rest) printed
     ∙ append_assoc before (grace_line_text core line) (grace_lines_text next rest)
     ∙ ap (λ (c : Core). before ++ (grace_line_text core line ++ grace_lines_text c rest)) is
-    ∙ ap (λ (ls : List GraceLine). before ++ grace_lines_text core ls) (sym first) ∙ so_far
+    ∙ ap (λ (ls : List (EventLine GraceEvent)). before ++ grace_lines_text core ls) (sym first) ∙ so_far
 
 -- the events of the lines that are left after the first
-pub rest_fits : (readers rows : ℕ) (line : GraceLine) (lines rest : List GraceLine) → lines ≡ line ∷ rest
+pub rest_fits : (readers rows : ℕ) (line : EventLine GraceEvent) (lines rest : List (EventLine GraceEvent)) → lines ≡ line ∷ rest
     → All (λ l. IsGraceEvent readers rows l.event) lines → All (λ l. IsGraceEvent readers rows l.event) rest
 rest_fits readers rows line lines rest first fits =
-    let all : All (λ (l : GraceLine). IsGraceEvent readers rows l.event) (line ∷ rest) =
-    subst (λ (ls : List GraceLine). All (λ (l : GraceLine). IsGraceEvent readers rows l.event) ls) first fits in
-    All-tail (λ (l : GraceLine). IsGraceEvent readers rows l.event) line rest all
+    let all : All (λ (l : EventLine GraceEvent). IsGraceEvent readers rows l.event) (line ∷ rest) =
+    subst (λ (ls : List (EventLine GraceEvent)). All (λ (l : EventLine GraceEvent). IsGraceEvent readers rows l.event) ls) first fits in
+    All-tail (λ (l : EventLine GraceEvent). IsGraceEvent readers rows l.event) line rest all

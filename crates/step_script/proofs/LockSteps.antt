@@ -6,7 +6,7 @@ use Rattle.lock_core.specs.declared.events.LockEvent.TheVariants.{Add, Look, Fie
 use Rattle.lock_core.specs.declared.events.StepRefusal.{StepRefusal}
 use Rattle.lock_core.specs.Refusals.{refusal}
 use Rattle.lock_core.specs.States.{Lock, NamesField, after_step}
-use Rattle.step_script.specs.declared.script.LockLine.{LockLine}
+use Rattle.step_script.specs.declared.script.EventLine.{EventLine}
 use Rattle.lock_core.proofs.Growing.{readers_grow, journal_grows}
 use Rattle.step_script.specs.LockTexts.{lock_after, lock_line_text, lock_lines_text}
 use Rattle.step_script.specs.Texts.{left_by}
@@ -58,7 +58,7 @@ journal_left lock event = by_refusal (refusal lock.config lock.core event)
     by_refusal (Some reason) = omega arith
 
 -- one line more is printed
-pub one_printed : (lines : List LockLine) (index : ℕ) (line : LockLine) (lock next : Lock) (before after all : List ℕ)
+pub one_printed : (lines : List (EventLine LockEvent)) (index : ℕ) (line : EventLine LockEvent) (lock next : Lock) (before after all : List ℕ)
     → drop index lines ≡ line ∷ drop (index + 1) lines
     → before ++ lock_lines_text lock (drop index lines) ≡ all
     → after ≡ before ++ lock_line_text lock line → next ≡ lock_after lock line.event
@@ -67,13 +67,13 @@ one_printed lines index line lock next before after all first so_far printed is 
     ap (λ (t : List ℕ). t ++ lock_lines_text next (drop (index + 1) lines)) printed
     ∙ append_assoc before (lock_line_text lock line) (lock_lines_text next (drop (index + 1) lines))
     ∙ ap (λ (l : Lock). before ++ (lock_line_text lock line ++ lock_lines_text l (drop (index + 1) lines))) is
-    ∙ ap (λ (ls : List LockLine). before ++ lock_lines_text lock ls) (sym first) ∙ so_far
+    ∙ ap (λ (ls : List (EventLine LockEvent)). before ++ lock_lines_text lock ls) (sym first) ∙ so_far
 
 -- the line at an index is the first of those that are left there
-pub line_at : (lines shown : List LockLine) (index : ℕ) (d : LockLine) → shown ≡ lines → index < length shown
+pub line_at : (lines shown : List (EventLine LockEvent)) (index : ℕ) (d : EventLine LockEvent) → shown ≡ lines → index < length shown
     → drop index lines ≡ get_or shown index d ∷ drop (index + 1) lines
 line_at lines shown index d same within =
-    subst (λ (ls : List LockLine). drop index ls ≡ get_or shown index d ∷ drop (index + 1) ls) same
+    subst (λ (ls : List (EventLine LockEvent)). drop index ls ≡ get_or shown index d ∷ drop (index + 1) ls) same
     (rw add-one (drop-cons shown index d within))
 
 -- a step makes at most one reader and at most one entry

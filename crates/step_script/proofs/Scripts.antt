@@ -1,16 +1,15 @@
 -- For the laws of scripts: their first bad line, and the bytes that settle them.
 use Rattle.std.proofs.Common.{◌≡◌, ◌⊎◌, ℕ, ◌+◌, ◌≤◌, List, length, take, Option, Some, None, Result, Ok, Err, refl, ap, ◌∙◌, inl, inr}
-use Rattle.trace_reader.specs.declared.error.Cause.{Cause}
-use Rattle.trace_reader.specs.declared.error.Cause.TheVariants.{TooMany}
-use Rattle.trace_reader.specs.declared.error.BadLine.{BadLine}
-use Rattle.trace_reader.specs.declared.limits.TheConstants.{LINE_LIMIT}
-use Rattle.trace_reader.specs.Causes.{◌>>=◌}
-use Rattle.trace_reader.specs.Lines.{trace_limit}
-use Rattle.trace_reader.specs.RawLines.{raw_lines}
-use Rattle.trace_reader.specs.Words.{words_of}
-use Rattle.trace_reader.proofs.Beginnings.{IsLimited, lines_leave-front, lines_leave-within}
-use Rattle.trace_reader.proofs.FirstBad.{lines_leave-Err}
-use Rattle.trace_reader.proofs.LineTests.{text_within-past}
+use Rattle.text_lexer.specs.declared.error.Cause.{Cause}
+use Rattle.text_lexer.specs.declared.error.Cause.TheVariants.{TooMany}
+use Rattle.text_lexer.specs.declared.error.BadLine.{BadLine}
+use Rattle.text_lexer.specs.declared.limits.TheConstants.{LINE_LIMIT}
+use Rattle.text_lexer.specs.Causes.{◌>>=◌}
+use Rattle.text_lexer.specs.Lines.{input_limit, raw_lines}
+use Rattle.text_lexer.specs.Words.{words_of}
+use Rattle.text_lexer.proofs.Beginnings.{IsLimited, lines_leave-front, lines_leave-within}
+use Rattle.text_lexer.proofs.FirstBad.{lines_leave-Err}
+use Rattle.text_lexer.proofs.LineTests.{text_within-past}
 use Rattle.std.specs.Prelude.{nat_lt, if◌then◌else◌}
 use Rattle.step_script.specs.declared.script.Script.{Script}
 use Rattle.step_script.specs.declared.script.TheConstants.{MOST_LINES}
@@ -31,17 +30,17 @@ unfolding script_of
 script_of-Err bytes first e = by_lines bytes first (after_lines None (raw_lines bytes)) refl e
 
 -- the lines of a script are limited
-after_line-limited : IsLimited trace_limit after_line
+after_line-limited : IsLimited input_limit after_line
 unfolding after_line
 after_line-limited before line past =
     ap (λ (r : Result (List ℕ) Cause). r >>= λ text. (after_text before line.number text (words_of text)
-    >>= λ next. if nat_lt MOST_LINES line.number then Err TooMany else Ok next)) (text_within-past LINE_LIMIT trace_limit line past)
+    >>= λ next. if nat_lt MOST_LINES line.number then Err TooMany else Ok next)) (text_within-past LINE_LIMIT input_limit line past)
 
 -- so one byte more than the limit settles the output
-pub output-front : (bytes : List ℕ) → script_output (take (trace_limit + 1) bytes) ≡ script_output bytes
+pub output-front : (bytes : List ℕ) → script_output (take (input_limit + 1) bytes) ≡ script_output bytes
 unfolding script_output script_of
 output-front bytes = ap (λ (read : Result (Option Script) BadLine). output_of (whole read))
-    (lines_leave-front trace_limit after_line after_line-limited None bytes)
+    (lines_leave-front input_limit after_line after_line-limited None bytes)
 
 was_read : (read : Result (Option Script) BadLine) (text : List ℕ) → output_of (whole read) ≡ Ok text
     → (script : Option Script) × (read ≡ Ok script)
@@ -49,8 +48,8 @@ was_read (Ok script) text is = (script, refl)
 was_read (Err first) text is = absurd cc
 
 -- and bytes with an output are within it
-pub output-within : (bytes text : List ℕ) → script_output bytes ≡ Ok text → length bytes ≤ trace_limit
+pub output-within : (bytes text : List ℕ) → script_output bytes ≡ Ok text → length bytes ≤ input_limit
 unfolding script_output script_of
 output-within bytes text is =
     let read = was_read (after_lines None (raw_lines bytes)) text is in
-    lines_leave-within trace_limit after_line after_line-limited None read.0 bytes read.1
+    lines_leave-within input_limit after_line after_line-limited None read.0 bytes read.1

@@ -1,10 +1,10 @@
 -- The fields of a line, each a word.
 use Rattle.std.specs.Prelude.{ℕ, List, [], ◌∷◌, nat_lt, Result, Ok, Err, ok_or, if◌then◌else◌}
-use Rattle.trace_reader.specs.declared.error.Cause.{Cause}
-use Rattle.trace_reader.specs.declared.error.Cause.TheVariants.{Arity, Number}
-use Rattle.trace_reader.specs.Causes.{◌>>=◌}
-use Rattle.trace_reader.specs.Fields.{number, number_in}
-use Rattle.trace_reader.specs.Numbers.{thread_of}
+use Rattle.text_lexer.specs.declared.error.Cause.{Cause}
+use Rattle.text_lexer.specs.declared.error.Cause.TheVariants.{Arity, Number}
+use Rattle.text_lexer.specs.Causes.{◌>>=◌}
+use Rattle.text_lexer.specs.Numbers.{number, number_in}
+use Rattle.trace_reader.specs.Fields.{thread_of}
 use Rattle.step_script.specs.declared.script.TheConstants.{MOST_PARTS}
 
 -- how many readers, slots or rows there are: 1 to 8

@@ -3,10 +3,10 @@ use Rattle.std.specs.Prelude.{ℕ, List, [], ◌∷◌, codes, bytes_eq, Result,
 use Rattle.mm_types.specs.declared.slot.Row.{Row}
 use Rattle.grace_core.specs.declared.events.GraceEvent.{GraceEvent}
 use Rattle.grace_core.specs.declared.events.GraceEvent.TheVariants as events
-use Rattle.trace_reader.specs.declared.error.Cause.{Cause}
-use Rattle.trace_reader.specs.declared.error.Cause.TheVariants.{Word, Arity}
-use Rattle.trace_reader.specs.Causes.{◌>>=◌}
-use Rattle.trace_reader.specs.Fields.{number}
+use Rattle.text_lexer.specs.declared.error.Cause.{Cause}
+use Rattle.text_lexer.specs.declared.error.Cause.TheVariants.{Word, Arity}
+use Rattle.text_lexer.specs.Causes.{◌>>=◌}
+use Rattle.text_lexer.specs.Numbers.{number}
 use Rattle.step_script.specs.Fields.{index_of, reader_of}
 
 -- `open R`

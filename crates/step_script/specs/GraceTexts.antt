@@ -10,7 +10,7 @@ use Rattle.grace_core.specs.Core.{Core, root_of, pin_at, is_free, waits}
 use Rattle.grace_core.specs.Events.{after_event, answer}
 use Rattle.grace_core.specs.Refusals.{refusal}
 use Rattle.grace_core.specs.States.{opening}
-use Rattle.step_script.specs.declared.script.GraceLine.{GraceLine}
+use Rattle.step_script.specs.declared.script.EventLine.{EventLine}
 use Rattle.step_script.specs.declared.script.GraceScript.{GraceScript}
 use Rattle.step_script.specs.Texts.{outcome_of, left_by, texts_below, numbers_text, start_text, refusal_text}
 
@@ -73,12 +73,12 @@ unfoldable pub grace_state_text : Core → List ℕ
 grace_state_text core = tree_text core ++ pins_text core ++ rows_text core
 
 -- the line of an event, which begins in this state
-unfoldable pub grace_line_text : Core → GraceLine → List ℕ
+unfoldable pub grace_line_text : Core → EventLine GraceEvent → List ℕ
 grace_line_text core line = start_text line.number ++ grace_outcome_text (grace_outcome core line.event)
     ++ grace_state_text (grace_after core line.event) ++ codes "\n"
 
 -- the lines of events, the first of which begins in this state
-abbrev pub grace_lines_text : Core → List GraceLine → List ℕ
+abbrev pub grace_lines_text : Core → List (EventLine GraceEvent) → List ℕ
 grace_lines_text core [] = []
 grace_lines_text core (line ∷ lines) = grace_line_text core line ++ grace_lines_text (grace_after core line.event) lines
 

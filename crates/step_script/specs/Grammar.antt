@@ -1,9 +1,9 @@
 -- Which script bytes are, or else which line is bad first and for which cause.
 use Rattle.std.specs.Prelude.{ℕ, List, Option, Some, None, Result, Ok, Err}
-use Rattle.trace_reader.specs.declared.error.Cause.TheVariants.{Header}
-use Rattle.trace_reader.specs.declared.error.BadLine.{BadLine}
-use Rattle.trace_reader.specs.Grammar.{bad_line, lines_leave}
-use Rattle.trace_reader.specs.RawLines.{RawLine, raw_lines}
+use Rattle.text_lexer.specs.declared.error.Cause.TheVariants.{Header}
+use Rattle.text_lexer.specs.declared.error.BadLine.{BadLine}
+use Rattle.text_lexer.specs.BadLines.{bad_line, lines_leave}
+use Rattle.text_lexer.specs.Lines.{RawLine, raw_lines}
 use Rattle.step_script.specs.declared.script.Script.{Script}
 use Rattle.step_script.specs.Lines.{after_line}
 

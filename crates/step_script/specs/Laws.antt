@@ -1,10 +1,9 @@
 -- What a script's first bad line is.
 use Rattle.std.specs.Prelude.{ℕ, ◌≡◌, List, None, Ok}
-use Rattle.trace_reader.specs.declared.error.Cause.TheVariants.{Header}
-use Rattle.trace_reader.specs.declared.error.BadLine.{BadLine}
-use Rattle.trace_reader.specs.Grammar.{bad_line}
-use Rattle.trace_reader.specs.Laws.{IsFirstBadBy}
-use Rattle.trace_reader.specs.RawLines.{raw_lines}
+use Rattle.text_lexer.specs.declared.error.Cause.TheVariants.{Header}
+use Rattle.text_lexer.specs.declared.error.BadLine.{BadLine}
+use Rattle.text_lexer.specs.BadLines.{bad_line, IsFirstBadBy}
+use Rattle.text_lexer.specs.Lines.{raw_lines}
 use Rattle.step_script.specs.Grammar.{after_lines}
 use Rattle.step_script.specs.Lines.{after_line}
 

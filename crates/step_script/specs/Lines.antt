@@ -1,11 +1,10 @@
 -- What one line does to the script so far, or the first test that it fails.
 use Rattle.std.specs.Prelude.{ℕ, Bool, false, ◌&&◌, List, [], ◌∷◌, ◌++◌, codes, bytes_eq, nat_eq, nat_lt, Option, Some, None, Result, Ok, Err, if◌then◌else◌}
-use Rattle.trace_reader.specs.declared.error.Cause.{Cause}
-use Rattle.trace_reader.specs.declared.error.Cause.TheVariants.{Header, Word, Arity, TooMany}
-use Rattle.trace_reader.specs.Causes.{◌>>=◌}
-use Rattle.trace_reader.specs.Lines.{text_of, is_comment}
-use Rattle.trace_reader.specs.RawLines.{RawLine}
-use Rattle.trace_reader.specs.Words.{words_of}
+use Rattle.text_lexer.specs.declared.error.Cause.{Cause}
+use Rattle.text_lexer.specs.declared.error.Cause.TheVariants.{Header, Word, Arity, TooMany}
+use Rattle.text_lexer.specs.Causes.{◌>>=◌}
+use Rattle.text_lexer.specs.Lines.{text_of, RawLine}
+use Rattle.text_lexer.specs.Words.{is_comment, words_of}
 use Rattle.step_script.specs.declared.script.GraceScript.{GraceScript}
 use Rattle.step_script.specs.declared.script.LockScript.{LockScript}
 use Rattle.step_script.specs.declared.script.Script.{Script}

@@ -2,12 +2,12 @@
 use Rattle.std.specs.Prelude.{ℕ, List, [], ◌∷◌, codes, bytes_eq, Result, Ok, Err, if◌then◌else◌}
 use Rattle.lock_core.specs.declared.events.LockEvent.{LockEvent}
 use Rattle.lock_core.specs.declared.events.LockEvent.TheVariants.{Add, Look, Field, Sub, Begin, Mark, Store, End}
-use Rattle.trace_reader.specs.declared.error.Cause.{Cause}
-use Rattle.trace_reader.specs.declared.error.Cause.TheVariants.{Word, Arity}
+use Rattle.text_lexer.specs.declared.error.Cause.{Cause}
+use Rattle.text_lexer.specs.declared.error.Cause.TheVariants.{Word, Arity}
 use Rattle.trace_reader.specs.Calls.{call_of}
-use Rattle.trace_reader.specs.Causes.{◌>>=◌}
-use Rattle.trace_reader.specs.Fields.{number}
-use Rattle.trace_reader.specs.Words.{text_after_words}
+use Rattle.text_lexer.specs.Causes.{◌>>=◌}
+use Rattle.text_lexer.specs.Numbers.{number}
+use Rattle.text_lexer.specs.Words.{text_after_words}
 use Rattle.step_script.specs.Fields.{index_of, caller_of, reader_of}
 
 -- the add of these words

@@ -11,7 +11,7 @@ use Rattle.lock_core.specs.Core.{Core, slot_at, count_at}
 use Rattle.lock_core.specs.Events.{answer}
 use Rattle.lock_core.specs.Refusals.{refusal}
 use Rattle.lock_core.specs.States.{Lock, opening_core, after_step}
-use Rattle.step_script.specs.declared.script.LockLine.{LockLine}
+use Rattle.step_script.specs.declared.script.EventLine.{EventLine}
 use Rattle.step_script.specs.declared.script.LockScript.{LockScript}
 use Rattle.step_script.specs.Texts.{outcome_of, left_by, texts_below, start_text, refusal_text}
 
@@ -65,12 +65,12 @@ unfoldable pub lock_state_text : Core → List ℕ
 lock_state_text core = codes " | S " ++ (decimal core.seq ++ codes " M") ++ texts_below (length core.slots) (slot_text core)
 
 -- the line of an event, which begins in this state
-unfoldable pub lock_line_text : Lock → LockLine → List ℕ
+unfoldable pub lock_line_text : Lock → EventLine LockEvent → List ℕ
 lock_line_text lock line = start_text line.number ++ lock_outcome_text (lock_outcome lock line.event)
     ++ lock_state_text (lock_after lock line.event).core ++ codes "\n"
 
 -- the lines of events, the first of which begins in this state
-abbrev pub lock_lines_text : Lock → List LockLine → List ℕ
+abbrev pub lock_lines_text : Lock → List (EventLine LockEvent) → List ℕ
 lock_lines_text lock [] = []
 lock_lines_text lock (line ∷ lines) = lock_line_text lock line ++ lock_lines_text (lock_after lock line.event) lines
 

@@ -1,6 +1,6 @@
 -- The output of a script, or its first bad line.
 use Rattle.std.specs.Prelude.{ℕ, List, Result, Ok, Err}
-use Rattle.trace_reader.specs.declared.error.BadLine.{BadLine}
+use Rattle.text_lexer.specs.declared.error.BadLine.{BadLine}
 use Rattle.step_script.specs.declared.script.Script.{Script}
 use Rattle.step_script.specs.declared.script.Script.TheVariants.{Lock, Grace}
 use Rattle.step_script.specs.Grammar.{script_of}

@@ -1,16 +1,17 @@
 //! The fields of a line, each a word.
 
 ghost use Rattle.std.specs.Prelude.{◌≡◌, ◌<◌, ◌≤◌, ◌^◌, IfOk, map};
-ghost use Rattle.trace_reader.specs.Reading.{Gives};
+ghost use Rattle.text_lexer.specs.Reading.{Reads};
 ghost use Rattle.step_script.specs.Fields.{index_of, caller_of, count_of, reader_of};
 
 use crate::script::MOST_PARTS;
-use trace_reader::{CallError, Cause, number, number_in, thread_of};
+use text_lexer::{Cause, number, number_in};
+use trace_reader::thread_of;
 
 /// How many readers, slots or rows there are.
 #[tactic(auto, unfolding(crate::specs::Fields::count_of))]
-pub(crate) fn count_of(word: &str) -> Result<u32, CallError>
-    ensures value { Gives (λ n. n) result (count_of word.now) }
+pub(crate) fn count_of(word: &str) -> Result<u32, Cause>
+    ensures value { Reads (λ n. n) result (count_of word.now) }
     ensures some { IfOk result (λ n. 0 < n) }
     ensures few { IfOk result (λ n. n ≤ MOST_PARTS) }
 {
@@ -20,34 +21,34 @@ pub(crate) fn count_of(word: &str) -> Result<u32, CallError>
 
 /// The number of one of so many readers, slots, rows or fields.
 #[tactic(auto, unfolding(crate::specs::Fields::index_of))]
-pub(crate) fn index_of(word: &str, count: u32) -> Result<u32, CallError>
-    ensures value { Gives (λ n. n) result (index_of count word.now) }
+pub(crate) fn index_of(word: &str, count: u32) -> Result<u32, Cause>
+    ensures value { Reads (λ n. n) result (index_of count word.now) }
     ensures below { IfOk result (λ n. n < count) }
 {
     let n = number(word)?;
     if n < u64::from(count) {
         Ok(n as u32)
     } else {
-        Err(CallError::Bad(Cause::Number))
+        Err(Cause::Number)
     }
 }
 
 /// The caller of a call.
 #[tactic(auto, unfolding(crate::specs::Fields::caller_of))]
-pub(crate) fn caller_of(word: &str) -> Result<u32, CallError>
-    ensures { Gives (λ n. n) result (caller_of word.now) }
+pub(crate) fn caller_of(word: &str) -> Result<u32, Cause>
+    ensures { Reads (λ n. n) result (caller_of word.now) }
 {
-    thread_of(word).ok_or(CallError::Bad(Cause::Number))
+    thread_of(word).ok_or(Cause::Number)
 }
 
 /// One of so many readers, where it is the only word after the name of an event.
 #[tactic(auto, unfolding(crate::specs::Fields::reader_of))]
-pub(crate) fn reader_of(words: &[&str], readers: u32) -> Result<u32, CallError>
-    ensures value { Gives (λ n. n) result (reader_of readers (map (λ word. word.now) words.now)) }
+pub(crate) fn reader_of(words: &[&str], readers: u32) -> Result<u32, Cause>
+    ensures value { Reads (λ n. n) result (reader_of readers (map (λ word. word.now) words.now)) }
     ensures below { IfOk result (λ n. n < readers) }
 {
     match words {
         [reader] => index_of(reader, readers),
-        _ => Err(CallError::Bad(Cause::Arity)),
+        _ => Err(Cause::Arity),
     }
 }

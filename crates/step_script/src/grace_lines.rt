@@ -1,7 +1,7 @@
 //! The events of the grace core, each from the words after its name.
 
 ghost use Rattle.std.specs.Prelude.{◌<◌, All, IfOk, map};
-ghost use Rattle.trace_reader.specs.Reading.{Gives};
+ghost use Rattle.text_lexer.specs.Reading.{Gives, Reads};
 ghost use Rattle.step_script.specs.GraceLines.{open_of, root_of, word, word_of, close_of, fill, fill_of, rows_of, publish_of, scan_of, grace_event};
 ghost use Rattle.step_script.specs.Values.{IsGraceEvent};
 
@@ -9,12 +9,12 @@ use crate::fields::{index_of, reader_of};
 use grace_core::{GraceEvent, Rows};
 use mm_types::Row;
 use std::alloc::Global;
-use trace_reader::{CallError, Cause, number};
+use text_lexer::{CallError, Cause, number};
 
 /// `open R`.
 #[tactic(auto, unfolding(crate::specs::GraceLines::open_of))]
-fn open_of(words: &[&str], readers: u32, rows: u32) -> Result<GraceEvent, CallError>
-    ensures value { Gives (λ event. event) result (open_of readers (map (λ word. word.now) words.now)) }
+fn open_of(words: &[&str], readers: u32, rows: u32) -> Result<GraceEvent, Cause>
+    ensures value { Reads (λ event. event) result (open_of readers (map (λ word. word.now) words.now)) }
     ensures fits { IfOk result (IsGraceEvent readers rows) }
 {
     Ok(GraceEvent::Open(reader_of(words, readers)?))
@@ -22,8 +22,8 @@ fn open_of(words: &[&str], readers: u32, rows: u32) -> Result<GraceEvent, CallEr
 
 /// `root R`.
 #[tactic(auto, unfolding(crate::specs::GraceLines::root_of))]
-fn root_of(words: &[&str], readers: u32, rows: u32) -> Result<GraceEvent, CallError>
-    ensures value { Gives (λ event. event) result (root_of readers (map (λ word. word.now) words.now)) }
+fn root_of(words: &[&str], readers: u32, rows: u32) -> Result<GraceEvent, Cause>
+    ensures value { Reads (λ event. event) result (root_of readers (map (λ word. word.now) words.now)) }
     ensures fits { IfOk result (IsGraceEvent readers rows) }
 {
     Ok(GraceEvent::Root(reader_of(words, readers)?))
@@ -31,8 +31,8 @@ fn root_of(words: &[&str], readers: u32, rows: u32) -> Result<GraceEvent, CallEr
 
 /// The load of a word that these words ask for.
 #[tactic(auto, unfolding(crate::specs::GraceLines::word))]
-fn word(reader: &str, row: &str, readers: u32, rows: u32) -> Result<GraceEvent, CallError>
-    ensures value { Gives (λ event. event) result (word readers rows reader.now row.now) }
+fn word(reader: &str, row: &str, readers: u32, rows: u32) -> Result<GraceEvent, Cause>
+    ensures value { Reads (λ event. event) result (word readers rows reader.now row.now) }
     ensures fits { IfOk result (IsGraceEvent readers rows) }
 {
     let reader = index_of(reader, readers)?;
@@ -42,20 +42,20 @@ fn word(reader: &str, row: &str, readers: u32, rows: u32) -> Result<GraceEvent, 
 
 /// `word R W`.
 #[tactic(auto, unfolding(crate::specs::GraceLines::word_of))]
-fn word_of(words: &[&str], readers: u32, rows: u32) -> Result<GraceEvent, CallError>
-    ensures value { Gives (λ event. event) result (word_of readers rows (map (λ word. word.now) words.now)) }
+fn word_of(words: &[&str], readers: u32, rows: u32) -> Result<GraceEvent, Cause>
+    ensures value { Reads (λ event. event) result (word_of readers rows (map (λ word. word.now) words.now)) }
     ensures fits { IfOk result (IsGraceEvent readers rows) }
 {
     match words {
         [reader, row] => word(reader, row, readers, rows),
-        _ => Err(CallError::Bad(Cause::Arity)),
+        _ => Err(Cause::Arity),
     }
 }
 
 /// `close R`.
 #[tactic(auto, unfolding(crate::specs::GraceLines::close_of))]
-fn close_of(words: &[&str], readers: u32, rows: u32) -> Result<GraceEvent, CallError>
-    ensures value { Gives (λ event. event) result (close_of readers (map (λ word. word.now) words.now)) }
+fn close_of(words: &[&str], readers: u32, rows: u32) -> Result<GraceEvent, Cause>
+    ensures value { Reads (λ event. event) result (close_of readers (map (λ word. word.now) words.now)) }
     ensures fits { IfOk result (IsGraceEvent readers rows) }
 {
     Ok(GraceEvent::Close(reader_of(words, readers)?))
@@ -63,8 +63,8 @@ fn close_of(words: &[&str], readers: u32, rows: u32) -> Result<GraceEvent, CallE
 
 /// The fill of these words.
 #[tactic(auto, unfolding(crate::specs::GraceLines::fill))]
-fn fill(row: &str, value: &str, readers: u32, rows: u32) -> Result<GraceEvent, CallError>
-    ensures value { Gives (λ event. event) result (fill rows row.now value.now) }
+fn fill(row: &str, value: &str, readers: u32, rows: u32) -> Result<GraceEvent, Cause>
+    ensures value { Reads (λ event. event) result (fill rows row.now value.now) }
     ensures fits { IfOk result (IsGraceEvent readers rows) }
 {
     let row = index_of(row, rows)?;
@@ -74,13 +74,13 @@ fn fill(row: &str, value: &str, readers: u32, rows: u32) -> Result<GraceEvent, C
 
 /// `fill W X`.
 #[tactic(auto, unfolding(crate::specs::GraceLines::fill_of))]
-fn fill_of(words: &[&str], readers: u32, rows: u32) -> Result<GraceEvent, CallError>
-    ensures value { Gives (λ event. event) result (fill_of rows (map (λ word. word.now) words.now)) }
+fn fill_of(words: &[&str], readers: u32, rows: u32) -> Result<GraceEvent, Cause>
+    ensures value { Reads (λ event. event) result (fill_of rows (map (λ word. word.now) words.now)) }
     ensures fits { IfOk result (IsGraceEvent readers rows) }
 {
     match words {
         [row, value] => fill(row, value, readers, rows),
-        _ => Err(CallError::Bad(Cause::Arity)),
+        _ => Err(Cause::Arity),
     }
 }
 
@@ -120,8 +120,8 @@ fn publish_of(
 
 /// `scan R`.
 #[tactic(auto, unfolding(crate::specs::GraceLines::scan_of))]
-fn scan_of(words: &[&str], readers: u32, rows: u32) -> Result<GraceEvent, CallError>
-    ensures value { Gives (λ event. event) result (scan_of readers (map (λ word. word.now) words.now)) }
+fn scan_of(words: &[&str], readers: u32, rows: u32) -> Result<GraceEvent, Cause>
+    ensures value { Reads (λ event. event) result (scan_of readers (map (λ word. word.now) words.now)) }
     ensures fits { IfOk result (IsGraceEvent readers rows) }
 {
     Ok(GraceEvent::Scan(reader_of(words, readers)?))
@@ -141,13 +141,13 @@ pub(crate) fn grace_event(
     ensures fits { IfOk result (IsGraceEvent readers rows) }
 {
     match name {
-        "open" => open_of(words, readers, rows),
-        "root" => root_of(words, readers, rows),
-        "word" => word_of(words, readers, rows),
-        "close" => close_of(words, readers, rows),
-        "fill" => fill_of(words, readers, rows),
+        "open" => Ok(open_of(words, readers, rows)?),
+        "root" => Ok(root_of(words, readers, rows)?),
+        "word" => Ok(word_of(words, readers, rows)?),
+        "close" => Ok(close_of(words, readers, rows)?),
+        "fill" => Ok(fill_of(words, readers, rows)?),
         "publish" => publish_of(alloc, words, readers, rows),
-        "scan" => scan_of(words, readers, rows),
+        "scan" => Ok(scan_of(words, readers, rows)?),
         _ => Err(CallError::Bad(Cause::Word)),
     }
 }

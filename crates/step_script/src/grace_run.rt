@@ -5,7 +5,7 @@ ghost use Rattle.step_script.specs.GraceTexts.{grace_outcome, grace_after, grace
 ghost use Rattle.step_script.specs.Values.{IsGraceScript, IsGraceEvent, IsGraceState};
 
 use crate::grace_texts::{push_grace_outcome, push_grace_state};
-use crate::script::{GraceLine, GraceScript, MOST_LINES};
+use crate::script::{EventLine, GraceScript, MOST_LINES};
 use crate::texts::push_start;
 use grace_core::{GraceAnswer, GraceEvent, GraceRefusal, GraceState, apply};
 use mm_types::NoMemory;
@@ -32,7 +32,7 @@ pub(crate) fn grace_text(alloc: Global, script: GraceScript) -> Result<Vec<u8>, 
 #[tactic(auto, unfolding(crate::specs::GraceTexts::grace_line_text))]
 fn grace_step(
     state: GraceState,
-    line: GraceLine,
+    line: EventLine<GraceEvent>,
     readers: u32,
     rows: u32,
     text: &mut Vec<u8>,

@@ -1,8 +1,8 @@
 //! Laws of the definitions. Nothing runs here.
 
 ghost use Rattle.std.specs.Prelude.{◌≡◌, ◌≤◌, ◌⊎◌, ◌+◌, ℕ, List, length, take, Ok, Err};
-ghost use Rattle.trace_reader.specs.Lines.{trace_limit};
-ghost use Rattle.trace_reader.specs.declared.error.BadLine.{BadLine};
+ghost use Rattle.text_lexer.specs.Lines.{input_limit};
+ghost use Rattle.text_lexer.specs.declared.error.BadLine.{BadLine};
 ghost use Rattle.step_script.specs.Grammar.{script_of};
 ghost use Rattle.step_script.specs.Laws.{IsFirstBad, NamesNoCore};
 ghost use Rattle.step_script.specs.Output.{script_output};
@@ -16,12 +16,12 @@ pub fn first_bad_line()
 
 /// One byte more than the limit of a trace settles the output of bytes, or which line is bad first.
 pub fn front_is_enough()
-    ensures { (bytes : List ℕ) → script_output (take (trace_limit + 1) bytes) ≡ script_output bytes }
+    ensures { (bytes : List ℕ) → script_output (take (input_limit + 1) bytes) ≡ script_output bytes }
 {}
 
 /// Bytes that have an output have no byte past the limit of a trace.
 pub fn scripts_are_within()
-    ensures { (bytes text : List ℕ) → script_output bytes ≡ Ok text → length bytes ≤ trace_limit }
+    ensures { (bytes text : List ℕ) → script_output bytes ≡ Ok text → length bytes ≤ input_limit }
 {}
 
 /// The limits: 10,000 lines, and 8 readers, slots or rows.

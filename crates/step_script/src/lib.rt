@@ -1,7 +1,8 @@
 //! Runs a script: the single steps of readers and of a writer, in the order in which a user writes them, over the lock core
 //! or the grace core. For each step it prints what the step results in and the state after it.
 //!
-//! A script has the form of a trace: lines, words, comments, numbers and the limits of a line are those of `trace_reader`.
+//! A script has the form of a trace: lines, words, comments, numbers and the limits of a line are those of `text_lexer`, and the
+//! calls are those of `trace_reader`.
 //! Line 1 is `vmasteps 1`. The next line with words names the core, `lock READERS SLOTS` or `grace READERS ROWS`, each number
 //! from 1 to 8. Each line with words after it is an event of this core, and there are at most 10,000 lines in all.
 //!
@@ -31,8 +32,7 @@ mod texts;
 pub use laws::{first_bad_line, front_is_enough, script_limits, scripts_are_within};
 pub use run::run_script;
 pub use script::{
-    GraceLine, GraceLines, GraceScript, LockLine, LockLines, LockScript, MOST_LINES, MOST_PARTS,
-    Script,
+    EventLine, GraceLines, GraceScript, LockLines, LockScript, MOST_LINES, MOST_PARTS, Script,
 };
 
 #[cfg(test)]

@@ -1,7 +1,7 @@
 //! What one line does to the script so far.
 
 ghost use Rattle.std.specs.Prelude.{◌≡◌, ◌+◌, ◌≤◌, IfOk, map};
-ghost use Rattle.trace_reader.specs.Reading.{Gives, line_view};
+ghost use Rattle.text_lexer.specs.Reading.{Gives, Reads, line_view};
 ghost use Rattle.step_script.specs.Lines.{is_header, lock, lock_of, grace, grace_of, core_of, with_lock_line, with_grace_line, with_words, after_first, after_words, after_text, after_line};
 ghost use Rattle.step_script.specs.Values.{IsLockScript, IsGraceScript, IsScript, IsSoFar};
 
@@ -9,11 +9,10 @@ use crate::fields::count_of;
 use crate::grace_lines::grace_event;
 use crate::lock_lines::lock_event;
 use crate::script::{
-    GraceLine, GraceLines, GraceScript, LockLine, LockLines, LockScript, MOST_LINES, Script,
+    EventLine, GraceLines, GraceScript, LockLines, LockScript, MOST_LINES, Script,
 };
-use mm_types::NoMemory;
 use std::alloc::Global;
-use trace_reader::{CallError, Cause, RawLine, is_comment, text_of, words_of};
+use text_lexer::{CallError, Cause, RawLine, is_comment, text_of, words_of};
 
 /// The script after a line. The last test of a line is that there are no more than 10,000.
 #[tactic(auto, unfolding(crate::specs::Lines::after_line))]
@@ -111,7 +110,7 @@ fn with_words(
     ensures fits { IfOk result (IsScript (number + 1)) }
 {
     match script {
-        None => core_of(alloc, name, words),
+        None => Ok(core_of(alloc, name, words)?),
         Some(Script::Lock(script)) => with_lock_line(alloc, script, number, text, name, words),
         Some(Script::Grace(script)) => with_grace_line(alloc, script, number, name, words),
     }
@@ -119,21 +118,21 @@ fn with_words(
 
 /// The script without events that a line asks for which names the core.
 #[tactic(auto, unfolding(crate::specs::Lines::core_of))]
-fn core_of(alloc: Global, name: &str, words: &[&str]) -> Result<Script, CallError>
-    ensures value { Gives (λ next. next) result (core_of name.now (map (λ word. word.now) words.now)) }
+fn core_of(alloc: Global, name: &str, words: &[&str]) -> Result<Script, Cause>
+    ensures value { Reads (λ next. next) result (core_of name.now (map (λ word. word.now) words.now)) }
     ensures fits { IfOk result (IsScript 1) }
 {
     match name {
         "lock" => lock_of(alloc, words),
         "grace" => grace_of(alloc, words),
-        _ => Err(CallError::Bad(Cause::Word)),
+        _ => Err(Cause::Word),
     }
 }
 
 /// A script of the lock core without events, of so many readers and slots.
 #[tactic(auto, unfolding(crate::specs::Lines::lock))]
-fn lock(alloc: Global, readers: &str, slots: &str) -> Result<Script, CallError>
-    ensures value { Gives (λ next. next) result (lock readers.now slots.now) }
+fn lock(alloc: Global, readers: &str, slots: &str) -> Result<Script, Cause>
+    ensures value { Reads (λ next. next) result (lock readers.now slots.now) }
     ensures fits { IfOk result (IsScript 1) }
 {
     let readers = count_of(readers)?;
@@ -147,20 +146,20 @@ fn lock(alloc: Global, readers: &str, slots: &str) -> Result<Script, CallError>
 
 /// `lock READERS SLOTS`, from the words after the first.
 #[tactic(auto, unfolding(crate::specs::Lines::lock_of))]
-fn lock_of(alloc: Global, words: &[&str]) -> Result<Script, CallError>
-    ensures value { Gives (λ next. next) result (lock_of (map (λ word. word.now) words.now)) }
+fn lock_of(alloc: Global, words: &[&str]) -> Result<Script, Cause>
+    ensures value { Reads (λ next. next) result (lock_of (map (λ word. word.now) words.now)) }
     ensures fits { IfOk result (IsScript 1) }
 {
     match words {
         [readers, slots] => lock(alloc, readers, slots),
-        _ => Err(CallError::Bad(Cause::Arity)),
+        _ => Err(Cause::Arity),
     }
 }
 
 /// A script of the grace core without events, of so many readers and rows.
 #[tactic(auto, unfolding(crate::specs::Lines::grace))]
-fn grace(alloc: Global, readers: &str, rows: &str) -> Result<Script, CallError>
-    ensures value { Gives (λ next. next) result (grace readers.now rows.now) }
+fn grace(alloc: Global, readers: &str, rows: &str) -> Result<Script, Cause>
+    ensures value { Reads (λ next. next) result (grace readers.now rows.now) }
     ensures fits { IfOk result (IsScript 1) }
 {
     let readers = count_of(readers)?;
@@ -174,13 +173,13 @@ fn grace(alloc: Global, readers: &str, rows: &str) -> Result<Script, CallError>
 
 /// `grace READERS ROWS`, from the words after the first.
 #[tactic(auto, unfolding(crate::specs::Lines::grace_of))]
-fn grace_of(alloc: Global, words: &[&str]) -> Result<Script, CallError>
-    ensures value { Gives (λ next. next) result (grace_of (map (λ word. word.now) words.now)) }
+fn grace_of(alloc: Global, words: &[&str]) -> Result<Script, Cause>
+    ensures value { Reads (λ next. next) result (grace_of (map (λ word. word.now) words.now)) }
     ensures fits { IfOk result (IsScript 1) }
 {
     match words {
         [readers, rows] => grace(alloc, readers, rows),
-        _ => Err(CallError::Bad(Cause::Arity)),
+        _ => Err(Cause::Arity),
     }
 }
 
@@ -201,10 +200,8 @@ fn with_lock_line(
 {
     let event = lock_event(alloc, script.readers, script.slots, text, name, words)?;
     let mut script = script;
-    match script.lines.push(LockLine { number, event }) {
-        Ok(()) => Ok(Script::Lock(script)),
-        Err(NoMemory) => Err(CallError::NoMemory),
-    }
+    script.lines.push(EventLine { number, event })?;
+    Ok(Script::Lock(script))
 }
 
 /// A script of the grace core with one line more.
@@ -223,8 +220,6 @@ fn with_grace_line(
 {
     let event = grace_event(alloc, script.readers, script.rows, name, words)?;
     let mut script = script;
-    match script.lines.push(GraceLine { number, event }) {
-        Ok(()) => Ok(Script::Grace(script)),
-        Err(NoMemory) => Err(CallError::NoMemory),
-    }
+    script.lines.push(EventLine { number, event })?;
+    Ok(Script::Grace(script))
 }

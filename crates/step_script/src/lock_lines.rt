@@ -1,7 +1,7 @@
 //! The events of the lock core, each from the words after its name.
 
 ghost use Rattle.std.specs.Prelude.{IfOk, map};
-ghost use Rattle.trace_reader.specs.Reading.{Gives};
+ghost use Rattle.text_lexer.specs.Reading.{Gives, Reads};
 ghost use Rattle.step_script.specs.LockLines.{add, add_of, look_of, field, field_of, sub_of, begin_of, mark_of, store, store_of, end_by, end_of, lock_event};
 ghost use Rattle.step_script.specs.Values.{IsLockEvent};
 
@@ -9,7 +9,8 @@ use crate::fields::{caller_of, index_of, reader_of};
 use lock_core::LockEvent;
 use mm_types::Slot;
 use std::alloc::Global;
-use trace_reader::{CallError, Cause, call_of, number, text_after_words};
+use text_lexer::{CallError, Cause, number, text_after_words};
+use trace_reader::call_of;
 
 /// How many fields the row of a slot has.
 const FIELDS: u32 = 4;
@@ -19,8 +20,8 @@ const WORDS_BEFORE_CALL: usize = 2;
 
 /// The add of these words.
 #[tactic(auto, unfolding(crate::specs::LockLines::add))]
-fn add(reader: &str, slot: &str, readers: u32, slots: u32) -> Result<LockEvent, CallError>
-    ensures value { Gives (λ event. event) result (add readers slots reader.now slot.now) }
+fn add(reader: &str, slot: &str, readers: u32, slots: u32) -> Result<LockEvent, Cause>
+    ensures value { Reads (λ event. event) result (add readers slots reader.now slot.now) }
     ensures fits { IfOk result (IsLockEvent readers slots) }
 {
     let reader = index_of(reader, readers)?;
@@ -30,20 +31,20 @@ fn add(reader: &str, slot: &str, readers: u32, slots: u32) -> Result<LockEvent, 
 
 /// `add R K`.
 #[tactic(auto, unfolding(crate::specs::LockLines::add_of))]
-fn add_of(words: &[&str], readers: u32, slots: u32) -> Result<LockEvent, CallError>
-    ensures value { Gives (λ event. event) result (add_of readers slots (map (λ word. word.now) words.now)) }
+fn add_of(words: &[&str], readers: u32, slots: u32) -> Result<LockEvent, Cause>
+    ensures value { Reads (λ event. event) result (add_of readers slots (map (λ word. word.now) words.now)) }
     ensures fits { IfOk result (IsLockEvent readers slots) }
 {
     match words {
         [reader, slot] => add(reader, slot, readers, slots),
-        _ => Err(CallError::Bad(Cause::Arity)),
+        _ => Err(Cause::Arity),
     }
 }
 
 /// `look R`.
 #[tactic(auto, unfolding(crate::specs::LockLines::look_of))]
-fn look_of(words: &[&str], readers: u32, slots: u32) -> Result<LockEvent, CallError>
-    ensures value { Gives (λ event. event) result (look_of readers (map (λ word. word.now) words.now)) }
+fn look_of(words: &[&str], readers: u32, slots: u32) -> Result<LockEvent, Cause>
+    ensures value { Reads (λ event. event) result (look_of readers (map (λ word. word.now) words.now)) }
     ensures fits { IfOk result (IsLockEvent readers slots) }
 {
     Ok(LockEvent::Look(reader_of(words, readers)?))
@@ -51,8 +52,8 @@ fn look_of(words: &[&str], readers: u32, slots: u32) -> Result<LockEvent, CallEr
 
 /// The read of a field that these words ask for.
 #[tactic(auto, unfolding(crate::specs::LockLines::field))]
-fn field(reader: &str, place: &str, readers: u32, slots: u32) -> Result<LockEvent, CallError>
-    ensures value { Gives (λ event. event) result (field readers reader.now place.now) }
+fn field(reader: &str, place: &str, readers: u32, slots: u32) -> Result<LockEvent, Cause>
+    ensures value { Reads (λ event. event) result (field readers reader.now place.now) }
     ensures fits { IfOk result (IsLockEvent readers slots) }
 {
     let reader = index_of(reader, readers)?;
@@ -62,20 +63,20 @@ fn field(reader: &str, place: &str, readers: u32, slots: u32) -> Result<LockEven
 
 /// `field R I`.
 #[tactic(auto, unfolding(crate::specs::LockLines::field_of))]
-fn field_of(words: &[&str], readers: u32, slots: u32) -> Result<LockEvent, CallError>
-    ensures value { Gives (λ event. event) result (field_of readers (map (λ word. word.now) words.now)) }
+fn field_of(words: &[&str], readers: u32, slots: u32) -> Result<LockEvent, Cause>
+    ensures value { Reads (λ event. event) result (field_of readers (map (λ word. word.now) words.now)) }
     ensures fits { IfOk result (IsLockEvent readers slots) }
 {
     match words {
         [reader, place] => field(reader, place, readers, slots),
-        _ => Err(CallError::Bad(Cause::Arity)),
+        _ => Err(Cause::Arity),
     }
 }
 
 /// `sub R`.
 #[tactic(auto, unfolding(crate::specs::LockLines::sub_of))]
-fn sub_of(words: &[&str], readers: u32, slots: u32) -> Result<LockEvent, CallError>
-    ensures value { Gives (λ event. event) result (sub_of readers (map (λ word. word.now) words.now)) }
+fn sub_of(words: &[&str], readers: u32, slots: u32) -> Result<LockEvent, Cause>
+    ensures value { Reads (λ event. event) result (sub_of readers (map (λ word. word.now) words.now)) }
     ensures fits { IfOk result (IsLockEvent readers slots) }
 {
     Ok(LockEvent::Sub(reader_of(words, readers)?))
@@ -83,38 +84,32 @@ fn sub_of(words: &[&str], readers: u32, slots: u32) -> Result<LockEvent, CallErr
 
 /// `begin`.
 #[tactic(auto, unfolding(crate::specs::LockLines::begin_of))]
-fn begin_of(words: &[&str], readers: u32, slots: u32) -> Result<LockEvent, CallError>
-    ensures value { Gives (λ event. event) result (begin_of (map (λ word. word.now) words.now)) }
+fn begin_of(words: &[&str], readers: u32, slots: u32) -> Result<LockEvent, Cause>
+    ensures value { Reads (λ event. event) result (begin_of (map (λ word. word.now) words.now)) }
     ensures fits { IfOk result (IsLockEvent readers slots) }
 {
     match words {
         [] => Ok(LockEvent::Begin),
-        _ => Err(CallError::Bad(Cause::Arity)),
+        _ => Err(Cause::Arity),
     }
 }
 
 /// `mark K`.
 #[tactic(auto, unfolding(crate::specs::LockLines::mark_of))]
-fn mark_of(words: &[&str], readers: u32, slots: u32) -> Result<LockEvent, CallError>
-    ensures value { Gives (λ event. event) result (mark_of slots (map (λ word. word.now) words.now)) }
+fn mark_of(words: &[&str], readers: u32, slots: u32) -> Result<LockEvent, Cause>
+    ensures value { Reads (λ event. event) result (mark_of slots (map (λ word. word.now) words.now)) }
     ensures fits { IfOk result (IsLockEvent readers slots) }
 {
     let [slot] = words else {
-        return Err(CallError::Bad(Cause::Arity));
+        return Err(Cause::Arity);
     };
     Ok(LockEvent::Mark(Slot(index_of(slot, slots)?)))
 }
 
 /// The store of these words.
 #[tactic(auto, unfolding(crate::specs::LockLines::store))]
-fn store(
-    slot: &str,
-    field: &str,
-    word: &str,
-    readers: u32,
-    slots: u32,
-) -> Result<LockEvent, CallError>
-    ensures value { Gives (λ event. event) result (store slots slot.now field.now word.now) }
+fn store(slot: &str, field: &str, word: &str, readers: u32, slots: u32) -> Result<LockEvent, Cause>
+    ensures value { Reads (λ event. event) result (store slots slot.now field.now word.now) }
     ensures fits { IfOk result (IsLockEvent readers slots) }
 {
     let slot = index_of(slot, slots)?;
@@ -125,13 +120,13 @@ fn store(
 
 /// `store K I X`.
 #[tactic(auto, unfolding(crate::specs::LockLines::store_of))]
-fn store_of(words: &[&str], readers: u32, slots: u32) -> Result<LockEvent, CallError>
-    ensures value { Gives (λ event. event) result (store_of slots (map (λ word. word.now) words.now)) }
+fn store_of(words: &[&str], readers: u32, slots: u32) -> Result<LockEvent, Cause>
+    ensures value { Reads (λ event. event) result (store_of slots (map (λ word. word.now) words.now)) }
     ensures fits { IfOk result (IsLockEvent readers slots) }
 {
     match words {
         [slot, field, word] => store(slot, field, word, readers, slots),
-        _ => Err(CallError::Bad(Cause::Arity)),
+        _ => Err(Cause::Arity),
     }
 }
 
@@ -185,13 +180,13 @@ pub(crate) fn lock_event(
     ensures fits { IfOk result (IsLockEvent readers slots) }
 {
     match name {
-        "add" => add_of(words, readers, slots),
-        "look" => look_of(words, readers, slots),
-        "field" => field_of(words, readers, slots),
-        "sub" => sub_of(words, readers, slots),
-        "begin" => begin_of(words, readers, slots),
-        "mark" => mark_of(words, readers, slots),
-        "store" => store_of(words, readers, slots),
+        "add" => Ok(add_of(words, readers, slots)?),
+        "look" => Ok(look_of(words, readers, slots)?),
+        "field" => Ok(field_of(words, readers, slots)?),
+        "sub" => Ok(sub_of(words, readers, slots)?),
+        "begin" => Ok(begin_of(words, readers, slots)?),
+        "mark" => Ok(mark_of(words, readers, slots)?),
+        "store" => Ok(store_of(words, readers, slots)?),
         "end" => end_of(alloc, text, words, readers, slots),
         _ => Err(CallError::Bad(Cause::Word)),
     }

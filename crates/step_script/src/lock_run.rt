@@ -6,7 +6,7 @@ ghost use Rattle.step_script.specs.LockTexts.{lock_outcome, lock_after, lock_lin
 ghost use Rattle.step_script.specs.Values.{IsLockScript};
 
 use crate::lock_texts::{push_lock_outcome, push_lock_state};
-use crate::script::{LockLine, LockScript, MOST_LINES};
+use crate::script::{EventLine, LockScript, MOST_LINES};
 use crate::texts::push_start;
 use lock_core::{LockAnswer, LockEvent, LockState, StepRefusal, apply};
 use mm_types::{Config, Files, NoMemory};
@@ -34,7 +34,7 @@ pub(crate) fn lock_text(alloc: Global, script: &LockScript) -> Result<Vec<u8>, N
 fn lock_step(
     alloc: Global,
     state: LockState,
-    line: &LockLine,
+    line: &EventLine<LockEvent>,
     text: &mut Vec<u8>,
 ) -> Result<LockState, NoMemory>
     requires room { HasRoom state }

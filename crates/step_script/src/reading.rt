@@ -1,7 +1,7 @@
 //! Which script bytes are.
 
 ghost use Rattle.std.specs.Prelude.{◌+◌, IfOk, None};
-ghost use Rattle.trace_reader.specs.RawLines.{raw_lines};
+ghost use Rattle.text_lexer.specs.Lines.{raw_lines};
 ghost use Rattle.step_script.specs.Grammar.{after_lines, script_of};
 ghost use Rattle.step_script.specs.Reading.{GivesRead};
 ghost use Rattle.step_script.specs.Values.{IsScript, IsSoFar};
@@ -9,7 +9,7 @@ ghost use Rattle.step_script.specs.Values.{IsScript, IsSoFar};
 use crate::lines::after_line;
 use crate::script::{MOST_LINES, Script};
 use std::alloc::Global;
-use trace_reader::{CallError, Cause, ReadError, error_at, first_line};
+use text_lexer::{CallError, Cause, ReadError, error_at, first_line};
 
 /// The script that the bytes are, or the first bad line and its cause.
 #[tactic(auto, unfolding(crate::specs::Grammar::script_of))]

@@ -2,7 +2,7 @@
 
 ghost use Rattle.std.specs.Prelude.{◌≡◌, ◌+◌, IfOk, IfErr, Ok};
 ghost use Rattle.step_script.specs.Output.{script_output, script_text};
-ghost use Rattle.trace_reader.specs.Reading.{IsErrorOf};
+ghost use Rattle.text_lexer.specs.Reading.{IsErrorOf};
 ghost use Rattle.step_script.specs.Values.{IsScript};
 
 use crate::grace_run::grace_text;
@@ -11,7 +11,7 @@ use crate::reading::read_script;
 use crate::script::{MOST_LINES, Script};
 use mm_types::NoMemory;
 use std::alloc::Global;
-use trace_reader::ReadError;
+use text_lexer::ReadError;
 
 /// Runs the script that the bytes are: for each of its events a line with the number of its line, what the event results in,
 /// and the state after it. The whole script is read before the first event is made.
@@ -24,10 +24,7 @@ pub fn run_script(alloc: Global, bytes: &[u8]) -> Result<Vec<u8>, ReadError>
     ensures bad { IfErr result (λ error. IsErrorOf error (script_output bytes.now)) }
 {
     let script = read_script(alloc, bytes)?;
-    match script_text(alloc, script) {
-        Ok(text) => Ok(text),
-        Err(NoMemory) => Err(ReadError::NoMemory),
-    }
+    Ok(script_text(alloc, script)?)
 }
 
 /// The text of a script.

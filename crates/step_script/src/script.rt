@@ -41,31 +41,25 @@ pub struct GraceScript {
     pub lines: GraceLines,
 }
 
-/// A line with an event of the lock core: its number, counted from 1, and the event.
-#[derive(Clone, Copy, Debug, PartialEq, Eq)]
-pub struct LockLine {
-    pub number: u64,
-    pub event: LockEvent,
-}
-
-/// A line with an event of the grace core: its number, counted from 1, and the event.
+/// A line with an event of a core: its number, counted from 1, and the event.
 #[derive(Debug, Drop)]
-pub struct GraceLine {
+pub struct EventLine<E> {
     pub number: u64,
-    pub event: GraceEvent,
+    pub event: E,
 }
 
 /// Lines with events of the lock core, seen by contracts as a list.
 #[derive(Debug, Drop)]
 pub struct LockLines {
-    items: Vec<LockLine>,
+    items: Vec<EventLine<LockEvent>>,
 }
 
 impl Model for LockLines {
     ghost use Rattle.std.specs.Prelude.{List};
-    ghost use Rattle.step_script.specs.declared.script.LockLine.{LockLine};
+    ghost use Rattle.lock_core.specs.declared.events.LockEvent.{LockEvent};
+    ghost use Rattle.step_script.specs.declared.script.EventLine.{EventLine};
 
-    ghost Value = { List LockLine };
+    ghost Value = { List (EventLine LockEvent) };
 
     ghost view = { λ lines. lines.items.items };
 }
@@ -81,7 +75,7 @@ impl LockLines {
     }
 
     /// Appends a line.
-    pub(crate) fn push(&mut self, line: LockLine) -> Result<(), NoMemory>
+    pub(crate) fn push(&mut self, line: EventLine<LockEvent>) -> Result<(), NoMemory>
         ensures { OnOk result (self.new ≡ self.old ++ line ∷ []) }
     {
         self.items.push(line)?;
@@ -89,7 +83,7 @@ impl LockLines {
     }
 
     /// Shows the lines.
-    pub fn items(&self) -> &[LockLine]
+    pub fn items(&self) -> &[EventLine<LockEvent>]
         ensures { result.now ≡ self.now }
     {
         self.items.as_slice()
@@ -99,14 +93,15 @@ impl LockLines {
 /// Lines with events of the grace core, seen by contracts as a list.
 #[derive(Debug, Drop)]
 pub struct GraceLines {
-    items: Vec<GraceLine>,
+    items: Vec<EventLine<GraceEvent>>,
 }
 
 impl Model for GraceLines {
     ghost use Rattle.std.specs.Prelude.{List};
-    ghost use Rattle.step_script.specs.declared.script.GraceLine.{GraceLine};
+    ghost use Rattle.grace_core.specs.declared.events.GraceEvent.{GraceEvent};
+    ghost use Rattle.step_script.specs.declared.script.EventLine.{EventLine};
 
-    ghost Value = { List GraceLine };
+    ghost Value = { List (EventLine GraceEvent) };
 
     ghost view = { λ lines. lines.items.items };
 }
@@ -122,7 +117,7 @@ impl GraceLines {
     }
 
     /// Appends a line.
-    pub(crate) fn push(&mut self, line: GraceLine) -> Result<(), NoMemory>
+    pub(crate) fn push(&mut self, line: EventLine<GraceEvent>) -> Result<(), NoMemory>
         ensures { OnOk result (self.new ≡ self.old ++ line ∷ []) }
     {
         self.items.push(line)?;
@@ -130,7 +125,7 @@ impl GraceLines {
     }
 
     /// Gives the lines.
-    pub(crate) fn into_vec(self) -> Vec<GraceLine>
+    pub(crate) fn into_vec(self) -> Vec<EventLine<GraceEvent>>
         ensures { result.items ≡ self }
     {
         self.items

@@ -2,7 +2,7 @@ use crate::{MOST_LINES, run_script};
 use std::alloc::Global;
 use std::process::Abort;
 use std::test::Fail;
-use trace_reader::{BadLine, Cause, ReadError};
+use text_lexer::{BadLine, Cause, ReadError};
 
 /// A page is mapped in a slot that a reader held at first, and read afterwards.
 const PAGE_IS_MAPPED: &str = "vmasteps 1

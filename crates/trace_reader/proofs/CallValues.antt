@@ -8,12 +8,12 @@ use Rattle.mm_types.specs.declared.call.Call.TheVariants.{Mmap, Munmap, Mprotect
 use Rattle.mm_types.specs.declared.config.TheConstants.{PAGE_SIZE}
 use Rattle.trace_reader.specs.declared.trace.Op.TheVariants as ops
 use Rattle.flag_table.specs.Tables.{map_flags, mremap_flags}
-use Rattle.trace_reader.specs.declared.error.Cause.{Cause}
-use Rattle.trace_reader.specs.declared.error.Cause.TheVariants.{Word, Number}
-use Rattle.trace_reader.specs.Causes.{◌>>=◌}
+use Rattle.text_lexer.specs.declared.error.Cause.{Cause}
+use Rattle.text_lexer.specs.declared.error.Cause.TheVariants.{Word, Number}
+use Rattle.text_lexer.specs.Causes.{◌>>=◌}
 use Rattle.trace_reader.specs.Calls.{mmap, mmap_of, munmap, munmap_of, mprotect, mprotect_of, number_if, mremap, mremap_of, brk_of, mseal, mseal_of, call_named}
-use Rattle.trace_reader.specs.Fields.{number, mapped_descriptor, access, flags, prot}
-use Rattle.trace_reader.specs.Numbers.{decimal_of, thread_of}
+use Rattle.text_lexer.specs.Numbers.{number, decimal_of}
+use Rattle.trace_reader.specs.Fields.{mapped_descriptor, access, flags, prot, thread_of}
 use Rattle.trace_reader.specs.Operations.{fault, fault_of, maps_of, fork_of, called, op_named, op_of, line_named}
 use Rattle.trace_reader.specs.Values.{IsCallValue, IsOpValue}
 use Rattle.trace_reader.proofs.FieldValues.{IsWord, IsDescriptor, ok_or-holds, number-value, decimal_of-value, thread_of-value, mapped_descriptor-value, map_flags-value, mremap_flags-value}

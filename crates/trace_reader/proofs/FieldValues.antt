@@ -11,13 +11,13 @@ use Rattle.flag_table.specs.Tables.{Table, map_flags, mremap_flags, bits_of}
 use Rattle.flag_table.specs.declared.error.NameError.{NameError}
 use Rattle.flag_table.proofs.Sound.{map_is_sound, mremap_is_sound}
 use Rattle.flag_table.proofs.Texts.{HasRows-reading}
-use Rattle.trace_reader.specs.declared.error.Cause.{Cause}
-use Rattle.trace_reader.specs.declared.error.Cause.TheVariants.{Number, Flag}
-use Rattle.trace_reader.specs.Causes.{◌>>=◌}
-use Rattle.trace_reader.specs.Fields.{number, number_in, bound, descriptor, mapped_descriptor, or_flag, flags}
+use Rattle.text_lexer.specs.declared.error.Cause.{Cause}
+use Rattle.text_lexer.specs.declared.error.Cause.TheVariants.{Number, Flag}
+use Rattle.text_lexer.specs.Causes.{◌>>=◌}
+use Rattle.text_lexer.specs.Numbers.{number, number_in, digits_of, number_of, decimal_of}
+use Rattle.trace_reader.specs.Fields.{bound, descriptor, mapped_descriptor, or_flag, flags, thread_of}
 use Rattle.trace_reader.specs.declared.limits.TheConstants.{GREATEST_THREAD}
-use Rattle.trace_reader.specs.Numbers.{digits_of, number_of, decimal_of, thread_of}
-use Rattle.trace_reader.proofs.Digits.{digits_of-Some}
+use Rattle.text_lexer.proofs.Digits.{digits_of-Some}
 
 -- what holds of an option's value, where there is one
 some_from : {A : Type 0} (P : A → Type 0) (o : Option A) → ((x : A) → o ≡ Some x → P x) → IfSome o P

@@ -1,15 +1,10 @@
-pub mod Digits
 pub mod FieldValues
 pub mod CallValues
 pub mod TraceValues
-pub mod WordParts
 pub mod Paths
-pub mod LineTests
 pub mod Notes
 pub mod LineAdded
 pub mod Halving
-pub mod RawPieces
-pub mod RawReading
-pub mod RawLaws
+pub mod LineFails
 pub mod Beginnings
 pub mod FirstBad

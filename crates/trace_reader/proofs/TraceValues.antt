@@ -16,20 +16,21 @@ use Rattle.trace_reader.specs.declared.builder.Version.{Version}
 use Rattle.trace_reader.specs.declared.builder.Version.TheVariants.{Narrow, Wide}
 use Rattle.trace_reader.specs.declared.trace.Op.{Op}
 use Rattle.trace_reader.specs.declared.trace.TraceLine.{TraceLine}
-use Rattle.trace_reader.specs.declared.error.Cause.{Cause}
-use Rattle.trace_reader.specs.declared.error.Cause.TheVariants.{Header, TooLong, Word, Arity, Thread, TooMany, FileTwice, Utf8, NoEnd, After, Child}
-use Rattle.trace_reader.specs.declared.error.BadLine.{BadLine}
-use Rattle.trace_reader.specs.declared.limits.TheConstants.{LINE_LIMIT}
+use Rattle.text_lexer.specs.declared.error.Cause.{Cause}
+use Rattle.text_lexer.specs.declared.error.Cause.TheVariants.{Header, TooLong, Word, Arity, Thread, TooMany, FileTwice, Utf8, NoEnd, After, Child}
+use Rattle.text_lexer.specs.declared.error.BadLine.{BadLine}
+use Rattle.text_lexer.specs.declared.limits.TheConstants.{LINE_LIMIT}
 use Rattle.trace_reader.specs.declared.trace.Trace.{Trace}
-use Rattle.trace_reader.specs.Causes.{◌>>=◌, unless}
-use Rattle.trace_reader.specs.Grammar.{bad_line, nothing, at_line, after_lines, lines_read, address_limit, config_of, trace_so_far, whole, trace_of}
-use Rattle.trace_reader.specs.Lines.{SoFar, trace_limit, is_too_long, version_of, with_header, names_rightly, forks_rightly, is_full, with_one, with_line, once, with_limit, with_top, with_min, with_heap, has_descriptor, with_file, after_setting, is_comment, begins_with_digit, after_words, after_line}
-use Rattle.trace_reader.specs.Numbers.{thread_of}
+use Rattle.text_lexer.specs.Causes.{◌>>=◌, unless}
+use Rattle.text_lexer.specs.BadLines.{bad_line, at_line}
+use Rattle.trace_reader.specs.Grammar.{nothing, after_lines, lines_read, address_limit, config_of, trace_so_far, whole, trace_of}
+use Rattle.trace_reader.specs.Lines.{SoFar, version_of, with_header, names_rightly, forks_rightly, is_full, with_one, with_line, once, with_limit, with_top, with_min, with_heap, has_descriptor, with_file, after_setting, after_words, after_line}
+use Rattle.text_lexer.specs.Lines.{input_limit, is_too_long, RawLine, raw_line, is_newline, lines_of_pieces, lines_from, is_longer_than, text_within}
+use Rattle.text_lexer.specs.Words.{is_comment, begins_with_digit, words_of, text_after_words}
+use Rattle.trace_reader.specs.Fields.{thread_of}
 use Rattle.trace_reader.specs.Operations.{op_of, op_has_its_new, line_named, note_of, without_note, line_of}
-use Rattle.trace_reader.specs.RawLines.{RawLine, raw_line, is_newline, lines_of_pieces, lines_from, is_longer_than, text_within}
 use Rattle.trace_reader.specs.Settings.{areas_of, limit_of, bound_of, file_of}
 use Rattle.trace_reader.specs.Values.{IsLineValue, IsOpValue, IsTraceValue}
-use Rattle.trace_reader.specs.Words.{words_of, text_after_words}
 use Rattle.trace_reader.proofs.FieldValues.{IsWord, ok_or-holds, number_in-value, bound-value, thread_of-value}
 use Rattle.trace_reader.proofs.CallValues.{op_of-value, line_named-value}
 use Rattle.trace_reader.proofs.LineAdded.{AreRead, AreRead-push, AreRead-nil, AreRead-later}
@@ -278,10 +279,10 @@ after_text-value s number text known fits =
 
 -- a line that is not too long has a number below the limit
 small_number : (line : RawLine) → line.number ≤ line.start + 1 → is_too_long line ≡ false → line.number < 2 ^ 64
-unfolding is_longer_than trace_limit
+unfolding is_longer_than input_limit
 small_number line counted short =
-    let within = ltb-false trace_limit (line.start + length line.text + 1)
-    (or_parts (nat_lt LINE_LIMIT (length line.text)) (nat_lt trace_limit
+    let within = ltb-false input_limit (line.start + length line.text + 1)
+    (or_parts (nat_lt LINE_LIMIT (length line.text)) (nat_lt input_limit
     (line.start + length line.text + 1)) short).1 in
     omega (arith, within)
 

@@ -5,12 +5,13 @@ use Rattle.mm_types.specs.declared.call.Call.TheVariants.{Mmap, Munmap, Mprotect
 use Rattle.mm_types.specs.declared.flags.TheConstants.{MREMAP_FIXED}
 use Rattle.mm_types.specs.Flags.{has_flag}
 use Rattle.flag_table.specs.Tables.{map_flags, mremap_flags}
-use Rattle.trace_reader.specs.declared.error.Cause.{Cause}
-use Rattle.trace_reader.specs.declared.error.Cause.TheVariants.{Word, Arity}
+use Rattle.text_lexer.specs.declared.error.Cause.{Cause}
+use Rattle.text_lexer.specs.declared.error.Cause.TheVariants.{Word, Arity}
 use Rattle.trace_reader.specs.declared.calls.TheConstants.{WORDS_WITH_NEW}
-use Rattle.trace_reader.specs.Causes.{◌>>=◌}
-use Rattle.trace_reader.specs.Fields.{number, mapped_descriptor, flags, prot}
-use Rattle.trace_reader.specs.Words.{words_of}
+use Rattle.text_lexer.specs.Causes.{◌>>=◌}
+use Rattle.text_lexer.specs.Numbers.{number}
+use Rattle.trace_reader.specs.Fields.{mapped_descriptor, flags, prot}
+use Rattle.text_lexer.specs.Words.{words_of}
 
 -- the mmap(2) of these words
 unfoldable pub mmap : List ℕ → List ℕ → List ℕ → List ℕ → List ℕ → List ℕ → Result Call Cause

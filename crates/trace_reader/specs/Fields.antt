@@ -1,5 +1,5 @@
 -- The fields of a line, each a word.
-use Rattle.std.specs.Prelude.{ℕ, ◌-◌, ◌%◌, ◌^◌, Bool, true, false, ◌&&◌, List, codes, bytes_eq, nat_eq, nat_le, ℤ, pos, negsuc, Result, Ok, Err, ok_or, if◌then◌else◌}
+use Rattle.std.specs.Prelude.{ℕ, ◌-◌, ◌%◌, ◌^◌, Bool, true, false, ◌&&◌, List, codes, bytes_eq, nat_eq, nat_le, ℤ, pos, negsuc, Option, Some, None, option_and_then, Result, Ok, Err, ok_or, if◌then◌else◌}
 use Rattle.std.specs.List.{before_first, after_first}
 use Rattle.std.specs.Str.{byte}
 use Rattle.mm_types.specs.declared.area.Access.{Access}
@@ -11,21 +11,15 @@ use Rattle.mm_types.specs.Flags.{has_flag}
 use Rattle.flag_table.specs.Reading.{reading}
 use Rattle.flag_table.specs.Tables.{Table, prot_flags}
 use Rattle.flag_table.specs.declared.error.NameError.{NameError}
-use Rattle.trace_reader.specs.declared.error.Cause.{Cause}
-use Rattle.trace_reader.specs.declared.error.Cause.TheVariants.{Word, Number, Flag}
-use Rattle.trace_reader.specs.declared.limits.TheConstants.{MAJOR_DIGITS, MINOR_DIGITS}
-use Rattle.trace_reader.specs.Causes.{◌>>=◌}
-use Rattle.trace_reader.specs.Numbers.{digits_of, number_of}
+use Rattle.text_lexer.specs.declared.error.Cause.{Cause}
+use Rattle.text_lexer.specs.declared.error.Cause.TheVariants.{Word, Number, Flag}
+use Rattle.trace_reader.specs.declared.limits.TheConstants.{GREATEST_THREAD, MAJOR_DIGITS, MINOR_DIGITS}
+use Rattle.text_lexer.specs.Causes.{◌>>=◌}
+use Rattle.text_lexer.specs.Numbers.{decimal_of, digits_of, number, number_in}
 
--- any number
-unfoldable pub number : List ℕ → Result ℕ Cause
-number word = ok_or (number_of word) Number
-
--- a number from low up to and including high
-unfoldable pub number_in : ℕ → ℕ → List ℕ → Result ℕ Cause
-number_in low high word = do
-  n ← number word
-  if nat_le low n && nat_le n high then Ok n else Err Number
+-- the thread that a word is: 1 to 20 decimal digits with a value of at most 63
+unfoldable pub thread_of : List ℕ → Option ℕ
+thread_of word = option_and_then (λ n. if nat_le n GREATEST_THREAD then Some n else None) (decimal_of word)
 
 -- an address that may bound the memory: a multiple of the page size, from one page up to the address limit
 unfoldable pub bound : List ℕ → Result ℕ Cause

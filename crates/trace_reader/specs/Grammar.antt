@@ -5,16 +5,13 @@ use Rattle.mm_types.specs.declared.config.TheConstants.{ADDRESS_LIMIT, WIDE_LIMI
 use Rattle.mm_types.specs.Config.{default_config}
 use Rattle.trace_reader.specs.declared.builder.Version.{Version}
 use Rattle.trace_reader.specs.declared.builder.Version.TheVariants.{Narrow, Wide}
-use Rattle.trace_reader.specs.declared.error.Cause.{Cause}
-use Rattle.trace_reader.specs.declared.error.Cause.TheVariants.{Header}
-use Rattle.trace_reader.specs.declared.error.BadLine.{BadLine}
+use Rattle.text_lexer.specs.declared.error.Cause.{Cause}
+use Rattle.text_lexer.specs.declared.error.Cause.TheVariants.{Header}
+use Rattle.text_lexer.specs.declared.error.BadLine.{BadLine}
 use Rattle.trace_reader.specs.declared.trace.Trace.{Trace}
-use Rattle.trace_reader.specs.RawLines.{RawLine, raw_lines}
+use Rattle.text_lexer.specs.BadLines.{bad_line, lines_leave}
+use Rattle.text_lexer.specs.Lines.{RawLine, raw_lines}
 use Rattle.trace_reader.specs.Lines.{SoFar, after_line}
-
--- a bad line, by its number and what is wrong with it
-abbrev pub bad_line : ℕ → Cause → BadLine
-bad_line line cause = record { line = line; cause = cause }
 
 -- before the first line
 abbrev pub nothing : SoFar
@@ -30,16 +27,6 @@ nothing = record {
   maps = 0;
   named = 0;
 }
-
--- what follows a line that was read, or the number of the bad line and its cause
-abbrev pub at_line : {A B : Type 0} → ℕ → Result A Cause → (A → Result B BadLine) → Result B BadLine
-at_line number (Ok so_far) rest = rest so_far
-at_line number (Err cause) rest = Err (bad_line number cause)
-
--- what lines leave, each by what it does to what was read before it, or the first of them that is bad
-abbrev pub lines_leave : {S : Type 0} → (S → RawLine → Result S Cause) → S → List RawLine → Result S BadLine
-lines_leave step before [] = Ok before
-lines_leave step before (line ∷ lines) = at_line line.number (step before line) (λ next. lines_leave step next lines)
 
 -- what the lines of a trace leave
 abbrev pub after_lines : SoFar → List RawLine → Result SoFar BadLine

@@ -1,7 +1,3 @@
-pub mod Causes
-pub mod RawLines
-pub mod Words
-pub mod Numbers
 pub mod Fields
 pub mod Calls
 pub mod Operations

@@ -1,9 +1,7 @@
 -- What one line does to what was read before it, or the first test that it fails.
 use Rattle.std.specs.Prelude.{ℕ, ◌+◌, Bool, true, false, not, ◌&&◌, ◌||◌, List, [], ◌∷◌, ◌++◌, length, codes, bytes_eq, nat_eq, nat_lt, nat_le, ℤ, Option, Some, None, is_some, option_to_list, Result, Ok, Err, ok_or, if◌then◌else◌}
-use Rattle.std.specs.Char.{is_ascii_digit}
 use Rattle.std.specs.List.{list_any}
 use Rattle.std.specs.Ordering.{int_eq}
-use Rattle.std.specs.Str.{byte}
 use Rattle.mm_types.specs.declared.config.TheConstants.{MOST_FILES}
 use Rattle.mm_types.specs.declared.files.FileRow.{FileRow}
 use Rattle.mm_types.specs.Rows.{first_row}
@@ -11,15 +9,15 @@ use Rattle.trace_reader.specs.declared.trace.TraceLine.{TraceLine}
 use Rattle.trace_reader.specs.declared.builder.TheConstants.{WORDS_BEFORE_PATH}
 use Rattle.trace_reader.specs.declared.builder.Version.{Version}
 use Rattle.trace_reader.specs.declared.builder.Version.TheVariants.{Narrow, Wide}
-use Rattle.trace_reader.specs.declared.error.Cause.{Cause}
-use Rattle.trace_reader.specs.declared.error.Cause.TheVariants.{Header, Word, TooMany, FileTwice, After, Child}
-use Rattle.trace_reader.specs.declared.limits.TheConstants.{LINE_LIMIT, TRACE_LIMIT, MOST_LINES, MOST_MAPS, MOST_NAMED, MOST_FORKS}
-use Rattle.trace_reader.specs.Causes.{◌>>=◌, unless}
+use Rattle.text_lexer.specs.declared.error.Cause.{Cause}
+use Rattle.text_lexer.specs.declared.error.Cause.TheVariants.{Header, Word, TooMany, FileTwice, After, Child}
+use Rattle.trace_reader.specs.declared.limits.TheConstants.{MOST_LINES, MOST_MAPS, MOST_NAMED, MOST_FORKS}
+use Rattle.text_lexer.specs.Causes.{◌>>=◌, unless}
 use Rattle.trace_reader.specs.Operations.{line_of}
-use Rattle.trace_reader.specs.RawLines.{RawLine, is_longer_than, text_within}
+use Rattle.text_lexer.specs.Lines.{RawLine, text_of}
 use Rattle.trace_reader.specs.Settings.{limit_of, bound_of, file_of}
 use Rattle.trace_reader.specs.Values.{is_call_op, is_maps, child_of}
-use Rattle.trace_reader.specs.Words.{words_of, text_after_words}
+use Rattle.text_lexer.specs.Words.{words_of, text_after_words, is_comment, begins_with_digit}
 
 -- whether a test holds of the value of an option, where it has one
 abbrev pub all_some : (ℕ → Bool) → Option ℕ → Bool
@@ -39,18 +37,6 @@ pub record SoFar : Type 0 where
   pub children : List ℕ
   pub maps : ℕ
   pub named : ℕ
-
--- how many bytes a trace may have
-unfoldable pub trace_limit : ℕ
-trace_limit = TRACE_LIMIT
-
--- more than 4,096 bytes, or a newline past the limit of the trace
-abbrev pub is_too_long : RawLine → Bool
-is_too_long line = is_longer_than LINE_LIMIT trace_limit line
-
--- the text of a line of a trace
-abbrev pub text_of : RawLine → Result (List ℕ) Cause
-text_of line = text_within LINE_LIMIT trace_limit line
 
 -- the version of this number
 unfoldable pub version_numbered : List ℕ → Option Version
@@ -162,16 +148,6 @@ after_setting so_far text first words = if nat_lt 0 (length so_far.lines) then E
     else (if bytes_eq first (codes "file") then (file_of words (text_after_words WORDS_BEFORE_PATH text) >>= λ file. with_file so_far file)
     else Err Word)))))
 
--- whether a word begins with `#`
-unfoldable pub is_comment : List ℕ → Bool
-is_comment [] = false
-is_comment (c ∷ word) = nat_eq c (byte "#")
-
--- whether a word begins with a decimal digit
-unfoldable pub begins_with_digit : List ℕ → Bool
-begins_with_digit [] = false
-begins_with_digit (c ∷ word) = is_ascii_digit c
-
 -- a line below the header by its words: one without words, and a comment, is passed over
 unfoldable pub after_words : SoFar → ℕ → List ℕ → List (List ℕ) → Result SoFar Cause
 after_words so_far number text [] = Ok so_far
@@ -179,8 +155,12 @@ after_words so_far number text (first ∷ words) = if is_comment first then Ok s
     else (if begins_with_digit first then (line_of number first words >>= λ line. with_line so_far line)
     else after_setting so_far text first words)
 
+-- the line of this number by its text and its words: line 1 is the header
+abbrev pub after_text : SoFar → ℕ → List ℕ → List (List ℕ) → Result SoFar Cause
+after_text so_far number text words = if nat_eq number 1 then with_header so_far words else after_words so_far number text words
+
 -- a line: the tests of its bytes, and then those of its words
 unfoldable pub after_line : SoFar → RawLine → Result SoFar Cause
 after_line so_far line = do
   text ← text_of line
-  if nat_eq line.number 1 then with_header so_far (words_of text) else after_words so_far line.number text (words_of text)
+  after_text so_far line.number text (words_of text)

@@ -6,12 +6,12 @@ use Rattle.mm_types.specs.declared.config.TheConstants.{PAGE_SIZE}
 use Rattle.trace_reader.specs.declared.trace.Op.{Op}
 use Rattle.trace_reader.specs.declared.trace.Op.TheVariants as ops
 use Rattle.trace_reader.specs.declared.trace.TraceLine.{TraceLine}
-use Rattle.trace_reader.specs.declared.error.Cause.{Cause}
-use Rattle.trace_reader.specs.declared.error.Cause.TheVariants.{Number, Arity, Thread}
+use Rattle.text_lexer.specs.declared.error.Cause.{Cause}
+use Rattle.text_lexer.specs.declared.error.Cause.TheVariants.{Number, Arity, Thread}
 use Rattle.trace_reader.specs.Calls.{call_named, brk_of, mseal_of, has_its_new}
-use Rattle.trace_reader.specs.Causes.{◌>>=◌}
-use Rattle.trace_reader.specs.Fields.{number, access}
-use Rattle.trace_reader.specs.Numbers.{decimal_of, thread_of}
+use Rattle.text_lexer.specs.Causes.{◌>>=◌}
+use Rattle.text_lexer.specs.Numbers.{number, decimal_of}
+use Rattle.trace_reader.specs.Fields.{access, thread_of}
 
 -- the page fault of these words: the page of the address, and the access
 unfoldable pub fault : List ℕ → List ℕ → Result Op Cause

@@ -1,61 +1,60 @@
 -- What a reader answers: what its definition gives, unless memory runs out.
-use Rattle.std.specs.Prelude.{◌≡◌, ℕ, Result, Ok, Err}
-use Rattle.trace_reader.specs.declared.error.Cause.{Cause}
-use Rattle.trace_reader.specs.declared.error.BadLine.{BadLine}
-use Rattle.trace_reader.specs.declared.error.CallError.{CallError}
-use Rattle.trace_reader.specs.declared.error.CallError.TheVariants as calls
-use Rattle.trace_reader.specs.declared.error.ReadError.{ReadError}
-use Rattle.trace_reader.specs.declared.error.ReadError.TheVariants as reads
-use Rattle.trace_reader.specs.declared.trace.Trace.{Trace}
+use Rattle.std.specs.Prelude.{ℕ, ◌≡◌, ◌≤◌, List, length, Result, Ok, Err, IfOk}
+use Rattle.mm_types.specs.declared.config.Config.{Config}
+use Rattle.mm_types.specs.declared.files.FileRow.{FileRow}
+use Rattle.text_lexer.specs.declared.error.BadLine.{BadLine}
+use Rattle.text_lexer.specs.declared.error.CallError.{CallError}
+use Rattle.text_lexer.specs.declared.error.CallError.TheVariants as calls
+use Rattle.text_lexer.specs.declared.error.ReadError.{ReadError}
+use Rattle.text_lexer.specs.Lines.{RawLine, text_of}
+use Rattle.text_lexer.specs.Words.{words_of}
+use Rattle.text_lexer.specs.Reading.{IsErrorOf}
+use Rattle.trace_reader.specs.declared.builder.Settings.{Settings}
 use Rattle.trace_reader.specs.declared.builder.TraceBuilder.{TraceBuilder}
-use Rattle.trace_reader.specs.declared.lines.RawLine as code
-use Rattle.trace_reader.specs.Grammar.{bad_line}
-use Rattle.trace_reader.specs.RawLines.{RawLine}
+use Rattle.trace_reader.specs.declared.trace.Trace.{Trace}
+use Rattle.trace_reader.specs.Grammar.{nothing, config_of}
 use Rattle.trace_reader.specs.Lines.{SoFar}
-
--- a cause is that of the definition; out of memory is free
-abbrev pub Fails : {Y : Type 0} → CallError → Result Y Cause → Type 0
-Fails (calls.Bad cause) read = read ≡ Err cause
-Fails calls.NoMemory read = Unit {0}
-
--- what was answered, seen by view, is what the definition gives
-abbrev pub Gives : {X Y : Type 0} → (X → Y) → Result X CallError → Result Y Cause → Type 0
-Gives view (Ok x) read = read ≡ Ok (view x)
-Gives view (Err error) read = Fails error read
-
--- a bad line is that of the definition; out of memory is free
-abbrev pub IsErrorOf : {Y : Type 0} → ReadError → Result Y BadLine → Type 0
-IsErrorOf (reads.Bad first) read = read ≡ Err first
-IsErrorOf reads.NoMemory read = Unit {0}
 
 -- what was answered of a whole trace is what the definition gives
 abbrev pub GivesTrace : Result Trace ReadError → Result Trace BadLine → Type 0
 GivesTrace (Ok trace) read = read ≡ Ok trace
 GivesTrace (Err error) read = IsErrorOf error read
 
--- an error in the line of this number
-abbrev pub error_at : ℕ → CallError → ReadError
-error_at number (calls.Bad cause) = reads.Bad (bad_line number cause)
-error_at number calls.NoMemory = reads.NoMemory
-
--- a line without where its bytes lie in memory
-abbrev pub line_view : code.RawLine → RawLine
-line_view line = record { number = line.number; text = line.text.now; start = line.start; ended = line.ended }
-
 -- what a builder holds
 abbrev pub so_far : TraceBuilder → SoFar
 so_far builder = record {
-  version = builder.version;
-  areas = builder.areas;
-  top = builder.top;
-  min = builder.min;
-  heap = builder.heap;
+  version = builder.settings.version;
+  areas = builder.settings.areas;
+  top = builder.settings.top;
+  min = builder.settings.min;
+  heap = builder.settings.heap;
   files = builder.files.items;
   lines = builder.lines.items;
   children = builder.children.items;
   maps = builder.maps;
   named = builder.named;
 }
+
+-- the configuration that settings name, with these files
+abbrev pub config_named : Settings → List FileRow → Config
+config_named settings files = config_of (record nothing {
+  version = settings.version;
+  areas = settings.areas;
+  top = settings.top;
+  min = settings.min;
+  heap = settings.heap;
+  files = files;
+})
+
+-- where a line was bad, what is held stays as it was; where memory ran out, it is free
+abbrev pub StaysIfBad : {A : Type 0} → Result A CallError → SoFar → SoFar → Type 0
+StaysIfBad (Ok x) before after = Unit {0}
+StaysIfBad (Err (calls.Bad cause)) before after = after ≡ before
+StaysIfBad (Err calls.NoMemory) before after = Unit {0}
+
+-- so much room is enough for the words of a line, where it has a text
+abbrev pub HasRoom : ℕ → RawLine → Type 0
+HasRoom room line = IfOk (text_of line) (λ text. length (words_of text) ≤ room)
 
 -- what was answered to lines, of which the first bad one has its number
 abbrev pub GivesLines : Result TraceBuilder ReadError → Result SoFar BadLine → Type 0

@@ -3,11 +3,13 @@ use Rattle.std.specs.Prelude.{ℕ, List, [], ◌∷◌, codes, bytes_eq, Result,
 use Rattle.std.specs.Str.{byte}
 use Rattle.mm_types.specs.declared.config.TheConstants.{MOST_AREAS}
 use Rattle.mm_types.specs.declared.files.FileRow.{FileRow}
-use Rattle.trace_reader.specs.declared.error.Cause.{Cause}
-use Rattle.trace_reader.specs.declared.error.Cause.TheVariants.{Word, Arity}
+use Rattle.trace_reader.specs.declared.settings.FileFields.{FileFields}
+use Rattle.text_lexer.specs.declared.error.Cause.{Cause}
+use Rattle.text_lexer.specs.declared.error.Cause.TheVariants.{Word, Arity}
 use Rattle.trace_reader.specs.declared.limits.TheConstants.{MOST_FILE_BYTES}
-use Rattle.trace_reader.specs.Causes.{◌>>=◌}
-use Rattle.trace_reader.specs.Fields.{number, number_in, bound, descriptor, device, mode}
+use Rattle.text_lexer.specs.Causes.{◌>>=◌}
+use Rattle.text_lexer.specs.Numbers.{number, number_in}
+use Rattle.trace_reader.specs.Fields.{bound, descriptor, device, mode}
 
 -- N, from the words after `areas`
 unfoldable pub areas_of : List (List ℕ) → Result ℕ Cause
@@ -30,17 +32,34 @@ unescaped (a ∷ b ∷ c ∷ d ∷ text) = if bytes_eq (a ∷ b ∷ c ∷ d ∷ 
     else a ∷ unescaped (b ∷ c ∷ d ∷ text)
 unescaped text = text
 
--- the file of these words, of which MAJ:MIN are the halves, and of the text of its path
-unfoldable pub file_row : List ℕ → List ℕ → List ℕ → List ℕ → List ℕ → List ℕ → Result FileRow Cause
-file_row fd open_for size halves inode path = do
+-- the fields of these words, of which MAJ:MIN are the halves
+unfoldable pub file_fields : List ℕ → List ℕ → List ℕ → List ℕ → List ℕ → Result FileFields Cause
+file_fields fd open_for size halves inode = do
   f ← descriptor fd
   m ← mode open_for
   s ← number_in 0 MOST_FILE_BYTES size
   d ← device halves
   i ← number inode
-  Ok (record { fd = f; read = m.0; write = m.1; size = s; major = d.0; minor = d.1; inode = i; path = unescaped path })
+  Ok (record { fd = f; read = m.0; write = m.1; size = s; major = d.0; minor = d.1; inode = i })
 
--- `file FD MODE SIZE MAJ:MIN INODE PATH`, from the words after `file` and the text after INODE
+-- the file of these fields and of the text of its path
+abbrev pub with_path : FileFields → List ℕ → FileRow
+with_path fields path = record {
+  fd = fields.fd;
+  read = fields.read;
+  write = fields.write;
+  size = fields.size;
+  major = fields.major;
+  minor = fields.minor;
+  inode = fields.inode;
+  path = unescaped path;
+}
+
+-- `file FD MODE SIZE MAJ:MIN INODE PATH`, from the words after `file`: all but the path, of which there is a word
+unfoldable pub fields_of : List (List ℕ) → Result FileFields Cause
+fields_of (fd ∷ open_for ∷ size ∷ halves ∷ inode ∷ first_of_path ∷ more) = file_fields fd open_for size halves inode
+fields_of _ = Err Arity
+
+-- the file of these words, and of the text after INODE
 unfoldable pub file_of : List (List ℕ) → List ℕ → Result FileRow Cause
-file_of (fd ∷ open_for ∷ size ∷ halves ∷ inode ∷ first_of_path ∷ more) path = file_row fd open_for size halves inode path
-file_of _ path = Err Arity
+file_of words path = fields_of words >>= λ fields. Ok (with_path fields path)

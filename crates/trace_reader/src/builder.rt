@@ -1,21 +1,23 @@
 //! A trace while its lines are read.
 
-ghost use Rattle.std.specs.Prelude.{◌≡◌, map, is_some, nat_eq};
+ghost use Rattle.std.specs.Prelude.{◌≡◌, IfErr, IfOk, map, is_some, nat_eq, vec_capacity};
 ghost use Rattle.std.specs.List.{list_any};
-ghost use Rattle.trace_reader.specs.Grammar.{nothing, address_limit, trace_so_far};
-ghost use Rattle.trace_reader.specs.Lines.{version_numbered, version_of, is_comment, begins_with_digit, has_child, is_told, may_name, may_fork, names_rightly, forks_rightly, is_full, has_descriptor, with_header, with_line, with_limit, with_top, with_min, with_heap, with_file, after_setting, after_words, after_line};
-ghost use Rattle.trace_reader.specs.Reading.{Gives, line_view, so_far};
+ghost use Rattle.trace_reader.specs.Grammar.{nothing, address_limit, config_of, trace_so_far};
+ghost use Rattle.text_lexer.specs.Reading.{Gives, GivesTested, Reads, line_view};
+ghost use Rattle.trace_reader.specs.Reading.{HasRoom, StaysIfBad, config_named, so_far};
+ghost use Rattle.trace_reader.specs.Lines.{version_numbered, version_of, has_child, is_told, may_name, may_fork, names_rightly, forks_rightly, is_full, has_descriptor, with_header, with_line, with_limit, with_top, with_min, with_heap, with_file, after_setting, after_words, after_text, after_line};
+ghost use Rattle.trace_reader.specs.Settings.{with_path};
 ghost use Rattle.trace_reader.specs.Values.{AreNumbered, is_call_op, is_maps, child_of};
 
-use crate::error::{CallError, Cause};
 use crate::limits::{MOST_FORKS, MOST_LINES, MOST_MAPS, MOST_NAMED};
-use crate::lines::{RawLine, text_of};
 use crate::operations::line_of;
-use crate::settings::{bound_of, file_of, limit_of};
+use crate::settings::{FileFields, bound_of, fields_of, limit_of, with_path};
 use crate::trace::{Lines, Op, Trace, TraceLine};
-use crate::words::{set_words, text_after_words};
-use mm_types::{ADDRESS_LIMIT, Config, FileRow, Files, MOST_FILES, WIDE_LIMIT};
+use mm_types::{ADDRESS_LIMIT, Config, FileRow, Files, MOST_FILES, NoMemory, WIDE_LIMIT};
 use std::alloc::Global;
+use text_lexer::{
+    CallError, Cause, RawLine, begins_with_digit, is_comment, set_words, text_after_words, text_of,
+};
 
 /// The words of a `file` line before its path.
 const WORDS_BEFORE_PATH: usize = 6;
@@ -29,9 +31,9 @@ pub(crate) enum Version {
     Wide,
 }
 
-/// What the lines so far say.
-#[derive(Debug, Drop)]
-pub(crate) struct TraceBuilder {
+/// What the settings so far name.
+#[derive(Clone, Copy, Debug, PartialEq, Eq)]
+pub(crate) struct Settings {
     version: Version,
     /// What `limit areas` set.
     areas: Option<u32>,
@@ -41,6 +43,12 @@ pub(crate) struct TraceBuilder {
     min: Option<u64>,
     /// What `heap` set, in bytes.
     heap: Option<u64>,
+}
+
+/// A trace while its lines are read, one after another: what the lines so far say. A line costs no copy of those before it.
+#[derive(Debug, Drop)]
+pub struct TraceBuilder {
+    settings: Settings,
     files: Vec<FileRow>,
     /// The lines with a thread, whose numbers rise.
     lines: Vec<TraceLine>,
@@ -54,15 +62,17 @@ pub(crate) struct TraceBuilder {
 
 impl TraceBuilder {
     /// Before the first line.
-    pub(crate) fn new(alloc: Global) -> TraceBuilder
+    pub fn new(alloc: Global) -> TraceBuilder
         ensures { so_far result ≡ nothing }
     {
         TraceBuilder {
-            version: Version::Narrow,
-            areas: None,
-            top: None,
-            min: None,
-            heap: None,
+            settings: Settings {
+                version: Version::Narrow,
+                areas: None,
+                top: None,
+                min: None,
+                heap: None,
+            },
             files: Vec::new(alloc),
             lines: Vec::new(alloc),
             children: Vec::new(alloc),
@@ -71,42 +81,66 @@ impl TraceBuilder {
         }
     }
 
-    /// Adds a line, of which the first is the header. Its bytes are tested before its words, which come into `words`, a list that
-    /// serves for every line.
+    /// Adds a line: that of number 1 is the header, and each later one has a greater number. Its bytes are tested before its words,
+    /// which come into `words`, a list that serves for every line.
+    ///
+    /// `CallError::Bad` comes where the line is bad behind those so far, with its cause, and then nothing changes: another may be
+    /// added in its place. `CallError::NoMemory` comes where memory runs out, and what the builder holds then is not known. Where
+    /// `words` has room for the words of the line, it comes only where the line is good.
     #[tactic(auto, unfolding(crate::specs::Lines::after_line))]
-    pub(crate) fn add<'a>(
+    pub fn add<'a>(
         &mut self,
         alloc: Global,
         words: &mut Vec<&'a str>,
         line: &RawLine<'a>,
     ) -> Result<(), CallError>
-        requires { AreNumbered self.old.lines.items }
-        ensures { Gives (λ _. so_far self.new) result (after_line (so_far self.old) (line_view line.now)) }
+        requires { AreNumbered (so_far self.old).lines }
+        ensures added { Gives (λ _. so_far self.new) result (after_line (so_far self.old) (line_view line.now)) }
+        ensures kept { StaysIfBad result (so_far self.old) (so_far self.new) }
+        ensures tested { HasRoom (vec_capacity words.old) (line_view line.now)
+            → GivesTested (λ _. so_far self.new) result (after_line (so_far self.old) (line_view line.now)) }
     {
         let text = text_of(line)?;
         set_words(words, text)?;
-        if line.number == 1 {
-            self.set_version(words.as_slice())
+        self.add_text(alloc, line.number, text, words.as_slice())
+    }
+
+    /// Adds the line of this number, by its text and the words of it.
+    fn add_text(
+        &mut self,
+        alloc: Global,
+        number: u64,
+        text: &str,
+        words: &[&str],
+    ) -> Result<(), CallError>
+        requires { AreNumbered self.old.lines.items }
+        ensures added { GivesTested (λ _. so_far self.new) result
+            (after_text (so_far self.old) number text.now (map (λ word. word.now) words.now)) }
+        ensures kept { StaysIfBad result (so_far self.old) (so_far self.new) }
+    {
+        if number == 1 {
+            Ok(self.set_version(words)?)
         } else {
-            self.add_words(alloc, line.number, text, words.as_slice())
+            self.add_words(alloc, number, text, words)
         }
     }
 
     /// Adds the header.
     #[tactic(auto, unfolding(crate::specs::Lines::with_header))]
-    fn set_version(&mut self, words: &[&str]) -> Result<(), CallError>
-        ensures { Gives (λ _. so_far self.new) result (with_header (so_far self.old) (map (λ word. word.now) words.now)) }
+    fn set_version(&mut self, words: &[&str]) -> Result<(), Cause>
+        ensures added { Reads (λ _. so_far self.new) result (with_header (so_far self.old) (map (λ word. word.now) words.now)) }
+        ensures kept { IfErr result (λ _. so_far self.new ≡ so_far self.old) }
     {
         match version_of(words) {
             Some(version) => {
-                self.version = version;
+                self.settings.version = version;
                 Ok(())
             }
-            None => Err(CallError::Bad(Cause::Header)),
+            None => Err(Cause::Header),
         }
     }
 
-    /// Adds a line below the header, unless it has no words or is a comment.
+    /// Adds a line below the header, unless it has no words or is a comment. All its tests come before it takes memory.
     #[tactic(auto, unfolding(crate::specs::Lines::after_words))]
     fn add_words(
         &mut self,
@@ -116,8 +150,9 @@ impl TraceBuilder {
         words: &[&str],
     ) -> Result<(), CallError>
         requires { AreNumbered self.old.lines.items }
-        ensures { Gives (λ _. so_far self.new) result
+        ensures added { GivesTested (λ _. so_far self.new) result
             (after_words (so_far self.old) number text.now (map (λ word. word.now) words.now)) }
+        ensures kept { StaysIfBad result (so_far self.old) (so_far self.new) }
     {
         let [first, words @ ..] = words else {
             return Ok(());
@@ -126,7 +161,7 @@ impl TraceBuilder {
             return Ok(());
         }
         if begins_with_digit(first) {
-            let line = line_of(alloc, number, first, words)?;
+            let line = line_of(number, first, words)?;
             self.add_line(line)
         } else {
             self.add_setting(alloc, text, first, words)
@@ -137,7 +172,8 @@ impl TraceBuilder {
     #[tactic(auto, unfolding(crate::specs::Lines::with_line, crate::specs::Lines::with_one, crate::specs::Lines::is_full))]
     fn add_line(&mut self, line: TraceLine) -> Result<(), CallError>
         requires { AreNumbered self.old.lines.items }
-        ensures { Gives (λ _. so_far self.new) result (with_line (so_far self.old) line) }
+        ensures added { GivesTested (λ _. so_far self.new) result (with_line (so_far self.old) line) }
+        ensures kept { StaysIfBad result (so_far self.old) (so_far self.new) }
     {
         if !self.names_rightly(&line) {
             return Err(CallError::Bad(Cause::After));
@@ -202,7 +238,7 @@ impl TraceBuilder {
     }
 
     /// Adds a line that stands before the first with a thread.
-    #[tactic(auto, unfolding(crate::specs::Lines::after_setting))]
+    #[tactic(auto, unfolding(crate::specs::Lines::after_setting, crate::specs::Settings::file_of))]
     fn add_setting(
         &mut self,
         alloc: Global,
@@ -210,20 +246,21 @@ impl TraceBuilder {
         first: &str,
         words: &[&str],
     ) -> Result<(), CallError>
-        ensures { Gives (λ _. so_far self.new) result
+        ensures added { GivesTested (λ _. so_far self.new) result
             (after_setting (so_far self.old) text.now first.now (map (λ word. word.now) words.now)) }
+        ensures kept { StaysIfBad result (so_far self.old) (so_far self.new) }
     {
         if !self.lines.is_empty() {
             return Err(CallError::Bad(Cause::Word));
         }
         match first {
-            "limit" => self.set_limit(words),
-            "top" => self.set_top(words),
-            "min" => self.set_min(words),
-            "heap" => self.set_heap(words),
+            "limit" => Ok(self.set_limit(words)?),
+            "top" => Ok(self.set_top(words)?),
+            "min" => Ok(self.set_min(words)?),
+            "heap" => Ok(self.set_heap(words)?),
             "file" => {
-                let path = text_after_words(text, WORDS_BEFORE_PATH);
-                self.add_file(file_of(alloc, words, path)?)
+                let fields = fields_of(words)?;
+                self.add_file(alloc, fields, text_after_words(text, WORDS_BEFORE_PATH))
             }
             _ => Err(CallError::Bad(Cause::Word)),
         }
@@ -231,84 +268,118 @@ impl TraceBuilder {
 
     /// Sets the most areas, once.
     #[tactic(auto, unfolding(crate::specs::Lines::with_limit))]
-    fn set_limit(&mut self, words: &[&str]) -> Result<(), CallError>
-        ensures { Gives (λ _. so_far self.new) result
+    fn set_limit(&mut self, words: &[&str]) -> Result<(), Cause>
+        ensures added { Reads (λ _. so_far self.new) result
             (with_limit (so_far self.old) (map (λ word. word.now) words.now)) }
+        ensures kept { IfErr result (λ _. so_far self.new ≡ so_far self.old) }
     {
-        if self.areas.is_some() {
-            return Err(CallError::Bad(Cause::Word));
+        if self.settings.areas.is_some() {
+            return Err(Cause::Word);
         }
-        self.areas = Some(limit_of(words)?);
+        self.settings.areas = Some(limit_of(words)?);
         Ok(())
     }
 
     /// Sets the address below which room is looked for, once.
     #[tactic(auto, unfolding(crate::specs::Lines::with_top))]
-    fn set_top(&mut self, words: &[&str]) -> Result<(), CallError>
-        ensures { Gives (λ _. so_far self.new) result (with_top (so_far self.old) (map (λ word. word.now) words.now)) }
+    fn set_top(&mut self, words: &[&str]) -> Result<(), Cause>
+        ensures added { Reads (λ _. so_far self.new) result (with_top (so_far self.old) (map (λ word. word.now) words.now)) }
+        ensures kept { IfErr result (λ _. so_far self.new ≡ so_far self.old) }
     {
-        if self.top.is_some() {
-            return Err(CallError::Bad(Cause::Word));
+        if self.settings.top.is_some() {
+            return Err(Cause::Word);
         }
-        self.top = Some(bound_of(words)?);
+        self.settings.top = Some(bound_of(words)?);
         Ok(())
     }
 
     /// Sets the lowest address that may be mapped, once.
     #[tactic(auto, unfolding(crate::specs::Lines::with_min))]
-    fn set_min(&mut self, words: &[&str]) -> Result<(), CallError>
-        ensures { Gives (λ _. so_far self.new) result (with_min (so_far self.old) (map (λ word. word.now) words.now)) }
+    fn set_min(&mut self, words: &[&str]) -> Result<(), Cause>
+        ensures added { Reads (λ _. so_far self.new) result (with_min (so_far self.old) (map (λ word. word.now) words.now)) }
+        ensures kept { IfErr result (λ _. so_far self.new ≡ so_far self.old) }
     {
-        if self.min.is_some() {
-            return Err(CallError::Bad(Cause::Word));
+        if self.settings.min.is_some() {
+            return Err(Cause::Word);
         }
-        self.min = Some(bound_of(words)?);
+        self.settings.min = Some(bound_of(words)?);
         Ok(())
     }
 
     /// Sets the address at which the heap begins, once.
     #[tactic(auto, unfolding(crate::specs::Lines::with_heap))]
-    fn set_heap(&mut self, words: &[&str]) -> Result<(), CallError>
-        ensures { Gives (λ _. so_far self.new) result (with_heap (so_far self.old) (map (λ word. word.now) words.now)) }
+    fn set_heap(&mut self, words: &[&str]) -> Result<(), Cause>
+        ensures added { Reads (λ _. so_far self.new) result (with_heap (so_far self.old) (map (λ word. word.now) words.now)) }
+        ensures kept { IfErr result (λ _. so_far self.new ≡ so_far self.old) }
     {
-        if self.heap.is_some() {
-            return Err(CallError::Bad(Cause::Word));
+        if self.settings.heap.is_some() {
+            return Err(Cause::Word);
         }
-        self.heap = Some(bound_of(words)?);
+        self.settings.heap = Some(bound_of(words)?);
         Ok(())
     }
 
-    /// Adds a file.
+    /// Adds a file, by its last tests in their order: no file before it has its descriptor, and there are fewer than a trace may have.
+    /// Only then its path takes memory.
     #[tactic(auto, unfolding(crate::specs::Lines::with_file))]
-    fn add_file(&mut self, file: FileRow) -> Result<(), CallError>
-        ensures { Gives (λ _. so_far self.new) result (with_file (so_far self.old) file) }
+    fn add_file(&mut self, alloc: Global, fields: FileFields, path: &str) -> Result<(), CallError>
+        ensures added { GivesTested (λ _. so_far self.new) result (with_file (so_far self.old) (with_path fields path.now)) }
+        ensures kept { StaysIfBad result (so_far self.old) (so_far self.new) }
     {
-        if has_descriptor(self.files.as_slice(), file.fd) {
+        if has_descriptor(self.files.as_slice(), fields.fd) {
             return Err(CallError::Bad(Cause::FileTwice));
         }
         if MOST_FILES <= self.files.len() {
             return Err(CallError::Bad(Cause::TooMany));
         }
+        let file = with_path(alloc, fields, path)?;
         self.files.push(file)?;
         Ok(())
     }
 
+    /// The lines with a thread so far, in their order.
+    pub fn lines(&self) -> &[TraceLine]
+        ensures { result.now ≡ (so_far self.now).lines }
+    {
+        self.lines.as_slice()
+    }
+
+    /// The configuration that the lines so far name, with a copy of their files. Fails only where memory runs out.
+    #[tactic(auto, unfolding(crate::specs::Grammar::config_of))]
+    pub fn config(&self, alloc: Global) -> Result<Config, NoMemory>
+        ensures { IfOk result (λ config. config ≡ config_of (so_far self.now)) }
+    {
+        let mut files = Vec::new(alloc);
+        for file in self.files.as_slice() {
+            files.push(file.copy(alloc)?)?;
+        }
+        Ok(config_named(self.settings, Files::of(files)))
+    }
+
     /// The trace that the lines so far are.
     #[tactic(auto, unfolding(crate::specs::Grammar::config_of))]
-    pub(crate) fn build(self) -> Trace
+    pub fn build(self) -> Trace
         ensures { result ≡ trace_so_far (so_far self) }
     {
-        let mut config = Config::with_files(Files::of(self.files));
-        config.min = self.min.unwrap_or(config.min);
-        config.top = self.top.unwrap_or(config.top);
-        config.limit = address_limit(self.version);
-        config.areas = self.areas.unwrap_or(config.areas);
-        config.heap = self.heap.unwrap_or(config.heap);
         Trace {
-            config,
+            config: config_named(self.settings, Files::of(self.files)),
             lines: Lines::of(self.lines),
         }
     }
+}
+
+/// The configuration that these settings name, with these files: the default where they name nothing.
+#[tactic(auto, unfolding(crate::specs::Grammar::config_of))]
+fn config_named(settings: Settings, files: Files) -> Config
+    ensures { result ≡ config_named settings files }
+{
+    let mut config = Config::with_files(files);
+    config.min = settings.min.unwrap_or(config.min);
+    config.top = settings.top.unwrap_or(config.top);
+    config.limit = address_limit(settings.version);
+    config.areas = settings.areas.unwrap_or(config.areas);
+    config.heap = settings.heap.unwrap_or(config.heap);
+    config
 }
 
 /// The version that the words of the first line name: `vmatrace 1` or `vmatrace 2`.
@@ -341,28 +412,6 @@ fn address_limit(version: Version) -> u64
     match version {
         Version::Narrow => ADDRESS_LIMIT,
         Version::Wide => WIDE_LIMIT,
-    }
-}
-
-/// Whether a word begins with `#`, which makes a line a comment where it is the first.
-#[tactic(auto, unfolding(crate::specs::Lines::is_comment))]
-pub fn is_comment(word: &str) -> bool
-    ensures { result ≡ is_comment word.now }
-{
-    match word.as_bytes() {
-        [first, ..] => *first == b'#',
-        [] => false,
-    }
-}
-
-/// Whether a word begins with a decimal digit.
-#[tactic(auto, unfolding(crate::specs::Lines::begins_with_digit))]
-pub fn begins_with_digit(word: &str) -> bool
-    ensures { result ≡ begins_with_digit word.now }
-{
-    match word.as_bytes() {
-        [first, ..] => first.is_ascii_digit(),
-        [] => false,
     }
 }
 

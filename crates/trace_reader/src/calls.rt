@@ -2,14 +2,13 @@
 
 ghost use Rattle.std.specs.Prelude.{◌≡◌, map, option_copied};
 ghost use Rattle.trace_reader.specs.Calls.{mmap, mmap_of, munmap, munmap_of, mprotect, mprotect_of, number_if, mremap, mremap_of, brk_of, mseal, mseal_of, call_named, has_its_new, call_of_words, call_of};
-ghost use Rattle.trace_reader.specs.Reading.{Gives};
+ghost use Rattle.text_lexer.specs.Reading.{Gives, Reads};
 
-use crate::error::{CallError, Cause};
-use crate::fields::{flags, mapped_descriptor, number, prot};
-use crate::words::{is_name, words_of};
+use crate::fields::{flags, mapped_descriptor, prot};
 use flag_table::{map_table, mremap_table};
 use mm_types::{Call, MREMAP_FIXED, MmapArgs, has_flag};
 use std::alloc::Global;
+use text_lexer::{CallError, Cause, is_name, number, words_of};
 
 /// The words of an mremap(2) with a new address, its name among them.
 const WORDS_WITH_NEW: usize = 6;
@@ -17,21 +16,20 @@ const WORDS_WITH_NEW: usize = 6;
 /// The mmap(2) of these words.
 #[tactic(auto, unfolding(crate::specs::Calls::mmap))]
 fn mmap(
-    alloc: Global,
     addr: &str,
     len: &str,
     allowed: &str,
     options: &str,
     fd: &str,
     offset: &str,
-) -> Result<Call, CallError>
-    ensures { Gives (λ call. call) result (mmap addr.now len.now allowed.now options.now fd.now offset.now) }
+) -> Result<Call, Cause>
+    ensures { Reads (λ call. call) result (mmap addr.now len.now allowed.now options.now fd.now offset.now) }
 {
     Ok(Call::Mmap(MmapArgs {
         addr: number(addr)?,
         len: number(len)?,
-        prot: prot(alloc, allowed)?,
-        flags: flags(alloc, &map_table(), options)?,
+        prot: prot(allowed)?,
+        flags: flags(&map_table(), options)?,
         fd: mapped_descriptor(fd)?,
         offset: number(offset)?,
     }))
@@ -39,21 +37,19 @@ fn mmap(
 
 /// `mmap ADDR LEN PROT FLAGS FD OFF`, from the words after the first.
 #[tactic(auto, unfolding(crate::specs::Calls::mmap_of))]
-fn mmap_of(alloc: Global, words: &[&str]) -> Result<Call, CallError>
-    ensures { Gives (λ call. call) result (mmap_of (map (λ word. word.now) words.now)) }
+fn mmap_of(words: &[&str]) -> Result<Call, Cause>
+    ensures { Reads (λ call. call) result (mmap_of (map (λ word. word.now) words.now)) }
 {
     match words {
-        [addr, len, allowed, options, fd, offset] => mmap(
-            alloc, addr, len, allowed, options, fd, offset,
-        ),
-        _ => Err(CallError::Bad(Cause::Arity)),
+        [addr, len, allowed, options, fd, offset] => mmap(addr, len, allowed, options, fd, offset),
+        _ => Err(Cause::Arity),
     }
 }
 
 /// The munmap(2) of these words.
 #[tactic(auto, unfolding(crate::specs::Calls::munmap))]
-fn munmap(addr: &str, len: &str) -> Result<Call, CallError>
-    ensures { Gives (λ call. call) result (munmap addr.now len.now) }
+fn munmap(addr: &str, len: &str) -> Result<Call, Cause>
+    ensures { Reads (λ call. call) result (munmap addr.now len.now) }
 {
     Ok(Call::Munmap {
         addr: number(addr)?,
@@ -63,42 +59,42 @@ fn munmap(addr: &str, len: &str) -> Result<Call, CallError>
 
 /// `munmap ADDR LEN`.
 #[tactic(auto, unfolding(crate::specs::Calls::munmap_of))]
-fn munmap_of(words: &[&str]) -> Result<Call, CallError>
-    ensures { Gives (λ call. call) result (munmap_of (map (λ word. word.now) words.now)) }
+fn munmap_of(words: &[&str]) -> Result<Call, Cause>
+    ensures { Reads (λ call. call) result (munmap_of (map (λ word. word.now) words.now)) }
 {
     match words {
         [addr, len] => munmap(addr, len),
-        _ => Err(CallError::Bad(Cause::Arity)),
+        _ => Err(Cause::Arity),
     }
 }
 
 /// The mprotect(2) of these words.
 #[tactic(auto, unfolding(crate::specs::Calls::mprotect))]
-fn mprotect(alloc: Global, addr: &str, len: &str, allowed: &str) -> Result<Call, CallError>
-    ensures { Gives (λ call. call) result (mprotect addr.now len.now allowed.now) }
+fn mprotect(addr: &str, len: &str, allowed: &str) -> Result<Call, Cause>
+    ensures { Reads (λ call. call) result (mprotect addr.now len.now allowed.now) }
 {
     Ok(Call::Mprotect {
         addr: number(addr)?,
         len: number(len)?,
-        prot: prot(alloc, allowed)?,
+        prot: prot(allowed)?,
     })
 }
 
 /// `mprotect ADDR LEN PROT`.
 #[tactic(auto, unfolding(crate::specs::Calls::mprotect_of))]
-fn mprotect_of(alloc: Global, words: &[&str]) -> Result<Call, CallError>
-    ensures { Gives (λ call. call) result (mprotect_of (map (λ word. word.now) words.now)) }
+fn mprotect_of(words: &[&str]) -> Result<Call, Cause>
+    ensures { Reads (λ call. call) result (mprotect_of (map (λ word. word.now) words.now)) }
 {
     match words {
-        [addr, len, allowed] => mprotect(alloc, addr, len, allowed),
-        _ => Err(CallError::Bad(Cause::Arity)),
+        [addr, len, allowed] => mprotect(addr, len, allowed),
+        _ => Err(Cause::Arity),
     }
 }
 
 /// A number, where its word is there.
 #[tactic(auto, unfolding(crate::specs::Calls::number_if))]
-fn number_if(word: Option<&str>) -> Result<Option<u64>, CallError>
-    ensures { Gives (λ n. n) result (number_if (option_copied word.entry)) }
+fn number_if(word: Option<&str>) -> Result<Option<u64>, Cause>
+    ensures { Reads (λ n. n) result (number_if (option_copied word.entry)) }
 {
     match word {
         None => Ok(None),
@@ -109,19 +105,18 @@ fn number_if(word: Option<&str>) -> Result<Option<u64>, CallError>
 /// The mremap(2) of these words, where a NEW that is not there is 0.
 #[tactic(auto, unfolding(crate::specs::Calls::mremap))]
 fn mremap(
-    alloc: Global,
     old: &str,
     old_len: &str,
     new_len: &str,
     options: &str,
     new: Option<&str>,
-) -> Result<Call, CallError>
-    ensures { Gives (λ call. call) result (mremap old.now old_len.now new_len.now options.now (option_copied new.entry)) }
+) -> Result<Call, Cause>
+    ensures { Reads (λ call. call) result (mremap old.now old_len.now new_len.now options.now (option_copied new.entry)) }
 {
     let old = number(old)?;
     let old_len = number(old_len)?;
     let new_len = number(new_len)?;
-    let flags = flags(alloc, &mremap_table(), options)?;
+    let flags = flags(&mremap_table(), options)?;
     let new = number_if(new)?;
     Ok(Call::Mremap {
         old,
@@ -134,30 +129,23 @@ fn mremap(
 
 /// `mremap OLD OLDLEN NEWLEN FLAGS`, or with a fifth word NEW.
 #[tactic(auto, unfolding(crate::specs::Calls::mremap_of))]
-fn mremap_of(alloc: Global, words: &[&str]) -> Result<Call, CallError>
-    ensures { Gives (λ call. call) result (mremap_of (map (λ word. word.now) words.now)) }
+fn mremap_of(words: &[&str]) -> Result<Call, Cause>
+    ensures { Reads (λ call. call) result (mremap_of (map (λ word. word.now) words.now)) }
 {
     match words {
-        [old, old_len, new_len, options] => mremap(alloc, old, old_len, new_len, options, None),
-        [old, old_len, new_len, options, new] => mremap(
-            alloc,
-            old,
-            old_len,
-            new_len,
-            options,
-            Some(new),
-        ),
-        _ => Err(CallError::Bad(Cause::Arity)),
+        [old, old_len, new_len, options] => mremap(old, old_len, new_len, options, None),
+        [old, old_len, new_len, options, new] => mremap(old, old_len, new_len, options, Some(new)),
+        _ => Err(Cause::Arity),
     }
 }
 
 /// `brk ADDR` of brk(2).
 #[tactic(auto, unfolding(crate::specs::Calls::brk_of))]
-pub(crate) fn brk_of(words: &[&str]) -> Result<Call, CallError>
-    ensures { Gives (λ call. call) result (brk_of (map (λ word. word.now) words.now)) }
+pub(crate) fn brk_of(words: &[&str]) -> Result<Call, Cause>
+    ensures { Reads (λ call. call) result (brk_of (map (λ word. word.now) words.now)) }
 {
     let [addr] = words else {
-        return Err(CallError::Bad(Cause::Arity));
+        return Err(Cause::Arity);
     };
     Ok(Call::Brk {
         addr: number(addr)?,
@@ -166,8 +154,8 @@ pub(crate) fn brk_of(words: &[&str]) -> Result<Call, CallError>
 
 /// The mseal(2) of these words, all of them numbers.
 #[tactic(auto, unfolding(crate::specs::Calls::mseal))]
-fn mseal(addr: &str, len: &str, options: &str) -> Result<Call, CallError>
-    ensures { Gives (λ call. call) result (mseal addr.now len.now options.now) }
+fn mseal(addr: &str, len: &str, options: &str) -> Result<Call, Cause>
+    ensures { Reads (λ call. call) result (mseal addr.now len.now options.now) }
 {
     Ok(Call::Mseal {
         addr: number(addr)?,
@@ -178,30 +166,30 @@ fn mseal(addr: &str, len: &str, options: &str) -> Result<Call, CallError>
 
 /// `mseal ADDR LEN FLAGS`.
 #[tactic(auto, unfolding(crate::specs::Calls::mseal_of))]
-pub(crate) fn mseal_of(words: &[&str]) -> Result<Call, CallError>
-    ensures { Gives (λ call. call) result (mseal_of (map (λ word. word.now) words.now)) }
+pub(crate) fn mseal_of(words: &[&str]) -> Result<Call, Cause>
+    ensures { Reads (λ call. call) result (mseal_of (map (λ word. word.now) words.now)) }
 {
     match words {
         [addr, len, options] => mseal(addr, len, options),
-        _ => Err(CallError::Bad(Cause::Arity)),
+        _ => Err(Cause::Arity),
     }
 }
 
 /// The call of one of the four names, from the words after it.
 #[tactic(auto, unfolding(crate::specs::Calls::call_named))]
-pub(crate) fn call_named(alloc: Global, name: &str, words: &[&str]) -> Result<Call, CallError>
-    ensures { Gives (λ call. call) result (call_named name.now (map (λ word. word.now) words.now)) }
+pub(crate) fn call_named(name: &str, words: &[&str]) -> Result<Call, Cause>
+    ensures { Reads (λ call. call) result (call_named name.now (map (λ word. word.now) words.now)) }
 {
     if is_name(name, "mmap") {
-        mmap_of(alloc, words)
+        mmap_of(words)
     } else if is_name(name, "munmap") {
         munmap_of(words)
     } else if is_name(name, "mprotect") {
-        mprotect_of(alloc, words)
+        mprotect_of(words)
     } else if is_name(name, "mremap") {
-        mremap_of(alloc, words)
+        mremap_of(words)
     } else {
-        Err(CallError::Bad(Cause::Word))
+        Err(Cause::Word)
     }
 }
 
@@ -220,26 +208,27 @@ pub(crate) fn has_its_new(call: &Call, words: &[&str]) -> bool
 
 /// The words of a call: its name, and the words of its form.
 #[tactic(auto, unfolding(crate::specs::Calls::call_of_words))]
-fn call_of_words(alloc: Global, words: &[&str]) -> Result<Call, CallError>
-    ensures { Gives (λ call. call) result (call_of_words (map (λ word. word.now) words.now)) }
+fn call_of_words(words: &[&str]) -> Result<Call, Cause>
+    ensures { Reads (λ call. call) result (call_of_words (map (λ word. word.now) words.now)) }
 {
     let [name, rest @ ..] = words else {
-        return Err(CallError::Bad(Cause::Arity));
+        return Err(Cause::Arity);
     };
-    let call = call_named(alloc, name, rest)?;
+    let call = call_named(name, rest)?;
     if has_its_new(&call, words) {
         Ok(call)
     } else {
-        Err(CallError::Bad(Cause::Arity))
+        Err(Cause::Arity)
     }
 }
 
 /// The call that a text asks for, one of mmap(2), munmap(2), mprotect(2) and mremap(2), as it stands after the thread of a trace
-/// line: `munmap 0x1000 4096`. Any other name is `Cause::Word`.
+/// line: `munmap 0x1000 4096`. Any other name is `Cause::Word`. Only the list of its words takes memory.
 #[tactic(auto, unfolding(crate::specs::Calls::call_of))]
 pub fn call_of(alloc: Global, text: &str) -> Result<Call, CallError>
     ensures { Gives (λ call. call) result (call_of text.now) }
 {
     let words = words_of(alloc, text)?;
-    call_of_words(alloc, words.as_slice())
+    let call = call_of_words(words.as_slice())?;
+    Ok(call)
 }

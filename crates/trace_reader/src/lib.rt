@@ -23,38 +23,28 @@
 //! number of a line above it that is a call of another thread. A child is a new thread, which forks nothing, and neither
 //! names a line nor is named. In one line the causes come in the order in which `Cause` explains them.
 //!
-//! The parts of this form that other formats share are public as well: `first_line`, `text_within`, `text_of`, `words_of`,
-//! `set_words`, `text_after_words`, `is_comment`, `begins_with_digit`, `number`, `number_in`, `number_of`, `decimal_of`,
-//! `lower_hexadecimal_of`, `thread_of`, `call_of` and `error_at`.
+//! `text_lexer` has the lines, words and numbers that other formats share, and the causes. Those of its items by which a trace is
+//! read are public here too.
 #![tactic(auto)]
 
 mod builder;
 mod calls;
-mod error;
 mod fields;
 mod laws;
 mod limits;
-mod lines;
-mod numbers;
 mod operations;
 mod reading;
 mod settings;
 mod trace;
-mod words;
 
-pub use builder::{begins_with_digit, is_comment};
+pub use builder::TraceBuilder;
 pub use calls::call_of;
-pub use error::{BadLine, CallError, Cause, ReadError};
-pub use fields::{number, number_in};
+pub use fields::thread_of;
 pub use laws::{first_bad_line, front_is_enough, trace_limits, traces_fit};
-pub use limits::{
-    LINE_LIMIT, MOST_FILE_BYTES, MOST_FORKS, MOST_LINES, MOST_MAPS, MOST_NAMED, TRACE_LIMIT,
-};
-pub use lines::{RawLine, first_line, text_of, text_within};
-pub use numbers::{decimal_of, lower_hexadecimal_of, number_of, thread_of};
-pub use reading::{error_at, read};
+pub use limits::{MOST_FILE_BYTES, MOST_FORKS, MOST_LINES, MOST_MAPS, MOST_NAMED};
+pub use reading::read;
+pub use text_lexer::{BadLine, CallError, Cause, ReadError, number_of};
 pub use trace::{Lines, Op, Trace, TraceLine};
-pub use words::{set_words, text_after_words, words_of};
 
 #[cfg(test)]
 mod tests;

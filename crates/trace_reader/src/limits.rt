@@ -1,10 +1,4 @@
-//! How large a trace and its fields may be.
-
-/// The most bytes of a line, its newline not counted.
-pub const LINE_LIMIT: usize = 4096;
-
-/// The most bytes of a trace, newlines counted.
-pub const TRACE_LIMIT: usize = 67_108_864;
+//! How many lines a trace may have, and how large its fields may be. `text_lexer` has the limits of bytes.
 
 /// The most lines with a thread.
 pub const MOST_LINES: usize = 1_000_000;

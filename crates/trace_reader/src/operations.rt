@@ -2,16 +2,13 @@
 
 ghost use Rattle.std.specs.Prelude.{◌≡◌, map, option_copied};
 ghost use Rattle.trace_reader.specs.Operations.{fault, fault_of, maps_of, fork_of, op_named, op_of, note_of, without_note, line_named, op_has_its_new, line_of};
-ghost use Rattle.trace_reader.specs.Reading.{Gives};
+ghost use Rattle.text_lexer.specs.Reading.{Reads};
 
 use crate::calls::{brk_of, call_named, has_its_new, mseal_of};
-use crate::error::{CallError, Cause};
-use crate::fields::{access, number};
-use crate::numbers::{decimal_of, thread_of};
+use crate::fields::{access, thread_of};
 use crate::trace::{Op, TraceLine};
-use crate::words::is_name;
 use mm_types::{PAGE_SIZE, Page};
-use std::alloc::Global;
+use text_lexer::{Cause, decimal_of, is_name, number};
 
 /// What stands before LINE in the word by which a line names another.
 const NOTE: &str = "after=";
@@ -19,22 +16,17 @@ const NOTE: &str = "after=";
 /// The line of this number that these words are: `first`, and the words after it. The tests, in their order: the thread; the name
 /// of the operation; how many words there are; each of them, from the left; LINE; and NEW against the flags of an mremap(2).
 #[tactic(auto, unfolding(crate::specs::Operations::line_of))]
-pub(crate) fn line_of(
-    alloc: Global,
-    number: u64,
-    first: &str,
-    words: &[&str],
-) -> Result<TraceLine, CallError>
-    ensures { Gives (λ line. line) result (line_of number first.now (map (λ word. word.now) words.now)) }
+pub(crate) fn line_of(number: u64, first: &str, words: &[&str]) -> Result<TraceLine, Cause>
+    ensures { Reads (λ line. line) result (line_of number first.now (map (λ word. word.now) words.now)) }
 {
     let Some(thread) = thread_of(first) else {
-        return Err(CallError::Bad(Cause::Thread));
+        return Err(Cause::Thread);
     };
     let form = without_note(words);
-    let op = op_of(alloc, form)?;
+    let op = op_of(form)?;
     let after = line_named(note_of(words))?;
     if !op_has_its_new(&op, form) {
-        return Err(CallError::Bad(Cause::Arity));
+        return Err(Cause::Arity);
     }
     Ok(TraceLine {
         number,
@@ -68,15 +60,15 @@ fn without_note<'a, 'b>(words: &'b [&'a str]) -> &'b [&'a str]
 
 /// LINE: the number of a line, where its word is there.
 #[tactic(auto, unfolding(crate::specs::Operations::line_named))]
-fn line_named(word: Option<&str>) -> Result<Option<u64>, CallError>
-    ensures { Gives (λ line. line) result (line_named (option_copied word.entry)) }
+fn line_named(word: Option<&str>) -> Result<Option<u64>, Cause>
+    ensures { Reads (λ line. line) result (line_named (option_copied word.entry)) }
 {
     let Some(word) = word else {
         return Ok(None);
     };
     match decimal_of(word) {
         Some(line) => Ok(Some(line)),
-        None => Err(CallError::Bad(Cause::Number)),
+        None => Err(Cause::Number),
     }
 }
 
@@ -92,19 +84,19 @@ fn op_has_its_new(op: &Op, words: &[&str]) -> bool
 
 /// What the words after a thread ask for: the name of an operation, and the words of its form.
 #[tactic(auto, unfolding(crate::specs::Operations::op_of))]
-fn op_of(alloc: Global, words: &[&str]) -> Result<Op, CallError>
-    ensures { Gives (λ op. op) result (op_of (map (λ word. word.now) words.now)) }
+fn op_of(words: &[&str]) -> Result<Op, Cause>
+    ensures { Reads (λ op. op) result (op_of (map (λ word. word.now) words.now)) }
 {
     let [name, rest @ ..] = words else {
-        return Err(CallError::Bad(Cause::Arity));
+        return Err(Cause::Arity);
     };
-    op_named(alloc, name, rest)
+    op_named(name, rest)
 }
 
 /// The operation of this name, from the words after it.
 #[tactic(auto, unfolding(crate::specs::Operations::op_named))]
-fn op_named(alloc: Global, name: &str, words: &[&str]) -> Result<Op, CallError>
-    ensures { Gives (λ op. op) result (op_named name.now (map (λ word. word.now) words.now)) }
+fn op_named(name: &str, words: &[&str]) -> Result<Op, Cause>
+    ensures { Reads (λ op. op) result (op_named name.now (map (λ word. word.now) words.now)) }
 {
     if is_name(name, "fault") {
         fault_of(words)
@@ -117,14 +109,14 @@ fn op_named(alloc: Global, name: &str, words: &[&str]) -> Result<Op, CallError>
     } else if is_name(name, "mseal") {
         Ok(Op::Call(mseal_of(words)?))
     } else {
-        Ok(Op::Call(call_named(alloc, name, words)?))
+        Ok(Op::Call(call_named(name, words)?))
     }
 }
 
 /// The page fault of these words: an access to the page of the address.
 #[tactic(auto, unfolding(crate::specs::Operations::fault))]
-fn fault(addr: &str, wanted: &str) -> Result<Op, CallError>
-    ensures { Gives (λ op. op) result (fault addr.now wanted.now) }
+fn fault(addr: &str, wanted: &str) -> Result<Op, Cause>
+    ensures { Reads (λ op. op) result (fault addr.now wanted.now) }
 {
     Ok(Op::Fault {
         page: Page(number(addr)? / PAGE_SIZE),
@@ -134,37 +126,37 @@ fn fault(addr: &str, wanted: &str) -> Result<Op, CallError>
 
 /// `fault ADDR A`.
 #[tactic(auto, unfolding(crate::specs::Operations::fault_of))]
-fn fault_of(words: &[&str]) -> Result<Op, CallError>
-    ensures { Gives (λ op. op) result (fault_of (map (λ word. word.now) words.now)) }
+fn fault_of(words: &[&str]) -> Result<Op, Cause>
+    ensures { Reads (λ op. op) result (fault_of (map (λ word. word.now) words.now)) }
 {
     match words {
         [addr, wanted] => fault(addr, wanted),
-        _ => Err(CallError::Bad(Cause::Arity)),
+        _ => Err(Cause::Arity),
     }
 }
 
 /// `maps`: a read of the list of areas.
 #[tactic(auto, unfolding(crate::specs::Operations::maps_of))]
-fn maps_of(words: &[&str]) -> Result<Op, CallError>
-    ensures { Gives (λ op. op) result (maps_of (map (λ word. word.now) words.now)) }
+fn maps_of(words: &[&str]) -> Result<Op, Cause>
+    ensures { Reads (λ op. op) result (maps_of (map (λ word. word.now) words.now)) }
 {
     if words.is_empty() {
         Ok(Op::Maps)
     } else {
-        Err(CallError::Bad(Cause::Arity))
+        Err(Cause::Arity)
     }
 }
 
 /// `fork C`: a child space, whose one thread is C.
 #[tactic(auto, unfolding(crate::specs::Operations::fork_of))]
-fn fork_of(words: &[&str]) -> Result<Op, CallError>
-    ensures { Gives (λ op. op) result (fork_of (map (λ word. word.now) words.now)) }
+fn fork_of(words: &[&str]) -> Result<Op, Cause>
+    ensures { Reads (λ op. op) result (fork_of (map (λ word. word.now) words.now)) }
 {
     let [child] = words else {
-        return Err(CallError::Bad(Cause::Arity));
+        return Err(Cause::Arity);
     };
     match thread_of(child) {
         Some(child) => Ok(Op::Fork { child }),
-        None => Err(CallError::Bad(Cause::Number)),
+        None => Err(Cause::Number),
     }
 }

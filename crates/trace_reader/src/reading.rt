@@ -1,28 +1,19 @@
 ghost use Rattle.std.specs.Prelude.{◌≡◌};
-ghost use Rattle.trace_reader.specs.Grammar.{bad_line, trace_of, lines_read};
-ghost use Rattle.trace_reader.specs.Reading.{GivesLines, GivesTrace, error_at};
+ghost use Rattle.text_lexer.specs.BadLines.{bad_line};
+ghost use Rattle.trace_reader.specs.Grammar.{trace_of, lines_read};
+ghost use Rattle.trace_reader.specs.Reading.{GivesLines, GivesTrace};
+ghost use Rattle.text_lexer.specs.Reading.{error_at};
 
 use crate::builder::TraceBuilder;
-use crate::error::{BadLine, CallError, Cause, ReadError};
-use crate::lines::first_line;
 use crate::trace::Trace;
 use std::alloc::Global;
+use text_lexer::{BadLine, Cause, ReadError, error_at, first_line};
 
 /// Says that this line is the first bad one.
 fn bad(line: u64, cause: Cause) -> ReadError
     ensures { result ≡ ReadError.Bad (bad_line line cause) }
 {
     ReadError::Bad(BadLine { line, cause })
-}
-
-/// What is wrong with a file whose line of this number is bad for this cause, or was not read for want of memory.
-pub fn error_at(line: u64, error: CallError) -> ReadError
-    ensures { result ≡ error_at line error }
-{
-    match error {
-        CallError::Bad(cause) => bad(line, cause),
-        CallError::NoMemory => ReadError::NoMemory,
-    }
 }
 
 /// What the lines of some bytes say, or the first of them that is bad.

@@ -6,6 +6,7 @@ use mm_types::{
 };
 use std::alloc::Global;
 use std::test::Fail;
+use text_lexer::LINE_LIMIT;
 
 /// The first bad line of bytes, if one is bad.
 fn refusal(alloc: Global, bytes: &[u8]) -> Result<Option<BadLine>, ReadError> {
@@ -405,27 +406,7 @@ fn growing_and_named_lines_are_read(rt: HostRuntime) -> Result<(), Fail> {
 }
 
 #[test]
-fn parts_are_read_alone(rt: HostRuntime) -> Result<(), Fail> {
-    for (word, number) in [
-        ("18446744073709551615", Some(u64::MAX)),
-        ("0xFfffffffFFFFFFFF", Some(u64::MAX)),
-        ("00000000000000000007", Some(7)),
-        ("18446744073709551616", None),
-        ("0x", None),
-        ("0X7", None),
-        ("+7", None),
-        ("", None),
-    ] {
-        assert_eq!(rt; number_of(word), number, "{word}");
-    }
-    for (word, number) in [
-        ("00ff", Some(255)),
-        ("fF", None),
-        ("", None),
-        ("12345", None),
-    ] {
-        assert_eq!(rt; lower_hexadecimal_of(word, 4), number, "{word}");
-    }
+fn calls_are_read_alone(rt: HostRuntime) -> Result<(), Fail> {
     let call = Call::Munmap { addr: 7, len: 8 };
     assert_eq!(rt; call_of(rt.alloc(), " munmap 7 8 ")?, call);
     for (text, cause) in [
@@ -442,15 +423,6 @@ fn parts_are_read_alone(rt: HostRuntime) -> Result<(), Fail> {
             Err(CallError::Bad(cause)),
             "{text}"
         );
-    }
-    for (number, name, cause) in [
-        (1, "Header", Cause::Header),
-        (11, "NoEnd", Cause::NoEnd),
-        (13, "After", Cause::After),
-        (17, "NotOurs", Cause::NotOurs),
-    ] {
-        assert_eq!(rt; cause.number(), number);
-        assert_eq!(rt; cause.name(), name);
     }
     Ok(())
 }

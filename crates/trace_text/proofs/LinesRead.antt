@@ -12,16 +12,17 @@ use Rattle.std.proofs.lemmas.List.Elements.{All-nil, All-cons, All-head, All-tai
 use Rattle.std.proofs.lemmas.List.Splits.{slice_split_at, length-slice_split}
 use Rattle.std.proofs.lemmas.Str.{IsUtf8-from_ascii, is_utf8-from_IsUtf8}
 use Rattle.std.proofs.lemmas.Str.Ascii.{IsAscii-from_all}
-use Rattle.trace_reader.specs.declared.error.Cause.TheVariants.{Header}
+use Rattle.text_lexer.specs.declared.error.Cause.TheVariants.{Header}
 use Rattle.trace_reader.specs.declared.trace.Op.{Op}
 use Rattle.trace_reader.specs.declared.trace.TraceLine.{TraceLine}
-use Rattle.trace_reader.specs.Grammar.{bad_line, nothing, at_line, after_lines, lines_read, trace_so_far, whole, trace_of}
-use Rattle.trace_reader.specs.Lines.{SoFar, trace_limit, version_numbered, version_of, with_header, names_rightly, forks_rightly, is_full, with_one, with_line, is_comment, begins_with_digit, after_words, after_line}
-use Rattle.trace_reader.specs.Lines as lines
-use Rattle.trace_reader.specs.RawLines.{raw_line, is_newline, is_longer_than, text_within, lines_of_pieces, lines_from}
+use Rattle.text_lexer.specs.BadLines.{bad_line, at_line}
+use Rattle.trace_reader.specs.Grammar.{nothing, after_lines, lines_read, trace_so_far, whole, trace_of}
+use Rattle.trace_reader.specs.Lines.{SoFar, version_numbered, version_of, with_header, names_rightly, forks_rightly, is_full, with_one, with_line, after_words, after_line}
+use Rattle.text_lexer.specs.Lines.{input_limit, raw_line, is_newline, is_longer_than, text_within, lines_of_pieces, lines_from}
+use Rattle.text_lexer.specs.Words.{is_comment, begins_with_digit, words_of}
+use Rattle.text_lexer.specs.Lines as lines
 use Rattle.trace_reader.specs.Values.{is_maps, child_of}
-use Rattle.trace_reader.specs.Words.{words_of}
-use Rattle.trace_reader.proofs.RawPieces.{lines_from-nil}
+use Rattle.text_lexer.proofs.RawPieces.{lines_from-nil}
 use Rattle.trace_text.specs.LineTexts.{note_words, words_around, text_by, line_text_by}
 use Rattle.trace_text.proofs.PlainWords.{IsShown, room_of, join-shown, length-join}
 use Rattle.trace_text.proofs.Numerals.{length-number}
@@ -81,11 +82,11 @@ shown_from_test (c ∷ text) e =
 
 -- the text of a line that is short, lies within the limit and is UTF-8
 pub text_of-utf8 : (number start : ℕ) (text : List ℕ) → is_utf8 text ≡ true → length text ≤ 4096
-    → start + length text + 1 ≤ trace_limit → lines.text_of (raw_line number start text true) ≡ Ok text
+    → start + length text + 1 ≤ input_limit → lines.text_of (raw_line number start text true) ≡ Ok text
 unfolding text_within is_longer_than
 text_of-utf8 number start text utf8 short within =
     let few : nat_lt 4096 (length text) ≡ false = grind (arith, nat_tests) in
-    let inside : nat_lt trace_limit (start + length text + 1) ≡ false = grind (arith, nat_tests) in
+    let inside : nat_lt input_limit (start + length text + 1) ≡ false = grind (arith, nat_tests) in
     rw (few, inside, utf8) refl
 
 -- bytes up to a newline are a line, and what follows are the others
@@ -145,7 +146,7 @@ with_line-added so_far line room no_maps no_child alone =
     })) (append-nil so_far.children))
 
 after_line-added : (write : Op → List (List ℕ)) (so_far : SoFar) (line : TraceLine) (start : ℕ) → 1 < line.number → IsReadableBy write line
-    → length so_far.lines < 1000000 → start + length (text_by write line) + 1 ≤ trace_limit
+    → length so_far.lines < 1000000 → start + length (text_by write line) + 1 ≤ input_limit
     → after_line so_far (raw_line line.number start (text_by write line) true) ≡ Ok (with_lines so_far (line ∷ []))
 unfolding after_line
 after_line-added write so_far line start later is room within =
@@ -163,7 +164,7 @@ after_line-added write so_far line start later is room within =
 -- lines are read, each as it is written, where they are few and lie within the limit
 pub after_all : (write : Op → List (List ℕ)) (lines : List TraceLine) (number start : ℕ) (so_far : SoFar) → 1 < number
     → AreNumberedFrom number lines → All (IsReadableBy write) lines → length so_far.lines + length lines ≤ 1000000
-    → start + length (flat_map (line_text_by write) lines) ≤ trace_limit
+    → start + length (flat_map (line_text_by write) lines) ≤ input_limit
     → after_lines so_far (lines_from number start (flat_map (line_text_by write) lines)) ≡ Ok (with_lines so_far lines)
 after_all write [] number start so_far later numbered are room within =
     ap (after_lines so_far) (lines_from-nil number start)
@@ -190,7 +191,7 @@ header-shown : All IsShown (codes "vmatrace 1")
 header-shown = shown_from_test (codes "vmatrace 1") refl
 
 header-reads : after_line nothing (raw_line 1 0 (codes "vmatrace 1") true) ≡ Ok nothing
-unfolding after_line with_header version_of version_numbered words_of trace_limit
+unfolding after_line with_header version_of version_numbered words_of input_limit
 header-reads = rw (text_of-utf8 1 0 (codes "vmatrace 1") (shown-utf8 (codes "vmatrace 1") header-shown) (lit≤ tt) (lit≤ tt)) refl
 
 -- below the header stand the lines from number 2 on

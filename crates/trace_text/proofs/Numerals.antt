@@ -9,9 +9,9 @@ use Rattle.std.proofs.lemmas.Bool.{and_from, lt-ltb, le-leb, cond-true, cond-fal
 use Rattle.std.proofs.lemmas.Bool.Decides.{nat_tests}
 use Rattle.std.proofs.lemmas.Fmt.{decimal_digit, decimal_is_IsNumeral, digits_is_IsNumeral, length-decimal-le}
 use Rattle.std.proofs.lemmas.List.Elements.{All-nil, All-cons, All-append}
-use Rattle.trace_reader.specs.declared.error.Cause.TheVariants.{Number}
-use Rattle.trace_reader.specs.Fields.{number}
-use Rattle.trace_reader.specs.Numbers.{digits_of, number_of, decimal_of, thread_of}
+use Rattle.text_lexer.specs.declared.error.Cause.TheVariants.{Number}
+use Rattle.text_lexer.specs.Numbers.{number, digits_of, number_of, decimal_of}
+use Rattle.trace_reader.specs.Fields.{thread_of}
 use Rattle.trace_text.specs.LineTexts.{hexadecimal, address_word}
 use Rattle.trace_text.proofs.PlainWords.{IsPlain, IsWord}
 

@@ -28,7 +28,8 @@ use Rattle.flag_table.proofs.Texts.{reading-printed}
 use Rattle.trace_reader.specs.declared.trace.Op.{Op}
 use Rattle.trace_reader.specs.declared.trace.Op.TheVariants as ops
 use Rattle.trace_reader.specs.Calls.{mmap, mmap_of, munmap, munmap_of, mprotect, mprotect_of, mremap, mremap_of, number_if, brk_of, mseal, mseal_of, call_named, has_its_new}
-use Rattle.trace_reader.specs.Fields.{number, number_in, descriptor, mapped_descriptor, access, or_flag, flags, prot, prot_of_bits}
+use Rattle.text_lexer.specs.Numbers.{number, number_in}
+use Rattle.trace_reader.specs.Fields.{descriptor, mapped_descriptor, access, or_flag, flags, prot, prot_of_bits}
 use Rattle.trace_reader.specs.Operations.{fault, fault_of, maps_of, fork_of, op_named, op_of, op_has_its_new}
 use Rattle.trace_reader.specs.Values.{IsMapping, IsOpValue}
 use Rattle.trace_text.specs.LineTexts.{hexadecimal, address_word, prot_word, access_word, mapping_words, call_words, op_words, HasNames}

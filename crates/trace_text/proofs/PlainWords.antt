@@ -5,7 +5,7 @@ use Rattle.std.proofs.lemmas.Bool.{cond-true, ne_eqb, not_from_false}
 use Rattle.std.proofs.lemmas.Bool.Decides.{nat_tests}
 use Rattle.std.proofs.lemmas.List.Elements.{All-nil, All-cons, All-head, All-tail, All-weaker, All-append}
 use Rattle.std.proofs.lemmas.List.Splits.{slice_split_at, slice_split_none}
-use Rattle.trace_reader.specs.Words.{is_blank, has_bytes, words_of}
+use Rattle.text_lexer.specs.Words.{is_blank, has_bytes, words_of}
 
 -- a byte of a word: an ASCII character that is printed, and no space
 abbrev pub IsPlain : ℕ → Type 0

@@ -10,7 +10,7 @@ use Rattle.trace_reader.specs.declared.trace.Op.{Op}
 use Rattle.trace_reader.specs.declared.trace.TraceLine.{TraceLine}
 use Rattle.trace_reader.specs.Operations.{note, last_word, note_of, without_note, line_named, line_of}
 use Rattle.trace_reader.specs.Values.{IsLineValue}
-use Rattle.trace_reader.specs.Words.{words_of}
+use Rattle.text_lexer.specs.Words.{words_of}
 use Rattle.trace_text.specs.LineTexts.{op_words, note_words, words_around, text_of, line_of_words, line_read, HasNames}
 use Rattle.trace_text.proofs.PlainWords.{IsPlain, IsWord, words_of-join}
 use Rattle.trace_text.proofs.Numerals.{decimal-word, decimal_of-decimal, thread_of-decimal}

@@ -15,9 +15,9 @@ use Rattle.mm_types.specs.Flags.{has_flag}
 use Rattle.flag_table.specs.Tables.{HasRows, prot_flags, map_flags, mremap_flags}
 use Rattle.flag_table.specs.Printing.{printed}
 use Rattle.trace_reader.specs.Operations.{note, line_of}
-use Rattle.trace_reader.specs.Words.{words_of}
-use Rattle.trace_reader.specs.declared.error.Cause.{Cause}
-use Rattle.trace_reader.specs.declared.error.Cause.TheVariants.{Arity}
+use Rattle.text_lexer.specs.Words.{words_of}
+use Rattle.text_lexer.specs.declared.error.Cause.{Cause}
+use Rattle.text_lexer.specs.declared.error.Cause.TheVariants.{Arity}
 use Rattle.trace_reader.specs.declared.trace.Op.{Op}
 use Rattle.trace_reader.specs.declared.trace.Op.TheVariants as ops
 use Rattle.trace_reader.specs.declared.trace.TraceLine.{TraceLine}

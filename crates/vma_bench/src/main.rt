@@ -15,7 +15,7 @@ use std::rt::Env;
 use std::sync::Wait;
 use std::thread::Threads;
 use std::{env, io};
-use trace_reader::decimal_of;
+use text_lexer::decimal_of;
 
 /// What is told where the words are others.
 const USAGE: &str = "usage: vma_bench COUNT THREADS AREAS [CALLS] [own]";

@@ -1,11 +1,11 @@
 -- Serves `threads_for`: how close two callers with a line are.
-use Rattle.std.proofs.Common.{ℕ, ◌≡◌, ◌+◌, ◌-◌, ◌*◌, ◌/◌, ◌%◌, ◌<◌, ◌≤◌, ◌∙◌, refl, sym, subst, min, List, slice_get, Option, Some, None, arith, inl, inr, ◌⊎◌}
-use Rattle.std.specs.Prelude.{Vec}
+use Rattle.std.proofs.Common.{ℕ, ◌≡◌, ◌+◌, ◌-◌, ◌*◌, ◌/◌, ◌%◌, ◌<◌, ◌≤◌, ◌∙◌, refl, sym, subst, min, Bool, List, [], ◌∷◌, length, get_or, slice_get, Option, Some, None, arith, inl, inr, ◌⊎◌}
+use Rattle.std.specs.Prelude.{Vec, IsTrue, ◌↔◌}
 use Rattle.std.specs.declared.alloc.Global.{Global}
 use Rattle.std.proofs.lemmas.Bool.{cases_lt}
 use Rattle.std.proofs.lemmas.Grind.{div_ceil_times}
 use Rattle.std.proofs.lemmas.Nat.{mul-le}
-use Rattle.std.proofs.lemmas.Option.{same_Some}
+use Rattle.std.proofs.lemmas.Option.{same_Some, slice_get-get_or}
 use Rattle.fault_path.specs.Passes.{PassView}
 use Rattle.vma_drive.specs.Internal.Rounds.{HasLine, IsBusy}
 
@@ -103,23 +103,27 @@ closest_first busy all count closest closer last new old has none same here =
     (subst (λ (o : Option ℕ). Closest busy all (count + 1) closest o) (sym here)
     (closest_busy busy all count closest closest last old has old.some (omega arith) (λ final found. absurd (none final found)) (inl refl)))
 
--- a caller is busy where its pass has a line, and else is not
-pub busy_where : (places : List (Vec ℕ Global)) (rounds : List ℕ) (round : ℕ) (passes : List PassView) (caller : ℕ) (pass : PassView) (own : Vec ℕ Global)
-    (shown : List ℕ) → slice_get passes caller ≡ Some pass → slice_get places caller ≡ Some own → shown ≡ own.items → HasLine shown rounds round pass
-    → IsBusy places rounds round passes caller
-busy_where places rounds round passes caller pass own shown here its same has =
-    (pass, own, here, its, subst (λ (l : List ℕ). HasLine l rounds round pass) same has)
+-- an answer says whether a caller has a line next
+abbrev pub Tells : List (Vec ℕ Global) → List ℕ → ℕ → List PassView → ℕ → Bool → Type 0
+Tells places rounds round passes caller answer = IsTrue answer ↔ IsBusy places rounds round passes caller
 
-pub idle_where : (places : List (Vec ℕ Global)) (rounds : List ℕ) (round : ℕ) (passes : List PassView) (caller : ℕ) (pass : PassView) (own : Vec ℕ Global)
-    (shown : List ℕ) → slice_get passes caller ≡ Some pass → slice_get places caller ≡ Some own → shown ≡ own.items → ¬ HasLine shown rounds round pass
-    → ¬ IsBusy places rounds round passes caller
-idle_where places rounds round passes caller pass own shown here its same none busy =
-    let one : busy.0 ≡ pass = same_Some _ _ (sym busy.2 ∙ here) in
-    let held : busy.1 ≡ own = same_Some _ _ (sym busy.3 ∙ its) in
-    let line : HasLine own.items rounds round pass =
-    subst (λ (p : PassView). HasLine own.items rounds round p) one
-    (subst (λ (v : Vec ℕ Global). HasLine v.items rounds round busy.0) held busy.4) in
-    none (subst (λ (l : List ℕ). HasLine l rounds round pass) (sym same) line)
+-- a caller is busy where its pass has a line, and else is not
+pub tells_busy : (places : List (Vec ℕ Global)) (rounds : List ℕ) (round : ℕ) (passes : List PassView) (caller : ℕ) (pass : PassView) (answer : Bool)
+    → slice_get passes caller ≡ Some pass → caller < length places
+    → ((own : Vec ℕ Global) → slice_get places caller ≡ Some own → IsTrue answer ↔ HasLine own.items rounds round pass)
+    → Tells places rounds round passes caller answer
+tells_busy places rounds round passes caller pass answer here within line =
+    let own : Vec ℕ Global = get_or places caller (some places caller within) in
+    let its : slice_get places caller ≡ Some own = slice_get-get_or places caller (some places caller within) within in (
+      λ yes. (pass, own, here, its, (line own its).0 yes),
+      λ busy.
+          let one : busy.0 ≡ pass = same_Some _ _ (sym busy.2 ∙ here) in
+          (line busy.1 busy.3).1 (subst (λ (p : PassView). HasLine busy.1.items rounds round p) one busy.4),
+    )
+  where
+    some : (places : List (Vec ℕ Global)) (caller : ℕ) → caller < length places → Vec ℕ Global
+    some [] caller none = absurd (omega arith)
+    some (own ∷ rest) caller within = own
 
 -- so many equal shares are enough, and no fewer are
 pub record Shares (busy : ℕ → Type 0) (all threads : ℕ) : Type 0 where

@@ -1,17 +1,22 @@
 -- What passes did, and later passes.
-use Rattle.std.proofs.Common.{ℕ, ◌≡◌, subst, All, ◌+◌, ◌≤◌, ◌∙◌, refl, sym, ap, nat_eq, List, [], ◌∷◌, ◌++◌, length, take, drop, arith}
+use Rattle.std.proofs.Common.{ℕ, ◌≡◌, subst, All, ◌+◌, ◌≤◌, ◌∙◌, refl, sym, ap, nat_eq, List, [], ◌∷◌, ◌++◌, length, get_or, take, drop, arith}
 use Rattle.std.specs.Prelude.{Result, Ok, Err, OnErr}
 use Rattle.std.proofs.lemmas.List.{take-append-drop, take-append-le, take_all, length-take, length-append}
+use Rattle.std.proofs.lemmas.Option.{slice_get_within}
 use Rattle.std.proofs.lemmas.List.Elements.{filter-append, All-nil}
 use Rattle.mm_types.specs.declared.call.Entry.{Entry}
 use Rattle.area_rules.specs.Journals.{calls_by}
 use Rattle.lock_core.specs.Core.{StartsWith}
+use Rattle.trace_reader.specs.declared.trace.TraceLine.{TraceLine}
+use Rattle.history.specs.Histories.{lines_of}
 use Rattle.history.specs.Runs.{own_of, HasGrown}
-use Rattle.history.proofs.Steps.{own_none}
-use Rattle.fault_path.specs.Passes.{PassView, caller, seen_by, IsFresh, IsLater, AreFresh}
-use Rattle.mm_space.specs.Names.{SpaceId, viewed_of}
+use Rattle.history.proofs.Steps.{own_none, own_same}
+use Rattle.fault_path.specs.Passes.{PassView, caller, seen_by, made_by, IsLater}
+use Rattle.mm_space.specs.Names.{SpaceId}
 use Rattle.mm_space.specs.Opening.{AreOpened}
-use Rattle.vma_drive.specs.Hearing.{own_by, HaveGrown}
+use Rattle.vma_drive.specs.Hearing.{own_by, HaveGrown, IsUnused, AreUnused}
+use Rattle.vma_drive.specs.Naming.{tells}
+use Rattle.vma_drive.specs.Sharing.{AreShares, AreEnough}
 
 pub nothing : {X : Type 0} (xs : List X) → length xs ≡ 0 → xs ≡ []
 nothing [] none = refl
@@ -24,26 +29,32 @@ split long short starts = sym (ap (λ (l : List Entry). l ++ drop (length short)
 pub calls_append : (c : ℕ) (xs ys : List Entry) → length (calls_by c (xs ++ ys)) ≡ length (calls_by c xs) + length (calls_by c ys)
 calls_append c xs ys = ap length (filter-append (λ (e : Entry). nat_eq e.caller c) xs ys) ∙ length-append (calls_by c xs) (calls_by c ys)
 
--- a fresh pass did nothing
-pub fresh_own : (pass : PassView) → IsFresh pass → own_by pass ≡ []
-fresh_own pass fresh =
-    ap (λ (s : List Entry). own_of (caller pass) s pass.log) fresh.seen
-    ∙ ap (λ l. own_of (caller pass) [] l) fresh.log ∙ own_none (caller pass)
+-- with an unused pass nothing was done
+pub unused_own : (pass : PassView) → IsUnused pass → own_by pass ≡ []
+unused_own pass unused = ap (λ l. own_of (caller pass) (seen_by pass) l) unused.log
+    ∙ own_same (caller pass) [] (seen_by pass) [] unused.made ∙ own_none (caller pass)
 
 -- and its caller entered nothing
-pub fresh_grown : (pass : PassView) → IsFresh pass → HaveGrown pass
-fresh_grown pass fresh = subst (λ (s : List Entry). All HasGrown (calls_by (caller pass) s)) (sym fresh.seen) (All-nil HasGrown)
+pub unused_grown : (pass : PassView) → IsUnused pass → HaveGrown pass
+unused_grown pass unused = subst (λ l. All HasGrown l) (sym unused.made) (All-nil HasGrown)
 
--- passes of a space in which nothing was entered before it was opened
-abbrev pub AreNew : SpaceId → List PassView → Type 0
-AreNew name passes = AreFresh (viewed_of name) name.operations passes
+-- so it is of the passes of a space that was opened with nothing before
+pub opened_unused : (name : SpaceId) (passes : List PassView) → name.before ≡ [] → AreOpened name passes → AreUnused passes
+opened_unused name passes none opened place pass found =
+    let is = opened.opened place pass found in
+    record { made = ap (λ (l : List Entry). calls_by (caller pass) l) (is.seen ∙ none); log = is.log }
 
-pub are_new : (name : SpaceId) (passes : List PassView) → name.before ≡ [] → AreOpened name passes → AreNew name passes
-are_new name passes none opened = record {
-  passes_are = opened.passes_are;
-  fresh = λ place pass found.
-      let is = opened.opened place pass found in
-      record { seen = is.seen ∙ none; log = is.log; left = is.left };
+-- and each of these has enough operations, where its caller may make as many as it has
+pub opened_enough : (name : SpaceId) (lines : List TraceLine) (passes : List PassView) → AreOpened name passes → AreShares lines name.operations
+    → AreEnough lines passes
+opened_enough name lines passes opened shares = record {
+  all = opened.passes_are.all ∙ shares.all;
+  each = λ place pass found.
+      let is = opened.passes_are.each place pass found in
+      let left : pass.left ≡ length (lines_of lines place) + tells lines place =
+      (opened.opened place pass found).left ∙ is.0.operations ∙ ap (λ (k : ℕ). get_or name.operations k 0) is.1
+      ∙ shares.each place (omega (arith, slice_get_within passes place pass found, opened.passes_are.all, shares.all)) in
+      omega (arith, left);
 }
 
 -- a pass that is later than one that is later than a pass is later than that

@@ -1,15 +1,15 @@
 -- Serves `in_order`: what a pass did after the first lines.
 use Rattle.std.proofs.Common.{ℕ, ◌≡◌, ◌+◌, ◌<◌, ◌≤◌, ◌∙◌, refl, sym, ap, subst, List, [], ◌∷◌, ◌++◌, length, take, get_or, arith}
-use Rattle.std.proofs.lemmas.List.{take_all, take_more, length-append, map-append, append-nil}
+use Rattle.std.proofs.lemmas.List.{take_more, length-append, map-append, append-nil}
 use Rattle.trace_reader.specs.declared.trace.Op.{Op}
 use Rattle.trace_reader.specs.declared.trace.TraceLine.{TraceLine}
 use Rattle.history.specs.declared.items.Item.{Item}
 use Rattle.history.specs.Histories.{read_as, AsksItself, AskThemselves}
 use Rattle.history.specs.Runs.{ops_of, asked}
 use Rattle.history.proofs.Steps.{ops_more}
-use Rattle.fault_path.specs.Passes.{PassView, IsFresh, IsLater}
+use Rattle.fault_path.specs.Passes.{PassView, IsLater}
 use Rattle.vma_drive.specs.Hearing.{own_by, done_by, Grew, GrewNone, DoesItem}
-use Rattle.vma_drive.proofs.Operations.{fresh_own, later_on, no_later}
+use Rattle.vma_drive.proofs.Operations.{later_on, no_later}
 use Rattle.vma_drive.proofs.Growing.{grew_on, grew_still}
 
 -- the first lines were run
@@ -71,21 +71,8 @@ ran_no_more old mid new lines count ran later none = record {
   left = omega (arith, ran.left, none.left);
 }
 
--- a fresh pass that ran the first lines did just those
-pub fresh_grew : (old new : PassView) (more : List Item) → IsFresh old → Grew old new more → done_by new ≡ ops_of more
-fresh_grew old new more fresh grew = ap ops_of (grew.own ∙ ap (λ (l : List Item). l ++ more) (fresh_own old fresh))
-
-pub begun_of : (old new : PassView) (lines : List TraceLine) (count : ℕ) → IsFresh old → RanTo old new lines count
-    → done_by new ≡ asked (take count lines)
-begun_of old new lines count fresh ran = fresh_grew old new ran.more fresh ran.grew ∙ ran.ops
-
 -- the next line asks for itself
 pub asks_shown : (shown lines : List TraceLine) (count : ℕ) (d : TraceLine) → AskThemselves lines → shown ≡ lines → count < length shown
     → AsksItself (get_or shown count d).op
 asks_shown shown lines count d asks same within =
     (subst (λ (l : List TraceLine). AskThemselves l) (sym same) asks) count d within
-
--- and all where it ran all
-pub done_of : (old new : PassView) (lines : List TraceLine) (count : ℕ) → IsFresh old → RanTo old new lines count → length lines ≤ count
-    → done_by new ≡ asked lines
-done_of old new lines count fresh ran past = begun_of old new lines count fresh ran ∙ ap asked (take_all count lines past)

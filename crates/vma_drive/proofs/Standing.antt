@@ -16,11 +16,11 @@ use Rattle.history.specs.CallerPlaces.{callers_of, ArePlaces, StandAt}
 use Rattle.fault_path.specs.Passes.{PassView, seen_by, IsLater}
 use Rattle.mm_space.specs.Names.{SpaceId, ArePasses}
 use Rattle.vma_drive.specs.declared.rounds.Telling.{Telling}
-use Rattle.vma_drive.specs.Hearing.{own_by, done_by, HasRun, HaveGrown}
+use Rattle.vma_drive.specs.Hearing.{own_by, done_by, HasRun, HaveGrown, AreUnused}
 use Rattle.vma_drive.specs.Naming.{tells}
-use Rattle.vma_drive.specs.Internal.Rounds.{AreRounds, AreTellings, IsCut, RanRound, IsMoved, HasLine, Settled, AtRound, tells_from}
-use Rattle.vma_drive.specs.Sharing.{AreShares}
-use Rattle.vma_drive.proofs.Operations.{AreNew, fresh_own, fresh_grown}
+use Rattle.vma_drive.specs.Internal.Rounds.{AreRounds, AreTellings, IsCut, RanRound, IsMoved, HasLine, IsWhole, Settled, AtRound, tells_from}
+use Rattle.vma_drive.specs.Sharing.{AreEnough}
+use Rattle.vma_drive.proofs.Operations.{unused_own, unused_grown}
 use Rattle.vma_drive.proofs.OwnLines.{OwnAt, own_at, same_length, has_same}
 use Rattle.vma_drive.proofs.Following.{cut_next, told_on}
 
@@ -43,45 +43,44 @@ pub settle : (name : SpaceId) (lines shown : List TraceLine) (places places_show
     (tellings tellings_shown : List Telling)
     → shown ≡ lines → places_shown ≡ places → rounds_shown ≡ rounds → tellings_shown ≡ tellings → AreNumbered lines
     → ArePlaces shown (callers_of shown) places → AreRounds shown rounds → AreTellings shown rounds_shown tellings
-    → AreShares lines name.operations → Settled name shown places_shown rounds_shown tellings_shown
+    → length name.operations ≡ callers_of lines → Settled name shown places_shown rounds_shown tellings_shown
 settle name lines shown places places_shown rounds rounds_shown tellings tellings_shown lines_are places_are rounds_are tellings_are
-    numbered are_places are_rounds are_tellings shares = record {
+    numbered are_places are_rounds are_tellings callers = record {
       numbered = subst (λ (l : List TraceLine). AreNumbered l) (sym lines_are) numbered;
       places_are = subst (λ (l : List (Vec ℕ Global)). ArePlaces shown (callers_of shown) l) (sym places_are) are_places;
       rounds_are = subst (λ (l : List ℕ). AreRounds shown l) (sym rounds_are) are_rounds;
       tellings_are = subst (λ (l : List Telling). AreTellings shown rounds_shown l) (sym tellings_are) are_tellings;
-      shares = subst (λ (l : List TraceLine). AreShares l name.operations) (sym lines_are) shares;
+      callers = callers ∙ ap callers_of (sym lines_are);
     }
 
-pub begun_fresh : (name : SpaceId) (lines : List TraceLine) (passes : List PassView)
-    → AreNew name passes
+pub begun_fresh : (lines : List TraceLine) (passes : List PassView) → AreUnused passes
     → (caller : ℕ) (pass : PassView) → slice_get passes caller ≡ Some pass → (count : ℕ) × (done_by pass ≡ asked (take count (lines_of lines caller)))
 unfolding ops_of
-begun_fresh name lines passes fresh caller pass found = (0, ap ops_of (fresh_own pass (fresh.fresh caller pass found)))
+begun_fresh lines passes unused caller pass found = (0, ap ops_of (unused_own pass (unused caller pass found)))
 
-pub grown_fresh : (name : SpaceId) (passes : List PassView) → AreNew name passes → (caller : ℕ) (pass : PassView) → slice_get passes caller ≡ Some pass
+pub grown_fresh : (passes : List PassView) → AreUnused passes → (caller : ℕ) (pass : PassView) → slice_get passes caller ≡ Some pass
     → HaveGrown pass
-grown_fresh name passes fresh caller pass found = fresh_grown pass (fresh.fresh caller pass found)
+grown_fresh passes unused caller pass found = unused_grown pass (unused caller pass found)
 
 module _ (name : SpaceId) (lines : List TraceLine)
     (places : List (Vec ℕ Global)) (rounds : List ℕ) (tellings : List Telling)
     (settled : Settled name lines places rounds tellings) where
   pub callers_are : (passes : List PassView) → ArePasses name passes → length passes ≡ callers_of lines
-  callers_are passes are = are.all ∙ settled.shares.all
+  callers_are passes are = are.all ∙ settled.callers
 
   pub places_at : (passes : List PassView) → ArePasses name passes → ArePlaces lines (length passes) places
   places_at passes are = subst (λ (n : ℕ). ArePlaces lines n places) (sym (callers_are passes are)) settled.places_are
 
-  -- with fresh passes
-  pub at_first : (passes : List PassView) (owed : List ℕ) → AreNew name passes → length owed ≡ length passes
+  -- with passes with which nothing was done
+  pub at_first : (passes : List PassView) (owed : List ℕ) → ArePasses name passes → AreUnused passes → AreEnough lines passes → length owed ≡ length passes
       → ((caller : ℕ) (pass : PassView) → slice_get passes caller ≡ Some pass → get_or owed caller 0 ≡ pass.left)
       → AtRound name lines places rounds tellings passes owed 0
   unfolding ops_of
-  at_first passes owed fresh all each =
+  at_first passes owed are unused enough all each =
       let none : (caller : ℕ) (pass : PassView) → slice_get passes caller ≡ Some pass → own_by pass ≡ [] =
-      λ caller pass found. fresh_own pass (fresh.fresh caller pass found) in
+      λ caller pass found. unused_own pass (unused caller pass found) in
       record {
-        passes_are = fresh.passes_are;
+        passes_are = are;
         owed_all = all;
         has = λ caller pass found.
             let short : length (own_by pass) ≡ 0 = ap length (none caller pass found) in
@@ -89,7 +88,7 @@ module _ (name : SpaceId) (lines : List TraceLine)
               few = omega (arith, short);
               ops = ap ops_of (none caller pass found) ∙ ap (λ (l : List Item). asked (take (length l) (lines_of lines caller))) (sym (none caller pass found));
               left = omega (arith, short, each caller pass found);
-              grown = fresh_grown pass (fresh.fresh caller pass found);
+              grown = unused_grown pass (unused caller pass found);
             };
         cut = λ caller pass own found its.
             let short : length (own_by pass) ≡ 0 = ap length (none caller pass found) in
@@ -97,10 +96,7 @@ module _ (name : SpaceId) (lines : List TraceLine)
         enough = λ caller within.
             let pass : PassView = get_or passes caller (some passes caller within) in
             let found : slice_get passes caller ≡ Some pass = slice_get-get_or passes caller (some passes caller within) within in
-            let is = fresh.passes_are.each caller pass found in
-            let left : pass.left ≡ length (lines_of lines caller) + tells lines caller =
-            (fresh.fresh caller pass found).left ∙ is.0.operations ∙ ap (λ (k : ℕ). get_or name.operations k 0) is.1
-            ∙ settled.shares.each caller (omega (arith, callers_are passes fresh.passes_are)) in
+            let left : length (lines_of lines caller) + tells lines caller ≤ pass.left = enough.each caller pass found in
             omega (arith, left, each caller pass found, all_from caller tellings, settled.tellings_are.told caller);
         told = λ caller place pass item line number found item_is stands after teller there other said named other_is said_is.
             absurd (omega (arith, slice_get_within (own_by pass) place item item_is, ap length (none caller pass found)));
@@ -241,9 +237,7 @@ module _ (name : SpaceId) (lines : List TraceLine)
         | inr low ↦ absurd (none (more, low))
       ]
 
-      pub at_next : ((caller : ℕ) (pass : PassView) (own : Vec ℕ Global) → slice_get news caller ≡ Some pass → slice_get places caller ≡ Some own
-          → ¬ HasLine own.items rounds round pass)
-          → AtRound name lines places rounds tellings news owed (round + 1)
+      pub at_next : IsWhole places rounds round news → AtRound name lines places rounds tellings news owed (round + 1)
       at_next whole = record {
         passes_are = news_are;
         owed_all = owed_all ∙ at.owed_all ∙ sym news_all;
@@ -254,7 +248,7 @@ module _ (name : SpaceId) (lines : List TraceLine)
             let move = (moved caller its_went.old its_went.mid its_went.old_is its_went.mid_is).0 in
             cut_next lines rounds caller own.items round (get_or owed caller 0) its_went.old its_went.mid new settled.numbered settled.rounds_are
             ((places_at olds at.passes_are).stand caller own its) (move.grew.own ∙ append-nil (own_by its_went.old))
-            (at.cut caller its_went.old own its_went.old_is its) own_run (past own.items new (whole caller new own found its));
+            (at.cut caller its_went.old own its_went.old_is its) own_run (past own.items new (λ has. whole caller (new, own, found, its, has)));
         enough = λ caller within.
             let inside : caller < length olds = omega (arith, within, news_all) in
             omega (arith, at.enough caller inside, paid caller inside);

@@ -8,11 +8,8 @@ use Rattle.history.specs.Runs.{own_of, ops_of, asked, HasGrown}
 use Rattle.history.proofs.Steps.{own_none, own_same}
 use Rattle.fault_path.specs.Passes.{PassView, caller, seen_by}
 use Rattle.vma_drive.specs.Hearing.{own_by, done_by, IsLate, HaveGrown, IsUnused}
+use Rattle.vma_drive.proofs.Operations.{unused_own}
 use Rattle.vma_drive.proofs.RanLines.{RanTo}
-
-unused_own : (pass : PassView) → IsUnused pass → own_by pass ≡ []
-unused_own pass unused = ap (λ l. own_of (caller pass) (seen_by pass) l) unused.log
-    ∙ own_same (caller pass) [] (seen_by pass) [] unused.made ∙ own_none (caller pass)
 
 ran_own : (old new : PassView) (lines : List TraceLine) (count : ℕ) → IsUnused old → (ran : RanTo old new lines count) → own_by new ≡ ran.more
 ran_own old new lines count unused ran = ran.grew.own ∙ ap (λ (l : List Item). l ++ ran.more) (unused_own old unused)

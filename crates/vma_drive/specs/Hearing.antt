@@ -28,6 +28,10 @@ pub record IsUnused (pass : PassView) : Type 0 where
   pub made : made_by pass ≡ []
   pub log : pass.log ≡ []
 
+-- nothing was done with any of these passes
+abbrev pub AreUnused : List PassView → Type 0
+AreUnused passes = (caller : ℕ) (pass : PassView) → slice_get passes caller ≡ Some pass → IsUnused pass
+
 -- these items were done more, all of them once all was seen that had been seen before, and each touch among them has grown
 pub record Grew (old new : PassView) (more : List Item) : Type 0 where
   pub own : own_by new ≡ own_by old ++ more

@@ -1,17 +1,16 @@
 //! Runs the lines of a trace with passes: in rounds, or all of them in order.
-ghost use Rattle.std.specs.Prelude.{ℕ, ◌≡◌, ◌≤◌, [], length, take, slice_get, slice_index, Some, All, OnOk, IfOk};
+ghost use Rattle.std.specs.Prelude.{ℕ, ◌≡◌, ◌≤◌, length, take, slice_get, slice_index, Some, All, OnOk, IfOk};
 ghost use Rattle.trace_reader.specs.declared.trace.TraceLine.{TraceLine};
 ghost use Rattle.trace_reader.specs.Values.{IsTraceValue};
 ghost use Rattle.history.specs.Histories.{lines_of, AskThemselves};
 ghost use Rattle.history.specs.Runs.{asked};
 ghost use Rattle.fault_path.specs.Passes.{PassView, IsLater, seen_by};
 ghost use Rattle.mm_space.specs.Names.{IsPassOf, ArePasses};
-ghost use Rattle.mm_space.specs.Opening.{AreOpened};
-ghost use Rattle.vma_drive.specs.Hearing.{done_by, own_by, HaveGrown, IsLate, IsUnused, AreToldBy};
+ghost use Rattle.vma_drive.specs.Hearing.{done_by, own_by, HaveGrown, IsLate, IsUnused, AreUnused, AreToldBy};
 ghost use Rattle.vma_drive.specs.Internal.Rounds.{Settled, AtRound};
-ghost use Rattle.vma_drive.specs.Sharing.{AreShares};
+ghost use Rattle.vma_drive.specs.Sharing.{AreEnough};
 
-use crate::busy::is_whole;
+use crate::busy::{Round, is_whole};
 use crate::rounds::{Telling, count_rounds, rounds_of, tellings_of};
 use crate::telling::tell_round;
 use crate::watcher::{NoWatcher, Watcher};
@@ -26,7 +25,7 @@ use std::sync::Wait;
 use std::thread::Threads;
 use trace_reader::{Trace, TraceLine};
 
-/// Runs the lines of a trace with the fresh passes of a space, in rounds. In a round the lines of each caller are run with its pass, in
+/// Runs the lines of a trace with the passes of a space, with which nothing was done, in rounds. In a round the lines of each caller are run with its pass, in
 /// order, in a thread of its own; before it, for each line of the round that names one, the caller of the named line tells what it has
 /// seen. The gate is called before and after each operation with the number of its line. Where memory runs out, each pass has run a
 /// beginning of its lines.
@@ -39,9 +38,9 @@ pub fn drive<N: SpaceName + Send + Sync, R: Threads + Wait + Sync, G: Gate>(
     gate: &G,
 ) -> Result<(), NoMemory>
     requires trace { IsTraceValue trace.now }
-    requires before { N.name.before ≡ [] }
-    requires passes { AreOpened N.name passes.old }
-    requires shares { AreShares trace.now.lines N.name.operations }
+    requires passes { ArePasses N.name passes.old }
+    requires unused { AreUnused passes.old }
+    requires enough { AreEnough trace.now.lines passes.old }
     ensures passes { ArePasses N.name passes.new }
     ensures begun { (caller : ℕ) (pass : PassView) → slice_get passes.new caller ≡ Some pass
         → (count : ℕ) × (done_by pass ≡ asked (take count (lines_of trace.now.lines caller))) }
@@ -90,12 +89,17 @@ fn run_rounds<N: SpaceName + Send + Sync, R: Threads + Wait + Sync, G: Gate>(
     ensures grown { (caller : ℕ) (pass : PassView) → slice_get passes.new caller ≡ Some pass → HaveGrown pass }
     ensures told { OnOk result (AreToldBy lines.now passes.new) }
 {
-    for round in 0..count_rounds(rounds) {
-        tell_round(space, passes, tellings, owed, round);
-        run_workers(
-            rt, alloc, space, passes, lines, places, rounds, owed, round, gate,
-        );
-        if !is_whole(passes, places, rounds, owed, round) {
+    for number in 0..count_rounds(rounds) {
+        tell_round(space, passes, tellings, owed, number);
+        let round = Round {
+            lines,
+            places,
+            rounds,
+            owed,
+            number,
+        };
+        run_workers(rt, alloc, space, passes, round, gate);
+        if !is_whole(passes, round) {
             return Err(NoMemory);
         }
     }

@@ -19,16 +19,17 @@ use Rattle.mm_space.specs.Closing.{ClosedView}
 use Rattle.output_text.specs.Output.{item_text, listed_text, maps_text, told_by}
 use Rattle.vma_replay.specs.Forks.{forks_of}
 use Rattle.vma_replay.specs.Internal.Families.{IsFamily, IsForkOf}
-use Rattle.vma_replay.specs.Internal.Giving.{GivesAnOutput, IsCut, Prints}
-use Rattle.vma_replay.specs.Internal.Telling.{told_in_turn}
+use Rattle.output_print.specs.Giving.{IsCut, Prints}
+use Rattle.vma_replay.specs.Internal.Giving.{GivesAnOutput}
+use Rattle.output_print.specs.Telling.{told_in_turn}
 use Rattle.vma_replay.specs.Replaying.{IsRunOf, history_of_run}
 use Rattle.vma_replay.specs.declared.forks.Fork.{Fork}
-use Rattle.vma_replay.specs.declared.status.Status.{Status}
+use Rattle.output_print.specs.declared.error.PrintError.{PrintError}
 use Rattle.vma_replay.specs.declared.words.Mode.{Mode}
 use Rattle.vma_replay.proofs.FamilyTexts.{family_gives}
-use Rattle.vma_replay.proofs.InTurn.{told_of_lines}
+use Rattle.output_print.proofs.InTurn.{told_of_lines}
 use Rattle.vma_replay.proofs.Parents.{all_of_parent, family_made, found_right, no_children, own_parent}
-use Rattle.vma_replay.proofs.Pieces.{cut_more}
+use Rattle.output_print.proofs.Pieces.{cut_more}
 
 -- where no line forks there is no fork
 none_forks : (lines : List TraceLine) (journal : List Entry) (forks : List Fork) → children_of lines ≡ [] → All (IsForkOf lines journal) forks → [] ≡ forks
@@ -65,8 +66,8 @@ turns_told files lines turns items areas shown is same =
     ∙ ap (λ (l : List Record). told_by (item_text files) lines [] items ++ maps_text files l) same
 
 -- into an empty piece
-pub cut_empty : (old new : SinkView) (held text : List ℕ) (status : Status) → held ≡ [] → IsCut old new held text status → IsCut old new [] text status
-cut_empty old new held text status none cut = subst (λ (h : List ℕ). IsCut old new h text status) none cut
+pub cut_empty : (old new : SinkView) (held text : List ℕ) (error : PrintError) → held ≡ [] → IsCut old new held text error → IsCut old new [] text error
+cut_empty old new held text error none cut = subst (λ (h : List ℕ). IsCut old new h text error) none cut
 
 pub prints_empty : (old new : SinkView) (held holds text : List ℕ) → held ≡ [] → Prints old new held holds text → Prints old new [] holds text
 prints_empty old new held holds text none printed = subst (λ (h : List ℕ). Prints old new h holds text) none printed
@@ -96,7 +97,7 @@ run_told mode trace run lines turns shown of_trace is same =
     ap (λ (l : List TraceLine). told_in_turn (item_text trace.config.files) l turns ++ maps_text trace.config.files shown) of_trace
     ∙ turns_told trace.config.files trace.lines turns (history_of_run mode trace run) run.list shown is same
 
-pub cut_whole : (old new : SinkView) (held first second whole : List ℕ) (status : Status) → first ++ second ≡ whole → IsCut old new held first status
-    → IsCut old new held whole status
-cut_whole old new held first second whole status all cut =
-    subst (λ (t : List ℕ). IsCut old new held t status) all (cut_more old new held first second status cut)
+pub cut_whole : (old new : SinkView) (held first second whole : List ℕ) (error : PrintError) → first ++ second ≡ whole → IsCut old new held first error
+    → IsCut old new held whole error
+cut_whole old new held first second whole error all cut =
+    subst (λ (t : List ℕ). IsCut old new held t error) all (cut_more old new held first second error cut)

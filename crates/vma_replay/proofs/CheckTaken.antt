@@ -2,9 +2,9 @@
 use Rattle.std.proofs.Common.{ℕ, ◌≡◌, refl, sym, subst, List, Option, Some, None, Result, Ok, Err, IfSome}
 use Rattle.std.specs.Prelude.{IsOkAnd}
 use Rattle.io_edge.specs.Edge.{SourceView}
-use Rattle.trace_reader.specs.declared.error.ReadError.{ReadError}
-use Rattle.trace_reader.specs.declared.error.BadLine.{BadLine}
-use Rattle.trace_reader.specs.Reading.{IsErrorOf}
+use Rattle.text_lexer.specs.declared.error.ReadError.{ReadError}
+use Rattle.text_lexer.specs.declared.error.BadLine.{BadLine}
+use Rattle.text_lexer.specs.Reading.{IsErrorOf}
 use Rattle.output_check.specs.Input.{CheckInput, check_limit, input_of}
 use Rattle.output_check.specs.Checked.{IsCheckedAs}
 use Rattle.output_check.proofs.Fronts.{input_of-front}

@@ -12,7 +12,7 @@ use Rattle.clap.specs.Simple.{built}
 use Rattle.clap.specs.Walk.{Rule, Text, Walk, finished, idle, positional, nothing_held, settled_rows, walk_from, walked}
 use Rattle.clap.specs.Words.{matches_of, takes}
 use Rattle.clap.proofs.OnLiterals.{clap_on_literals}
-use Rattle.trace_reader.specs.Numbers.{decimal_of, digits_of, number_of}
+use Rattle.text_lexer.specs.Numbers.{decimal_of, digits_of, number_of}
 use Rattle.vma_replay.specs.declared.words.Job.{Job}
 use Rattle.vma_replay.specs.Jobs.{generate_words, job_of_words, named_job, operation_count, query_words}
 use Rattle.vma_replay.specs.Internal.CommandLine.{begins_with_dash, job_of_rows, words_command}

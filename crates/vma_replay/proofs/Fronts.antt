@@ -4,7 +4,7 @@ use Rattle.std.specs.Prelude.{◌⊎◌, IfSome, IsOkAnd, IsSomeAnd}
 use Rattle.std.specs.Io.KnownBytes.{Keeps}
 use Rattle.io_edge.specs.Edge.{SinkView}
 use Rattle.mm_space.specs.Closing.{ClosedView}
-use Rattle.trace_reader.specs.declared.error.BadLine.{BadLine}
+use Rattle.text_lexer.specs.declared.error.BadLine.{BadLine}
 use Rattle.trace_reader.specs.declared.trace.Trace.{Trace}
 use Rattle.trace_reader.specs.Grammar.{trace_of}
 use Rattle.vma_replay.specs.declared.status.Status.{Status}

@@ -1,12 +1,7 @@
-pub mod Given
-pub mod Pieces
-pub mod Outputs
 pub mod Doing
 pub mod Taken
 pub mod CheckTaken
 pub mod CommandLine
-pub mod Telling
-pub mod InTurn
 pub mod RunTexts
 pub mod Parents
 pub mod ChildSpaces

@@ -4,12 +4,13 @@ use Rattle.std.proofs.lemmas.Bool.{cases_lt}
 use Rattle.std.proofs.lemmas.List.{take-append-le}
 use Rattle.std.specs.Io.KnownBytes.{Consumes, IsAtEnd}
 use Rattle.io_edge.specs.Edge.{SourceView}
-use Rattle.trace_reader.specs.declared.error.ReadError.{ReadError}
-use Rattle.trace_reader.specs.declared.error.ReadError.TheVariants as reads
-use Rattle.trace_reader.specs.declared.error.BadLine.{BadLine}
+use Rattle.text_lexer.specs.declared.error.ReadError.{ReadError}
+use Rattle.text_lexer.specs.declared.error.ReadError.TheVariants as reads
+use Rattle.text_lexer.specs.declared.error.BadLine.{BadLine}
 use Rattle.trace_reader.specs.declared.trace.Trace.{Trace}
-use Rattle.trace_reader.specs.Lines.{trace_limit}
-use Rattle.trace_reader.specs.Reading.{GivesTrace, IsErrorOf}
+use Rattle.text_lexer.specs.Lines.{input_limit}
+use Rattle.trace_reader.specs.Reading.{GivesTrace}
+use Rattle.text_lexer.specs.Reading.{IsErrorOf}
 use Rattle.vma_replay.specs.declared.status.Status.{Status}
 use Rattle.vma_replay.specs.declared.words.Conversion.{Conversion}
 use Rattle.vma_replay.specs.declared.words.Conversion.TheVariants as conversions
@@ -67,7 +68,7 @@ refused_first {Y} read limit bounded old new bytes error status taken bad is =
     by_error (reads.Bad first) bad = (taken.0, (bytes, taken.1), settled read limit bounded old.left new.left bytes (Err first) taken.1 bad)
     by_error reads.NoMemory bad = taken.0
 
-bounded_trace : IsBounded trace_of trace_limit
+bounded_trace : IsBounded trace_of input_limit
 bounded_trace = record { front = trace_of-front; within = trace_within }
 
 bounded : (conversion : Conversion) → IsBounded (converted conversion) (most_converted conversion)
@@ -77,13 +78,13 @@ bounded conversions.Retrace = record { front = retraced-front; within = retraced
 
 -- of traces
 pub reads_trace : (old new : SourceView) (bytes : List ℕ) (trace : Trace)
-    → IsTaking trace_limit old new (Ok bytes) → trace_of bytes ≡ Ok trace → IsReading trace_of trace_limit old new (Ok trace)
-reads_trace = found_whole trace_of trace_limit bounded_trace
+    → IsTaking input_limit old new (Ok bytes) → trace_of bytes ≡ Ok trace → IsReading trace_of input_limit old new (Ok trace)
+reads_trace = found_whole trace_of input_limit bounded_trace
 
 pub reads_no_trace : (old new : SourceView) (bytes : List ℕ) (error : ReadError) (status : Status)
-    → IsTaking trace_limit old new (Ok bytes) → GivesTrace (Err error) (trace_of bytes) → status ≡ refused_as error
-    → IsReading trace_of trace_limit old new (Err status)
-reads_no_trace = refused_first trace_of trace_limit bounded_trace
+    → IsTaking input_limit old new (Ok bytes) → GivesTrace (Err error) (trace_of bytes) → status ≡ refused_as error
+    → IsReading trace_of input_limit old new (Err status)
+reads_no_trace = refused_first trace_of input_limit bounded_trace
 
 -- of what is turned into a text
 pub converts : (conversion : Conversion) (old new : SourceView) (bytes text : List ℕ)

@@ -1,7 +1,6 @@
 -- What no clause of a public function cites: it follows the code, and may change with it.
 pub mod Reading
 pub mod Giving
-pub mod Telling
 pub mod Families
 pub mod Tallies
 pub mod CommandLine

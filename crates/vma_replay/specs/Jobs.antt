@@ -1,7 +1,7 @@
 -- What the words after the program's name ask for.
 use Rattle.std.specs.Prelude.{ℕ, Bool, List, [], ◌∷◌, map, codes, bytes_eq, string_bytes, String, Option, Some, None, is_some, option_and_then, nat_le, if◌then◌else◌}
 use Rattle.std.specs.declared.alloc.Global.{Global}
-use Rattle.trace_reader.specs.Numbers.{decimal_of, number_of}
+use Rattle.text_lexer.specs.Numbers.{decimal_of, number_of}
 use Rattle.gen_load.specs.declared.loading.TheConstants.{MOST_OPERATIONS}
 use Rattle.vma_replay.specs.declared.words.Conversion.TheVariants as conversions
 use Rattle.vma_replay.specs.declared.words.Job.{Job}

@@ -15,11 +15,11 @@ use Rattle.history.specs.Runs.{history_of, IsRun}
 use Rattle.history.specs.Labels.{label_of, IsSerialRun}
 use Rattle.history.specs.Parents.{parent_lines}
 use Rattle.mm_fork.specs.Children.{inherited, child_history_of, child_lines, parent_trace, IsChildRun}
-use Rattle.trace_reader.specs.declared.error.Cause.{Cause}
-use Rattle.trace_reader.specs.declared.error.BadLine.{BadLine}
+use Rattle.text_lexer.specs.declared.error.Cause.{Cause}
+use Rattle.text_lexer.specs.declared.error.BadLine.{BadLine}
 use Rattle.trace_reader.specs.declared.trace.Trace.{Trace}
 use Rattle.trace_reader.specs.Grammar.{trace_of}
-use Rattle.trace_reader.specs.Lines.{trace_limit}
+use Rattle.text_lexer.specs.Lines.{input_limit}
 use Rattle.gen_load.specs.Loads.{load_trace}
 use Rattle.vma_replay.specs.declared.forks.Fork.{Fork}
 use Rattle.vma_replay.specs.declared.words.Conversion.{Conversion}
@@ -133,13 +133,13 @@ converted conversions.Retrace = retraced_of
 
 -- the most bytes that the input of a conversion may have
 abbrev pub most_converted : Conversion → ℕ
-most_converted conversion = trace_limit
+most_converted conversion = input_limit
 
 -- the table
 abbrev pub work_of : Job → Work
 work_of (jobs.Replay mode) = record {
   mode = Some mode;
-  reads = Some trace_limit;
+  reads = Some input_limit;
   opens = true;
   fault = λ input. result_err (trace_of input);
   gives = λ input runs text. IsOkAnd (trace_of input) (λ trace. GivesRuns mode trace runs text);

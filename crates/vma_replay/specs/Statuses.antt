@@ -1,7 +1,9 @@
 -- What `replay` answers, as a number and as a line of text.
 use Rattle.std.specs.Prelude.{ℕ, List, [], ◌++◌, codes, decimal}
-use Rattle.trace_reader.specs.declared.error.Cause.{Cause}
-use Rattle.trace_reader.specs.Causes.{cause_number, cause_name}
+use Rattle.text_lexer.specs.declared.error.Cause.{Cause}
+use Rattle.text_lexer.specs.Causes.{cause_number, cause_name}
+use Rattle.output_print.specs.declared.error.PrintError.{PrintError}
+use Rattle.output_print.specs.declared.error.PrintError.TheVariants as errors
 use Rattle.vma_replay.specs.declared.status.Status.{Status}
 use Rattle.vma_replay.specs.declared.status.Status.TheVariants as statuses
 
@@ -26,3 +28,8 @@ line_of_status (statuses.Trace line cause) = codes "trace line " ++ (decimal lin
 line_of_status statuses.ReadFault = codes "read fault"
 line_of_status statuses.WriteFault = codes "write fault"
 line_of_status statuses.NoMemory = codes "no memory"
+
+-- the answer where giving a text ended early
+abbrev pub status_of_print : PrintError → Status
+status_of_print errors.WriteFault = statuses.WriteFault
+status_of_print errors.NoMemory = statuses.NoMemory

@@ -2,12 +2,12 @@
 ghost use Rattle.std.specs.Prelude.{◌≡◌, ◌≤◌, ◌<◌, ◌++◌, All, IfOk, OnOk, length};
 ghost use Rattle.trace_reader.specs.declared.limits.TheConstants.{MOST_LINES};
 ghost use Rattle.history.specs.declared.callers.TheConstants.{MOST_THREADS};
-ghost use Rattle.history.specs.CallerPlaces.{ArePlaces};
-ghost use Rattle.vma_replay.specs.Internal.Families.{AreLegal};
+ghost use Rattle.output_print.specs.Giving.{AreLegal};
 ghost use Rattle.vma_replay.specs.Forks.{fork_of, forks_from, forks_of};
 
-use history::{Item, places_by_caller};
+use history::Item;
 use mm_types::NoMemory;
+use output_print::AnsweredLines;
 use std::alloc::Global;
 use trace_reader::{Op, TraceLine};
 
@@ -33,30 +33,22 @@ pub(crate) fn forks_of(
     requires legal { AreLegal lines.now items.now }
     ensures { IfOk result (λ forks. forks.items ≡ forks_of lines.now items.now) }
 {
-    let places = places_by_caller(alloc, lines)?;
-    let mut forks = forks_from(alloc, lines, places.as_slice(), items)?;
+    let mut forks = forks_from(alloc, lines, items)?;
     forks.sort_by_key(|fork| fork.child)?;
     Ok(forks)
 }
 
-/// The forks of a legal history, in its order, by the places of the lines of each caller.
-fn forks_from(
-    alloc: Global,
-    lines: &[TraceLine],
-    places: &[Vec<u32>],
-    items: &[Item],
-) -> Result<Vec<Fork>, NoMemory>
-    requires places { ArePlaces lines.now (length places.now) places.now }
+/// The forks of a legal history, in its order.
+fn forks_from(alloc: Global, lines: &[TraceLine], items: &[Item]) -> Result<Vec<Fork>, NoMemory>
+    requires few { length lines.now ≤ MOST_LINES }
+    requires threads { All (λ line. line.thread < MOST_THREADS) lines.now }
     requires legal { AreLegal lines.now items.now }
     ensures { IfOk result (λ forks. forks.items ≡ forks_from lines.now items.now) }
 {
     let mut forks = Vec::new(alloc);
-    let mut answered = vec![in alloc; 0usize; places.len()]?;
+    let mut answered = AnsweredLines::new(alloc, lines)?;
     for item in items {
-        let caller = item.caller as usize;
-        let place = places[caller][answered[caller]];
-        answered[caller] += 1;
-        push_fork(&mut forks, &lines[place as usize], item)?;
+        push_fork(&mut forks, answered.next(item), item)?;
     }
     Ok(forks)
 }

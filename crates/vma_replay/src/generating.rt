@@ -7,7 +7,6 @@ ghost use Rattle.vma_replay.specs.declared.words.Mode.TheVariants.{Serial};
 ghost use Rattle.vma_replay.specs.Internal.Giving.{GivesASummary, IsDoing, IsDone};
 ghost use Rattle.vma_replay.specs.Replaying.{IsRunOf};
 
-use crate::giving::give_all;
 use crate::replayed::{Replayed, Runs};
 use crate::status::Status;
 use crate::summary::Summary;
@@ -15,6 +14,7 @@ use gen_load::{MOST_OPERATIONS, load};
 use io_edge::Sink;
 use mm_space::Closed;
 use mm_types::NoMemory;
+use output_print::give_all;
 use std::alloc::Global;
 use std::sync::Wait;
 use trace_reader::{Trace, read};

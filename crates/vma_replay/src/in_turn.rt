@@ -1,33 +1,29 @@
 //! The output of a run that has no children. In `serial` it is printed line by line from what was done, without a list of it, where the order
 //! of the lines is that of the history.
-ghost use Rattle.std.specs.Prelude.{◌≡◌, ◌<◌, ◌^◌, ◌-◌, ◌∷◌, [], IfOk, IfSome, false, is_some};
+ghost use Rattle.std.specs.Prelude.{◌≡◌, ◌<◌, ◌^◌, ◌-◌, ◌∷◌, [], IfOk, IfSome, false, is_some, length};
 ghost use Rattle.std.specs.List.{list_any};
 ghost use Rattle.history.specs.Labels.{labelled};
-ghost use Rattle.history.specs.Runs.{content_of};
-ghost use Rattle.history.specs.Turns.{turn_item};
-ghost use Rattle.output_text.specs.Output.{item_text, listed_text, result_text};
+ghost use Rattle.output_text.specs.Output.{listed_text};
+ghost use Rattle.output_print.specs.declared.giving.TheConstants.{MOST_GIVEN};
+ghost use Rattle.output_print.specs.Giving.{IsGivingText, IsPrinting};
 ghost use Rattle.trace_reader.specs.Values.{IsTraceValue, child_of};
-ghost use Rattle.vma_replay.specs.Internal.Giving.{GivesAnOutput, IsDoing, IsGivingText, IsPrinting};
-ghost use Rattle.vma_replay.specs.Internal.Telling.{told_in_turn};
+ghost use Rattle.vma_replay.specs.Internal.Giving.{GivesAnOutput, IsDoing};
 ghost use Rattle.vma_replay.specs.Replaying.{IsRunOf, history_of_run};
 
-use crate::giving::give_all;
-use crate::printing::{
-    ROOM, print_areas, print_history, print_maps, print_reply, print_verdict, run_history,
-};
+use crate::printing::run_history;
 use crate::replayed::Runs;
 use crate::running::closed_run;
 use crate::status::Status;
 use crate::words::Mode;
-use history::{Turn, Turns, in_turn};
+use history::{Turns, in_turn};
 use io_edge::{Gate, Sink};
 use mm_space::Closed;
-use mm_types::{Files, NoMemory, Seen};
-use output_text::push_start;
+use mm_types::NoMemory;
+use output_print::{PrintError, ROOM, give_all, print_history, print_maps, print_turns};
 use std::alloc::Global;
 use std::sync::Wait;
 use std::thread::Threads;
-use trace_reader::{Op, Trace, TraceLine};
+use trace_reader::Trace;
 
 /// The closed run of a trace in which no line forks, once its output was given to a sink. It stands whole before the first byte is given.
 pub(crate) fn alone_given<R: Threads + Wait + Sync, K: Sink, G: Gate>(
@@ -65,7 +61,7 @@ fn give_alone<K: Sink>(
     mode: Mode,
     trace: &Trace,
     run: &Closed,
-) -> Result<(), Status>
+) -> Result<(), PrintError>
     requires trace { IsTraceValue trace.now }
     requires run { IsRunOf mode trace.now run.now }
     requires sink { (K.seen sink.old).faults < 2 ^ 64 - 1 }
@@ -85,9 +81,10 @@ fn print_alone<K: Sink>(
     mode: Mode,
     trace: &Trace,
     run: &Closed,
-) -> Result<(), Status>
+) -> Result<(), PrintError>
     requires trace { IsTraceValue trace.now }
     requires run { IsRunOf mode trace.now run.now }
+    requires held { length piece.old.items < MOST_GIVEN }
     requires sink { (K.seen sink.old).faults < 2 ^ 64 - 1 }
     ensures { IsPrinting (K.seen sink.old) (K.seen sink.new) piece.old.items piece.new.items
         (listed_text trace.now.config.files trace.now.lines (history_of_run mode trace.now run.now) run.now.list) result }
@@ -111,63 +108,5 @@ fn turns_of<'a>(mode: Mode, trace: &Trace, run: &'a Closed) -> Option<Turns<'a>>
     match mode {
         Mode::Serial => in_turn(trace.lines.items(), run.journal(), run.logs()[0].as_slice()),
         Mode::Threads => None,
-    }
-}
-
-/// Prints what was done, one thing with each line.
-fn print_turns<K: Sink>(
-    sink: &mut K,
-    piece: &mut Vec<u8>,
-    lines: &[TraceLine],
-    files: &Files,
-    mut turns: Turns<'_>,
-) -> Result<(), Status>
-    requires { (K.seen sink.old).faults < 2 ^ 64 - 1 }
-    ensures { IsPrinting (K.seen sink.old) (K.seen sink.new) piece.old.items piece.new.items
-        (told_in_turn (item_text files.now) lines.now turns.entry) result }
-{
-    for line in lines {
-        let Some(turn) = turns.next() else {
-            return Ok(());
-        };
-        print_turn(sink, piece, files, line, turn)?;
-    }
-    Ok(())
-}
-
-/// Prints one thing that was done, with its line.
-fn print_turn<K: Sink>(
-    sink: &mut K,
-    piece: &mut Vec<u8>,
-    files: &Files,
-    line: &TraceLine,
-    turn: Turn<'_>,
-) -> Result<(), Status>
-    requires { (K.seen sink.old).faults < 2 ^ 64 - 1 }
-    ensures { IsPrinting (K.seen sink.old) (K.seen sink.new) piece.old.items piece.new.items
-        (item_text files.now line.now (turn_item turn.entry)) result }
-{
-    push_start(piece, line, turn.version())?;
-    match turn {
-        Turn::Call(_, entry) => print_reply(sink, piece, entry.reply),
-        Turn::Read(read) => print_read(sink, piece, files, line.op, read),
-    }
-}
-
-/// Prints what an operation read.
-fn print_read<K: Sink>(
-    sink: &mut K,
-    piece: &mut Vec<u8>,
-    files: &Files,
-    op: Op,
-    read: &Seen,
-) -> Result<(), Status>
-    requires { (K.seen sink.old).faults < 2 ^ 64 - 1 }
-    ensures { IsPrinting (K.seen sink.old) (K.seen sink.new) piece.old.items piece.new.items
-        (result_text files.now (child_of op) (content_of read.now)) result }
-{
-    match read {
-        Seen::Fault { verdict, .. } => print_verdict(sink, piece, *verdict),
-        Seen::Maps { list, .. } => print_areas(sink, piece, files, op, list.items()),
     }
 }

@@ -5,11 +5,7 @@
 #![tactic(auto)]
 
 mod families;
-#[cfg(test)]
-mod family_tests;
 mod forks;
-#[cfg(test)]
-mod form_tests;
 mod generating;
 mod giving;
 mod in_turn;
@@ -18,33 +14,21 @@ mod laws;
 mod load_tests;
 #[cfg(test)]
 mod order_tests;
-#[cfg(test)]
-mod piece_tests;
 mod printing;
 mod reading;
 mod replayed;
 mod run;
 mod running;
 mod status;
-#[cfg(test)]
-mod step_tests;
 mod summary;
-#[cfg(test)]
-mod table_tests;
-#[cfg(test)]
-mod tests;
-#[cfg(test)]
-mod text_tests;
-#[cfg(test)]
-mod thread_tests;
 mod words;
 
 pub use forks::Fork;
 pub use history::label;
-pub use laws::serial_outputs_are_equal;
+pub use laws::{retraced_texts_come_back, serial_outputs_are_equal};
 pub use replayed::{Replayed, Runs};
 pub use run::replay;
 pub use status::{Status, status_line, status_number};
 pub use summary::Summary;
-pub use trace_reader::Cause;
+pub use text_lexer::Cause;
 pub use words::{Conversion, Job, Mode};

@@ -6,13 +6,12 @@ use crate::printing::run_history;
 use crate::reading::read_source;
 use crate::running::closed_run;
 use crate::summary::Summary;
-use crate::tests::words;
 use crate::words::Mode;
 use crate::{Status, replay};
 use gen_load::load;
 use history::check;
 use io_edge::{PlainGate, Source, SureSink, SureSource};
-use std::alloc::Global;
+use std::alloc::{AllocError, Global};
 use std::process::Abort;
 use std::sync::Wait;
 use std::test::Fail;
@@ -20,6 +19,15 @@ use std::thread::Threads;
 
 /// What the source has, of which nothing is to be read.
 const SOURCE: &[u8] = b"vmatrace 1\n";
+
+/// The words of the command line.
+fn words(alloc: Global, texts: &[&str]) -> Result<Vec<String>, AllocError> {
+    let mut words = Vec::new(alloc);
+    for text in texts {
+        words.push(String::from_str(alloc, text)?)?;
+    }
+    Ok(words)
+}
 
 #[test]
 fn gives_the_summary_of_a_generated_trace(rt: HostRuntime) -> Result<(), Fail> {

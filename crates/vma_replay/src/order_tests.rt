@@ -12,7 +12,6 @@ use crate::forks::Fork;
 use crate::printing::{give_family, run_history};
 use crate::reading::read_source;
 use crate::running::closed_run;
-use crate::text_tests::judged;
 use crate::words::Mode;
 use draws::Draws;
 use history::{MOST_THREADS, check};
@@ -20,6 +19,7 @@ use io_edge::{Gate, SureSink, SureSource};
 use mm_fork::{check_child, check_parent, child_history, inherit};
 use mm_space::Closed;
 use mm_types::{Call, Entry, NoMemory};
+use output_check::checked;
 use std::alloc::Global;
 use std::fmt::Write;
 use std::process::Abort;
@@ -235,22 +235,33 @@ fn judge<R: Threads + Wait + Sync + Abort>(
     Ok(family)
 }
 
-/// Has the text of a run judged by `check`, and the same with one line that ends with another byte than any right line.
-fn judge_text<R: Threads + Wait + Sync + Abort>(
-    rt: &R,
+/// What is judged of a text, as an output of a trace.
+fn judged(alloc: Global, trace: &[u8], text: &[u8]) -> Result<Vec<u8>, Fail> {
+    let mut input = Vec::from_slice(alloc, trace)?;
+    input.extend_from_slice(b"==\n")?;
+    input.extend_from_slice(text)?;
+    match checked(alloc, input.as_slice()) {
+        Ok(judgement) => Ok(judgement),
+        Err(_) => Err("neither a trace nor a text".into()),
+    }
+}
+
+/// Has the text of a run judged, and the same with one line that ends with another byte than any right line.
+fn judge_text(
+    rt: &impl Abort,
     alloc: Global,
     trace: &str,
     text: &[u8],
     seed: u64,
 ) -> Result<(), Fail> {
-    let legal = judged(rt, alloc, trace.as_bytes(), text)?;
-    assert_eq!(rt; legal.bytes(), b"legal\n".as_slice(), "seed {seed}");
+    let legal = judged(alloc, trace.as_bytes(), text)?;
+    assert_eq!(rt; legal.as_slice(), b"legal\n".as_slice(), "seed {seed}");
     let count = text.iter().filter(|byte| **byte == b'\n').count();
     let line = seed as usize % count.max(1);
     let wrong = with_wrong_line(alloc, text, line)?;
-    let bad = judged(rt, alloc, trace.as_bytes(), wrong.as_slice())?;
+    let bad = judged(alloc, trace.as_bytes(), wrong.as_slice())?;
     let wanted = format!(in alloc; "bad {}\n", line.saturating_add(1))?;
-    assert_eq!(rt; bad.bytes(), wanted.as_str().as_bytes(), "seed {seed}");
+    assert_eq!(rt; bad.as_slice(), wanted.as_str().as_bytes(), "seed {seed}");
     Ok(())
 }
 

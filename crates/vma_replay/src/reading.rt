@@ -1,8 +1,8 @@
 //! What a source has, as a trace, as an input that is turned into a text, or as a trace and a text that is judged.
 ghost use Rattle.std.specs.Prelude.{◌≡◌, ◌<◌, ◌^◌, ◌-◌, IfErr, IfOk, Ok};
 ghost use Rattle.trace_reader.specs.Grammar.{trace_of};
-ghost use Rattle.trace_reader.specs.Lines.{trace_limit};
-ghost use Rattle.trace_reader.specs.Reading.{IsErrorOf};
+ghost use Rattle.text_lexer.specs.Lines.{input_limit};
+ghost use Rattle.text_lexer.specs.Reading.{IsErrorOf};
 ghost use Rattle.trace_reader.specs.Values.{IsTraceValue};
 ghost use Rattle.vma_replay.specs.Internal.Reading.{IsChecking, IsReading, IsTaking, refused_as, taken_bytes};
 ghost use Rattle.vma_replay.specs.Replaying.{converted, most_converted};
@@ -15,22 +15,23 @@ use maps_retrace::retraced;
 use output_check::{TEXT_LIMIT, checked};
 use std::alloc::Global;
 use step_script::run_script;
-use trace_reader::{ReadError, TRACE_LIMIT, Trace, read};
+use text_lexer::{INPUT_LIMIT, ReadError};
+use trace_reader::{Trace, read};
 
 /// How many bytes a read asks for at most.
 const PIECE: usize = 65_536;
 
 /// The most bytes that a check reads of what it judges: those of a trace, of the line `==`, and of a text.
-const CHECK_LIMIT: usize = TRACE_LIMIT + 3 + TEXT_LIMIT;
+const CHECK_LIMIT: usize = INPUT_LIMIT + 3 + TEXT_LIMIT;
 
 /// Reads all of a source as a trace. A status says why it is none.
-#[tactic(auto, unfolding(trace_reader::specs::Lines::trace_limit))]
+#[tactic(auto, unfolding(text_lexer::specs::Lines::input_limit))]
 pub(crate) fn read_source<S: Source>(alloc: Global, source: &mut S) -> Result<Trace, Status>
     requires { (S.seen source.old).faults < 2 ^ 64 - 1 }
     ensures value { IfOk result IsTraceValue }
-    ensures reading { IsReading trace_of trace_limit (S.seen source.old) (S.seen source.new) result }
+    ensures reading { IsReading trace_of input_limit (S.seen source.old) (S.seen source.new) result }
 {
-    let bytes = take_bytes(alloc, source, TRACE_LIMIT)?;
+    let bytes = take_bytes(alloc, source, INPUT_LIMIT)?;
     match read(alloc, &bytes) {
         Ok(trace) => Ok(trace),
         Err(error) => Err(refused_as(error)),
@@ -38,7 +39,7 @@ pub(crate) fn read_source<S: Source>(alloc: Global, source: &mut S) -> Result<Tr
 }
 
 /// Reads all of a source, and turns it into a text. A status says why it is none.
-#[tactic(auto, unfolding(trace_reader::specs::Lines::trace_limit))]
+#[tactic(auto, unfolding(text_lexer::specs::Lines::input_limit))]
 pub(crate) fn convert_source<S: Source>(
     alloc: Global,
     source: &mut S,
@@ -47,7 +48,7 @@ pub(crate) fn convert_source<S: Source>(
     requires { (S.seen source.old).faults < 2 ^ 64 - 1 }
     ensures { IsReading (converted conversion) (most_converted conversion) (S.seen source.old) (S.seen source.new) (taken_bytes result) }
 {
-    let bytes = take_bytes(alloc, source, TRACE_LIMIT)?;
+    let bytes = take_bytes(alloc, source, INPUT_LIMIT)?;
     match convert(alloc, conversion, &bytes) {
         Ok(text) => Ok(text),
         Err(error) => Err(refused_as(error)),
@@ -67,7 +68,7 @@ fn convert(alloc: Global, conversion: Conversion, bytes: &[u8]) -> Result<Vec<u8
 }
 
 /// Reads all of a source, and tells whether the text behind its trace is a legal output of it. A status says why it has no such parts.
-#[tactic(auto, unfolding(output_check::specs::Input::check_limit, trace_reader::specs::Lines::trace_limit))]
+#[tactic(auto, unfolding(output_check::specs::Input::check_limit, text_lexer::specs::Lines::input_limit))]
 pub(crate) fn check_source<S: Source>(alloc: Global, source: &mut S) -> Result<Vec<u8>, Status>
     requires { (S.seen source.old).faults < 2 ^ 64 - 1 }
     ensures { IsChecking (S.seen source.old) (S.seen source.new) (taken_bytes result) }

@@ -1,6 +1,6 @@
 ghost use Rattle.std.specs.Prelude.{◌≡◌, ◌<◌, ◌^◌, ◌+◌, ◌-◌, ◌⊎◌, ◌∷◌, [], ℕ, List, true, false, IfSome, IsSomeAnd, Some};
 ghost use Rattle.std.specs.Io.KnownBytes.{Keeps, IsAtEnd};
-ghost use Rattle.trace_reader.specs.declared.error.Cause.{Cause};
+ghost use Rattle.text_lexer.specs.declared.error.Cause.{Cause};
 ghost use Rattle.io_edge.specs.Edge.{FailedLast};
 ghost use Rattle.mm_space.specs.Closing.{ClosedView};
 ghost use Rattle.vma_replay.specs.declared.words.Mode.TheVariants.{Serial};

@@ -3,8 +3,9 @@ ghost use Rattle.vma_replay.specs.Statuses.{number_of_status, line_of_status};
 ghost use Rattle.vma_replay.specs.declared.status.Status.TheVariants.{NoMemory as no_memory};
 
 use mm_types::{NoMemory, Text};
+use output_print::PrintError;
 use std::alloc::{AllocError, Global};
-use trace_reader::Cause;
+use text_lexer::Cause;
 
 /// What a run results in.
 #[derive(Clone, Copy, Debug, PartialEq, Eq)]
@@ -37,6 +38,20 @@ impl From<AllocError> for Status {
 
     fn from(_error: AllocError) -> Status {
         Status::NoMemory
+    }
+}
+
+impl From<PrintError> for Status {
+    ghost use Rattle.std.specs.Prelude.{◌≡◌};
+    ghost use Rattle.vma_replay.specs.Statuses.{status_of_print};
+
+    ghost from_gives = { λ error status. status ≡ status_of_print error };
+
+    fn from(error: PrintError) -> Status {
+        match error {
+            PrintError::WriteFault => Status::WriteFault,
+            PrintError::NoMemory => Status::NoMemory,
+        }
     }
 }
 

@@ -9,7 +9,7 @@ use clap::error::ErrorKind;
 use clap::{Arg, ArgMatches, Command};
 use gen_load::MOST_OPERATIONS;
 use std::alloc::{AllocError, Global};
-use trace_reader::{decimal_of, number_of};
+use text_lexer::{decimal_of, number_of};
 
 /// The name of the argument that is the mode.
 const MODE: &str = "mode";

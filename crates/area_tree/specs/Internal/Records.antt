@@ -1,5 +1,5 @@
 -- What each slot shows, by slot.
-use Rattle.std.specs.Prelude.{ℕ, ◌≡◌, ◌≤◌, ◌-◌, ◌++◌, false, List, length, replicate, All}
+use Rattle.std.specs.Prelude.{ℕ, ◌≡◌, ◌≤◌, ◌-◌, ◌++◌, List, length, replicate}
 use Rattle.std.specs.Vec.{vec_capacity}
 use Rattle.mm_types.specs.declared.area.Record.{Record}
 use Rattle.area_tree.specs.declared.records.Records.TheInside.{Inside}
@@ -13,8 +13,7 @@ padded slots written = written ++ replicate (slots - length written) no_area
 abbrev pub records_of : Inside → List Record
 records_of fields = padded fields.slots fields.shown.items
 
--- There is room for a record for each slot, no more are written, and none is sealed before a slot showed a sealed area.
+-- there is room for a record for each slot, and no more are written
 pub record AreKept (fields : Inside) : Type 0 where
   pub few : length fields.shown.items ≤ fields.slots
   pub room : fields.slots ≤ vec_capacity fields.shown
-  pub unsealed : fields.sealed ≡ false → All (λ area. area.attr.sealed ≡ false) fields.shown.items

@@ -20,8 +20,9 @@ use Rattle.area_slots.specs.declared.leaving.Leaving.{Leaving}
 use Rattle.area_slots.specs.Slots.{SlotSet, gone_by, gone_after, times, times_left}
 use Rattle.vma_lock.specs.declared.view.View.{View}
 use Rattle.vma_lock.specs.Seats.{config_of, slots_of, Writes, sight, journal, slots, IsOpen, IsClosed}
+use Rattle.span_tree.specs.SpanTrees.{enough}
 use Rattle.area_tree.specs.declared.shown.ShownArea.{ShownArea}
-use Rattle.area_tree.specs.AreaTrees.{AreaTreeView, shown_of, areas_of, times_shown, AreasRise}
+use Rattle.area_tree.specs.AreaTrees.{AreaTreeView, shown_of, areas_of, times_shown, AreasRise, IsEndOf, IsRoomFor}
 use Rattle.mm_state.specs.declared.board.Board.{Board}
 use Rattle.mm_state.specs.Shelves.{Hangs}
 use Rattle.mm_state.specs.States.{MarksChanged, KeepsSlots, KeepsLeft, HaveLeft}
@@ -51,11 +52,16 @@ pub record CanFree (areas : AreaTreeView) (set : SlotSet) (wanted : ℕ) : Type 
 
 -- scans of the pins of readers changed the tree of areas alone in what they found
 abbrev pub IsScanned : AreaTreeView → AreaTreeView → Type 0
-IsScanned old new = new ≡ record old { tree = record old.tree { settled = new.tree.settled; scans = new.tree.scans; pins = new.tree.pins } }
+IsScanned old new = new
+    ≡ record old { tree = record old.tree { settled = new.tree.settled; scans = new.tree.scans; pins = new.tree.pins; free = new.tree.free } }
 
--- the areas are in a tree as before but for its pairs, with other records
+-- the areas are in a tree as before but for its pairs and free rows, with other records
 abbrev pub IsSameTree : AreaTreeView → AreaTreeView → Type 0
-IsSameTree old new = new ≡ record old { tree = record old.tree { pairs = new.tree.pairs; changed = new.tree.changed }; records = new.records }
+IsSameTree old new = new ≡ record old {
+  tree = record old.tree { pairs = new.tree.pairs; changed = new.tree.changed; free = new.tree.free };
+  records = new.records;
+  sealed = new.sealed;
+}
 
 -- 1 for an area that has this page
 abbrev pub at_page : ℕ → Record → ℕ
@@ -118,13 +124,15 @@ after_leaving set slot tree = record set { left = gone_by tree set.left ++ recor
 abbrev pub HasPageOf : Record → Record → Type 0
 HasPageOf area other = (area.span.lo < other.span.hi) × (other.span.lo < area.span.hi)
 
--- A slot of the tree shows another area. Either the tree has it there, and it has a page of the area before; or it moved; or the tree
+-- A slot of the tree shows another area. Either the tree has it there, and it has a page of the area before; or it moved, which it does
+-- only where it is no part that has an end of the area before, nor this one with free pages beside it; or the tree
 -- has it, and the area that had moved last came into the tree too, and each of them has a page of the area before.
 pub record Moves (old new : Board) (slot : ℕ) (area changed : Record) : Type 0 where
   pub rest : List ShownArea
   pub before : IsPermutation (record { slot = slot; area = area } ∷ rest) (shown_of old.areas)
   pub after : (IsPermutation (record { slot = slot; area = changed } ∷ rest) (shown_of new.areas) × (new.moved.items ≡ old.moved.items) × HasPageOf area changed)
-      ⊎ (IsPermutation rest (shown_of new.areas) × (new.moved.items ≡ old.moved.items ++ record { slot = slot; area = changed } ∷ []))
+      ⊎ (IsPermutation rest (shown_of new.areas) × (new.moved.items ≡ old.moved.items ++ record { slot = slot; area = changed } ∷ [])
+      × ¬ (IsEndOf changed.span area.span) × ¬ (IsRoomFor old.areas.tree.limit (areas_of old.areas) area.span changed.span))
       ⊎ ((other : ShownArea) × IsPermutation (record { slot = slot; area = changed } ∷ other ∷ rest) (shown_of new.areas)
       × (old.moved.items ≡ new.moved.items ++ other ∷ []) × HasPageOf area changed × HasPageOf area other.area)
 
@@ -198,14 +206,19 @@ pub record KeepsTree (board : Board) : Type 0 where
   pub moved : board.moved.items ≡ []
   pub spare : (config_of board.table).areas ≤ vec_capacity board.moved
 
--- the tree is prepared, as many slots are free as some changes need, and nothing else changed
+-- The tree is prepared, as many slots are free as some changes need, and nothing else changed. The pin of each reader was looked at in
+-- one scan or more, and in one alone where as many rows and slots were free already.
 pub record IsReadied (old new : Board) (changes : List Change) : Type 0 where
   pub table : new.table ≡ old.table
   pub writer : new.writer ≡ old.writer
   pub moved : new.moved ≡ old.moved
-  pub areas : new.areas ≡ record old.areas { tree = record old.areas.tree { changed = new.areas.tree.changed; roomy = true; settled = new.areas.tree.settled; scans = new.areas.tree.scans; pins = new.areas.tree.pins } }
+  pub areas : new.areas ≡ record old.areas { tree = record old.areas.tree { changed = new.areas.tree.changed; roomy = true; settled = new.areas.tree.settled; scans = new.areas.tree.scans; pins = new.areas.tree.pins; free = new.areas.tree.free } }
   pub slots : IsFreed new.areas.tree.settled old.slots new.slots
   pub free : adds_of changes ≤ length new.slots.free
+  pub scans : (more : ℕ) × (new.areas.tree.scans ≡ old.areas.tree.scans + (more + 1) * length old.areas.tree.pins)
+  pub once : enough old.areas.tree.areas ≤ old.areas.tree.free
+      → adds_of changes ≤ length old.slots.free + length (gone_by old.areas.tree.settled old.slots.left)
+      → new.areas.tree.scans ≡ old.areas.tree.scans + length old.areas.tree.pins
 
 -- The board between two calls: no call is open, the writer is of the table and of its configuration, each slot of the table is
 -- free, left or shows one area, and the present tree is the one that is built.

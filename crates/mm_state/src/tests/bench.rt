@@ -35,6 +35,52 @@ pub(super) struct Bench {
     pub ghost sizes: { (state.room ≡ 8000) × ((config_of table).areas ≡ 9) },
 }
 
+/// A state with a reader that holds no slot and has its turn.
+#[derive(Drop)]
+pub(super) struct Caller {
+    state: MmState,
+    seat: ReaderSeat,
+    pub ghost mine: { seat.seat.table_id ≡ state.table },
+    pub ghost turn: { (stage seat ≡ Out) × HasTurn seat },
+    pub ghost room: { state.room ≡ 8000 },
+}
+
+/// A reader of the trees that is inside none, or inside one.
+#[derive(Drop)]
+pub(super) struct Walker {
+    nodes: NodeTable,
+    seat: NodeSeat,
+    pub ghost mine: { trees.IsOf seat nodes },
+}
+
+impl Caller {
+    /// Makes a call where there is room for another.
+    pub(super) fn call<R: Wait>(&mut self, rt: &R, call: &Call) -> Option<Reply> {
+        if self.state.version() >= ROOM {
+            return None;
+        }
+        Some(self.state.apply(rt, &mut self.seat, call))
+    }
+}
+
+impl Walker {
+    /// Enters the tree that is present.
+    pub(super) fn enter(&mut self)
+        requires { trees.IsClosed self.old.seat }
+        ensures { trees.IsOpen self.new.seat }
+    {
+        self.nodes.open(&mut self.seat);
+        self.nodes.root(&mut self.seat);
+    }
+
+    /// Leaves it.
+    pub(super) fn leave(&mut self)
+        requires { trees.IsOpen self.old.seat }
+    {
+        self.nodes.close(&mut self.seat);
+    }
+}
+
 impl Bench {
     ghost use Rattle.std.specs.Prelude.{◌<◌};
     ghost use Rattle.mm_types.specs.Config.{IsValidConfig};
@@ -113,6 +159,24 @@ impl Bench {
         let slot = walk(&self.nodes, &mut self.node_seat, root, page);
         self.nodes.close(&mut self.node_seat);
         slot
+    }
+
+    /// The state with its reader, and the reader of the trees.
+    pub(super) fn part(self) -> (Caller, Walker)
+        ensures { trees.IsClosed result.1.seat }
+    {
+        let Bench {
+            table: _,
+            state,
+            seat,
+            nodes,
+            node_seat,
+        } = self;
+        let walker = Walker {
+            nodes,
+            seat: node_seat,
+        };
+        (Caller { state, seat }, walker)
     }
 
     /// Hands the journal and the list out.

@@ -1,12 +1,11 @@
 -- Which lines fork, by their words, and what that does to a trace.
 use Rattle.std.specs.Prelude.{ℕ, Bool, false, not, ◌&&◌, List, [], ◌∷◌, codes, bytes_eq, nat_eq, nat_lt, Option, Some, None, Result, Ok, Err, if◌then◌else◌}
-use Rattle.trace_reader.specs.declared.error.Cause.{Cause}
-use Rattle.trace_reader.specs.declared.error.Cause.TheVariants.{Child}
-use Rattle.trace_reader.specs.declared.error.BadLine.{BadLine}
-use Rattle.trace_reader.specs.Grammar.{bad_line}
-use Rattle.trace_reader.specs.Lines.{text_of, begins_with_digit}
-use Rattle.trace_reader.specs.RawLines.{RawLine}
-use Rattle.trace_reader.specs.Words.{words_of}
+use Rattle.text_lexer.specs.declared.error.Cause.{Cause}
+use Rattle.text_lexer.specs.declared.error.Cause.TheVariants.{Child}
+use Rattle.text_lexer.specs.declared.error.BadLine.{BadLine}
+use Rattle.text_lexer.specs.BadLines.{bad_line}
+use Rattle.text_lexer.specs.Lines.{text_of, RawLine}
+use Rattle.text_lexer.specs.Words.{begins_with_digit, words_of}
 
 -- the first word begins with a digit, and the second is `fork`
 unfoldable pub are_fork_words : List (List ℕ) → Bool

@@ -12,7 +12,6 @@ use Rattle.vma_drive.specs.declared.rounds.Telling.{Telling}
 use Rattle.mm_space.specs.Names.{SpaceId, ArePasses}
 use Rattle.vma_drive.specs.Hearing.{own_by, Grew, HasRun, AreToldBy}
 use Rattle.vma_drive.specs.Naming.{NamesAt, tells}
-use Rattle.vma_drive.specs.Sharing.{AreShares}
 
 -- Numbers of lines that keep the order: they rise along the lines of a caller, and a named line has a lower one than the line that
 -- names it.
@@ -56,6 +55,10 @@ abbrev pub IsBusy : List (Vec ℕ Global) → List ℕ → ℕ → List PassView
 IsBusy places rounds round passes caller = (pass : PassView) × (own : Vec ℕ Global) × (slice_get passes caller ≡ Some pass)
     × (slice_get places caller ≡ Some own) × HasLine own.items rounds round pass
 
+-- no caller has such a line next
+abbrev pub IsWhole : List (Vec ℕ Global) → List ℕ → ℕ → List PassView → Type 0
+IsWhole places rounds round passes = (caller : ℕ) → ¬ IsBusy places rounds round passes caller
+
 -- where callers are shared out to so many threads, as many neighbours to each, no two busy ones have the same thread
 abbrev pub AreApart : List (Vec ℕ Global) → List ℕ → ℕ → List PassView → ℕ → Type 0
 AreApart places rounds round passes threads = (caller gap : ℕ) → 0 < gap → IsBusy places rounds round passes caller
@@ -73,14 +76,14 @@ pub record IsMoved (old new : PassView) : Type 0 where
   pub later : IsLater old new
   pub grew : Grew old new []
 
--- What is known of the rounds: where the lines of each caller stand, their rounds, what is told, and what each caller may do.
+-- What is known of the rounds: where the lines of each caller stand, their rounds, what is told, and how many callers there are.
 pub record Settled (name : SpaceId) (lines : List TraceLine)
     (places : List (Vec ℕ Global)) (rounds : List ℕ) (tellings : List Telling) : Type 0 where
   pub numbered : AreNumbered lines
   pub places_are : ArePlaces lines (callers_of lines) places
   pub rounds_are : AreRounds lines rounds
   pub tellings_are : AreTellings lines rounds tellings
-  pub shares : AreShares lines name.operations
+  pub callers : length name.operations ≡ callers_of lines
 
 -- Before a round: each pass ran the lines of lower rounds, has operations for the others and for what it is still to tell, and what a
 -- line names comes before what was done for it.

@@ -10,7 +10,6 @@ use Rattle.area_rules.specs.Steps.{IsLegalJournal}
 use Rattle.lock_core.specs.Facts.{list_after}
 use Rattle.history.specs.declared.callers.TheConstants.{MOST_THREADS}
 use Rattle.history.specs.declared.items.Item.{Item}
-use Rattle.history.specs.Histories.{IsLegalHistory}
 use Rattle.mm_space.specs.Closing.{ClosedView}
 use Rattle.history.specs.Parents.{parent_lines}
 use Rattle.mm_fork.specs.Children.{child_history_of, child_lines, parent_trace}
@@ -20,10 +19,6 @@ use Rattle.output_text.specs.Output.{listed_text}
 use Rattle.vma_replay.specs.ChildTexts.{child_line}
 use Rattle.vma_replay.specs.Forks.{forks_of}
 use Rattle.vma_replay.specs.Replaying.{IsRunOf, IsRunOfChild, history_of_run}
-
--- items that are a legal history of lines, of some space
-abbrev pub AreLegal : List TraceLine → List Item → Type 0
-AreLegal lines items = (config : Config) × (start : List Entry) × IsLegalHistory config start lines items
 
 -- the journal of a parent, from which children can begin: it is legal, of the callers of a trace, and no longer than a trace
 pub record IsOfParent (config : Config) (journal : List Entry) : Type 0 where

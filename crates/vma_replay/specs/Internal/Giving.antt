@@ -1,56 +1,27 @@
 -- What the functions result in that run a trace and give a text to a sink.
-use Rattle.std.specs.Prelude.{ℕ, ◌≡◌, ◌<◌, ◌+◌, ◌⊎◌, List, [], ◌++◌, length, take, Result, Ok, Err, MatchResult}
+use Rattle.std.specs.Prelude.{ℕ, ◌≡◌, ◌<◌, ◌+◌, ◌⊎◌, List, [], length, take, Result, Ok, Err}
 use Rattle.std.specs.Io.KnownBytes.{Appends, Keeps}
 use Rattle.io_edge.specs.Edge.{SinkView, FailedLast}
 use Rattle.mm_space.specs.Closing.{ClosedView}
 use Rattle.trace_reader.specs.declared.trace.Trace.{Trace}
 use Rattle.mm_fork.specs.Children.{parent_trace}
+use Rattle.output_print.specs.declared.error.PrintError.{PrintError}
+use Rattle.output_print.specs.Giving.{Gave, IsCut}
 use Rattle.vma_replay.specs.declared.status.Status.{Status}
 use Rattle.vma_replay.specs.declared.status.Status.TheVariants as statuses
 use Rattle.vma_replay.specs.declared.words.Mode.{Mode}
 use Rattle.vma_replay.specs.declared.words.Mode.TheVariants as modes
 use Rattle.output_text.specs.Output.{serial_output}
+use Rattle.vma_replay.specs.Statuses.{status_of_print}
 use Rattle.vma_replay.specs.Replaying.{BeginsWith, GivesRuns, RunsGenerated}
 use Rattle.vma_replay.specs.Summaries.{summary_text}
-
--- A sink was given these bytes, and no give failed.
-pub record Gave (old new : SinkView) (given : List ℕ) : Type 0 where
-  pub moved : Appends old.written new.written given
-  pub calm : new.faults ≡ old.faults
-
--- Giving ended early with this status: one give failed, the last one, and then something was lost, or memory ran out.
-abbrev pub IsWhy : SinkView → SinkView → List ℕ → Status → Type 0
-IsWhy old new lost status = ((status ≡ statuses.WriteFault) × (new.faults ≡ old.faults + 1) × FailedLast new.just_failed × (0 < length lost))
-    ⊎ ((status ≡ statuses.NoMemory) × (new.faults ≡ old.faults))
-
--- A text was printed into a piece of the output: what the piece held, and the text after it, were given, but for what the piece holds
--- now.
-pub record Prints (old new : SinkView) (held holds text : List ℕ) : Type 0 where
-  pub given : List ℕ
-  pub gave : Gave old new given
-  pub split : held ++ text ≡ given ++ holds
-
--- Printing it ended early: of what the piece held, and the text after it, a beginning was given.
-pub record IsCut (old new : SinkView) (held text : List ℕ) (status : Status) : Type 0 where
-  pub given : List ℕ
-  pub lost : List ℕ
-  pub moved : Appends old.written new.written given
-  pub split : held ++ text ≡ given ++ lost
-  pub why : IsWhy old new lost status
-
--- what printing a text results in
-abbrev pub IsPrinting : {T : Type 0} → SinkView → SinkView → List ℕ → List ℕ → List ℕ → Result T Status → Type 0
-IsPrinting old new held holds text result = MatchResult result (λ done. Prints old new held holds text) (λ status. IsCut old new held text status)
-
--- what giving a text a piece after the other results in: all of it was given, or a beginning
-abbrev pub IsGivingText : {T : Type 0} → SinkView → SinkView → List ℕ → Result T Status → Type 0
-IsGivingText old new text result = MatchResult result (λ done. Gave old new text) (λ status. IsCut old new [] text status)
 
 -- Doing a piece of work ended early with this status: nothing was given, since memory ran out before, or of a text that it gives with some
 -- closed runs a beginning.
 abbrev pub IsCutShort : (List ClosedView → List ℕ → Type 0) → SinkView → SinkView → Status → Type 0
 IsCutShort gives old new status = ((status ≡ statuses.NoMemory) × (new ≡ old))
-    ⊎ ((runs : List ClosedView) × (text : List ℕ) × gives runs text × IsCut old new [] text status)
+    ⊎ ((runs : List ClosedView) × (text : List ℕ) × gives runs text
+    × (error : PrintError) × (status ≡ status_of_print error) × IsCut old new [] text error)
 
 -- What doing a piece of work results in: it is done, with these closed runs, and a text was given; or it ended early.
 abbrev pub IsDoing : (List ClosedView → List ℕ → Type 0) → SinkView → SinkView → Result (List ClosedView) Status → Type 0

@@ -3,9 +3,9 @@ use Rattle.std.specs.Prelude.{ℕ, ◌≡◌, ◌+◌, List, Vec, Result, Ok, Er
 use Rattle.std.specs.declared.alloc.Global.{Global}
 use Rattle.std.specs.Io.KnownBytes.{IsAtEnd}
 use Rattle.io_edge.specs.Edge.{SourceView, FailedLast}
-use Rattle.trace_reader.specs.declared.error.ReadError.{ReadError}
-use Rattle.trace_reader.specs.declared.error.ReadError.TheVariants as reads
-use Rattle.trace_reader.specs.declared.error.BadLine.{BadLine}
+use Rattle.text_lexer.specs.declared.error.ReadError.{ReadError}
+use Rattle.text_lexer.specs.declared.error.ReadError.TheVariants as reads
+use Rattle.text_lexer.specs.declared.error.BadLine.{BadLine}
 use Rattle.output_check.specs.Input.{check_limit, input_of}
 use Rattle.output_check.specs.Checked.{IsCheckedAs}
 use Rattle.vma_replay.specs.declared.status.Status.{Status}

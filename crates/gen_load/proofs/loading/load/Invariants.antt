@@ -3,4 +3,4 @@ use Rattle.gen_load.proofs.Written.{IsLoading}
 use Rattle.gen_load.proofs.loading.load.Given as goal
 
 abbrev pub invariant-loop : goal.invariant-loop
-invariant-loop l = IsLoading l.text.items l.counter l.count l.number l.seed
+invariant-loop l = IsLoading l.text.items l.counter l.count l.draws l.seed

@@ -10,15 +10,15 @@ returns c =
     let minor : c.from-2.result ≡ c.args.mapped.now.minor = grind (arith, common_steps) in
     let inode : c.mapped.inside.inode ≡ c.args.mapped.now.inode = grind (arith, common_steps) in
     rw (
-      c.in_ok-add-5.ensures,
-      c.in_ok-add_decimal.ensures,
-      c.in_ok-add-4.ensures,
-      c.in_ok-add_padded-3.ensures,
-      c.in_ok-add-3.ensures,
-      c.in_ok-add_padded-2.ensures,
-      c.in_ok-add-2.ensures,
-      c.in_ok-add_padded.ensures,
-      c.in_ok-add.ensures,
+      c.add-5.ensures.items,
+      c.add_decimal.ensures.items,
+      c.add-4.ensures.items,
+      c.add_padded-3.ensures.items,
+      c.add-3.ensures.items,
+      c.add_padded-2.ensures.items,
+      c.add-2.ensures.items,
+      c.add_padded.ensures.items,
+      c.add.ensures.items,
       c.new-part.ensures,
     )
     (place_joined c.args.offset c.from.result c.from-2.result c.mapped.inside.inode c.args.mapped.now (omega arith) major minor inode)

@@ -10,12 +10,6 @@ unfolding front_text
 returns-in_err-push_range-clause-no_memory c =
     on_err _ _ (front_of_first _ _ _ _ (front_of_first _ _ _ _ (front_of_first _ _ _ _ c.in_err-push_range.ensures.no_memory)))
 
-pub returns-in_err-place-clause-no_memory : goal.returns-in_err-place-clause-no_memory
-unfolding front_text
-returns-in_err-place-clause-no_memory c =
-    on_err _ _ (front_of_parts _ _ (range_text c.args.area.now) (codes " " ++ place_text c.args.area.now.offset c.args.mapped.now ++ codes " ") _
-    (grind (arith, common_steps)) (simp append_assoc))
-
 pub returns-in_err-extend_from_slice-clause-no_memory : goal.returns-in_err-extend_from_slice-clause-no_memory
 unfolding front_text
 returns-in_err-extend_from_slice-clause-no_memory c =

@@ -11,4 +11,4 @@ returns c =
     let high : c.args.hi < 2 ^ 64 = omega arith in
     let first = start_parts c.args.lo (omega arith) in
     let second = start_parts c.args.hi (omega arith) in
-    rw (first, second) (c.in_ok-add-2.ensures ∙ rw (c.in_ok-add_padded-2.ensures, c.in_ok-add.ensures, c.in_ok-add_padded.ensures, c.new-part.ensures) (simp append_assoc))
+    rw (first, second) (c.add-2.ensures.items ∙ rw (c.add_padded-2.ensures.items, c.add.ensures.items, c.add_padded.ensures.items, c.new-part.ensures) (simp append_assoc))

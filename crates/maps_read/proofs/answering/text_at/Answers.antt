@@ -1,7 +1,7 @@
 -- For `text_at`: its goals.
 use Rattle.std.proofs.Common.{◌≡◌, ◌+◌, ◌-◌, ◌∙◌, ℕ, Option, Some, IfSome, slice_get, length, sym, ap, subst, refl, arith}
-use Rattle.trace_reader.specs.Reading.{line_view}
-use Rattle.trace_reader.specs.RawLines.{RawLine, lines_from, raw_lines}
+use Rattle.text_lexer.specs.Reading.{line_view}
+use Rattle.text_lexer.specs.Lines.{RawLine, lines_from, raw_lines}
 use Rattle.maps_read.proofs.Answers.{some_left, text_step}
 use Rattle.maps_read.proofs.answering.text_at.Goals as goal
 

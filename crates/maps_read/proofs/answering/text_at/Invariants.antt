@@ -1,6 +1,6 @@
 -- For `text_at`: what its loop keeps.
 use Rattle.std.proofs.Common.{◌≡◌, ◌+◌, ◌-◌, ◌≤◌, length, drop}
-use Rattle.trace_reader.specs.RawLines.{lines_from, raw_lines}
+use Rattle.text_lexer.specs.Lines.{lines_from, raw_lines}
 use Rattle.maps_read.proofs.answering.text_at.Given as goal
 
 -- the lines of the rest are those from this place on

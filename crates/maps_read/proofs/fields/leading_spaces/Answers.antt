@@ -2,7 +2,7 @@
 use Rattle.std.proofs.Common.{rules, tests}
 use Rattle.std.proofs.lemmas.Iterator.{YieldsList-from_slice}
 use Rattle.std.proofs.lemmas.Iterator.Search.{position_from_yields_List}
-use Rattle.trace_reader.proofs.WordParts.{place_is}
+use Rattle.text_lexer.proofs.WordParts.{place_is}
 use Rattle.maps_read.specs.Fields.{is_part, leading_spaces}
 use Rattle.maps_read.proofs.fields.leading_spaces.Goals as goal
 

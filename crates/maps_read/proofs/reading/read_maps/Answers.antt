@@ -1,7 +1,7 @@
 -- For `read_maps`: its goals.
 use Rattle.std.proofs.Common.{◌≡◌, ◌∙◌, length, Ok, ap, sym, arith}
 use Rattle.std.proofs.lemmas.Bool.Decides.{nat_tests}
-use Rattle.trace_reader.proofs.RawReading.{none_left}
+use Rattle.text_lexer.proofs.RawReading.{none_left}
 use Rattle.maps_read.specs.Maps.{after_line}
 use Rattle.maps_read.proofs.Bytes.{maps_in_order}
 use Rattle.maps_read.proofs.reading.read_maps.Goals as goal

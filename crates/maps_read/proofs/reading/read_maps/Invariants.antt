@@ -1,7 +1,7 @@
 -- For `read_maps`: what its loop keeps.
 use Rattle.std.proofs.Common.{◌≡◌, ◌+◌, ◌-◌, ◌≤◌, length}
-use Rattle.trace_reader.specs.Grammar.{lines_leave}
-use Rattle.trace_reader.specs.RawLines.{lines_from}
+use Rattle.text_lexer.specs.BadLines.{lines_leave}
+use Rattle.text_lexer.specs.Lines.{lines_from}
 use Rattle.maps_read.specs.Maps.{after_line, maps_of}
 use Rattle.maps_read.proofs.reading.read_maps.Given as goal
 

@@ -1,7 +1,7 @@
 -- For `take_lines`: its goals.
 use Rattle.std.proofs.Common.{◌≡◌, ◌+◌, ◌-◌, ◌∙◌, ℕ, drop, length, sym, ap, subst, arith}
-use Rattle.trace_reader.specs.RawLines.{lines_from}
-use Rattle.trace_reader.specs.Reading.{line_view}
+use Rattle.text_lexer.specs.Lines.{lines_from}
+use Rattle.text_lexer.specs.Reading.{line_view}
 use Rattle.maps_retrace.specs.Retracing.{nothing_taken, with_lines, lines_taken}
 use Rattle.maps_retrace.specs.Internal.Taking.{IsTaken, what_taken}
 use Rattle.maps_retrace.proofs.Kept.{line_kept, nothing_kept}

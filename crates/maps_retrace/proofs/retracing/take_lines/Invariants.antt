@@ -1,6 +1,6 @@
 -- For `take_lines`: what its loop keeps.
 use Rattle.std.proofs.Common.{◌≡◌, ◌+◌, ◌-◌, ◌≤◌, length, drop}
-use Rattle.trace_reader.specs.RawLines.{lines_from}
+use Rattle.text_lexer.specs.Lines.{lines_from}
 use Rattle.maps_retrace.specs.Retracing.{with_lines, lines_taken}
 use Rattle.maps_retrace.specs.Internal.Taking.{IsTaken, what_taken}
 use Rattle.maps_retrace.proofs.RawMaps.{AreReadAs}

@@ -54,5 +54,5 @@ loop-shown-preserved c =
           c.loop-shown.invariant.shown moved;
       room = c.pop.ensures.capacity ∙ c.loop-shown.invariant.room;
       same = tree_step c.args.areas.now old new c.loop-shown.invariant.same
-          (same ∙ ap (λ (t : AreaTreeView). record old { tree = record old.tree { pairs = t.tree.pairs; changed = t.tree.changed }; records = t.records }) (sym same));
+          (same ∙ ap (λ (t : AreaTreeView). record old { tree = record old.tree { pairs = t.tree.pairs; changed = t.tree.changed; free = t.tree.free }; records = t.records; sealed = t.sealed }) (sym same));
     }

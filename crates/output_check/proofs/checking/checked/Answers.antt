@@ -1,7 +1,12 @@
 -- For `checked`: its goals.
-use Rattle.output_check.specs.Reading.{input_view}
-use Rattle.output_check.proofs.Inputs.{input_value}
+use Rattle.output_check.proofs.InputsRead.{value_read, text_read, error_read}
 use Rattle.output_check.proofs.checking.checked.Goals as goal
 
 pub judged-requires : goal.judged-requires
-judged-requires c = input_value c.args.bytes.now (input_view c.in_ok-input.input) c.in_ok-input.ensures
+judged-requires c = value_read c.args.bytes.now _ c.read_input.ensures
+
+pub returns-clause-text : goal.returns-clause-text
+returns-clause-text c = text_read c.args.bytes.now _ _ c.read_input.ensures c.judged.ensures.text
+
+pub returns-clause-bad : goal.returns-clause-bad
+returns-clause-bad c = error_read c.args.bytes.now _ _ c.read_input.ensures c.judged.ensures.unread c.judged.ensures.memory

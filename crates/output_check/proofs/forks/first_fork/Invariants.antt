@@ -1,6 +1,6 @@
 -- For `first_fork`: what its loop keeps.
 use Rattle.std.proofs.Common.{◌≡◌, ◌+◌, ◌-◌, ◌≤◌, length}
-use Rattle.trace_reader.specs.RawLines.{lines_from, raw_lines}
+use Rattle.text_lexer.specs.Lines.{lines_from, raw_lines}
 use Rattle.output_check.specs.Internal.Forks.{first_fork}
 use Rattle.output_check.proofs.forks.first_fork.Given as goal
 

@@ -3,7 +3,7 @@ use Rattle.std.proofs.Common.{◌≡◌, ◌+◌, position, ◌∙◌, sym, rule
 use Rattle.std.proofs.lemmas.Iterator.{YieldsList-from_slice}
 use Rattle.std.proofs.lemmas.Iterator.Search.{position_from_yields_List}
 use Rattle.std.proofs.lemmas.List.{take_rest}
-use Rattle.trace_reader.specs.RawLines.{is_newline}
+use Rattle.text_lexer.specs.Lines.{is_newline}
 use Rattle.output_check.proofs.Marks.{mark_step, mark_none, left_within}
 use Rattle.output_check.proofs.input.mark_of.Goals as goal
 

@@ -1,7 +1,7 @@
 -- For `read_lines`: its goals.
 use Rattle.std.proofs.Common.{◌≡◌, length, arith}
 use Rattle.std.proofs.lemmas.Bool.Decides.{nat_tests}
-use Rattle.trace_reader.proofs.RawReading.{none_left}
+use Rattle.text_lexer.proofs.RawReading.{none_left}
 use Rattle.step_script.specs.Lines.{after_line}
 use Rattle.step_script.proofs.reading.read_lines.Goals as goal
 

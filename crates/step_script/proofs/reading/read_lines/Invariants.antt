@@ -1,7 +1,7 @@
 -- For `read_lines`: what its loop keeps.
 use Rattle.std.proofs.Common.{◌≡◌, ◌+◌, ◌-◌, ◌≤◌, length}
 use Rattle.std.specs.Prelude.{None}
-use Rattle.trace_reader.specs.RawLines.{lines_from, raw_lines}
+use Rattle.text_lexer.specs.Lines.{lines_from, raw_lines}
 use Rattle.step_script.specs.declared.script.TheConstants.{MOST_LINES}
 use Rattle.step_script.specs.Grammar.{after_lines}
 use Rattle.step_script.specs.Values.{IsSoFar}

@@ -1,6 +1,6 @@
 -- For `device_part`: its goals.
 use Rattle.std.proofs.Common.{◌<◌, ◌^◌, ◌∙◌, sym, arith}
-use Rattle.trace_reader.proofs.Digits.{part_fits}
+use Rattle.text_lexer.proofs.Digits.{part_fits}
 use Rattle.trace_reader.proofs.fields.device_part.Goals as goal
 
 pub overflow_cast-result : goal.overflow_cast-result

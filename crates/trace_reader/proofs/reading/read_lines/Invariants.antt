@@ -1,7 +1,7 @@
 -- For `read_lines`: what each loop keeps.
 use Rattle.std.proofs.Common.{◌≡◌, ◌+◌, ◌-◌, ◌≤◌, length}
 use Rattle.trace_reader.specs.Grammar.{after_lines, lines_read}
-use Rattle.trace_reader.specs.RawLines.{lines_from}
+use Rattle.text_lexer.specs.Lines.{lines_from}
 use Rattle.trace_reader.specs.Reading.{so_far}
 use Rattle.trace_reader.proofs.TraceValues.{IsSoFar}
 use Rattle.trace_reader.proofs.reading.read_lines.Given as goal

@@ -2,5 +2,5 @@
 use Rattle.vma_drive.specs.Internal.Rounds.{AtRound}
 use Rattle.vma_drive.proofs.driving.run_rounds.Given as goal
 
-abbrev pub invariant-loop-round : goal.invariant-loop-round
-invariant-loop-round g l = AtRound g.N.SpaceName.name l.fn.lines l.fn.places l.fn.rounds l.fn.tellings l.passes l.owed l.round
+abbrev pub invariant-loop-number : goal.invariant-loop-number
+invariant-loop-number g l = AtRound g.N.SpaceName.name l.fn.lines l.fn.places l.fn.rounds l.fn.tellings l.passes l.owed l.number

@@ -5,9 +5,11 @@ use Rattle.history.specs.Runs.{IsRun}
 use Rattle.fault_path.specs.Passes.{PassView}
 use Rattle.mm_space.specs.Names.{SpaceId, ArePasses}
 use Rattle.mm_space.specs.Closing.{Closes}
+use Rattle.mm_space.specs.Opening.{AreOpened}
 use Rattle.history.specs.CallerPlaces.{callers_of}
 use Rattle.vma_drive.specs.Sharing.{AreShares}
 use Rattle.vma_drive.proofs.ClosedRuns.{back, threads_run}
+use Rattle.vma_drive.proofs.Operations.{opened_unused, opened_enough}
 use Rattle.vma_drive.proofs.running.run_passes.Goals as goal
 
 pub close-requires : goal.close-requires
@@ -26,5 +28,17 @@ returns-clause-run g c =
     (λ (l : List ℕ). AreShares c.args.trace.now.lines l) (ap (λ (r : SpaceId). r.operations) c.requires.name) c.requires.shares) c.requires.trace.lines c.in_ok-drive.ensures.told
     c.in_ok-drive.ensures.grown c.in_ok-drive.ensures.done)
 
-pub drive-requires-clause-before : goal.drive-requires-clause-before
-drive-requires-clause-before g c lifetimes outlives = sym (ap (λ (r : SpaceId). r.before) c.requires.name) ∙ c.requires.before
+pub drive-requires-clause-passes : goal.drive-requires-clause-passes
+drive-requires-clause-passes g c lifetimes outlives =
+    (subst (λ (l : List PassView). AreOpened g.N.SpaceName.name l) (sym c.as_mut_slice.ensures.value) c.open-space.ensures).passes_are
+
+pub drive-requires-clause-unused : goal.drive-requires-clause-unused
+drive-requires-clause-unused g c lifetimes outlives =
+    opened_unused g.N.SpaceName.name _ (sym (ap (λ (r : SpaceId). r.before) c.requires.name) ∙ c.requires.before)
+    (subst (λ (l : List PassView). AreOpened g.N.SpaceName.name l) (sym c.as_mut_slice.ensures.value) c.open-space.ensures)
+
+pub drive-requires-clause-enough : goal.drive-requires-clause-enough
+drive-requires-clause-enough g c lifetimes outlives =
+    opened_enough g.N.SpaceName.name c.args.trace.now.lines _
+    (subst (λ (l : List PassView). AreOpened g.N.SpaceName.name l) (sym c.as_mut_slice.ensures.value) c.open-space.ensures)
+    (subst (λ (l : List ℕ). AreShares c.args.trace.now.lines l) (ap (λ (r : SpaceId). r.operations) c.requires.name) c.requires.shares)

@@ -8,5 +8,5 @@ use Rattle.vma_drive.proofs.working.run_own.Given as goal
 abbrev pub invariant-loop-index : goal.invariant-loop-index
 invariant-loop-index g l = record {
   pass : IsPassOf g.N.SpaceName.name l.pass;
-  to : RunTo (lines_of l.fn.lines l.fn.caller) l.fn.rounds l.own l.fn.round (get_or l.fn.owed l.fn.caller 0) l.fn.pass l.pass l.index;
+  to : RunTo (lines_of l.fn.round.lines.now l.fn.caller) l.fn.round.rounds.now l.own l.fn.round.number (get_or l.fn.round.owed.now l.fn.caller 0) l.fn.pass l.pass l.index;
 }

@@ -6,26 +6,28 @@ use Rattle.vma_drive.proofs.working.run_workers.Goals as goal
 
 pub for_each_mut-requires-clause-accepts : goal.for_each_mut-requires-clause-accepts
 for_each_mut-requires-clause-accepts g c lifetimes outlives i p within read = (
-  may_work g.N.SpaceName.name c.args.lines.now c.args.places.now c.args.rounds.now c.args.owed.now c.args.round c.args.passes.now c.requires.lines
+  may_work g.N.SpaceName.name c.args.round.lines.now c.args.round.places.now c.args.round.rounds.now c.args.round.owed.now c.args.round.number c.args.passes.now c.requires.lines
       c.requires.places c.requires.rounds c.requires.owed c.requires.passes c.requires.has i p.now within read,
   search rules,
 )
 
 pub returns-clause-passes : goal.returns-clause-passes
-returns-clause-passes g c = passes_worked g.N.SpaceName.name c.args.lines.now c.args.places.now c.args.rounds.now c.args.owed.now c.args.round
+returns-clause-passes g c = passes_worked g.N.SpaceName.name c.args.round.lines.now c.args.round.places.now c.args.round.rounds.now c.args.round.owed.now c.args.round.number
     c.args.passes.now c.for_each_mut.new.s c.requires.passes c.for_each_mut.auto.s
     (λ i d within. let change = (c.for_each_mut.ensures i d within).1 in
     worked g.N.SpaceName.name _ _ _ _ _ i change.argument.now change.after_call.now _ _ change.argument_is change.left change.call)
 
 pub returns-clause-ran : goal.returns-clause-ran
 returns-clause-ran g c =
-    each_ran g.N.SpaceName.name c.args.lines.now c.args.places.now c.args.rounds.now
-    c.args.owed.now c.args.round c.args.passes.now c.for_each_mut.new.s c.for_each_mut.auto.s
+    each_ran g.N.SpaceName.name c.args.round.lines.now c.args.round.places.now c.args.round.rounds.now
+    c.args.round.owed.now c.args.round.number c.args.passes.now c.for_each_mut.new.s c.for_each_mut.auto.s
     (λ i d within. let change = (c.for_each_mut.ensures i d within).1 in
     worked g.N.SpaceName.name _ _ _ _ _ i change.argument.now change.after_call.now _ _ change.argument_is change.left change.call)
 
-pub threads_for-threads-requires-clause-within : goal.threads_for-threads-requires-clause-within
-threads_for-threads-requires-clause-within g c = places_in c.args.lines.now _ c.args.places.now c.args.rounds.now c.requires.places c.requires.rounds
-
-pub threads_for-threads-requires-clause-left : goal.threads_for-threads-requires-clause-left
-threads_for-threads-requires-clause-left g c caller pass found = (c.requires.has caller pass found).0.left
+pub threads_for-threads-requires-clause-round : goal.threads_for-threads-requires-clause-round
+threads_for-threads-requires-clause-round g c = record {
+  places = c.requires.places.all;
+  owed = c.requires.owed;
+  within = places_in c.args.round.lines.now _ c.args.round.places.now c.args.round.rounds.now c.requires.places c.requires.rounds;
+  left = λ caller pass found. (c.requires.has caller pass found).0.left;
+}

@@ -1,8 +1,7 @@
 -- The proof of `forks_from`: the forks of the items so far were found.
-use Rattle.std.proofs.Common.{length}
 use Rattle.vma_replay.specs.Forks.{fork_of}
-use Rattle.vma_replay.proofs.Telling.{Told}
+use Rattle.output_print.proofs.Telling.{Told}
 use Rattle.vma_replay.proofs.forks.forks_from.Given as goal
 
 abbrev pub invariant-loop-item : goal.invariant-loop-item
-invariant-loop-item l = Told fork_of l.fn.lines l.fn.items (length l.fn.places) l.item-index l.answered.items l.forks.items
+invariant-loop-item l = Told fork_of l.fn.lines l.fn.items l.item-index l.answered l.forks.items

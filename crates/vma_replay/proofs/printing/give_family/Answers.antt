@@ -1,12 +1,15 @@
 -- The proof of `give_family`: the parent's text is printed into an empty piece, then those of its children, and then the rest is given.
-use Rattle.std.proofs.Common.{◌∙◌, ◌-◌, ap, drop, get_or, length, refl, take}
+use Rattle.std.proofs.Common.{◌∙◌, ◌-◌, ap, arith, drop, get_or, length, refl, take}
 use Rattle.mm_fork.specs.Children.{parent_trace}
 use Rattle.mm_fork.proofs.Traces.{parent_is_trace}
 use Rattle.vma_replay.proofs.FamilyTexts.{family_whole}
-use Rattle.vma_replay.proofs.Outputs.{cut_first, cut_second, prints_both}
+use Rattle.output_print.proofs.Outputs.{cut_first, cut_second, prints_both}
 use Rattle.vma_replay.proofs.Parents.{few_lines, legal_items, low_threads, parent_value}
-use Rattle.vma_replay.proofs.Pieces.{at_error, giving_last}
+use Rattle.output_print.proofs.Pieces.{at_error, giving_last}
 use Rattle.vma_replay.proofs.printing.give_family.Goals as goal
+
+pub print_history-requires-clause-held : goal.print_history-requires-clause-held
+print_history-requires-clause-held g c = omega (arith, ap length c.in_ok-piece.ensures.items)
 
 pub print_history-requires-clause-few : goal.print_history-requires-clause-few
 print_history-requires-clause-few g c = few_lines c.args.parent.now c.items-lines.result.now

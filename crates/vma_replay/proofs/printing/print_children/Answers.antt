@@ -1,8 +1,12 @@
 -- The proof of `print_children`: at the next child; and there is a run for it.
+use Rattle.std.proofs.Common.{[], refl}
 use Rattle.vma_replay.proofs.FamilyTexts.{child_at, children_more, found_at, none_missing}
-use Rattle.vma_replay.proofs.Pieces.{at_error, cut_at, prints_then}
+use Rattle.output_print.proofs.Pieces.{at_error, cut_at, prints_none, prints_then}
 use Rattle.vma_replay.proofs.printing.print_children.Goals as goal
 use Rattle.vma_replay.proofs.printing.print_children.Goals.{in-Some+in_ok-print_child, in_default}
+
+pub loop-place-init : goal.loop-place-init
+loop-place-init g c = ([], prints_none _ _ c.requires.held, record { told = refl })
 
 pub print_child-requires-clause-run : goal.print_child-requires-clause-run
 print_child-requires-clause-run g c =

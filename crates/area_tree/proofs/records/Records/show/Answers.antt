@@ -1,10 +1,9 @@
--- For `Records::show`: more records of no area show the same, and are not sealed, and then the slot's record is another.
-use Rattle.std.proofs.Common.{◌<◌, ◌∙◌, ℕ, List, All, length, set, ap, subst, sym, arith}
+-- For `Records::show`: more records of no area show the same, and then the slot's record is another.
+use Rattle.std.proofs.Common.{◌<◌, ◌∙◌, ℕ, List, length, set, ap, arith}
 use Rattle.std.proofs.lemmas.List.{length-set}
 use Rattle.mm_types.specs.declared.area.Record.{Record}
 use Rattle.area_tree.specs.Internal.Records.{padded}
 use Rattle.area_tree.proofs.Padding.{length-padded, padded_push, padded_set}
-use Rattle.area_tree.proofs.Unsealed.{IsOpen, push_open, set_open}
 use Rattle.area_tree.proofs.records.Records.show.Goals as goal
 
 pub loop-self-preserved : goal.loop-self-preserved
@@ -18,7 +17,6 @@ loop-self-preserved c =
       slots = c.loop-self.invariant.slots;
       few = omega (arith, more, c.push_reserved.ensures.len);
       room = omega (arith, c.loop-self.invariant.room, c.push_reserved.ensures.capacity);
-      unsealed = λ none. subst (λ (rs : List Record). All IsOpen rs) (sym c.push_reserved.ensures.items) (push_open written (c.loop-self.invariant.unsealed none));
     }
 
 pub invariant_of-self : goal.invariant_of-self
@@ -28,7 +26,6 @@ invariant_of-self c =
     record {
       few = omega (arith, c.loop-self.invariant.few, slots, length-set fields.shown.items c.args.slot c.args.area);
       room = omega (arith, c.loop-self.invariant.room, slots);
-      unsealed = λ none. set_open fields.shown.items c.args.slot c.args.area fields.sealed c.loop-self.invariant.unsealed none;
     }
 
 pub returns : goal.returns

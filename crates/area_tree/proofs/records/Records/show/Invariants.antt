@@ -1,8 +1,7 @@
 -- The proof of `show`: what its loop keeps, and that it ends.
-use Rattle.std.proofs.Common.{◌≡◌, ◌≤◌, ◌+◌, ◌-◌, false, length, All}
+use Rattle.std.proofs.Common.{◌≡◌, ◌≤◌, ◌+◌, ◌-◌, length}
 use Rattle.std.specs.Vec.{vec_capacity}
 use Rattle.area_tree.specs.Internal.Records.{padded}
-use Rattle.area_tree.proofs.Unsealed.{IsOpen}
 use Rattle.area_tree.proofs.records.Records.show.Given as goal
 
 abbrev pub invariant-loop-self : goal.invariant-loop-self
@@ -11,7 +10,6 @@ invariant-loop-self l = record {
   slots : l.self-inside.slots ≡ l.initial.self-inside.slots;
   few : length l.self-inside.shown.items ≤ l.initial.self-inside.slots;
   room : l.initial.self-inside.slots ≤ vec_capacity l.self-inside.shown;
-  unsealed : l.self-inside.sealed ≡ false → All IsOpen l.self-inside.shown.items;
 }
 
 abbrev pub decreases-loop-self : goal.decreases-loop-self

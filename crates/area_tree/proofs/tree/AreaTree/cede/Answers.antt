@@ -1,11 +1,12 @@
 -- For `AreaTree::cede`: the pages that an area loses are stored for another slot.
-use Rattle.std.proofs.Common.{◌≡◌, ◌∙◌, List, length, set, sym, ap, subst, arith}
+use Rattle.std.proofs.Common.{◌≡◌, ◌∙◌, ◌||◌, List, length, set, sym, ap, subst, arith}
 use Rattle.std.proofs.lemmas.List.{length-set}
 use Rattle.mm_types.specs.declared.area.Record.{Record}
 use Rattle.span_tree.specs.SpanTrees.{SpanView}
 use Rattle.area_tree.specs.AreaTrees.{AreaTreeView, AreRecords}
 use Rattle.area_tree.proofs.Changing.{counted}
 use Rattle.area_tree.proofs.Ceding.{CanCede, shown_below, other_below, ceded_told, ceded_shown}
+use Rattle.area_tree.proofs.Unsealed.{set_open}
 use Rattle.area_tree.proofs.tree.AreaTree.cede.Goals as goal
 
 pub show-requires : goal.show-requires
@@ -64,6 +65,8 @@ invariant_of-self c =
       window = kept.window;
       empty = kept.empty;
       room = omega (arith, kept.room, areas);
+      unsealed = λ none. rw records (set_open first c.args.other.slot c.args.other.area (fields.sealed || c.args.shown.area.attr.sealed)
+          (λ shown_none. set_open fields.records c.args.shown.slot c.args.shown.area fields.sealed kept.unsealed shown_none) none);
     }
 
 pub returns-clause-shown : goal.returns-clause-shown

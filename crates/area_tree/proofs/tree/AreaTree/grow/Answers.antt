@@ -5,6 +5,7 @@ use Rattle.mm_types.specs.declared.area.Record.{Record}
 use Rattle.span_tree.specs.SpanTrees.{SpanView}
 use Rattle.area_tree.specs.AreaTrees.{AreRecords}
 use Rattle.area_tree.proofs.Reshaped.{slot_below, record_below, grown_told, upto_told, told_shown}
+use Rattle.area_tree.proofs.Unsealed.{set_open}
 use Rattle.area_tree.proofs.tree.AreaTree.grow.Goals as goal
 
 pub show-requires : goal.show-requires
@@ -49,6 +50,7 @@ invariant_of-self c =
       window = kept.window;
       empty = kept.empty;
       room = omega (arith, kept.room, areas);
+      unsealed = λ none. rw c.show.ensures (set_open fields.records c.args.shown.slot c.args.shown.area fields.sealed kept.unsealed none);
     }
 
 pub returns-clause-shown : goal.returns-clause-shown

@@ -5,6 +5,7 @@ use Rattle.mm_types.specs.declared.area.Record.{Record}
 use Rattle.span_tree.specs.SpanTrees.{SpanView}
 use Rattle.area_tree.specs.AreaTrees.{AreaTreeView, AreRecords}
 use Rattle.area_tree.proofs.Changing.{counted, more, more_shown}
+use Rattle.area_tree.proofs.Unsealed.{set_open}
 use Rattle.area_tree.proofs.tree.AreaTree.insert.Goals as goal
 
 pub store-requires-clause-few : goal.store-requires-clause-few
@@ -28,6 +29,7 @@ invariant_of-self c =
       window = kept.window;
       empty = kept.empty;
       room = omega (arith, kept.room, areas);
+      unsealed = λ none. rw c.show.ensures (set_open fields.records c.args.shown.slot c.args.shown.area fields.sealed kept.unsealed none);
     }
 
 pub returns-clause-shown : goal.returns-clause-shown

@@ -1,13 +1,15 @@
 -- For `AreaTree::new`: no area is there, and each slot has a record.
-use Rattle.std.proofs.Common.{◌≡◌, ◌∙◌, length, sym, ap, subst, arith}
+use Rattle.std.proofs.Common.{◌≡◌, ◌∙◌, List, All, length, sym, ap, subst, arith}
 use Rattle.std.proofs.lemmas.List.{length-replicate}
 use Rattle.std.proofs.lemmas.List.Elements.{All-nil}
+use Rattle.mm_types.specs.declared.area.Record.{Record}
 use Rattle.area_rules.specs.declared.placement.Bounds.{Bounds}
 use Rattle.area_rules.proofs.Limits.{limit_between}
 use Rattle.maple_node.specs.Trees.{Pair}
 use Rattle.span_tree.specs.SpanTrees.{SpanView}
 use Rattle.maple_gap.specs.Gaps.{span_of}
 use Rattle.area_tree.specs.AreaTrees.{AreRecords, area_in, no_area}
+use Rattle.area_tree.proofs.Unsealed.{IsOpen, none_open}
 use Rattle.area_tree.proofs.tree.AreaTree.new.Goals as goal
 
 pub invariant_of-result : goal.invariant_of-result
@@ -27,4 +29,5 @@ invariant_of-result c =
       window = omega (arith, ap (λ (b : Bounds). b.limit) bounds, between.low);
       empty = c.in_ok-with_capacity.ensures.items;
       room = omega (arith, c.in_ok-with_capacity.ensures.capacity, ap (λ (t : SpanView). t.areas) tree);
+      unsealed = λ _. subst (λ (rs : List Record). All IsOpen rs) (sym records) (none_open c.slots_for.result);
     }

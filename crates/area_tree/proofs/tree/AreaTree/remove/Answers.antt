@@ -31,6 +31,7 @@ invariant_of-self c =
       window = kept.window;
       empty = kept.empty;
       room = omega (arith, kept.room, areas);
+      unsealed = kept.unsealed;
     }
 
 pub returns-clause-shown : goal.returns-clause-shown

@@ -7,6 +7,7 @@ use Rattle.maple_items.specs.Pairs.{overwritten}
 use Rattle.span_tree.specs.SpanTrees.{SpanView}
 use Rattle.area_tree.specs.AreaTrees.{AreRecords}
 use Rattle.area_tree.proofs.Reshaped.{IsReshaped, record_below, shrunk_told, beside_within, told_shown}
+use Rattle.area_tree.proofs.Unsealed.{set_open}
 use Rattle.area_tree.proofs.tree.AreaTree.shrink.Goals as goal
 
 pub show-requires : goal.show-requires
@@ -44,6 +45,7 @@ invariant_of-self c =
       window = kept.window;
       empty = kept.empty;
       room = omega (arith, kept.room, areas);
+      unsealed = λ none. rw c.show.ensures (set_open fields.records c.args.shown.slot c.args.shown.area fields.sealed kept.unsealed none);
     }
 
 pub returns-clause-shown : goal.returns-clause-shown

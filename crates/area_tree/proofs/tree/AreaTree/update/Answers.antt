@@ -3,6 +3,7 @@ use Rattle.std.proofs.Common.{List, length, ap, arith}
 use Rattle.std.proofs.lemmas.List.{length-set}
 use Rattle.mm_types.specs.declared.area.Record.{Record}
 use Rattle.area_tree.proofs.Changing.{within, same_pages, changed}
+use Rattle.area_tree.proofs.Unsealed.{set_open}
 use Rattle.area_tree.proofs.tree.AreaTree.update.Goals as goal
 
 pub show-requires : goal.show-requires
@@ -24,6 +25,7 @@ invariant_of-self c =
       window = kept.window;
       empty = kept.empty;
       room = kept.room;
+      unsealed = λ none. rw c.show.ensures (set_open fields.records c.args.shown.slot c.args.shown.area fields.sealed kept.unsealed none);
     }
 
 pub returns-clause-shown : goal.returns-clause-shown

@@ -11,35 +11,35 @@ use Rattle.maps_retrace.proofs.taking.Taken.add.Goals as goal
 
 pub overflow_cast-object : goal.overflow_cast-object
 overflow_cast-object c =
-    let kept = file_kept (what_taken c.args.self.now) (what_taken c.place_of.new.self, c.in_ok-place.place) c.args.line.now c.requires c.in_ok-place.ensures in
+    let kept = file_kept (what_taken c.args.self.now) (what_taken c.place_of.new.self, c.in_ok-place.place) c.args.line.now c.requires c.in_ok-place.ensures.place in
     let within = kept.1 in let both = kept.0.both in let few = kept.0.few in omega arith
 
 pub overflow_add-object : goal.overflow_add-object
 overflow_add-object c =
-    let kept = file_kept (what_taken c.args.self.now) (what_taken c.place_of.new.self, c.in_ok-place.place) c.args.line.now c.requires c.in_ok-place.ensures in
+    let kept = file_kept (what_taken c.args.self.now) (what_taken c.place_of.new.self, c.in_ok-place.place) c.args.line.now c.requires c.in_ok-place.ensures.place in
     let within = kept.1 in let both = kept.0.both in let few = kept.0.few in omega arith
 
 pub index-requires : goal.index-requires
 index-requires c =
-    let kept = file_kept (what_taken c.args.self.now) (what_taken c.place_of.new.self, c.in_ok-place.place) c.args.line.now c.requires c.in_ok-place.ensures in
+    let kept = file_kept (what_taken c.args.self.now) (what_taken c.place_of.new.self, c.in_ok-place.place) c.args.line.now c.requires c.in_ok-place.ensures.place in
     let within : c.in_ok-place.place < length c.place_of.new.self.opened.items = kept.1 in grind (arith, common_steps)
 
 pub push_area-requires-2-clause-files : goal.push_area-requires-2-clause-files
 push_area-requires-2-clause-files c =
-    let kept = file_kept (what_taken c.args.self.now) (what_taken c.place_of.new.self, c.in_ok-place.place) c.args.line.now c.requires c.in_ok-place.ensures in
+    let kept = file_kept (what_taken c.args.self.now) (what_taken c.place_of.new.self, c.in_ok-place.place) c.args.line.now c.requires c.in_ok-place.ensures.place in
     let one = kept.0.one c.in_ok-place.place c.index.result.now kept.1 in
     omega (arith, ap length c.index.ensures, one)
 
 pub push_area-requires-2-clause-object : goal.push_area-requires-2-clause-object
 push_area-requires-2-clause-object c =
-    let kept = file_kept (what_taken c.args.self.now) (what_taken c.place_of.new.self, c.in_ok-place.place) c.args.line.now c.requires c.in_ok-place.ensures in
+    let kept = file_kept (what_taken c.args.self.now) (what_taken c.place_of.new.self, c.in_ok-place.place) c.args.line.now c.requires c.in_ok-place.ensures.place in
     let within = kept.1 in let both = kept.0.both in let few = kept.0.few in omega arith
 
 pub returns : goal.returns
 returns c =
-    let kept = file_kept (what_taken c.args.self.now) (what_taken c.place_of.new.self, c.in_ok-place.place) c.args.line.now c.requires c.in_ok-place.ensures in
+    let kept = file_kept (what_taken c.args.self.now) (what_taken c.place_of.new.self, c.in_ok-place.place) c.args.line.now c.requires c.in_ok-place.ensures.place in
     let some : nat_eq (length c.args.line.now.name) 0 ≡ false = grind (arith, common_steps, nat_tests) in
     let file : file_at (what_taken c.place_of.new.self) c.in_ok-place.place ≡ c.index.result.now =
     ap (λ o. unwrap_or o []) (slice_get-get_or c.place_of.new.self.opened.items c.in_ok-place.place c.index.result.now kept.1) ∙ sym c.index.ensures in
-    rw (line_of_file (what_taken c.args.self.now) (what_taken c.place_of.new.self) c.in_ok-place.place c.args.line.now c.args.text.now some c.in_ok-place.ensures, file)
+    rw (line_of_file (what_taken c.args.self.now) (what_taken c.place_of.new.self) c.in_ok-place.place c.args.line.now c.args.text.now some c.in_ok-place.ensures.place, file)
     (area_given c.push_area-2.result _ (what_taken c.place_of.new.self) _ c.push_area-2.ensures)

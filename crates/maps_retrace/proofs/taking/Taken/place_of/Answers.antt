@@ -6,26 +6,26 @@ use Rattle.maps_retrace.specs.Internal.Taking.{what_taken}
 use Rattle.maps_retrace.proofs.Steps.{position_map, length_map, file_so_far, file_next, file_fails}
 use Rattle.maps_retrace.proofs.taking.Taken.place_of.Goals as goal
 
-pub returns-in-Some : goal.returns-in-Some
-returns-in-Some c =
+pub returns-in-Some-clause-place : goal.returns-in-Some-clause-place
+returns-in-Some-clause-place c =
     let at : file_place (what_taken c.args.self.now).named c.args.line.now ≡ Some c.in-Some.place =
     position_map (λ (other : MapsLine). same_file other c.args.line.now) (λ line. line.now) c.args.self.now.named.items
     ∙ ap (position (λ other. same_file other.now c.args.line.now)) (sym c.deref.ensures.value) ∙ sym c.file_place.ensures ∙ c.in-Some.is in
     file_so_far (what_taken c.args.self.now) c.args.line.now c.in-Some.place at
 
-pub returns-in-Ok : goal.returns-in-Ok
-returns-in-Ok c =
+pub returns-in-Ok-clause-place : goal.returns-in-Ok-clause-place
+returns-in-Ok-clause-place c =
     let at : file_place (what_taken c.args.self.now).named c.args.line.now ≡ None =
     position_map (λ (other : MapsLine). same_file other c.args.line.now) (λ line. line.now) c.args.self.now.named.items
     ∙ ap (position (λ other. same_file other.now c.args.line.now)) (sym c.deref.ensures.value) ∙ sym c.file_place.ensures ∙ c.in-None.is in
     let count : length (what_taken c.args.self.now).named ≡ c.len-place.result =
     omega (arith, length_map (λ line. line.now) c.args.self.now.named.items, ap length c.deref.ensures.value, c.deref.ensures.len, c.len-place.ensures) in
-    file_next (what_taken c.args.self.now) (what_taken c.add_file.new.self) c.args.line.now at c.in-Ok.ensures
+    file_next (what_taken c.args.self.now) (what_taken c.add_file.new.self) c.args.line.now at c.in-Ok.ensures.file
     ∙ ap (λ (n : ℕ). Ok (what_taken c.add_file.new.self, n)) count
 
-pub returns-in-Err : goal.returns-in-Err
-returns-in-Err c =
+pub returns-in-Err-clause-place : goal.returns-in-Err-clause-place
+returns-in-Err-clause-place c =
     let at : file_place (what_taken c.args.self.now).named c.args.line.now ≡ None =
     position_map (λ (other : MapsLine). same_file other c.args.line.now) (λ line. line.now) c.args.self.now.named.items
     ∙ ap (position (λ other. same_file other.now c.args.line.now)) (sym c.deref.ensures.value) ∙ sym c.file_place.ensures ∙ c.in-None.is in
-    file_fails (what_taken c.args.self.now) c.args.line.now c.in-Err.error at c.in-Err.ensures
+    file_fails (what_taken c.args.self.now) c.args.line.now c.in-Err.error at c.in-Err.ensures.file

@@ -1,5 +1,6 @@
 -- For `Board::alter`: the slot of an area of the tree shows another.
 use Rattle.std.proofs.Common.{◌++◌, refl, sym, ◌∙◌, subst, append-nil, inl, inr, arith}
+use Rattle.std.proofs.lemmas.Bool.{both_ways}
 use Rattle.std.proofs.lemmas.List.Sums.{sum_by-append}
 use Rattle.std.proofs.lemmas.List.Sorted.{IsPermutation-refl}
 use Rattle.area_slots.specs.Slots.{one_at}
@@ -8,7 +9,7 @@ use Rattle.area_tree.specs.declared.shown.ShownArea.{ShownArea}
 use Rattle.area_tree.specs.AreaTrees.{shown_of, areas_of}
 use Rattle.mm_state.specs.Internal.Boards.{IsSameTree, IsWritten}
 use Rattle.mm_state.proofs.Ceding.{lost_meets, last_alone}
-use Rattle.mm_state.proofs.Changing.{same_span, same_meets, end_meets, room_meets, old_pages}
+use Rattle.mm_state.proofs.Changing.{same_span, same_meets, end_meets, room_meets, old_pages, old_within}
 use Rattle.mm_state.proofs.Hanging.{taken_in, at_most_once}
 use Rattle.mm_state.proofs.board.Board.alter.Goals as goal
 
@@ -91,7 +92,7 @@ returns-then-eq g c =
 pub returns-in-Some : goal.returns-in-Some
 returns-in-Some g c =
     let board = c.args.self.now in
-    let part = c.is_end.ensures c.if-is_end.true in
+    let part = c.is_end.ensures.0 c.if-is_end.true in
     let out = c.cede.ensures.shown in
     λ tree. (
       c.slot_of-slot.result.0,
@@ -129,7 +130,7 @@ returns-then-is_end g c =
         same = subst (IsSameTree board.areas) (sym c.shrink.ensures.same) refl;
         moved_room = c.in_default.ensures.room;
       },
-      record { rest = out.0; before = out.1; after = inl (out.2, sym (c.in_default.ensures.items ∙ append-nil c.pop_moved_at.new.moved.items), end_meets c.args.old.now c.args.new.now (c.is_end.ensures c.if-is_end.true)) },
+      record { rest = out.0; before = out.1; after = inl (out.2, sym (c.in_default.ensures.items ∙ append-nil c.pop_moved_at.new.moved.items), end_meets c.args.old.now c.args.new.now (c.is_end.ensures.0 c.if-is_end.true)) },
       refl,
     )
 
@@ -152,7 +153,7 @@ returns-then-has_room g c =
         after = inl (
           out.2,
           refl,
-          room_meets c.args.old.now c.args.new.now c.args.self.now.areas.tree.limit (areas_of c.args.self.now.areas) (c.has_room.ensures c.if-has_room.true)
+          room_meets c.args.old.now c.args.new.now c.args.self.now.areas.tree.limit (areas_of c.args.self.now.areas) (c.has_room.ensures.room c.if-has_room.true)
               (old_pages c.args.self.now.areas.tree.limit 0 (areas_of c.args.self.now.areas) c.args.old.now c.facts.ensures.rise c.requires.old),
         );
       },
@@ -174,7 +175,13 @@ returns g c =
       record {
         rest = shown_of c.remove.new.self;
         before = c.remove.ensures.shown c.slot_of-slot.result.0 c.slot_of-slot.ensures;
-        after = inr (inl (IsPermutation-refl (shown_of c.remove.new.self), c.push_reserved.ensures.items));
+        after = inr (inl (
+          IsPermutation-refl (shown_of c.remove.new.self),
+          c.push_reserved.ensures.items,
+          λ part. absurd (both_ways c.is_end.result c.if-is_end.false (c.is_end.ensures.1 part)),
+          λ room. absurd (both_ways c.has_room.result c.if-has_room.false (c.has_room.ensures.found
+              (old_within board.areas.tree.limit 0 (areas_of board.areas) c.args.old.now c.facts.ensures.rise c.requires.old) room)),
+        ));
       },
       refl,
     )

@@ -69,6 +69,20 @@ returns-clause-scans g c =
       ],
     )
 
+pub returns-clause-once : goal.returns-clause-once
+returns-clause-once g c = λ enough.
+    let free = ap (λ (v : SpanView). v.free) c.self.view_is in
+    let areas = ap (λ (v : SpanView). v.areas) c.self.view_is in
+    let once = c.wait_for_rows.ensures.once (omega (arith, enough, free, areas)) in
+    let was = ap (λ (v : SpanView). v.scans) c.self.view_is in
+    let pins = ap (λ (v : SpanView). length v.pins) c.self.view_is in
+    elim c.if-self-eq0.branch [
+      | then-self-eq0 w ↦
+          let looks = ap (λ (v : NodeView). v.scans) w.store.ensures.same.seen in
+          omega (arith, once, was, pins, looks, ap (λ (f : Inside). (sight f.writer).scans) w.self-inside-is)
+      | else-self-eq0 w ↦ omega (arith, once, was, pins, ap (λ (f : Inside). (sight f.writer).scans) w.self-inside-is)
+    ]
+
 pub returns-clause-readers : goal.returns-clause-readers
 returns-clause-readers g c =
     let was = ap (λ (v : SpanView). length v.pins) c.self.view_is in

@@ -2,6 +2,7 @@
 use Rattle.std.proofs.Common.{◌≡◌, ◌≤◌, ◌∙◌, true, length, sym, ap, subst}
 use Rattle.maple_node.specs.Words.{slot_word}
 use Rattle.maple_items.specs.Pairs.{overwritten}
+use Rattle.node_slots.specs.Seats.{free_of}
 use Rattle.node_slots.specs.Built.{pairs_now}
 use Rattle.span_tree.specs.SpanTrees.{SpanView}
 use Rattle.span_tree.specs.Kept.{view_of}
@@ -34,7 +35,7 @@ returns c =
     let fields = c.self.inside in
     let pairs = overwritten c.args.span.lo c.args.span.hi (slot_word c.args.slot) in
     subst (λ (v : SpanView). view_of (record fields { writer = c.store.new.writer; tree = c.store.new.tree; changed = true })
-    ≡ record v { pairs = pairs v.pairs; changed = true })
+    ≡ record v { pairs = pairs v.pairs; changed = true; free = length (free_of c.store.new.writer) })
     c.self.view_is
     (stored_view fields c.store.new.writer c.store.new.tree (pairs (pairs_now fields.writer fields.tree)) c.store.ensures.same c.store.ensures.limit
     (c.store.ensures.pairs c.requires.span.0))

@@ -16,5 +16,5 @@ pub loop-place-preserved : goal.loop-place-preserved
 loop-place-preserved c =
     let tree = c.loop-place.tree in
     let place = c.loop-place.place in
-    let After : ℕ → SpanView = λ n. record tree { pairs = overwritten (16 + 2 * n) (16 + 2 * n + 1) (place + 1) tree.pairs; changed = true } in
-    next_row tree c.store.new.self place c.loop-place.invariant (c.store.ensures ∙ ap After c.from.ensures)
+    let After : ℕ → SpanView = λ n. record tree { pairs = overwritten (16 + 2 * n) (16 + 2 * n + 1) (place + 1) tree.pairs; changed = true; free = c.store.new.self.free } in
+    next_row tree c.store.new.self place c.store.new.self.free c.loop-place.invariant (c.store.ensures ∙ ap After c.from.ensures)

@@ -1,3 +1,0 @@
-pub mod TextLines
-pub mod Judgements
-pub mod Internal

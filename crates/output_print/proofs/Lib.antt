@@ -1,0 +1,6 @@
+pub mod Given
+pub mod Pieces
+pub mod Outputs
+pub mod Answering
+pub mod Telling
+pub mod InTurn

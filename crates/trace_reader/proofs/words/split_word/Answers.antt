@@ -1,6 +1,0 @@
--- For `split_word`: its goals.
-use Rattle.trace_reader.proofs.WordParts.{boundary_at_blank}
-use Rattle.trace_reader.proofs.words.split_word.Goals as goal
-
-pub split_at-requires : goal.split_at-requires
-split_at-requires c = rw (c.first_blank.ensures, c.as_bytes.ensures.value) (boundary_at_blank c.args.text.now)
