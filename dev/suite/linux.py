@@ -1,6 +1,11 @@
 """The cases in which Linux answers otherwise, each with its row of docs/KERNEL.md; and what a kernel gives for them."""
 from __future__ import annotations
 
+import re
+
+PART = "==\n"
+HEAD = re.compile(r"# ([a-z-]+) of docs/KERNEL\.md; Linux ([0-9., and]+) answers?\n")
+
 # By row, the cases; a group alone is none.
 ROWS = {
     "below-min": (
@@ -72,3 +77,33 @@ ROWS = {
 def row_of() -> dict[str, str]:
     """The row of each case in which Linux answers otherwise."""
     return {case: row for row, cases in ROWS.items() for case in cases.split()}
+
+
+def parts_of(text: str) -> dict[str, list[str]]:
+    """The answers of a file, each with the versions that gave it."""
+    parts: dict[str, list[str]] = {}
+    for part in text.split(PART) if text else []:
+        head = HEAD.match(part)
+        if head:
+            parts.setdefault(part[head.end() :], []).extend(re.findall("[0-9.]+", head[2]))
+    return parts
+
+
+def with_answer(text: str, row: str, version: str, output: str) -> str:
+    """A file with what a version answered, in the place of what it did before; the newest version stands first."""
+    parts = {answer: [one for one in versions if one != version] for answer, versions in parts_of(text).items()}
+    parts.setdefault(output, []).append(version)
+    kept = [(sorted(versions, key=numbers), answer) for answer, versions in parts.items() if versions]
+    kept.sort(key=lambda part: numbers(part[0][-1]), reverse=True)
+    return PART.join(f"# {row} of docs/KERNEL.md; Linux {listed(versions)}\n{answer}" for versions, answer in kept)
+
+
+def numbers(version: str) -> list[int]:
+    return [int(number) for number in version.split(".")]
+
+
+def listed(versions: list[str]) -> str:
+    """Versions in words, with the verb."""
+    if len(versions) == 1:
+        return f"{versions[0]} answers"
+    return f"{', '.join(versions[:-1])} and {versions[-1]} answer"

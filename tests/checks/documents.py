@@ -2,9 +2,10 @@
 """Checks the documents: names, paths, links, pictures, the reference, and the manual page. Takes a few seconds.
 
 Each name in `code` that can only be one of the sources is one. Each path in `code` and each link of a page leads
-somewhere, headings too. Each crate of crates.txt is in docs/ARCHITECTURE.md. docs/reference is what dev/make-
-reference makes. Each picture of docs/pictures is what dev/chart draws of the table beside it. The manual page
-passes `mandoc -T lint`, where that is installed.
+somewhere, headings too. Each block of code below `<!-- from FILE -->` has lines of this file, in their order, where `..`
+stands for any, and each block of Rust has such a line. Each crate of crates.txt is in docs/ARCHITECTURE.md.
+docs/reference is what dev/make-reference makes. Each picture of docs/pictures is what dev/chart draws of the table
+beside it. The manual page passes `mandoc -T lint`, where that is installed.
 
 Exit status: 0 where all is so, 1 where not, with a line for each, 2 on wrong use.
 """
@@ -131,6 +132,44 @@ def check_paths() -> Iterator[str]:
                         yield f"{page}:{number}: there is no {path}"
 
 
+def excerpts(page: Path) -> Iterator[tuple[int, str, list[str]]]:
+    """The blocks of code of a page that are taken from a file: the number of the first line, the file, and the lines."""
+    above, source, kept = "", "", list[str]()
+    for number, line, is_code in numbered(page):
+        if line.startswith("```") and not source:
+            named = re.fullmatch(r"<!-- from (\S+) -->", above)
+            source = named[1] if named else "nowhere" if line == "```rust" else ""
+        elif line.startswith("```"):
+            yield number - len(kept), source, kept
+            source, kept = "", []
+        elif is_code and source:
+            kept.append(line)
+        above = line
+
+
+def has_in_order(lines: list[str], pieces: list[list[str]]) -> bool:
+    """Whether the lines have each piece whole, one after the other."""
+    start = 0
+    for piece in pieces:
+        found = (at for at in range(start, len(lines)) if lines[at : at + len(piece)] == piece)
+        at = next(found, None)
+        if at is None:
+            return False
+        start = at + len(piece)
+    return True
+
+
+def check_excerpts() -> Iterator[str]:
+    """Code that is shown and stands in no source."""
+    for page in our_pages():
+        for number, source, block in excerpts(page):
+            pieces = [[line.strip() for line in piece.split("\n")] for piece in "\n".join(block).split("\n..\n")]
+            if not Path(source).is_file():
+                yield f"{page}:{number}: the code is from {source}"
+            elif not has_in_order([line.strip() for line in read(Path(source)).splitlines()], pieces):
+                yield f"{page}:{number}: {source} does not have this code"
+
+
 def check_crates() -> Iterator[str]:
     """Crates that docs/ARCHITECTURE.md leaves out."""
     text = read(Path("docs/ARCHITECTURE.md"))
@@ -175,7 +214,7 @@ def main() -> int:
         prog="tests/run documents", description=__doc__, formatter_class=argparse.RawDescriptionHelpFormatter
     ).parse_args()
     os.chdir(TOP)
-    checks = (check_names, check_links, check_paths, check_crates, check_reference, check_pictures, check_manual)
+    checks = (check_names, check_links, check_paths, check_excerpts, check_crates, check_reference, check_pictures, check_manual)
     wrong = [line for check in checks for line in check()]
     right = (
         "documents: every name, path and link leads somewhere, and the reference and each picture are of their sources"

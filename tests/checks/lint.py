@@ -15,7 +15,16 @@ import tomllib
 from checking import TOP, fail, main, passed, skipped
 
 FOLDERS = ("tools/vmatools", "tests", "dev")
-PROGRAMS = ("tools/vma", "tests/run", "dev/chart", "dev/measure", "dev/measure-faults", "dev/real-programs")
+PROGRAMS = (
+    "tools/vma",
+    "tests/run",
+    "dev/chart",
+    "dev/conform-systems",
+    "dev/measure",
+    "dev/measure-faults",
+    "dev/real-programs",
+    "dev/suite-linux",
+)
 MOST = 4_000  # characters of what is printed
 
 
@@ -38,7 +47,7 @@ def check(_options: argparse.Namespace) -> None:
     settings = tomllib.loads((TOP / "pyproject.toml").read_text(encoding="utf-8"))["tool"]["flake8"]
     words = [f"--{name}={','.join(value) if isinstance(value, list) else value}" for name, value in settings.items()]
     check_tool("flake8", [*words, *FOLDERS, *PROGRAMS])
-    check_tool("mypy", ["tools/vmatools", "tests/checks", "tests/unit", "dev/suite"])
+    check_tool("mypy", ["tools/vmatools", "tests/checks", "tests/unit", "dev/reference", "dev/suite"])
     for program in PROGRAMS:
         check_tool("mypy", ["--scripts-are-modules", program])
 

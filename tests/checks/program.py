@@ -5,16 +5,21 @@ and compares all that it answers.
 PROGRAM is crates/vma_main/out/vma_main by default. The script works out for itself what each run writes to standard
 output and standard error, and its status. It ends with status 1 at the first run that differs, or that takes longer
 than its seconds of processor time. In the mode `threads` a trace of one thread has the output of `serial`; of one of
-many threads each line is answered once, those of a thread in their order, and the versions never fall. A load as a
-trace has an output that `check` judges to be legal, a smaller one that of the model of tools/vmatools, and `generate`
-has to count in it what stands there. The seconds are some fifty times what a run needs, and fewer than it would need
-with work quadratic in its lines. The status is 2 on wrong use, or where the program is missing.
+many threads each line is answered once, those of a thread in their order, and the versions never fall, and children
+run at once. A load as a trace has an output that `check` judges to be legal, a smaller one that of the model of
+tools/vmatools, and `generate` has to count in it what stands there. The seconds are some fifty times what a run needs,
+and fewer than it would need with work quadratic in its lines. The status is 2 on wrong use, or where the program is
+missing.
 """
 from __future__ import annotations
 
 import argparse
+import os
+import subprocess
+import tempfile
+import time
 
-from checking import Words, answer, bytes_of, check_ended, compare, fail, main, passed
+from checking import Words, answer, bytes_of, check_ended, compare, fail, main, passed, skipped
 from vmatools import loads, serial, traces
 
 PAGE = 4096
@@ -22,6 +27,8 @@ OPERATIONS = 1_000_000
 THREADS = 64
 FILES = 1_024
 AREAS = 65_530
+CHILDREN = 8
+CHILD_LINES = 50_000
 LINE_BYTES = 4_096
 SCRIPT_LINES = 10_000
 TEXT_BYTES = 268_435_456
@@ -305,6 +312,36 @@ def check_all_at_once(program: str) -> None:
         check_run(program, f"{name}, threads", ["threads"], 0, output=output, trace=trace)
 
 
+def tasks_of(process: int) -> int:
+    """How many threads a process has, or 0 where it has ended."""
+    try:
+        return len(os.listdir(f"/proc/{process}/task"))
+    except OSError:
+        return 0
+
+
+def check_children_at_once(program: str) -> None:
+    """Children, of which at some moment more than half have a thread of their own."""
+    name = "children at once"
+    if not tasks_of(os.getpid()):
+        return skipped(name, "the system does not show the threads of a process")
+    children = range(1, CHILDREN + 1)
+    faults = [f"{child} fault 0 r" for _ in range(CHILD_LINES) for child in children]
+    most = 0
+    with tempfile.TemporaryFile() as trace:
+        trace.write(bytes_of(["vmatrace 1", *(f"0 fork {child}" for child in children), *faults]))
+        trace.seek(0)
+        run = subprocess.Popen([program, "threads"], stdin=trace, stdout=subprocess.DEVNULL)
+        while run.poll() is None:
+            most = max(most, tasks_of(run.pid))
+            time.sleep(0.001)
+    if run.returncode:
+        fail(name, f"has status {run.returncode}, and not 0")
+    if most <= CHILDREN // 2:
+        fail(name, f"{CHILDREN} children have {most} threads at most")
+    passed(name)
+
+
 def check_largest(program: str) -> None:
     """The largest traces: in `serial`, judged, and in `threads`."""
     for made, seconds in ((areas, 5), (operations, 60)):
@@ -379,6 +416,7 @@ def check(options: argparse.Namespace) -> None:
         program, "many bytes more", ["check"], 3, b"trace line 3 cause 2 TooLong\n", trace=largest + bytes(100_000_000)
     )
     check_all_at_once(program)
+    check_children_at_once(program)
     check_largest(program)
 
 

@@ -20,6 +20,7 @@ sys.path[:0] = [str(TOP), str(TOP / "tools")]
 
 from dev.suite.__main__ import all_cases, differences, faults_of, written  # noqa: E402
 from dev.suite.cases import Case  # noqa: E402
+from dev.suite.linux import HEAD, PART  # noqa: E402
 from vmatools import coverage, traces  # noqa: E402
 
 SUITE = TOP / "suite"
@@ -48,9 +49,9 @@ def check_linux() -> Iterator[str]:
     """Answers of Linux without a row of docs/KERNEL.md, or without a case."""
     rows = set(re.findall(r"[a-z]+(?:-[a-z]+)+", (TOP / "docs/KERNEL.md").read_text(encoding="utf-8")))
     for path in sorted(SUITE.glob("*/*.linux")):
-        named = re.match(r"# ([a-z-]+) of docs/KERNEL\.md; Linux ", path.read_text(encoding="utf-8"))
-        if not named or named[1] not in rows:
-            yield f"{path}: names no row of docs/KERNEL.md"
+        parts = [HEAD.match(part) for part in path.read_text(encoding="utf-8").split(PART)]
+        if any(not head or head[1] not in rows for head in parts):
+            yield f"{path}: a part names no row of docs/KERNEL.md, or no version"
         if not path.with_suffix(".trace").exists():
             yield f"{path}: there is no such case"
 

@@ -13,7 +13,7 @@ from vmatools import comparison, console, windows  # noqa: E402
 from vmatools.commands import compare  # noqa: E402
 from vmatools.outputs import Difference  # noqa: E402
 from vmatools.program import Ran  # noqa: E402
-from vmatools.systems import beside  # noqa: E402
+from vmatools.systems import beside, words  # noqa: E402
 from vmatools.systems.places import Window  # noqa: E402
 from vmatools.systems.reference import Reference, unnamed  # noqa: E402
 from vmatools.traces import Trace, read_trace  # noqa: E402
@@ -68,10 +68,10 @@ class Words(unittest.TestCase):
         self.assertEqual(beside.words_of(options), ["--batch", "--window", "0x10000-0x20000", "--linux"])
 
     def test_windows(self) -> None:
-        self.assertEqual(beside.window_of("0x10000-131072"), Window(0x10000, 0x20000))
+        self.assertEqual(words.window_of("0x10000-131072"), Window(0x10000, 0x20000))
         for wrong in ("0x10000", "0x10001-0x20000", "0x20000-0x10000", "-1-0x10000", "a-b"):
             with self.subTest(wrong), self.assertRaises(argparse.ArgumentTypeError):
-                beside.window_of(wrong)
+                words.window_of(wrong)
 
 
 class Answering(comparison.Sides):

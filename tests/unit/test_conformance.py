@@ -8,8 +8,10 @@ import unittest
 import xml.etree.ElementTree as ElementTree
 from pathlib import Path
 
-sys.path.insert(0, str(Path(__file__).resolve().parents[2] / "tools"))
+TOP = Path(__file__).resolve().parents[2]
+sys.path[:0] = [str(TOP), str(TOP / "tools")]
 
+from dev.suite import linux  # noqa: E402
 from vmatools import conformance  # noqa: E402
 from vmatools.conformance import Case, Verdict  # noqa: E402
 from vmatools.program import Ran  # noqa: E402
@@ -93,6 +95,21 @@ class Forms(unittest.TestCase):
     def test_junit_is_xml_whatever_a_system_writes(self) -> None:
         root = ElementTree.fromstring("".join(conformance.as_junit(self.results)))
         self.assertEqual((root.get("tests"), root.get("failures")), ("2", "1"))
+
+
+class Versions(unittest.TestCase):
+    """What versions of Linux answer."""
+
+    def test_a_part_for_each_answer(self) -> None:
+        one = linux.with_answer("", "brk-limit", "6.18.44", "a\n")
+        self.assertEqual(one, "# brk-limit of docs/KERNEL.md; Linux 6.18.44 answers\na\n")
+        two = linux.with_answer(linux.with_answer(one, "brk-limit", "6.1.192", "b\n"), "brk-limit", "6.12.117", "a\n")
+        first, second = two.split(linux.PART)
+        self.assertEqual(first, "# brk-limit of docs/KERNEL.md; Linux 6.12.117 and 6.18.44 answer\na\n")
+        self.assertEqual(second, "# brk-limit of docs/KERNEL.md; Linux 6.1.192 answers\nb\n")
+        three = linux.with_answer(two, "brk-limit", "6.1.192", "a\n")
+        self.assertEqual(three, "# brk-limit of docs/KERNEL.md; Linux 6.1.192, 6.12.117 and 6.18.44 answer\na\n")
+        self.assertEqual(linux.with_answer(three, "brk-limit", "6.12.117", "a\n"), three)
 
 
 if __name__ == "__main__":

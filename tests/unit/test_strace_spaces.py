@@ -1,6 +1,7 @@
 """Traces of what strace wrote: each form of its lines, each address space, and what is left out."""
 from __future__ import annotations
 
+import random
 import struct
 import subprocess
 import sys
@@ -21,7 +22,7 @@ from vmatools.strace.files import Descriptors, follow_descriptor
 from vmatools.strace.log import Log, split_arguments, unescaped
 from vmatools.strace.processes import Processes
 from vmatools.strace.writing import Choices, Trace
-from vmatools.traces import read_trace
+from vmatools.traces import Line, read_trace
 
 BEGIN = '7 execve("/bin/a", ["a"], 0x7ffd /* 2 vars */) = 0\n7 brk(NULL) = 0x555555579000\n'
 MAP = "mmap(NULL, 4096, PROT_READ, MAP_PRIVATE|MAP_ANONYMOUS, -1, 0)"
@@ -100,7 +101,17 @@ class Lines(unittest.TestCase):
         self.assertIn("/not-named-in-the-log/0x7fa0", trace.text())
 
     def test_mmap2(self) -> None:
-        self.assertEqual(len(lines(made(BEGIN + f"7 {MAP.replace('mmap', 'mmap2')} = 0xf7f0000\n"))), 1)
+        """Of a program of 32 bits. strace tells its offset in bytes, and by -e raw=all in pages."""
+        text = BEGIN.replace("0x555555579000", "0x804b000") + '7 open("/a", O_RDONLY) = 3\n'
+        text += f"7 {MAP.replace('mmap', 'mmap2')} = 0xf7ff4000\n"
+        text += "7 mmap2(NULL, 4096, PROT_READ, MAP_PRIVATE, 3, 0x1000) = 0xf7ff3000\n"
+        text += "7 mmap2(0, 0x1000, 0x1, 0x2, 0x3, 0x1) = 0xf7ff2000\n"
+        maps = "08048000-0804b000 r-xp 00000000 fe:00 11  /bin/a\n"
+        maps += "f7ff6000-f7ffe000 r-xp 00000000 00:00 0  [vdso]\nfffdd000-ffffe000 rw-p 00000000 00:00 0  [stack]\n"
+        trace = made(text, maps)
+        self.assertEqual(trace.top, 0xF7FFE000)
+        self.assertEqual(lines(trace)[0], "0 mmap 0 4096 PROT_READ MAP_PRIVATE|MAP_ANONYMOUS -1 0")
+        self.assertEqual(lines(trace)[1:], ["0 mmap 0 4096 PROT_READ MAP_PRIVATE 4 0x1000"] * 2)
 
     def test_a_name_that_is_no_text(self) -> None:
         text = (
@@ -273,6 +284,41 @@ class Orders(unittest.TestCase):
         text = self.THREADS + f"7 {MAP} = 0x7ffff7000000\n8 {MAP} = 0x7ffff7ffe000\n"
         self.assertEqual(made(text).different, 1)
 
+    def test_what_makes_room_is_done_late(self) -> None:
+        clones = (f"7 clone3({{flags=CLONE_VM|CLONE_THREAD}}, 88) = {pid}\n" for pid in range(8, 23))
+        text = BEGIN + "".join(clones) + self.drawn_calls(16, 400)
+        trace = made(text)
+        self.assertEqual((len(trace.steps), trace.different, trace.is_bounded), (401, 0, False))
+        with mock.patch("vmatools.strace.order.MOST_TRIES", -1000):
+            self.assertEqual((made(text).different, made(text).is_bounded), (0, False))
+
+    @staticmethod
+    def drawn_calls(threads: int, count: int) -> str:
+        """Calls of many threads at once: the model answers them in an order that is drawn, and the log doesn't tell it."""
+        draw, model = random.Random(1), Model(read_trace(b"vmatrace 1\n"))
+        text, now, own = "", dict[int, tuple[Line, str]](), {pid: list[tuple[int, int]]() for pid in range(7, 7 + threads)}
+        while count or now:
+            pid = draw.choice(list(own))
+            if pid not in now and count:
+                count -= 1
+                if own[pid] and draw.random() < 0.5:
+                    words = own[pid].pop()
+                    now[pid] = Line(0, 0, "munmap", list(words), None), ""
+                    text += f"{pid} munmap({words[0]:#x}, {words[1]} <unfinished ...>\n"
+                else:
+                    length = 4096 * draw.randrange(1, 9)
+                    now[pid] = Line(0, 0, "mmap", [0, length, 1, 0x22, -1, 0], None), ""
+                    text += f"{pid} {MAP.replace('4096', str(length))[:-1]} <unfinished ...>\n"
+            elif pid in now and not now[pid][1]:
+                line = now[pid][0]
+                now[pid] = line, answer(model, line)[0][0]
+            elif pid in now:
+                line, said = now.pop(pid)
+                text += f"{pid} <... {line.word} resumed>) = {said}\n"
+                if line.word == "mmap":
+                    own[pid].append((int(said, 16), line.arguments[1]))
+        return text
+
     def test_the_search_is_bounded(self) -> None:
         calls = [f"{7 + at % 8} {MAP[:-1]} <unfinished ...>\n" for at in range(8)]
         text = BEGIN + "".join(f"7 clone3({{flags=CLONE_VM|CLONE_THREAD}}, 88) = {pid}\n" for pid in range(8, 15))
@@ -307,6 +353,31 @@ class Lists(unittest.TestCase):
         kernel[0] = kernel[0]._replace(perms="r-xp")
         self.assertEqual(len(lists.compare(run, kernel).others), 1)
         self.assertEqual(len(lists.compare(run, kernel[1:]).others), 1)
+
+    def test_what_the_kernel_maps_of_its_own(self) -> None:
+        """Below the begin of the search its place is held, and above that it is left out; [vsyscall] always."""
+        own = "{} r--p 00000000 00:00 0  [vvar]\n{} r-xp 00000000 00:00 0  [vdso]\n"
+        maps = MAPS.replace("7ffffffde000-7ffffffff000", "7ffffffce000-7fffffff0000")
+        below = own.format("7ffff7ff5000-7ffff7ff9000", "7ffff7ff9000-7ffff7ffb000")
+        below = maps.replace("7ffff7ffb000", f"{below}7ffff7ffb000", 1)
+        above = own.format("7fffffff0000-7fffffff4000", "7fffffff4000-7fffffff6000")
+        above = maps.replace("ffffffffff6", f"{above}ffffffffff6", 1)
+        held, left = made(BEGIN, below), made(BEGIN, above)
+        self.assertEqual((held.held, left.held), (["[vvar]", "[vdso]"], []))
+        self.assertEqual([name for name in held.left_out], ["the area [vsyscall], which lies above user memory"])
+        self.assertEqual(
+            [name.split(",")[0] for name in left.left_out], ["the area [vvar]", "the area [vdso]", "the area [vsyscall]"]
+        )
+        self.assertEqual(len(left.of_maps), len(held.of_maps) - 2)
+        run = [area for area in self.areas(above) if area.name not in ("[vvar]", "[vdso]", "[vsyscall]")]
+        found = lists.compare(run, self.areas(above))
+        self.assertEqual((found.own, found.above, found.others), (["[vvar]", "[vdso]"], ["[vsyscall]"], []))
+
+    def test_a_signal_leaves_no_last_list(self) -> None:
+        text = BEGIN + "7 fork() = 9\n" + f"9 {MAP} = 0x7ffff7ffe000\n9 +++ killed by SIGKILL +++\n7 exit_group(0) = ?\n"
+        processes = importer_of(text).processes
+        self.assertEqual([space.killed_by for space in processes.spaces], [None, None, "SIGKILL"])
+        self.assertIsNone(processes.spaces[2].final)
 
     def test_the_list_of_a_child(self) -> None:
         parent, child = "00010000-00011000 rw-p 00000000 00:00 0 \n", "00020000-00021000 r--p 00000000 00:00 0 \n"

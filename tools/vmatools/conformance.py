@@ -11,7 +11,7 @@ from pathlib import Path
 from .program import TOP, Ran
 
 SUITE = TOP / "suite"
-# What parts the legal outputs of a case with threads.
+# What parts the legal outputs of a case with threads, and the outputs of versions of Linux.
 PART = "==\n"
 # How an adapter ends that can't make its system run a case, as one that asks for addresses that the system has itself.
 CANNOT_RUN = "ends with status 4"
@@ -74,13 +74,13 @@ def without_comments(text: str) -> str:
 
 
 def read_case(path: Path, as_linux: bool = False) -> Case:
-    """The case of a trace of the suite. As Linux, where `NAME.linux` has another output, that is right; where it has none,
-    what Linux answers depends on the process, and nothing is right or wrong."""
+    """The case of a trace of the suite. As Linux, where `NAME.linux` has other outputs, one for each answer that a version
+    gave, these are right; where it has none, what Linux answers depends on the process, and nothing is right or wrong."""
     trace = path.read_text(encoding="utf-8")
     legal, linux = path.with_suffix(".legal"), path.with_suffix(".linux")
     if as_linux and linux.exists():
-        output = without_comments(linux.read_text(encoding="utf-8"))
-        right: tuple[str, ...] = (output,) if output else ()
+        outputs = [without_comments(part) for part in linux.read_text(encoding="utf-8").split(PART)]
+        right: tuple[str, ...] = tuple(outputs) if all(outputs) else ()
     elif legal.exists():
         right = tuple(legal.read_text(encoding="utf-8").split(PART))
     else:

@@ -1,11 +1,14 @@
 """Says in a sentence what is wrong with the first bad line of a trace, and which word it is."""
 from __future__ import annotations
 
+import collections
 import difflib
 import re
 from collections.abc import Callable, Iterable, Mapping
 
 from . import console
+from .checked_traces import Checker, is_too_long
+from .linux_calls import ADVICE, BEGINNINGS, CHANGES
 from .traces import (
     CALLS,
     FORMS,
@@ -62,40 +65,6 @@ OTHER_OPERATIONS = {
     "touch": "fault",
     "pagefault": "fault",
 }
-# Calls of Linux about memory that a trace does not have: those that leave the areas as they are, and those that change them.
-ADVICE = {
-    "madvise",
-    "process_madvise",
-    "mlock",
-    "mlock2",
-    "munlock",
-    "mlockall",
-    "munlockall",
-    "msync",
-    "mincore",
-    "mbind",
-    "set_mempolicy",
-    "get_mempolicy",
-    "migrate_pages",
-    "move_pages",
-    "pkey_alloc",
-    "pkey_free",
-    "membarrier",
-    "process_mrelease",
-    "cachestat",
-}
-CHANGES = {
-    "shmat",
-    "shmdt",
-    "remap_file_pages",
-    "map_shadow_stack",
-    "userfaultfd",
-    "io_setup",
-    "execve",
-    "execveat",
-    "prctl",
-    "uselib",
-}
 ACCESSES = {"read": "r", "write": "w", "exec": "x", "execute": "x", "R": "r", "W": "w", "X": "x"}
 MODES = {"ro": "r", "wo": "w", "wr": "rw", "RW": "rw", "O_RDONLY": "r", "O_WRONLY": "w", "O_RDWR": "rw"}
 CARRIAGE_RETURNS = "lines end with a newline byte alone (`tr -d '\\r'` takes carriage returns away)"
@@ -135,6 +104,8 @@ def read(source: Source, path: str) -> Trace:
     """The trace of a file, or a failure that explains its first bad line."""
     try:
         with console.reading(path):
+            if is_too_long(source):
+                collections.deque(Checker(source).counts_of_operations(), 0)  # a line of it is bad
             return read_trace(source)
     except BadLine as bad:
         raise refusal(bad, path) from None
@@ -264,7 +235,7 @@ def no_operation(word: str) -> str:
     sentence = f"{shown(word)} is none of the operations ({', '.join(FORMS)})"
     if word in ADVICE:
         return f"{sentence}: Linux has it, and the model does not; it changes no area, so leave the line out"
-    if word in CHANGES:
+    if word in CHANGES | BEGINNINGS:
         return f"{sentence}: Linux has it, and the model does not; a list may be another without it"
     return sentence + nearest(word, FORMS, OTHER_OPERATIONS)
 

@@ -273,9 +273,24 @@ PLAIN = {
 }
 READ_FLAGS: dict[str, dict[str, int]] = {kind: {} for kind in TABLES}  # the flags that were read so far, by their text
 BLOCK = 1 << 20  # bytes that are read at once
+# Behind a line: one that is a comment or empty, and one that is neither. So many bytes of comments are passed at once.
+COMMENT, OTHER, LEAST_RUN = re.compile(b"\n[#\n]"), re.compile(b"\n[^#\n]"), 256
 
 
 # Lines
+
+
+def are_good(lines: bytes) -> bool:
+    """Whether none of some whole lines is too long, and all are UTF-8."""
+    at = 0
+    while at < len(lines):
+        at = lines.rfind(b"\n", at, at + LIMITS["line"] + 1) + 1
+        if not at:
+            return False
+    try:
+        return lines.isascii() or bool(lines.decode())
+    except UnicodeDecodeError:
+        return False
 
 
 class Texts:
@@ -286,13 +301,18 @@ class Texts:
         self.number, self.end, self.raw = 0, -1, b""
 
     def __iter__(self) -> Iterator[str]:
-        rest = b""
-        while block := self.source.read1(BLOCK):
-            *lines, rest = (rest + block).split(b"\n")
-            for raw in lines:
+        for chunk in self.chunks():
+            for raw in chunk.split(b"\n")[:-1]:
                 text = self.text_of(raw)
                 if text and text[0] != "#" or self.number == 1:
                     yield text
+
+    def chunks(self) -> Iterator[bytes]:
+        """The bytes of whole lines, which are to be read before the next ones, without long runs of comments."""
+        rest = b""
+        while block := self.source.read1(BLOCK):
+            whole, newline, rest = (rest + block).rpartition(b"\n")
+            yield from self.between_comments(whole + newline)
             if len(rest) > LIMITS["line"]:
                 break
         if rest:
@@ -300,6 +320,27 @@ class Texts:
         if not self.number:
             self.number = 1
             raise BadLine("Header", "nothing")
+
+    def between_comments(self, block: bytes) -> Iterator[bytes]:
+        at = begin = 0
+        while comment := COMMENT.search(block, begin):
+            begin = comment.start() + 1
+            other = OTHER.search(block, begin)
+            next_begin = other.start() + 1 if other else len(block)
+            room = at + LIMITS["bytes"] - self.end - 1
+            end = block.rfind(b"\n", begin, min(next_begin, room)) + 1
+            if end - begin >= LEAST_RUN and are_good(block[begin:end]):
+                yield block[at:begin]
+                self.pass_by(block[begin:end])
+                at = end
+            begin = next_begin
+        if at < len(block):
+            yield block[at:]
+
+    def pass_by(self, lines: bytes) -> None:
+        """Takes whole lines as read."""
+        self.number += lines.count(b"\n")
+        self.end += len(lines)
 
     def text_of(self, raw: bytes, is_ended: bool = True) -> str:
         self.raw = raw
@@ -406,10 +447,14 @@ class Reader:
     def test_note(self, line: Line, place: int) -> None:
         if line.after is None:
             return
-        teller = self.call_threads.get(line.after)
+        teller = self.teller(line.after)
         is_told = teller not in (None, line.thread) and teller not in self.children and line.thread not in self.children
         if not is_told:
             raise BadLine("After", "after", place, line=line, teller=teller, children=self.children)
+
+    def teller(self, number: int) -> int | None:
+        """The thread of the call above that has this number, if there is one."""
+        return self.call_threads.get(number)
 
     def test_fork(self, line: Line) -> None:
         if line.word != "fork":

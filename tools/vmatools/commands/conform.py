@@ -30,7 +30,7 @@ from ..conformance import Case, Result, Verdict
 from ..program import TOP, Ran
 from ..program import run as run_command
 from ..systems.batch import Adapters
-from ..systems.known import KNOWN, MACHINE_SECONDS
+from ..systems.known import KNOWN, MACHINE_SECONDS, system_of
 
 VMA = (sys.executable, str(TOP / "tools/vma"))
 SUMMARY = "measure a system case by case, by the conformance suite"
@@ -74,7 +74,11 @@ def add_arguments(parser: argparse.ArgumentParser) -> None:
     parser.add_argument(
         "--batch", action="store_true", help="COMMAND answers many traces in one process (docs/SYSTEMS.md)"
     )
-    parser.add_argument("--system", metavar="NAME", help=f"one that is known, in place of COMMAND: {', '.join(KNOWN)}")
+    parser.add_argument(
+        "--system",
+        metavar="NAME",
+        help=f"one that is known, in place of COMMAND: {', '.join(KNOWN)}, or machine:IMAGE",
+    )
     parser.add_argument(
         "command", metavar="COMMAND", nargs="*", help="the system under test and its arguments, behind --"
     )
@@ -115,10 +119,9 @@ def take_system(options: argparse.Namespace) -> None:
         return
     if options.command:
         raise console.Failure("--system stands in the place of COMMAND: only one of them can be given")
-    if options.system not in KNOWN:
-        raise console.Failure(f"{options.system} is no system that is known: {', '.join(KNOWN)}")
+    system = system_of(options.system)
     options.command, options.batch = [*VMA, "kernel", "--batch", "--system", options.system], True
-    if KNOWN[options.system].boots:
+    if system.boots:
         options.jobs, options.seconds = 1, MACHINE_SECONDS
 
 

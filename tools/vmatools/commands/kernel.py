@@ -49,7 +49,8 @@ from typing import BinaryIO
 from .. import console
 from ..systems import batch, known, machines
 from ..systems.adapter import Adapter
-from ..systems.places import Refused, Window
+from ..systems.places import Refused
+from ..systems.words import address_of, window_of
 from ..traces import LIMITS, BadLine
 
 SUMMARY = "make the calls of a trace on the Linux under you, or on another system"
@@ -59,21 +60,6 @@ def seconds_of(text: str) -> float:
     if not re.fullmatch(r"[0-9]{1,6}(\.[0-9]{1,3})?", text) or float(text) <= 0:
         raise argparse.ArgumentTypeError(f"{text} is no number of seconds")
     return float(text)
-
-
-def number_of(text: str) -> int:
-    """An address, in hexadecimal behind 0x or in decimal digits, of whole pages."""
-    if not re.fullmatch("0x[0-9a-fA-F]{1,16}|[0-9]{1,20}", text) or int(text, 0) % 4096:
-        raise argparse.ArgumentTypeError(f"{text} is no address of a page")
-    return int(text, 0)
-
-
-def window_of(text: str) -> Window:
-    low, _, high = text.partition("-")
-    window = Window(number_of(low), number_of(high))
-    if window.low >= window.high:
-        raise argparse.ArgumentTypeError(f"{text} is no window: LO-HI, with LO below HI")
-    return window
 
 
 def add_arguments(parser: argparse.ArgumentParser) -> None:
@@ -94,9 +80,9 @@ def add_arguments(parser: argparse.ArgumentParser) -> None:
         type=window_of,
         help="keeps to these addresses (0x10000-0x2000000, but for a kernel)",
     )
-    parser.add_argument("--shift", metavar="N", type=number_of, help="the window lies so much higher in the system (0)")
+    parser.add_argument("--shift", metavar="N", type=address_of, help="the window lies so much higher in the system (0)")
     parser.add_argument(
-        "--link", metavar="N", type=number_of, help=f"where the program that makes the calls lies ({known.LOW_LINK:#x})"
+        "--link", metavar="N", type=address_of, help=f"where the program that makes the calls lies ({known.LOW_LINK:#x})"
     )
     parser.add_argument("--processor", choices=["x86_64", "aarch64"], help="that of the system (of this machine)")
     parser.add_argument("--folder", metavar="FOLDER", help="makes the trace's files there (they are gone at the end)")

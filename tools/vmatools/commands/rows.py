@@ -14,6 +14,7 @@ from __future__ import annotations
 import argparse
 import contextlib
 import os
+import shutil
 
 from .. import console, program
 from ..systems import rows
@@ -38,11 +39,12 @@ def add_arguments(parser: argparse.ArgumentParser) -> None:
 
 
 def program_of(options: argparse.Namespace) -> str | None:
-    """The program, or None where none is named and the repository's is not built."""
+    """The program, or None where none is named, none is on the PATH, and the repository's is not built."""
     if (
         options.program
         or options.here
         or os.environ.get(program.VARIABLE)
+        or shutil.which(program.ON_PATH)
         or os.access(program.DEFAULT_PROGRAM, os.X_OK)
     ):
         return program.find(options.program, options.verbose)

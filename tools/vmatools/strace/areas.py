@@ -12,6 +12,7 @@ from .files import Opening
 USER_END = USER_PAGES[1] * PAGE
 PROGRAMS = (0x555555554000, 0x570000000000)  # where the kernel puts a program that may be anywhere
 LOW = 0x10000000  # no search begins below
+OF_KERNEL = ("[vvar]", "[vvar_vclock]", "[vdso]", "[uprobes]")  # what the kernel maps, and none of the program's calls
 
 
 class Area(NamedTuple):

@@ -32,9 +32,10 @@ from ..explanations import explain
 from ..model import Space as Model, answer, permissions
 from ..traces import LIMITS, PAGE, BadLine, Line, read_trace
 from .areas import Area, Section, is_of, read_sections, top_of
+from .delaying import best_order
 from .files import Opening
 from .log import Log
-from .order import Order, Step, after
+from .order import Step, after
 from .processes import Processes, Space
 from .reports import report, report_all, report_list
 from .writing import Choices, Operation, Trace
@@ -211,9 +212,7 @@ class Importer:
         ]
         places = list(range(len(steps)))
         if not is_ordered:
-            order = Order(steps)
-            places = order.found(model)
-            trace.different, trace.is_bounded = order.different, order.was_ended
+            places, trace.different, trace.is_bounded = best_order(steps, model)
         trace.moved = sum(place != at for at, place in enumerate(places))
         trace.steps = [trace.steps[place] for place in places]
         for operation, step in zip(trace.steps, (steps[place] for place in places)):
@@ -326,7 +325,8 @@ def write_beside(trace: Trace, space: Space, replies: str | None, final: str | N
     if final and space.final:
         write_list(final, space.final[1])
     elif final:
-        raise Failure(f"{printable(space.label)}: no list is known that the kernel had last, so {final} is not written")
+        why = f", as {space.killed_by} ended it" if space.killed_by else ""
+        raise Failure(f"{printable(space.label)}: no list is known that the kernel had last{why}: {final} is not written")
 
 
 def write_list(path: str, areas: list[Area]) -> None:

@@ -7,7 +7,7 @@ from dataclasses import dataclass, field
 
 from ..console import counted, printable
 from ..traces import PAGE
-from .areas import USER_END, Area
+from .areas import OF_KERNEL, USER_END, Area
 
 Attributes = tuple[object, ...]
 
@@ -20,6 +20,7 @@ class Comparison:
     apart: list[int] = field(default_factory=list)  # borders that the run has alone
     grown: list[tuple[int, int]] = field(default_factory=list)  # pages of a stack that faults added
     above: list[str] = field(default_factory=list)  # areas above user memory
+    own: list[str] = field(default_factory=list)  # areas of the kernel's own, which a trace leaves out
     removed: set[str] = field(default_factory=set)  # files that were removed while they were mapped
     others: list[str] = field(default_factory=list)
 
@@ -32,6 +33,8 @@ class Comparison:
             yield f"a stack grew by faults, which are in no log: {counted((hi - lo) // PAGE, 'page')}, {lo:x}-{hi:x}"
         for name in sorted(self.removed):
             yield f"removed while it was mapped, of which a trace says nothing: {printable(name)}"
+        for name in self.own:
+            yield f"the kernel's own, where no search for room comes, and left out: {name}"
         for name in self.above:
             yield f"above user memory, and in no trace: {name}"
 
@@ -91,6 +94,9 @@ def compare_pages(found: Comparison, here: Area | None, there: Area | None, lo: 
     """Pages that are in one area, or none, on both sides."""
     if here is None and there is not None and there.name == "[stack]":
         found.grown.append((lo, hi))
+        return
+    if here is None and there is not None and there.name in OF_KERNEL:
+        found.own.append(there.name)
         return
     if here is None or there is None:
         which = "not in the run" if here is None else "not in the kernel"

@@ -96,6 +96,7 @@ CHANGED = re.compile(r" *<pid changed to (\d+) \.\.\.>$")
 SECONDS = re.compile(r" <\d+\.\d+>$")
 NUMBER_OF_ERROR = re.compile(r"-1 \(errno (\d+)\)")
 LONG_NUMBER = re.compile("[0-9]{256}")  # no number of strace, nor a name
+KILLED = re.compile(r"\+\+\+ killed by (\w+)")
 ATTACHED = re.compile(r"strace: Process (\d+) attached(?: with \d+ threads)?\n")
 
 
@@ -109,6 +110,7 @@ class Log:
         self.calls: list[Call] = []
         self.ended: list[tuple[int, int]] = []
         self.signals: Counter[str] = Counter()
+        self.killed: dict[int, str] = {}  # the signal that ended a thread
         self.pending: dict[int, tuple[int, str, str]] = {}
         self.replaced: dict[int, int] = {}  # the thread whose execve goes on under the number of its process
         self.unreadable = 0
@@ -158,6 +160,9 @@ class Log:
         elif rest.startswith("+++ "):
             self.ended.append((at, pid))
             self.alive.pop(pid, None)
+            killed = KILLED.match(rest)
+            if killed:
+                self.killed[pid] = killed[1]
         else:
             self.unreadable += 1
 

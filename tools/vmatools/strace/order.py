@@ -56,17 +56,36 @@ def after(model: Model, step: Step) -> tuple[Model, bool]:
     return followed(model, step), False
 
 
-class Order:
-    """Looks for an order of calls: each comes after those that returned before it began, and the model answers what the kernel
-    answered. Where there is none, one call is a difference, and the model goes on from what the kernel did."""
+class Calls:
+    """Some calls, and which of them may come next where some of each thread are placed."""
 
     def __init__(self, steps: list[Step]) -> None:
         self.steps = steps
         self.of_thread: dict[int, list[int]] = {}  # the places of each thread's calls, in their order
         for place, step in enumerate(steps):
             self.of_thread.setdefault(step.pid, []).append(place)
-        self.threads = list(self.of_thread)
-        self.tries = MOST_TRIES + 2 * len(steps)
+        self.threads = list(self.of_thread.values())
+
+    def first_heads(self) -> Heads:
+        return (0,) * len(self.threads)
+
+    def next_ones(self, heads: Heads) -> list[tuple[int, int]]:
+        """The calls that may come next, the first to return first: each began before all others that are left have returned."""
+        left = [
+            (which, thread[head]) for which, (thread, head) in enumerate(zip(self.threads, heads)) if head < len(thread)
+        ]
+        end = min((self.steps[place].end for _, place in left), default=0)
+        ones = [one for one in left if self.steps[one[1]].begin < end or self.steps[one[1]].end == end]
+        return sorted(ones, key=lambda one: self.steps[one[1]].end)
+
+
+class Order:
+    """Looks for an order of calls: each comes after those that returned before it began, and the model answers what the kernel
+    answered. Where there is none, one call is a difference, and the model goes on from what the kernel did."""
+
+    def __init__(self, calls: Calls) -> None:
+        self.calls, self.steps = calls, calls.steps
+        self.tries = MOST_TRIES + 2 * len(self.steps)
         self.different = 0  # the calls that the model answers otherwise, in the order that was found
 
     @property
@@ -77,7 +96,7 @@ class Order:
     def found(self, model: Model) -> list[int]:
         """All places, in the order that was found."""
         order: list[int] = []
-        heads, progress = (0,) * len(self.threads), Progress()
+        heads, progress = self.calls.first_heads(), Progress()
         while len(order) < len(self.steps):
             path: list[int] = []
             if not self.was_ended:
@@ -91,7 +110,7 @@ class Order:
 
     def one(self, model: Model, heads: Heads) -> tuple[list[int], Model, Heads]:
         """The first call that answers as the kernel did; else the first that returned, which is the difference."""
-        ones = self.next_ones(heads)
+        ones = self.calls.next_ones(heads)
         for which, place in ones[:4]:
             moved = model.child()
             if answers_alike(moved, self.steps[place]):
@@ -100,23 +119,12 @@ class Order:
         self.different += 1
         return [place], followed(model, self.steps[place]), advanced(heads, which)
 
-    def next_ones(self, heads: Heads) -> list[tuple[int, int]]:
-        """The calls that may come next, the first to return first: each began before all others that are left have returned."""
-        left = [
-            (which, self.of_thread[thread][head])
-            for which, (thread, head) in enumerate(zip(self.threads, heads))
-            if head < len(self.of_thread[thread])
-        ]
-        end = min((self.steps[place].end for _, place in left), default=0)
-        ones = [one for one in left if self.steps[one[1]].begin < end or self.steps[one[1]].end == end]
-        return sorted(ones, key=lambda one: self.steps[one[1]].end)
-
     def search(self, model: Model, heads: Heads) -> tuple[list[int], Model, Heads]:
         """The longest order from here on in which all answers are equal, as far as few tries tell; model and place then."""
         path: list[int] = []
         best: tuple[list[int], Model, Heads] = ([], model, heads)
         left = most = min(MOST_STEPS, max(LEAST_STEPS, self.tries // 20))
-        stack: list[tuple[Model, Heads, Iterator[tuple[int, int]]]] = [(model, heads, iter(self.next_ones(heads)))]
+        stack: list[tuple[Model, Heads, Iterator[tuple[int, int]]]] = [(model, heads, iter(self.calls.next_ones(heads)))]
         while left and self.tries > 0 and len(path) < MOST_PATH:
             model, heads, ones = stack[-1]
             one = next(ones, None)
@@ -131,7 +139,7 @@ class Order:
             left, self.tries, moved = left - 1, self.tries - 1, model.child()
             if answers_alike(moved, self.steps[one[1]]):
                 path.append(one[1])
-                stack.append((moved, advanced(heads, one[0]), iter(self.next_ones(advanced(heads, one[0])))))
+                stack.append((moved, advanced(heads, one[0]), iter(self.calls.next_ones(advanced(heads, one[0])))))
         return (path, *stack[-1][:2]) if stack and len(path) > len(best[0]) else best
 
 

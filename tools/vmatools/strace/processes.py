@@ -56,6 +56,7 @@ class Space:
     last: int = 0  # the line of the log at which the last of its calls ended
     areas: list[Area] = field(default_factory=list)  # those that it begins with
     final: tuple[int, list[Area]] | None = None  # the last list that was read of it, and at which line of the log
+    killed_by: str | None = None  # the signal that ended its process, before which no list is read
 
     def name(self) -> str:
         """How it is called on the command line and in names of files."""
@@ -84,6 +85,10 @@ class Processes:
         self.tries: list[Try] = []
         for call in log.events():
             self.follow(call)
+        for thread, signal in log.killed.items():
+            space = self.space_of.get(thread, self.first)
+            if space.owner in (0, self.leader_of.get(thread, thread)):
+                space.killed_by = signal
 
     def follow(self, call: Call) -> None:
         if call.pid not in self.space_of:

@@ -4,34 +4,11 @@ from __future__ import annotations
 from collections import Counter
 
 from ..console import counted, printable, say
+from ..linux_calls import ADVICE, CHANGES
 from .areas import Area
 from .log import Log
 from .processes import CALLS, Processes, Space
 from .writing import Trace
-
-# Calls that change the list, or what is in it, and that no trace has.
-CHANGES = {"shmat", "shmdt", "remap_file_pages", "map_shadow_stack", "io_setup", "io_destroy", "userfaultfd"}
-# Calls about memory that leave the areas of a trace as they are.
-ADVICE = {
-    "madvise",
-    "process_madvise",
-    "mlock",
-    "mlock2",
-    "munlock",
-    "mlockall",
-    "munlockall",
-    "msync",
-    "mincore",
-    "mbind",
-    "set_mempolicy",
-    "get_mempolicy",
-    "migrate_pages",
-    "move_pages",
-    "set_mempolicy_home_node",
-    "pkey_alloc",
-    "pkey_free",
-    "membarrier",
-}
 
 
 def tell(title: str, counts: Counter[str]) -> None:
@@ -46,6 +23,8 @@ def report(trace: Trace, log: Log, processes: Processes, space: Space, in_lines:
     for line in trace.sources():
         say(line)
     report_order(trace)
+    report_places(trace)
+    report_killed(space, "it")
     report_left_out([trace], [space], log)
     for other in processes.spaces:
         if other is not space and other.calls and other.name() not in in_lines:
@@ -76,6 +55,18 @@ def report_order(trace: Trace) -> None:
         say(f"no order was found that explains {counted(trace.different, 'reply', 'replies')} of the kernel{ended}")
     if trace.of_children:
         say("the number of areas at a fork is in no log: the replies have that of the model")
+
+
+def report_places(trace: Trace) -> None:
+    if trace.held:
+        shown = ", ".join(dict.fromkeys(trace.held))
+        say(f"plain memory takes the place of {shown}, so that nothing else is put there")
+
+
+def report_killed(space: Space, which: str) -> None:
+    """Why there is no list that the kernel had last."""
+    if space.killed_by and space.final is None:
+        say(f"{which} has no last list: {space.killed_by} ended it")
 
 
 def report_left_out(traces: list[Trace], spaces: list[Space], log: Log) -> None:
@@ -114,6 +105,10 @@ def report_all(written: list[tuple[Space, Trace]], log: Log, processes: Processe
     for space, trace in written:
         say(f"{space.name()}: {headline(trace, space)}")
         report_order(trace)
+        report_killed(space, space.name())
+        for step in trace.steps:
+            if step.fork and step.text:
+                report_killed(step.fork, f"child {step.text.split()[1]} of {space.name()}")
     report_left_out([trace for _, trace in written], [space for space, _ in written], log)
     report_log(log, processes)
 
@@ -126,9 +121,7 @@ def report_list(trace: Trace, areas: list[Area], borders: set[int]) -> None:
     if joined:
         shown = ", ".join(hex(area.lo) for area in joined[:8]) + (", .." if len(joined) > 8 else "")
         say(f"joined to the area below, which looks alike and which the kernel keeps apart: {len(joined)}, at {shown}")
-    named = [area.name for area in areas if area.name in ("[vvar]", "[vvar_vclock]", "[vdso]")]
-    if named:
-        say(f"plain memory takes the place of {', '.join(dict.fromkeys(named))}, so that nothing else is put there")
+    report_places(trace)
     shared = [area for area in areas if area.is_shared_memory]
     if shared:
         say(f"shared memory without a file, each with an object of its own: {counted(len(shared), 'area')}")

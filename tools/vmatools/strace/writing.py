@@ -10,7 +10,7 @@ from dataclasses import dataclass
 from ..console import Failure
 from ..model import Space as Model
 from ..traces import LIMITS, MAP, MREMAP, PAGE, PROT
-from .areas import USER_END, Area
+from .areas import OF_KERNEL, USER_END, Area
 from .files import Identity, Opening, descriptor_of
 from .log import Call
 from .order import is_aligned, is_moved, is_moved_aligned, is_placed
@@ -179,6 +179,7 @@ class Trace:
         self.is_bounded = False
         self.taken_off, self.left_out = Counter[str](), Counter[str]()
         self.notes: list[str] = []
+        self.held: list[str] = []  # areas of the kernel's whose place is held by plain memory
         self.model: Model | None = None  # after all calls, as the kernel did them
 
     def operations(self) -> Iterator[Operation]:
@@ -366,7 +367,10 @@ class Trace:
         for area in areas:
             if area.hi > USER_END:
                 self.left_out[f"the area {area.name or 'above user memory'}, which lies above user memory"] += 1
+            elif area.name in OF_KERNEL and area.lo >= (self.top or DEFAULT_TOP):
+                self.left_out[f"the area {area.name}, which lies where no search for room comes"] += 1
             elif first_break is None or not is_in_heap(area, heap, first_break):
+                self.held += [area.name] * (area.name in OF_KERNEL)
                 self.area(area, openings)
         for area in areas:
             if area.sealed:

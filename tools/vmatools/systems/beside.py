@@ -12,30 +12,11 @@ from ..traces import PAGE, Trace, read_trace
 from .batch import Adapters
 from .known import KNOWN, MACHINE_SECONDS, WINDOW, system_of
 from .measuring import missing
-from .places import Window
 from .reference import Reference, unnamed
+from .words import window_of
 
 VMA = str(program.TOP / "tools/vma")
 FOR_SECONDS = 60.0  # how long traces are run in a known system, where nothing else is asked for
-
-
-def address_of(text: str) -> int:
-    """An address of a page, in hexadecimal behind 0x or in decimal digits."""
-    try:
-        value = int(text, 16) if text.startswith("0x") else int(text)
-    except ValueError:
-        value = -1
-    if value < 0 or value % PAGE or value >= 2**64:
-        raise argparse.ArgumentTypeError(f"{text} is no address of a page")
-    return value
-
-
-def window_of(text: str) -> Window:
-    low, _, high = text.partition("-")
-    window = Window(address_of(low), address_of(high))
-    if window.low >= window.high:
-        raise argparse.ArgumentTypeError(f"{text} is no window: LO-HI, with LO below HI")
-    return window
 
 
 def add_arguments(parser: argparse.ArgumentParser) -> None:
