@@ -12,5 +12,5 @@ pub mod Freeing
 pub mod Paging
 pub mod Reshaped
 pub mod Repeated
-pub mod Ceding
+pub mod Splitting
 pub mod Taking

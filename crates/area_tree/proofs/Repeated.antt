@@ -1,4 +1,4 @@
--- For `AreaTree::cede` and `AreaTree::remove_all`: pairs in order of which pages are overwritten twice.
+-- For `AreaTree::split` and `AreaTree::remove_all`: pairs in order of which pages are overwritten twice.
 use Rattle.std.proofs.Common.{ℕ, ◌≡◌, ◌<◌, ◌≤◌, min, max, true, false, List, [], ◌∷◌, ◌++◌, All, append-nil, refl, sym, ap, subst, ◌∙◌, arith, ◌⊎◌, inl, inr}
 use Rattle.std.specs.Prelude.{nat_lt}
 use Rattle.std.specs.List.{flat_map}

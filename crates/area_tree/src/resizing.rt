@@ -65,7 +65,7 @@ impl AreaTree {
 
     /// A slot of the tree shows an area with fewer pages than the one before, and a slot that shows none gets the pages that it loses: only
     /// these are stored.
-    pub fn cede(&mut self, old: &Record, shown: ShownArea, other: ShownArea)
+    pub fn split(&mut self, old: &Record, shown: ShownArea, other: ShownArea)
         requires roomy { self.old.tree.roomy ≡ true }
         requires member { Contains (shown_of self.old) (record { slot = shown.slot; area = old.now }) }
         requires part { IsEndOf shown.area.span old.now.span }

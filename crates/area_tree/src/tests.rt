@@ -120,7 +120,7 @@ fn areas_are_found_and_placed(rt: HostRuntime) -> Result<(), NoMemory> {
     Ok(())
 }
 
-/// The pages of an area that was taken out are free, and a tree that no reader may read is settled.
+/// The pages of an area that was taken out are free, and the grace period of a tree that no reader may read has elapsed.
 #[test]
 fn an_area_is_taken_out(rt: HostRuntime) -> Result<(), NoMemory> {
     let mut tree = two_areas(&rt, rt.alloc())?;
@@ -131,7 +131,7 @@ fn an_area_is_taken_out(rt: HostRuntime) -> Result<(), NoMemory> {
     let list = tree.copy_list(rt.alloc())?;
     assert_eq!(rt; list.items(), [shown(0, 30, 34).area].as_slice());
     tree.scan();
-    assert_eq!(rt; tree.settled(), 1);
+    assert_eq!(rt; tree.elapsed(), 1);
     Ok(())
 }
 

@@ -59,11 +59,11 @@ impl AreaTree {
         requires fresh { IsFreshWriter config.now.areas nodes }
         ensures { IfOk result (λ areas. areas ≡ record {
           tree = record {
-            table = nodes.desk.seat.table_id;
+            table = nodes.writer_state.seat.table_id;
             areas = config.now.areas;
             limit = page_of config.now.limit;
             number = 0;
-            settled = 0;
+            elapsed = 0;
             pairs = [];
             shown = [];
             changed = false;
@@ -182,13 +182,13 @@ impl AreaTree {
           tree = record self.old.tree {
             changed = nat_eq self.old.tree.number 0;
             roomy = true;
-            settled = self.new.tree.settled;
+            elapsed = self.new.tree.elapsed;
             scans = self.new.tree.scans;
             pins = self.new.tree.pins;
             free = self.new.tree.free;
           };
         } }
-        ensures settled { self.old.tree.settled ≤ self.new.tree.settled }
+        ensures elapsed { self.old.tree.elapsed ≤ self.new.tree.elapsed }
         ensures shown { self.old.tree.shown ≡ self.old.tree.pairs }
         ensures readers { length self.new.tree.pins ≡ length self.old.tree.pins }
         // each pin is looked at once, and once more for each try after the first
@@ -211,36 +211,36 @@ impl AreaTree {
             shown = self.old.tree.pairs;
             changed = false;
             roomy = false;
-            settled = self.new.tree.settled;
+            elapsed = self.new.tree.elapsed;
           };
         } }
-        ensures settled { self.old.tree.settled ≤ self.new.tree.settled }
+        ensures elapsed { self.old.tree.elapsed ≤ self.new.tree.elapsed }
     {
         self.tree.publish(call);
     }
 
     /// The greatest tree, at most the present one, such that no row waits that left at its publish or before.
-    pub fn settled(&self) -> u64
-        ensures settled { result ≡ self.now.tree.settled }
+    pub fn elapsed(&self) -> u64
+        ensures elapsed { result ≡ self.now.tree.elapsed }
         ensures most { result ≤ self.now.tree.number }
     {
-        self.tree.settled()
+        self.tree.elapsed()
     }
 
     /// Looks at the pin of each reader once: rows that no reader may read any more are free again.
     pub fn scan(&mut self)
         ensures same { self.new ≡ record self.old {
           tree = record self.old.tree {
-            settled = self.new.tree.settled;
+            elapsed = self.new.tree.elapsed;
             scans = self.old.tree.scans + length self.old.tree.pins;
             pins = self.new.tree.pins;
             free = self.new.tree.free;
           };
         } }
-        ensures settled { self.old.tree.settled ≤ self.new.tree.settled }
+        ensures elapsed { self.old.tree.elapsed ≤ self.new.tree.elapsed }
         ensures readers { length self.new.tree.pins ≡ length self.old.tree.pins }
-        // once it finds every reader closed, every tree is settled
-        ensures gone { AreOut self.new.tree.pins → self.new.tree.settled ≡ self.new.tree.number }
+        // once it finds every reader closed, every tree's grace period has elapsed
+        ensures gone { AreOut self.new.tree.pins → self.new.tree.elapsed ≡ self.new.tree.number }
     {
         self.tree.scan();
     }

@@ -23,15 +23,15 @@ last_sits viewed most all fewer pass same passes =
 
 -- what a call on slot 0 owes at its end
 pub entered_exactly : (first begun marked written : View) (entry : Entry) (row : List ℕ) (found : ℕ) → begun ≡ begin_at first
-    → marked ≡ mark_at begun 0 found → written ≡ write_at marked 0 row → AreFree first.desk.slots → 0 < length first.desk.slots
+    → marked ≡ mark_at begun 0 found → written ≡ write_at marked 0 row → AreFree first.writer_state.slots → 0 < length first.writer_state.slots
     → ShowsOne (list_after first.config (first.seen ++ entry ∷ [])) row
-    → Exactly written.desk.slots (list_after written.config (written.seen ++ entry ∷ []))
+    → Exactly written.writer_state.slots (list_after written.config (written.seen ++ entry ∷ []))
 entered_exactly first begun marked written entry row found begin mark write free some_slot shows =
-    let slots = ap (λ (v : View). v.desk.slots) begin in
+    let slots = ap (λ (v : View). v.writer_state.slots) begin in
     let config : written.config ≡ first.config =
     ap (λ (v : View). v.config) write ∙ ap (λ (v : View). v.config) mark ∙ ap (λ (v : View). v.config) begin in
     let seen : written.seen ≡ first.seen = ap (λ (v : View). v.seen) write ∙ ap (λ (v : View). v.seen) mark ∙ ap (λ (v : View). v.seen) begin in
-    subst (λ c. Exactly written.desk.slots (list_after c (written.seen ++ entry ∷ []))) (sym config)
-    (subst (λ (j : List Entry). Exactly written.desk.slots (list_after first.config (j ++ entry ∷ []))) (sym seen)
-    (enters_exactly first.desk.slots (list_after first.config (first.seen ++ entry ∷ [])) begun.desk marked.desk written.desk row
-    free some_slot shows slots (ap (λ (v : View). v.desk) mark) (ap (λ (v : View). v.desk) write)))
+    subst (λ c. Exactly written.writer_state.slots (list_after c (written.seen ++ entry ∷ []))) (sym config)
+    (subst (λ (j : List Entry). Exactly written.writer_state.slots (list_after first.config (j ++ entry ∷ []))) (sym seen)
+    (enters_exactly first.writer_state.slots (list_after first.config (first.seen ++ entry ∷ [])) begun.writer_state marked.writer_state written.writer_state row
+    free some_slot shows slots (ap (λ (v : View). v.writer_state) mark) (ap (λ (v : View). v.writer_state) write)))

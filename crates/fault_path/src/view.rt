@@ -63,7 +63,7 @@ impl FaultView {
         requires few { sum operations.now ≤ 16777216 }
         ensures view { IfOk result (λ made. made.0 ≡ record {
           table = made.2.seat.table_id;
-          nodes = made.3.desk.seat.table_id;
+          nodes = made.3.writer_state.seat.table_id;
           config = config.now;
           callers = length operations.now;
         }) }

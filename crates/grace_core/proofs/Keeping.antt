@@ -11,13 +11,13 @@ use Rattle.mm_types.specs.declared.slot.Row.{Row}
 use Rattle.grace_core.specs.Core.{Core, Tree, times, pin_at, snapshot_at, is_free, is_open, Exists, numbers_of}
 use Rattle.grace_core.specs.Steps.{turned}
 use Rattle.grace_core.specs.Events.{after_open, after_root, after_close, after_fill, after_publish, after_scan, after_split, after_join}
-use Rattle.grace_core.specs.Facts.{Keeps, Board, Facts}
+use Rattle.grace_core.specs.Facts.{Keeps, WriterFacts, Facts}
 use Rattle.grace_core.proofs.Elements.{each_set, one_set}
-use Rattle.grace_core.proofs.Moves.{loads, fill_board, fill_keeps, publish_board, publish_keeps, scan_board, scan_keeps, split_board, split_keeps, join_board, join_keeps}
+use Rattle.grace_core.proofs.Moves.{loads, fill_writer_facts, fill_keeps, publish_writer_facts, publish_keeps, scan_writer_facts, scan_keeps, split_writer_facts, split_keeps, join_writer_facts, join_keeps}
 
 -- what is kept of each reader
 abbrev pub EachKeeps : Core → Type 0
-EachKeeps core = (reader : ℕ) (tree : Tree) → snapshot_at core.snapshots reader ≡ Some tree → Keeps core.desk reader (pin_at core.pins reader) tree
+EachKeeps core = (reader : ℕ) (tree : Tree) → snapshot_at core.snapshots reader ≡ Some tree → Keeps core.writer_state reader (pin_at core.pins reader) tree
 
 -- it follows from the facts
 pub each_keeps : (core : Core) → Facts core → EachKeeps core
@@ -26,12 +26,12 @@ each_keeps core facts reader tree some =
     record { odd = open_pin.0; exists = open_pin.1; words = facts.snapshots reader tree some; holds = facts.waiting reader tree some }
 
 -- and the facts from it
-pub facts_from : (core : Core) → ((reader : ℕ) → pin_at core.pins reader < 2 ^ 64) → Board core.desk → EachKeeps core → Facts core
-facts_from core fits board each = record {
+pub facts_from : (core : Core) → ((reader : ℕ) → pin_at core.pins reader < 2 ^ 64) → WriterFacts core.writer_state → EachKeeps core → Facts core
+facts_from core fits writer_facts each = record {
   pins = record { fits = fits; only_open = λ reader tree some. let keeps = each reader tree some in (keeps.odd, keeps.exists) };
   snapshots = λ reader tree some. (each reader tree some).words;
   waiting = λ reader tree some. (each reader tree some).holds;
-  board = board;
+  writer_facts = writer_facts;
 }
 
 -- a turned pin fits
@@ -44,23 +44,23 @@ not_odd pin closed odd = eqb-false (pin % 2) 1 closed odd
 
 -- open
 pub open_facts : (core : Core) (reader : ℕ) → Facts core → is_open (pin_at core.pins reader) ≡ false → Facts (after_open core reader)
-open_facts core reader facts closed = facts_from (after_open core reader) (fits_turned core reader facts) facts.board
+open_facts core reader facts closed = facts_from (after_open core reader) (fits_turned core reader facts) facts.writer_facts
     (λ other tree some.
     let keeps = each_keeps core facts other tree some in
-    one_set (λ pin. Keeps core.desk other pin tree) core.pins reader other (turned (pin_at core.pins reader)) 0 keeps
+    one_set (λ pin. Keeps core.writer_state other pin tree) core.pins reader other (turned (pin_at core.pins reader)) 0 keeps
     (λ same. absurd (not_odd (pin_at core.pins reader) closed (subst (λ n. pin_at core.pins n % 2 ≡ 1) same keeps.odd))))
 
 -- root
-pub root_facts : (core : Core) (reader : ℕ) → Facts core → is_open (pin_at core.pins reader) ≡ true → Exists core.desk.clearings reader
+pub root_facts : (core : Core) (reader : ℕ) → Facts core → is_open (pin_at core.pins reader) ≡ true → Exists core.writer_state.clearings reader
     → Facts (after_root core reader)
-root_facts core reader facts odd exists = facts_from (after_root core reader) facts.pins.fits facts.board
-    (λ other. one_set (λ (snapshot : Option Tree). (tree : Tree) → snapshot ≡ Some tree → Keeps core.desk other (pin_at core.pins other) tree)
-    core.snapshots reader other (Some core.desk.tree) None (each_keeps core facts other)
+root_facts core reader facts odd exists = facts_from (after_root core reader) facts.pins.fits facts.writer_facts
+    (λ other. one_set (λ (snapshot : Option Tree). (tree : Tree) → snapshot ≡ Some tree → Keeps core.writer_state other (pin_at core.pins other) tree)
+    core.snapshots reader other (Some core.writer_state.tree) None (each_keeps core facts other)
     (λ same tree some.
-    let loaded = loads core.desk reader (pin_at core.pins reader) facts.board exists (eqb-true (pin_at core.pins reader % 2) 1 odd) in
-    let is : core.desk.tree ≡ tree = cc in
-    subst (λ n. Keeps core.desk n (pin_at core.pins n) tree) (sym same)
-    (subst (λ (t : Tree). Keeps core.desk reader (pin_at core.pins reader) t) is loaded)))
+    let loaded = loads core.writer_state reader (pin_at core.pins reader) facts.writer_facts exists (eqb-true (pin_at core.pins reader % 2) 1 odd) in
+    let is : core.writer_state.tree ≡ tree = cc in
+    subst (λ n. Keeps core.writer_state n (pin_at core.pins n) tree) (sym same)
+    (subst (λ (t : Tree). Keeps core.writer_state reader (pin_at core.pins reader) t) is loaded)))
 
 -- what was set to the default is the default
 set_default : {A : Type 0} (xs : List A) (i : ℕ) (d : A) → get_or (set xs i d) i d ≡ d
@@ -70,7 +70,7 @@ set_default (x ∷ xs) (suc i) d = set_default xs i d
 
 -- close
 pub close_facts : (core : Core) (reader : ℕ) → Facts core → Facts (after_close core reader)
-close_facts core reader facts = facts_from (after_close core reader) (fits_turned core reader facts) facts.board each
+close_facts core reader facts = facts_from (after_close core reader) (fits_turned core reader facts) facts.writer_facts each
   where
     each : EachKeeps (after_close core reader)
     each other tree some = elim (cases_eq other reader) [
@@ -80,14 +80,14 @@ close_facts core reader facts = facts_from (after_close core reader) (fits_turne
           absurd (let e = sym none ∙ at in cc)
       | inr apart ↦
           let before = sym (get_or-set_other core.snapshots reader other None None apart) ∙ some in
-          subst (λ pin. Keeps core.desk other pin tree) (sym (get_or-set_other core.pins reader other (turned (pin_at core.pins reader)) 0 apart))
+          subst (λ pin. Keeps core.writer_state other pin tree) (sym (get_or-set_other core.pins reader other (turned (pin_at core.pins reader)) 0 apart))
           (each_keeps core facts other tree before)
     ]
 
 -- fill
-pub fill_facts : (core : Core) (row word : ℕ) → Facts core → is_free core.desk row ≡ true → Facts (after_fill core row word)
-fill_facts core row word facts free = facts_from (after_fill core row word) facts.pins.fits (fill_board core.desk row 0 word facts.board free)
-    (λ other tree some. fill_keeps core.desk row 0 word other (pin_at core.pins other) tree free (each_keeps core facts other tree some))
+pub fill_facts : (core : Core) (row word : ℕ) → Facts core → is_free core.writer_state row ≡ true → Facts (after_fill core row word)
+fill_facts core row word facts free = facts_from (after_fill core row word) facts.pins.fits (fill_writer_facts core.writer_state row 0 word facts.writer_facts free)
+    (λ other tree some. fill_keeps core.writer_state row 0 word other (pin_at core.pins other) tree free (each_keeps core facts other tree some))
 
 -- what is so of each row of a list is so of each row that is listed
 pub listed : (P : ℕ → Type 0) (rows : List Row) → All (λ row. P row.0) rows → (row : ℕ) → 0 < times row (numbers_of rows) → P row
@@ -102,18 +102,18 @@ listed P (one ∷ rows) all row some =
     ]
 
 -- publish
-pub publish_facts : (core : Core) (number : ℕ) (rows : List Row) → Facts core → number ≡ core.desk.tree.number + 1
-    → All (λ row. row.0 < length core.desk.words) rows → Facts (after_publish core number (numbers_of rows))
+pub publish_facts : (core : Core) (number : ℕ) (rows : List Row) → Facts core → number ≡ core.writer_state.tree.number + 1
+    → All (λ row. row.0 < length core.writer_state.words) rows → Facts (after_publish core number (numbers_of rows))
 publish_facts core number rows facts next exist =
-    let later : core.desk.tree.number < number = omega arith in
+    let later : core.writer_state.tree.number < number = omega arith in
     facts_from (after_publish core number (numbers_of rows)) facts.pins.fits
-    (publish_board core.desk number (numbers_of rows) facts.board later (listed (λ row. row < length core.desk.words) rows exist))
-    (λ other tree some. publish_keeps core.desk number (numbers_of rows) other (pin_at core.pins other) tree facts.board later (each_keeps core facts other tree some))
+    (publish_writer_facts core.writer_state number (numbers_of rows) facts.writer_facts later (listed (λ row. row < length core.writer_state.words) rows exist))
+    (λ other tree some. publish_keeps core.writer_state number (numbers_of rows) other (pin_at core.pins other) tree facts.writer_facts later (each_keeps core facts other tree some))
 
 -- scan
 pub scan_facts : (core : Core) (reader : ℕ) → Facts core → Facts (after_scan core reader)
-scan_facts core reader facts = facts_from (after_scan core reader) facts.pins.fits (scan_board core.desk reader (pin_at core.pins reader) facts.board)
-    (λ other tree some. scan_keeps core.desk reader (pin_at core.pins reader) other (pin_at core.pins other) tree
+scan_facts core reader facts = facts_from (after_scan core reader) facts.pins.fits (scan_writer_facts core.writer_state reader (pin_at core.pins reader) facts.writer_facts)
+    (λ other tree some. scan_keeps core.writer_state reader (pin_at core.pins reader) other (pin_at core.pins other) tree
     (λ same. ap (pin_at core.pins) (sym same)) (each_keeps core facts other tree some))
 
 -- the default at the end of a list changes no element
@@ -127,14 +127,14 @@ push_default (x ∷ xs) d (suc k) = push_default xs d k
 pub split_facts : (core : Core) → Facts core → Facts (after_split core)
 split_facts core facts = facts_from (after_split core)
     (λ reader. subst (λ pin. pin < 2 ^ 64) (sym (push_default core.pins 0 reader)) (facts.pins.fits reader))
-    (split_board core.desk facts.board)
-    (λ other tree some. subst (λ pin. Keeps (after_split core).desk other pin tree) (sym (push_default core.pins 0 other))
-    (split_keeps core.desk other (pin_at core.pins other) tree (each_keeps core facts other tree (sym (push_default core.snapshots None other) ∙ some))))
+    (split_writer_facts core.writer_state facts.writer_facts)
+    (λ other tree some. subst (λ pin. Keeps (after_split core).writer_state other pin tree) (sym (push_default core.pins 0 other))
+    (split_keeps core.writer_state other (pin_at core.pins other) tree (each_keeps core facts other tree (sym (push_default core.snapshots None other) ∙ some))))
 
 -- join
 pub join_facts : (core : Core) (reader : ℕ) → Facts core → is_open (pin_at core.pins reader) ≡ false → Facts (after_join core reader)
-join_facts core reader facts closed = facts_from (after_join core reader) facts.pins.fits (join_board core.desk reader facts.board)
+join_facts core reader facts closed = facts_from (after_join core reader) facts.pins.fits (join_writer_facts core.writer_state reader facts.writer_facts)
     (λ other tree some.
     let keeps = each_keeps core facts other tree some in
-    join_keeps core.desk reader other (pin_at core.pins other) tree
+    join_keeps core.writer_state reader other (pin_at core.pins other) tree
     (λ same. not_odd (pin_at core.pins reader) closed (subst (λ n. pin_at core.pins n % 2 ≡ 1) same keeps.odd)) keeps)

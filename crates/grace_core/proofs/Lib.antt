@@ -3,7 +3,7 @@ pub mod Clearings
 pub mod Leaving
 pub mod Moves
 pub mod Marks
-pub mod Desks
+pub mod WriterStates
 pub mod Keeping
 pub mod Opening
 pub mod Preserving

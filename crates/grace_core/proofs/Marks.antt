@@ -1,4 +1,4 @@
--- For `GraceTree::of` and `GraceDesk::publish`: marks of the rows of a list, and how often a row is listed.
+-- For `GraceTree::of` and `GraceWriter::publish`: marks of the rows of a list, and how often a row is listed.
 use Rattle.std.proofs.Common.{ℕ, ◌≡◌, ◌<◌, ◌+◌, ◌∙◌, Bool, true, false, cond, nat_eq, nat_lt, List, length, get_or, set, take, sym, ap, subst, arith, inl, inr}
 use Rattle.std.proofs.lemmas.Bool.{cond-true, cond-false, lt-ltb}
 use Rattle.std.proofs.lemmas.Bool.Decides.{eqb_tells}

@@ -6,8 +6,8 @@ use Rattle.std.proofs.lemmas.List.{length-replicate, get_or-replicate}
 use Rattle.grace_core.specs.declared.clearing.Clearing.{Clearing}
 use Rattle.grace_core.specs.Core.{Tree, times, no_clearing}
 use Rattle.grace_core.specs.Steps.{new_clearing}
-use Rattle.grace_core.specs.States.{opening_desk, opening}
-use Rattle.grace_core.specs.Facts.{Board, Facts}
+use Rattle.grace_core.specs.States.{opening_writer_state, opening}
+use Rattle.grace_core.specs.Facts.{WriterFacts, Facts}
 use Rattle.grace_core.proofs.Clearings.{least_number}
 use Rattle.grace_core.proofs.Moves.{free_fact}
 use Rattle.grace_core.proofs.Keeping.{facts_from}
@@ -26,8 +26,8 @@ only_first row some = elim (eqb_tells 0 row) [
 ]
 
 -- what the writer knows at first
-opening_board : (readers rows : ℕ) → 0 < rows → Board (opening_desk readers rows)
-opening_board readers rows some =
+opening_writer_facts : (readers rows : ℕ) → 0 < rows → WriterFacts (opening_writer_state readers rows)
+opening_writer_facts readers rows some =
     let before = each_replicate (λ (c : Clearing). c.cleared ≤ c.tree) readers new_clearing no_clearing (omega arith) (omega arith) in
     let long : length {A = List ℕ} (replicate rows (0 ∷ [])) ≡ rows = length-replicate {A = List ℕ} rows (0 ∷ []) in
     record {
@@ -42,14 +42,14 @@ opening_board readers rows some =
       before = before;
       passed = omega arith;
       reached = least_number 0 (replicate readers new_clearing);
-      free = free_fact (opening_desk readers rows) before
+      free = free_fact (opening_writer_state readers rows) before
           (each_replicate (λ (c : Clearing). c.tree ≤ 0) readers new_clearing no_clearing (omega arith) (omega arith));
     }
 
 pub opening_facts : (readers rows : ℕ) → 0 < rows → Facts (opening readers rows)
 opening_facts readers rows some = facts_from (opening readers rows)
     (each_replicate (λ pin. pin < 2 ^ 64) readers 0 0 (omega arith) (omega arith))
-    (opening_board readers rows some)
+    (opening_writer_facts readers rows some)
     (λ reader tree is.
     let none = each_replicate (λ (s : Option Tree). s ≡ None) readers None None refl refl reader in
     absurd (let e = sym none ∙ is in cc))

@@ -36,7 +36,7 @@ pub kept_root : (state : Inside) (reader : ℕ) → IsKept state → is_open (pi
 kept_root state reader kept odd exists = record {
   facts = root_facts state.protocol reader kept.facts odd exists;
   pins = kept.pins;
-  snapshots = length-set state.protocol.snapshots reader (Some state.protocol.desk.tree) ∙ kept.snapshots;
+  snapshots = length-set state.protocol.snapshots reader (Some state.protocol.writer_state.tree) ∙ kept.snapshots;
   few = kept.few;
 }
 
@@ -50,7 +50,7 @@ kept_close state reader kept =
       few = omega (arith, long, kept.few);
     }
 
-pub kept_fill : (state : Inside) (row word : ℕ) → IsKept state → is_free state.protocol.desk row ≡ true
+pub kept_fill : (state : Inside) (row word : ℕ) → IsKept state → is_free state.protocol.writer_state row ≡ true
     → IsKept (record { protocol = after_fill state.protocol row word })
 kept_fill state row word kept free = record {
   facts = fill_facts state.protocol row word kept.facts free;
@@ -59,8 +59,8 @@ kept_fill state row word kept free = record {
   few = kept.few;
 }
 
-pub kept_publish : (state : Inside) (number : ℕ) (rows : List Row) → IsKept state → number ≡ state.protocol.desk.tree.number + 1
-    → All (λ row. row.0 < length state.protocol.desk.words) rows → IsKept (record { protocol = after_publish state.protocol number (numbers_of rows) })
+pub kept_publish : (state : Inside) (number : ℕ) (rows : List Row) → IsKept state → number ≡ state.protocol.writer_state.tree.number + 1
+    → All (λ row. row.0 < length state.protocol.writer_state.words) rows → IsKept (record { protocol = after_publish state.protocol number (numbers_of rows) })
 kept_publish state number rows kept next exist = record {
   facts = publish_facts state.protocol number rows kept.facts next exist;
   pins = kept.pins;
@@ -70,8 +70,8 @@ kept_publish state number rows kept next exist = record {
 
 pub kept_scan : (state : Inside) (reader : ℕ) → IsKept state → IsKept (record { protocol = after_scan state.protocol reader })
 kept_scan state reader kept =
-    let desk = state.protocol.desk in
-    let long = length-set desk.clearings reader (looked desk.tree.number (pin_at state.protocol.pins reader) (clearing_at desk.clearings reader)) in
+    let writer_state = state.protocol.writer_state in
+    let long = length-set writer_state.clearings reader (looked writer_state.tree.number (pin_at state.protocol.pins reader) (clearing_at writer_state.clearings reader)) in
     record {
       facts = scan_facts state.protocol reader kept.facts;
       pins = kept.pins ∙ sym long;
@@ -83,7 +83,7 @@ pub kept_split : (state : Inside) → IsKept state → length state.protocol.pin
 kept_split state kept few =
     let pins = length_push state.protocol.pins 0 in
     let snapshots = length_push state.protocol.snapshots None in
-    let clearings = length_push state.protocol.desk.clearings new_clearing in
+    let clearings = length_push state.protocol.writer_state.clearings new_clearing in
     record {
       facts = split_facts state.protocol kept.facts;
       pins = omega (arith, pins, clearings, kept.pins);
@@ -94,7 +94,7 @@ kept_split state kept few =
 pub kept_join : (state : Inside) (reader : ℕ) → IsKept state → is_open (pin_at state.protocol.pins reader) ≡ false
     → IsKept (record { protocol = after_join state.protocol reader })
 kept_join state reader kept closed =
-    let long = length-set state.protocol.desk.clearings reader (record (clearing_at state.protocol.desk.clearings reader) { joined = true }) in
+    let long = length-set state.protocol.writer_state.clearings reader (record (clearing_at state.protocol.writer_state.clearings reader) { joined = true }) in
     record {
       facts = join_facts state.protocol reader kept.facts closed;
       pins = kept.pins ∙ sym long;

@@ -14,7 +14,7 @@ by_row (Some row) = refl
 by_row None = refl
 
 -- by the first row that can't be published
-pub refusal_publish : (core : Core) (number : ℕ) (rows : List Row) → nat_eq number (core.desk.tree.number + 1) ≡ true
-    → refusal core (Publish number rows) ≡ option_map RowNotFree (find (λ row. is_unfit core.desk (numbers_of rows) row.0) rows)
+pub refusal_publish : (core : Core) (number : ℕ) (rows : List Row) → nat_eq number (core.writer_state.tree.number + 1) ≡ true
+    → refusal core (Publish number rows) ≡ option_map RowNotFree (find (λ row. is_unfit core.writer_state (numbers_of rows) row.0) rows)
 unfolding refusal
-refusal_publish core number rows next = rw next (by_row (find (λ row. is_unfit core.desk (numbers_of rows) row.0) rows))
+refusal_publish core number rows next = rw next (by_row (find (λ row. is_unfit core.writer_state (numbers_of rows) row.0) rows))

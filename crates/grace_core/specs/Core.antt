@@ -12,7 +12,7 @@ pub record Tree : Type 0 where
 -- What the writer knows: how many words a row has, the present tree, the words of each row, the tree whose publish left
 -- each row out last (0 where none did), what the scans of each reader found, and the tree whose grace period has passed:
 -- every reader was cleared up to it.
-pub record Desk : Type 0 where
+pub record WriterState : Type 0 where
   pub width : ℕ
   pub tree : Tree
   pub words : List (List ℕ)
@@ -22,7 +22,7 @@ pub record Desk : Type 0 where
 
 -- a state: what the writer knows, and the pin and the snapshot of each reader
 pub record Core : Type 0 where
-  pub desk : Desk
+  pub writer_state : WriterState
   pub pins : List ℕ
   pub snapshots : List (Option Tree)
 
@@ -67,12 +67,12 @@ abbrev pub snapshot_at : List (Option Tree) → ℕ → Option Tree
 snapshot_at snapshots reader = slice_index_or snapshots reader None
 
 -- whether a row is free: it is not of the present tree, and the grace period of the tree that left it out has passed
-abbrev pub is_free : Desk → ℕ → Bool
-is_free desk row = not (has_row desk.tree row) && nat_le (since_at desk.since row) desk.passed
+abbrev pub is_free : WriterState → ℕ → Bool
+is_free writer_state row = not (has_row writer_state.tree row) && nat_le (since_at writer_state.since row) writer_state.passed
 
 -- whether a row waits: it is not of the present tree, and that grace period has not passed
-abbrev pub waits : Desk → ℕ → Bool
-waits desk row = not (has_row desk.tree row) && nat_lt desk.passed (since_at desk.since row)
+abbrev pub waits : WriterState → ℕ → Bool
+waits writer_state row = not (has_row writer_state.tree row) && nat_lt writer_state.passed (since_at writer_state.since row)
 
 -- whether a reader is open: its pin is odd
 abbrev pub is_open : ℕ → Bool

@@ -13,7 +13,7 @@ after_open core reader = record core { pins = slice_set core.pins reader (turned
 
 -- root: the reader's snapshot is the present tree
 abbrev pub after_root : Core → ℕ → Core
-after_root core reader = record core { snapshots = slice_set core.snapshots reader (Some core.desk.tree) }
+after_root core reader = record core { snapshots = slice_set core.snapshots reader (Some core.writer_state.tree) }
 
 -- close: the reader's pin becomes even, and its snapshot ends
 abbrev pub after_close : Core → ℕ → Core
@@ -24,23 +24,23 @@ after_close core reader = record core {
 
 -- fill: the row's word becomes this one
 abbrev pub after_fill : Core → ℕ → ℕ → Core
-after_fill core row word = record core { desk = filled core.desk row 0 word }
+after_fill core row word = record core { writer_state = filled core.writer_state row 0 word }
 
 -- publish: the tree of this number and these rows is present
 abbrev pub after_publish : Core → ℕ → List ℕ → Core
-after_publish core number rows = record core { desk = published core.desk number rows }
+after_publish core number rows = record core { writer_state = published core.writer_state number rows }
 
 -- scan: the writer finds the reader's pin
 abbrev pub after_scan : Core → ℕ → Core
-after_scan core reader = record core { desk = scanned core.desk reader (pin_at core.pins reader) }
+after_scan core reader = record core { writer_state = scanned core.writer_state reader (pin_at core.pins reader) }
 
 -- split: there is a new reader, closed and never scanned
 abbrev pub after_split : Core → Core
-after_split core = record { desk = split core.desk; pins = core.pins ++ 0 ∷ []; snapshots = core.snapshots ++ None ∷ [] }
+after_split core = record { writer_state = split core.writer_state; pins = core.pins ++ 0 ∷ []; snapshots = core.snapshots ++ None ∷ [] }
 
 -- join: the second reader no longer counts
 abbrev pub after_join : Core → ℕ → Core
-after_join core second = record core { desk = joined core.desk second }
+after_join core second = record core { writer_state = joined core.writer_state second }
 
 -- the state after an event that is not refused
 abbrev pub after_event : Core → GraceEvent → Core
@@ -62,7 +62,7 @@ word_of None row = 0
 -- what an event finds that is not refused
 abbrev pub answer : Core → GraceEvent → GraceAnswer
 answer core (Open reader) = found.Done
-answer core (Root reader) = found.Tree core.desk.tree.number (record { 0 = root_of core.desk.tree })
+answer core (Root reader) = found.Tree core.writer_state.tree.number (record { 0 = root_of core.writer_state.tree })
 answer core (Word reader row) = found.Word (word_of (snapshot_at core.snapshots reader) row.0)
 answer core (Close reader) = found.Done
 answer core (Fill row word) = found.Done

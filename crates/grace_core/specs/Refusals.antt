@@ -6,7 +6,7 @@ use Rattle.grace_core.specs.declared.events.GraceEvent.{GraceEvent}
 use Rattle.grace_core.specs.declared.events.GraceEvent.TheVariants.{Open, Root, Word, Close, Fill, Publish}
 use Rattle.grace_core.specs.declared.events.GraceRefusal.{GraceRefusal}
 use Rattle.grace_core.specs.declared.events.GraceRefusal.TheVariants.{NotOpen, RowNotFree, RowNotShown, WrongTree, AlreadyOpen}
-use Rattle.grace_core.specs.Core.{Core, Desk, Tree, times, has_row, pin_at, snapshot_at, is_free, is_open, numbers_of}
+use Rattle.grace_core.specs.Core.{Core, WriterState, Tree, times, has_row, pin_at, snapshot_at, is_free, is_open, numbers_of}
 
 -- whether an event needs its reader open, and it is closed
 abbrev pub lacks_open : Core → GraceEvent → Bool
@@ -22,17 +22,17 @@ opens_again core _ = false
 
 -- the tree that an event publishes, where its number is not the next one
 abbrev pub wrong_tree : Core → GraceEvent → Option ℕ
-wrong_tree core (Publish number rows) = if nat_eq number (core.desk.tree.number + 1) then None else Some number
+wrong_tree core (Publish number rows) = if nat_eq number (core.writer_state.tree.number + 1) then None else Some number
 wrong_tree core _ = None
 
 -- whether a row can't be published in a list of rows: it is neither free nor of the present tree, or is listed twice
-abbrev pub is_unfit : Desk → List ℕ → ℕ → Bool
-is_unfit desk rows row = not (is_free desk row || has_row desk.tree row) || nat_lt 1 (times row rows)
+abbrev pub is_unfit : WriterState → List ℕ → ℕ → Bool
+is_unfit writer_state rows row = not (is_free writer_state row || has_row writer_state.tree row) || nat_lt 1 (times row rows)
 
 -- the row of a fill, where it is not free, or the first row of a publish that can't be published
 abbrev pub row_not_free : Core → GraceEvent → Option Row
-row_not_free core (Fill row word) = if is_free core.desk row.0 then None else Some row
-row_not_free core (Publish number rows) = find (λ row. is_unfit core.desk (numbers_of rows) row.0) rows
+row_not_free core (Fill row word) = if is_free core.writer_state row.0 then None else Some row
+row_not_free core (Publish number rows) = find (λ row. is_unfit core.writer_state (numbers_of rows) row.0) rows
 row_not_free core _ = None
 
 -- whether a snapshot has a row

@@ -5,14 +5,14 @@ use Rattle.grace_core.specs.declared.events.GraceEvent.{GraceEvent}
 use Rattle.grace_core.specs.declared.events.GraceEvent.TheVariants.{Open, Root, Word, Close, Fill, Publish, Scan, Split, Join}
 use Rattle.grace_core.specs.declared.events.GraceRefusal.{GraceRefusal}
 use Rattle.grace_core.specs.declared.events.GraceRefusal.TheVariants.{NoMemory}
-use Rattle.grace_core.specs.Core.{Core, Desk, pin_at, is_open, Exists}
+use Rattle.grace_core.specs.Core.{Core, WriterState, pin_at, is_open, Exists}
 use Rattle.grace_core.specs.Steps.{new_clearing}
 use Rattle.grace_core.specs.Events.{after_event, answer}
 use Rattle.grace_core.specs.Refusals.{refusal}
 
--- The desk before anything happened: tree 0 of row 0 alone, every word 0, no row left out by any tree, and no reader scanned.
-abbrev pub opening_desk : ℕ → ℕ → Desk
-opening_desk readers rows = record {
+-- The writer's state before anything happened: tree 0 of row 0 alone, every word 0, no row left out by any tree, and no reader scanned.
+abbrev pub opening_writer_state : ℕ → ℕ → WriterState
+opening_writer_state readers rows = record {
   width = 1;
   tree = record { number = 0; rows = 0 ∷ []; words = replicate rows (0 ∷ []) };
   words = replicate rows (0 ∷ []);
@@ -23,15 +23,15 @@ opening_desk readers rows = record {
 
 -- the state before anything happened: so many readers that are closed, and so many rows
 abbrev pub opening : ℕ → ℕ → Core
-opening readers rows = record { desk = opening_desk readers rows; pins = replicate readers 0; snapshots = replicate readers None }
+opening readers rows = record { writer_state = opening_writer_state readers rows; pins = replicate readers 0; snapshots = replicate readers None }
 
 -- a reader exists
 abbrev pub HasReader : Core → ℕ → Type 0
-HasReader core reader = Exists core.desk.clearings reader
+HasReader core reader = Exists core.writer_state.clearings reader
 
 -- a row exists
 abbrev pub HasRow : Core → ℕ → Type 0
-HasRow core row = row < length core.desk.words
+HasRow core row = row < length core.writer_state.words
 
 -- two readers can be joined: both exist, differ and are closed
 pub record CanJoin (core : Core) (first second : ℕ) : Type 0 where

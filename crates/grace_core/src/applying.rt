@@ -74,8 +74,8 @@ impl GraceState {
         if !self.protocol.is_open(reader) {
             return Err(GraceRefusal::NotOpen);
         }
-        let tree = self.protocol.desk().tree().number();
-        let row = self.protocol.desk().tree().root();
+        let tree = self.protocol.writer_state().tree().number();
+        let row = self.protocol.writer_state().tree().root();
         self.protocol.root(reader)?;
         Ok(GraceAnswer::Tree { tree, row })
     }
@@ -110,7 +110,7 @@ impl GraceState {
         requires { HasRow self.old row.0 }
         ensures { IsStep self.old (Fill row word) result self.new }
     {
-        if !self.protocol.desk().is_free(row) {
+        if !self.protocol.writer_state().is_free(row) {
             return Err(GraceRefusal::RowNotFree(row));
         }
         self.protocol.fill(row, word);
@@ -122,10 +122,10 @@ impl GraceState {
         requires { All (λ row. HasRow self.old row.0) rows }
         ensures { IsStep self.old (Publish tree rows) result self.new }
     {
-        if !self.protocol.desk().is_next(tree) {
+        if !self.protocol.writer_state().is_next(tree) {
             return Err(GraceRefusal::WrongTree(tree));
         }
-        if let Some(row) = self.protocol.desk().first_unfit(rows.items()) {
+        if let Some(row) = self.protocol.writer_state().first_unfit(rows.items()) {
             return Err(GraceRefusal::RowNotFree(row));
         }
         self.protocol.publish(tree, rows.into_vec())?;

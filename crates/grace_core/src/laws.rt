@@ -1,7 +1,7 @@
 //! Laws of the definitions. Each is the contract of a function that does nothing.
 
 ghost use Rattle.std.specs.Prelude.{ℕ};
-ghost use Rattle.grace_core.specs.Core.{Desk};
+ghost use Rattle.grace_core.specs.Core.{WriterState};
 ghost use Rattle.grace_core.specs.Laws.{PinsTurn, RowsStand, StandsOnce, SnapshotsStay, RowsBecomeFree, FreeRowsStay, ClearingsRise};
 
 /// A pin is odd exactly while its reader is open: each open and close makes it another one, odd where it was even and even
@@ -13,7 +13,7 @@ pub fn pins_turn()
 /// A row is of the present tree, free or waiting, and only one of these.
 pub fn rows_stand_once()
     ensures one { RowsStand }
-    ensures only { (desk : Desk) (row : ℕ) → StandsOnce desk row }
+    ensures only { (writer_state : WriterState) (row : ℕ) → StandsOnce writer_state row }
 {}
 
 /// No row is free, and so none is filled, that a reader's snapshot has.

@@ -3,22 +3,22 @@
 
 mod applying;
 mod clearing;
-mod desk;
 mod events;
 mod laws;
 mod protocol;
 mod rows;
 mod state;
 mod tree;
+mod writer_state;
 
 pub use applying::apply;
 pub use clearing::{Clearing, NEW_CLEARING, least};
-pub use desk::GraceDesk;
 pub use events::{GraceAnswer, GraceEvent, GraceRefusal};
 pub use laws::{clearings_rise, pins_turn, rows_become_free, rows_stand_once, snapshots_stay};
 pub use rows::Rows;
 pub use state::GraceState;
 pub use tree::GraceTree;
+pub use writer_state::GraceWriter;
 
 #[cfg(test)]
 mod tests;

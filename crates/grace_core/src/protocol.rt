@@ -4,8 +4,8 @@ ghost use Rattle.grace_core.specs.Events.{word_of, after_open, after_root, after
 ghost use Rattle.grace_core.specs.Refusals.{shows};
 ghost use Rattle.grace_core.specs.States.{opening};
 
-use crate::desk::GraceDesk;
 use crate::tree::GraceTree;
+use crate::writer_state::GraceWriter;
 use mm_types::{NoMemory, Row};
 use std::alloc::Global;
 use std::marker::Model;
@@ -13,7 +13,7 @@ use std::marker::Model;
 /// The events, without their refusals.
 #[derive(Debug, Drop)]
 pub(crate) struct GraceProtocol {
-    desk: GraceDesk,
+    writer_state: GraceWriter,
     pins: Vec<u64>,
     /// The tree whose root each reader loaded last since it opened.
     snapshots: Vec<Option<GraceTree>>,
@@ -40,17 +40,17 @@ impl GraceProtocol {
             snapshots.push(None)?;
         }
         Ok(GraceProtocol {
-            desk: GraceDesk::new(alloc, readers, rows)?,
+            writer_state: GraceWriter::new(alloc, readers, rows)?,
             pins: vec![in alloc; 0; readers as usize]?,
             snapshots,
         })
     }
 
     /// What the writer knows.
-    pub(crate) fn desk(&self) -> &GraceDesk
-        ensures { result.now ≡ self.now.desk }
+    pub(crate) fn writer_state(&self) -> &GraceWriter
+        ensures { result.now ≡ self.now.writer_state }
     {
-        &self.desk
+        &self.writer_state
     }
 
     /// How many readers were made.
@@ -108,7 +108,7 @@ impl GraceProtocol {
         requires { reader < length self.old.snapshots }
         ensures { MatchResult result (λ _. self.new ≡ after_root self.old reader) (λ _. self.new ≡ self.old) }
     {
-        let tree = self.desk.tree().copy()?;
+        let tree = self.writer_state.tree().copy()?;
         self.snapshots[reader as usize] = Some(tree);
         Ok(())
     }
@@ -126,27 +126,27 @@ impl GraceProtocol {
 
     /// Stores the word of a row.
     pub(crate) fn fill(&mut self, row: Row, word: u64)
-        requires { row.0 < length self.old.desk.words }
+        requires { row.0 < length self.old.writer_state.words }
         ensures { self.new ≡ after_fill self.old row.0 word }
     {
-        self.desk.fill(row, word);
+        self.writer_state.fill(row, word);
     }
 
     /// Makes the tree of this number and these rows the present one.
     pub(crate) fn publish(&mut self, number: u64, rows: Vec<Row>) -> Result<(), NoMemory>
-        requires { All (λ row. row.0 < length self.old.desk.words) rows.items }
+        requires { All (λ row. row.0 < length self.old.writer_state.words) rows.items }
         ensures { MatchResult result (λ _. self.new ≡ after_publish self.old number (numbers_of rows.items)) (λ _. self.new ≡ self.old) }
     {
-        self.desk.publish(number, rows)
+        self.writer_state.publish(number, rows)
     }
 
     /// Finds a reader's pin.
     pub(crate) fn scan(&mut self, reader: u32)
-        requires { reader < length self.old.desk.clearings }
+        requires { reader < length self.old.writer_state.clearings }
         ensures { self.new ≡ after_scan self.old reader }
     {
         let pin = self.pin(reader);
-        self.desk.scan(reader, pin);
+        self.writer_state.scan(reader, pin);
     }
 
     /// Makes one reader more.
@@ -156,7 +156,7 @@ impl GraceProtocol {
         let (pins, snapshots) = (self.pins.len(), self.snapshots.len());
         self.pins.push(0)?;
         let pushed = self.snapshots.push(None).is_ok();
-        if pushed && self.desk.split().is_ok() {
+        if pushed && self.writer_state.split().is_ok() {
             return Ok(());
         }
         self.pins.truncate(pins);
@@ -166,9 +166,9 @@ impl GraceProtocol {
 
     /// No longer counts a reader.
     pub(crate) fn join(&mut self, reader: u32)
-        requires { reader < length self.old.desk.clearings }
+        requires { reader < length self.old.writer_state.clearings }
         ensures { self.new ≡ after_join self.old reader }
     {
-        self.desk.join(reader);
+        self.writer_state.join(reader);
     }
 }

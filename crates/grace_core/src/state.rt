@@ -40,17 +40,17 @@ impl GraceState {
 
     /// The number of the present tree. Of every state the four facts hold.
     pub fn tree(&self) -> u64
-        ensures tree { result ≡ self.now.desk.tree.number }
+        ensures tree { result ≡ self.now.writer_state.tree.number }
         ensures facts { Facts self.now }
     {
-        self.protocol.desk().tree().number()
+        self.protocol.writer_state().tree().number()
     }
 
     /// The root of the present tree.
     pub fn root(&self) -> Row
-        ensures { result.0 ≡ root_of self.now.desk.tree }
+        ensures { result.0 ≡ root_of self.now.writer_state.tree }
     {
-        self.protocol.desk().tree().root()
+        self.protocol.writer_state().tree().root()
     }
 
     /// How many readers were made.
@@ -63,16 +63,16 @@ impl GraceState {
 
     /// How many rows there are.
     pub fn rows(&self) -> u32
-        ensures { result ≡ length self.now.desk.words }
+        ensures { result ≡ length self.now.writer_state.words }
     {
-        self.protocol.desk().rows()
+        self.protocol.writer_state().rows()
     }
 
     /// Whether this is a reader: one that was made, and was not joined away.
     pub fn has_reader(&self, reader: u32) -> bool
         ensures { IsTrue result ↔ HasReader self.now reader }
     {
-        !self.protocol.desk().clearing(reader).joined
+        !self.protocol.writer_state().clearing(reader).joined
     }
 
     /// A reader's pin.
@@ -86,16 +86,16 @@ impl GraceState {
     /// Whether a row is free.
     pub fn is_free(&self, row: Row) -> bool
         requires { HasRow self.now row.0 }
-        ensures { result ≡ is_free self.now.desk row.0 }
+        ensures { result ≡ is_free self.now.writer_state row.0 }
     {
-        self.protocol.desk().is_free(row)
+        self.protocol.writer_state().is_free(row)
     }
 
     /// Whether a row waits.
     pub fn waits(&self, row: Row) -> bool
         requires { HasRow self.now row.0 }
-        ensures { result ≡ waits self.now.desk row.0 }
+        ensures { result ≡ waits self.now.writer_state row.0 }
     {
-        self.protocol.desk().waits(row)
+        self.protocol.writer_state().waits(row)
     }
 }

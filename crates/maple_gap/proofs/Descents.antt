@@ -129,14 +129,14 @@ went side window at from branch spare level first second p some going e looked i
           let low = going.low in
           let told : best_under side window at branch ≡ option_or (found p.start p.item) (found q.start q.item) =
           found_up side window at branch level e ∙ here.same in
-          let beyond = far_after side window (is_leaf level) (is_leaf level) p q some chosen.0.may chosen.2 in
+          let ending_after = far_after side window (is_leaf level) (is_leaf level) p q some chosen.0.may chosen.2 in
           record {
             limit = going.limit;
             under = chosen.0.known;
             may = chosen.0.may;
             low = omega arith;
             sought = going.sought ∙ ap (λ o. option_or o (best_of side window at spare)) told
-                ∙ dropped spare going.rest q chosen.1 beyond (found p.start p.item);
+                ∙ dropped spare going.rest q chosen.1 ending_after (found p.start p.item);
             far = λ f.
                 let both = going.far f in
                 let there = far_in side window branch.place p chosen.0.above chosen.0.within both.0 in
@@ -147,7 +147,7 @@ went side window at from branch spare level first second p some going e looked i
               record {
                 branch = record { limit = going.limit; under = chosen.1.known };
                 room = chosen.1.may;
-                far = beyond;
+                far = ending_after;
               },
               omega arith,
               chosen.2,
@@ -157,12 +157,12 @@ went side window at from branch spare level first second p some going e looked i
                 → IsIn window (is_leaf level) (IsUnder at going.limit level) branch.place.start branch.place.item.end q → IsFar side window q → (o : Option ℕ)
                 → option_or (option_or o (found_in side window at level q.start q.item)) (best_of side window at spare)
                 ≡ option_or o (found_in side window at level q.start q.item)
-            dropped None rest q chosen beyond o = or_none (option_or o (found_in side window at level q.start q.item))
-            dropped (Some other) rest q chosen beyond o =
+            dropped None rest q chosen ending_after o = or_none (option_or o (found_in side window at level q.start q.item))
+            dropped (Some other) rest q chosen ending_after o =
                 let after = after_in side branch.place q other.place chosen.above chosen.within rest.2 in
                 let found = found_in side window at level in
                 let has = found_before side window (is_leaf level) (is_leaf other.level) found q other.place some
-                (known_under side window at going.limit level q.start q.item some chosen.known) chosen.may beyond rest.0.room after in
+                (known_under side window at going.limit level q.start q.item some chosen.known) chosen.may ending_after rest.0.room after in
                 kept o (found q.start q.item) (best_under side window at other) has
 
 -- nothing was chosen, so nothing is found under the branch

@@ -9,8 +9,8 @@ use Rattle.maple_node.specs.Nodes.{end_of, Ascends}
 use Rattle.maple_node.specs.Levels.{is_leaf, read, item_at, AllFrom, IsNode, level_of}
 use Rattle.maple_node.proofs.Lists.{end_of-append, ends_above}
 use Rattle.maple_items.specs.declared.place.Place.{Place}
-use Rattle.maple_items.specs.Splices.{upto}
-use Rattle.maple_items.proofs.Lists.{upto-first, upto-later, item_at-first, item_at-later, upto_all, upto_none, upto_first, end_upto, item_at-left, item_at-right}
+use Rattle.maple_items.specs.Splices.{ending_by}
+use Rattle.maple_items.proofs.Lists.{ending_by-first, ending_by-later, item_at-first, item_at-later, ending_by_all, ending_by_none, ending_by_first, end_ending_by, item_at-left, item_at-right}
 use Rattle.maple_gap.specs.declared.branch.Branch.{Branch}
 use Rattle.maple_gap.specs.Internal.Searches.{IsUnder, with_gap, IsAnyBranch, IsPartOf, entries_under}
 use Rattle.maple_gap.proofs.Rows.{node_under}
@@ -22,7 +22,7 @@ pub record Under (at : ℕ → List ℕ) (limit level start page : ℕ) (entries
   pub above : place.start ≤ page
   pub within : page < place.item.end
   pub found : item_at page entries ≡ item_at page (level_of at 0 level (place.item ∷ []))
-  pub begins : end_of start (upto page entries) ≡ end_of place.start (upto page (level_of at 0 level (place.item ∷ [])))
+  pub begins : end_of start (ending_by page entries) ≡ end_of place.start (ending_by page (level_of at 0 level (place.item ∷ [])))
 
 place_is : (start : ℕ) (x : Item) (place : Place) → start ≡ place.start → x ≡ place.item
     → (let this : Place = record { start = start; item = x } in this ≡ place)
@@ -32,7 +32,7 @@ place_is start x place begin same =
     ap From begin ∙ ap Of same
 
 in_items : (at : ℕ → List ℕ) (limit level start page : ℕ) (items : List Item) (place : Place) → AllFrom (IsUnder at limit level) start items → start ≤ page
-    → item_at page items ≡ Some place.item → place.start ≡ end_of start (upto page items)
+    → item_at page items ≡ Some place.item → place.start ≡ end_of start (ending_by page items)
     → Under at limit level start page (level_of at 0 level items) place
 in_items at limit level start page [] place all above is begins = absurd (cc)
 in_items at limit level start page (x ∷ xs) place all above is begins =
@@ -47,7 +47,7 @@ in_items at limit level start page (x ∷ xs) place all above is begins =
       | inl within ↦
           let told : Some x ≡ Some place.item = sym (item_at-first page x xs within) ∙ is in
           let same : x ≡ place.item = cc in
-          let begin : start ≡ place.start = sym (begins ∙ ap (end_of start) (upto_first start page x xs ascends within)) in
+          let begin : start ≡ place.start = sym (begins ∙ ap (end_of start) (ending_by_first start page x xs ascends within)) in
           let one = place_is start x place begin same in
           let At : Place → Type 0 = λ p. Under at limit level start page (here ++ others) p in
           subst At one (record {
@@ -59,26 +59,26 @@ in_items at limit level start page (x ∷ xs) place all above is begins =
           })
       | inr past ↦
           let later = in_items at limit level x.end page xs place all.1 past (sym (item_at-later page x xs past) ∙ is)
-          (begins ∙ ap (end_of start) (upto-first page x xs past)) in
+          (begins ∙ ap (end_of start) (ending_by-first page x xs past)) in
           record {
             under = later.under;
             above = later.above;
             within = later.within;
             found = item_at-right start page here others first.ascends (omega arith) ∙ later.found;
             begins = ap (end_of start) (filter-append (λ (item : Item). nat_le item.end page) here others)
-                ∙ ap (λ (ys : List Item). end_of start (ys ++ upto page others)) (upto_all start page here first.ascends (omega arith))
-                ∙ end_of-append start here (upto page others)
-                ∙ ap (λ (p : ℕ). end_of p (upto page others)) ending
+                ∙ ap (λ (ys : List Item). end_of start (ys ++ ending_by page others)) (ending_by_all start page here first.ascends (omega arith))
+                ∙ end_of-append start here (ending_by page others)
+                ∙ ap (λ (p : ℕ). end_of p (ending_by page others)) ending
                 ∙ later.begins;
           }
     ]) where
       cut : (at : ℕ → List ℕ) (limit level page next : ℕ) (here xs : List Item) → AllFrom (IsUnder at limit level) next xs → page ≤ next
-          → upto page (here ++ level_of at 0 level xs) ≡ upto page here
+          → ending_by page (here ++ level_of at 0 level xs) ≡ ending_by page here
       cut at limit level page next here xs all past =
           let others = level_of at 0 level xs in
           filter-append (λ (item : Item). nat_le item.end page) here others
-          ∙ ap (λ (ys : List Item). upto page here ++ ys) (upto_none next page others (spread_items at limit level next xs all).ascends past)
-          ∙ append-nil (upto page here)
+          ∙ ap (λ (ys : List Item). ending_by page here ++ ys) (ending_by_none next page others (spread_items at limit level next xs all).ascends past)
+          ∙ append-nil (ending_by page here)
 
 -- the branch that was reached has the page
 pub record Reached (at : ℕ → List ℕ) (page : ℕ) (root branch : Branch) : Type 0 where
@@ -88,7 +88,7 @@ pub record Reached (at : ℕ → List ℕ) (page : ℕ) (root branch : Branch) :
   pub above : branch.place.start ≤ page
   pub within : page < branch.place.item.end
   pub found : item_at page (entries_under at root) ≡ item_at page (entries_under at branch)
-  pub begins : end_of root.place.start (upto page (entries_under at root)) ≡ end_of branch.place.start (upto page (entries_under at branch))
+  pub begins : end_of root.place.start (ending_by page (entries_under at root)) ≡ end_of branch.place.start (ending_by page (entries_under at branch))
 
 pub reach_root : (at : ℕ → List ℕ) (page : ℕ) (root : Branch) → IsAnyBranch at root → root.place.start ≤ page → page < root.place.item.end
     → Reached at page root root
@@ -118,7 +118,7 @@ inside at page root branch level leaf items reached e below are =
 -- down to the item that has the page
 pub reach_down : (at : ℕ → List ℕ) (page : ℕ) (root branch : Branch) (level : ℕ) (leaf : Bool) (items : List Item) (place : Place)
     → Reached at page root branch → branch.level ≡ suc level → leaf ≡ is_leaf level → items ≡ read at leaf branch.place.item.word
-    → item_at page items ≡ Some place.item → place.start ≡ end_of branch.place.start (upto page items)
+    → item_at page items ≡ Some place.item → place.start ≡ end_of branch.place.start (ending_by page items)
     → Reached at page root (record { place = place; level = level })
 unfolding IsUnder
 reach_down at page root branch level leaf items place reached e below are is begins = from (opened reached.under) where
@@ -136,7 +136,7 @@ reach_down at page root branch level leaf items place reached e below are is beg
       let deep : entries_under at branch ≡ level_of at 0 level own =
       ap (λ (n : ℕ). level_of at 0 n (branch.place.item ∷ [])) e ∙ entries-down at level branch.place.item in
       let next = in_items at reached.limit level start page own place under.1 reached.above (ap (item_at page) (sym same) ∙ is)
-      (begins ∙ ap (λ (xs : List Item). end_of start (upto page xs)) same) in
+      (begins ∙ ap (λ (xs : List Item). end_of start (ending_by page xs)) same) in
       record {
         limit = reached.limit;
         gap = place.item.gap;
@@ -144,13 +144,13 @@ reach_down at page root branch level leaf items place reached e below are is beg
         above = next.above;
         within = next.within;
         found = reached.found ∙ ap (item_at page) deep ∙ next.found;
-        begins = reached.begins ∙ ap (λ (xs : List Item). end_of start (upto page xs)) deep ∙ next.begins;
+        begins = reached.begins ∙ ap (λ (xs : List Item). end_of start (ending_by page xs)) deep ∙ next.begins;
       }
 
 -- and at the end it is the entry
 pub record Entry (at : ℕ → List ℕ) (page : ℕ) (root : Branch) (place : Place) : Type 0 where
   pub item : item_at page (entries_under at root) ≡ Some place.item
-  pub start : place.start ≡ end_of root.place.start (upto page (entries_under at root))
+  pub start : place.start ≡ end_of root.place.start (ending_by page (entries_under at root))
 
 pub reach_entry : (at : ℕ → List ℕ) (page : ℕ) (root branch : Branch) → Reached at page root branch → branch.level ≡ 0
     → Entry at page root branch.place
@@ -160,17 +160,17 @@ reach_entry at page root branch reached low =
     let one : entries_under at branch ≡ item ∷ [] = ap (λ (n : ℕ). level_of at 0 n (item ∷ [])) low in
     record {
       item = reached.found ∙ ap (item_at page) one ∙ item_at-first page item [] reached.within;
-      start = sym (reached.begins ∙ ap (λ (xs : List Item). end_of branch.place.start (upto page xs)) one
-          ∙ ap (end_of branch.place.start) (upto-later page item [] reached.within));
+      start = sym (reached.begins ∙ ap (λ (xs : List Item). end_of branch.place.start (ending_by page xs)) one
+          ∙ ap (end_of branch.place.start) (ending_by-later page item [] reached.within));
     }
 
 -- an item that has one page of a list is found by each of its pages
 pub record Found (start other : ℕ) (items : List Item) (place : Place) : Type 0 where
   pub item : item_at other items ≡ Some place.item
-  pub begins : place.start ≡ end_of start (upto other items)
+  pub begins : place.start ≡ end_of start (ending_by other items)
 
 found_by : (start page other : ℕ) (items : List Item) (place : Place) → Ascends start items → item_at page items ≡ Some place.item
-    → place.start ≡ end_of start (upto page items) → place.start ≤ other → other < place.item.end → Found start other items place
+    → place.start ≡ end_of start (ending_by page items) → place.start ≤ other → other < place.item.end → Found start other items place
 found_by start page other [] place ascends is begins above within = absurd (cc)
 found_by start page other (x ∷ xs) place ascends is begins above within = elim (cases_lt page x.end) as (λ _. Found start other (x ∷ xs) place) [
   | inl first ↦
@@ -179,15 +179,15 @@ found_by start page other (x ∷ xs) place ascends is begins above within = elim
       let end : x.end ≡ place.item.end = ap (λ (i : Item). i.end) same in
       record {
         item = item_at-first other x xs (omega arith) ∙ ap (λ (i : Item). Some i) same;
-        begins = begins ∙ ap (end_of start) (upto_first start page x xs ascends first ∙ sym (upto_first start other x xs ascends (omega arith)));
+        begins = begins ∙ ap (end_of start) (ending_by_first start page x xs ascends first ∙ sym (ending_by_first start other x xs ascends (omega arith)));
       }
   | inr past ↦
-      let begin : place.start ≡ end_of x.end (upto page xs) = begins ∙ ap (end_of start) (upto-first page x xs past) in
-      let least = end_upto x.end page xs ascends.1 in
+      let begin : place.start ≡ end_of x.end (ending_by page xs) = begins ∙ ap (end_of start) (ending_by-first page x xs past) in
+      let least = end_ending_by x.end page xs ascends.1 in
       let later = found_by x.end page other xs place ascends.1 (sym (item_at-later page x xs past) ∙ is) begin above within in
       record {
         item = item_at-later other x xs (omega arith) ∙ later.item;
-        begins = later.begins ∙ sym (ap (end_of start) (upto-first other x xs (omega arith)));
+        begins = later.begins ∙ sym (ap (end_of start) (ending_by-first other x xs (omega arith)));
       }
 ]
 
@@ -207,9 +207,9 @@ pub record Within (start end : ℕ) (place : Place) : Type 0 where
   pub high : place.item.end ≤ end
 
 within_all : (start page : ℕ) (items : List Item) (place : Place) → Ascends start items → item_at page items ≡ Some place.item
-    → place.start ≡ end_of start (upto page items) → Within start (end_of start items) place
+    → place.start ≡ end_of start (ending_by page items) → Within start (end_of start items) place
 within_all start page items place ascends is begins =
-    let least = end_upto start page items ascends in
+    let least = end_ending_by start page items ascends in
     record { low = omega arith; high = ends start items ascends is } where
       ends : (start : ℕ) (items : List Item) → Ascends start items → item_at page items ≡ Some place.item → place.item.end ≤ end_of start items
       ends start [] ascends is = absurd (cc)
@@ -226,7 +226,7 @@ within_all start page items place ascends is begins =
 -- down to the item that has the page
 pub around_down : (at : ℕ → List ℕ) (page : ℕ) (root branch : Branch) (level : ℕ) (leaf : Bool) (items : List Item) (place : Place)
     → Around at page root branch → branch.level ≡ suc level → leaf ≡ is_leaf level → items ≡ read at leaf branch.place.item.word
-    → item_at page items ≡ Some place.item → place.start ≡ end_of branch.place.start (upto page items)
+    → item_at page items ≡ Some place.item → place.start ≡ end_of branch.place.start (ending_by page items)
     → Around at page root (record { place = place; level = level })
 around_down at page root branch level leaf items place around e below are is begins =
     let node = reach_node at page root branch level around.here e in

@@ -204,7 +204,7 @@ free_fits window before start (x ∷ xs) s some ascends apart above low high lim
       | inl within ↦
           let gap : x.word ≡ 0 = elim (cases_eq x.word 0) as (λ _. x.word ≡ 0) [
             | inl gap ↦ gap
-            | inr slot ↦ elim (told.here slot) as (λ _. x.word ≡ 0) [ inl below ↦ absurd (omega arith) | inr beyond ↦ absurd (omega arith) ]
+            | inr slot ↦ elim (told.here slot) as (λ _. x.word ≡ 0) [ inl below ↦ absurd (omega arith) | inr ending_after ↦ absurd (omega arith) ]
           ] in
           inl (
             gap,
@@ -223,7 +223,7 @@ free_fits window before start (x ∷ xs) s some ascends apart above low high lim
           let past = ascends.0 in
           elim ((free_of x.end window.len s y ys free).here (λ both. apart.0 gap both)) as (λ _. s + window.len ≤ x.end) [
             | inl below ↦ below
-            | inr beyond ↦ absurd (omega arith)
+            | inr ending_after ↦ absurd (omega arith)
           ]
 
 -- what fits, as a test

@@ -13,8 +13,8 @@ use Rattle.maple_node.specs.Levels.{item_at}
 use Rattle.maple_node.specs.Words.{slot_of}
 use Rattle.maple_node.specs.Trees.{Pair, pairs_from, ApartFrom}
 use Rattle.maple_node.proofs.Lists.{ends_above}
-use Rattle.maple_items.specs.Splices.{upto}
-use Rattle.maple_items.proofs.Lists.{item_at-first, item_at-later, upto-first, upto_first, stands, end_upto}
+use Rattle.maple_items.specs.Splices.{ending_by}
+use Rattle.maple_items.proofs.Lists.{item_at-first, item_at-later, ending_by-first, ending_by_first, stands, end_ending_by}
 use Rattle.maple_gap.specs.Gaps.{first_from, slot_in}
 
 -- an item that is found is the first, or one of the others
@@ -203,7 +203,7 @@ before_here page p start o (y ∷ ys) x ascends begins below edge found slot =
 
 -- a gap at the beginning has nothing before it
 pub before_first : (page p start : ℕ) (o : Option Pair) (xs : List Item) (x : Item) → Ascends start xs → start ≤ p → p < page
-    → (page ≤ p + 1) ⊎ (end_of start xs ≤ p + 1) → item_at p xs ≡ Some x → x.word ≡ 0 → end_of start (upto p xs) ≤ start
+    → (page ≤ p + 1) ⊎ (end_of start xs ≤ p + 1) → item_at p xs ≡ Some x → x.word ≡ 0 → end_of start (ending_by p xs) ≤ start
     → last_from page o (pairs_from start xs) ≡ o
 before_first page p start o [] x ascends begins below edge found gap first = refl
 before_first page p start o (y ∷ ys) x ascends begins below edge found gap first =
@@ -212,27 +212,27 @@ before_first page p start o (y ∷ ys) x ascends begins below edge found gap fir
           let word = ap (λ (i : Item). i.word) (found_first p x y ys above found) in
           last-gap page start o y ys (omega arith) ∙ none_left page y.end o ys ascends.1 (edge_at page p (end_of y.end ys) y.end above edge)
       | inr past ↦
-          let later = end_upto y.end p ys ascends.1 in
+          let later = end_ending_by y.end p ys ascends.1 in
           let start_past = ascends.0 in
-          let told = ap (end_of start) (upto-first p y ys past) in
+          let told = ap (end_of start) (ending_by-first p y ys past) in
           absurd (omega arith)
     ]
 
 -- the entry before a gap has a slot
 pub before_gap : (page p before start : ℕ) (o : Option Pair) (xs : List Item) (x z : Item) → Ascends start xs → ApartFrom before xs → start ≤ p → p < page
-    → (page ≤ p + 1) ⊎ (end_of start xs ≤ p + 1) → item_at p xs ≡ Some x → x.word ≡ 0 → start < end_of start (upto p xs)
-    → item_at (end_of start (upto p xs) - 1) xs ≡ Some z → slot_of z.word ≡ slot_in (last_from page o (pairs_from start xs))
+    → (page ≤ p + 1) ⊎ (end_of start xs ≤ p + 1) → item_at p xs ≡ Some x → x.word ≡ 0 → start < end_of start (ending_by p xs)
+    → item_at (end_of start (ending_by p xs) - 1) xs ≡ Some z → slot_of z.word ≡ slot_in (last_from page o (pairs_from start xs))
 before_gap page p before start o [] x z ascends apart begins below edge found gap later last = absurd (cc)
 before_gap page p before start o (y ∷ ys) x z ascends apart begins below edge found gap later last =
     let Goal : Type 0 = slot_of z.word ≡ slot_in (last_from page o (pairs_from start (y ∷ ys))) in
     elim (cases_lt p y.end) as (λ _. Goal) [
-      | inl above ↦ let none = ap (end_of start) (upto_first start p y ys ascends above) in absurd (omega arith)
+      | inl above ↦ let none = ap (end_of start) (ending_by_first start p y ys ascends above) in absurd (omega arith)
       | inr past ↦
           let deep = found_later p x y ys past found in
-          let front = end_of y.end (upto p ys) in
-          let told : end_of start (upto p (y ∷ ys)) ≡ front = ap (end_of start) (upto-first p y ys past) in
+          let front = end_of y.end (ending_by p ys) in
+          let told : end_of start (ending_by p (y ∷ ys)) ≡ front = ap (end_of start) (ending_by-first p y ys past) in
           let here : item_at (front - 1) (y ∷ ys) ≡ Some z = ap (λ (n : ℕ). item_at (n - 1) (y ∷ ys)) (sym told) ∙ last in
-          let from = end_upto y.end p ys ascends.1 in
+          let from = end_ending_by y.end p ys ascends.1 in
           let start_past = ascends.0 in
           elim (cases_lt y.end front) as (λ _. Goal) [
             | inl more ↦
@@ -253,15 +253,15 @@ before_gap page p before start o (y ∷ ys) x z ascends apart begins below edge 
           ]
     ] where
       slot_before : (ys : List Item) → Ascends y.end ys → ApartFrom y.word ys → y.end ≤ p → item_at p ys ≡ Some x → x.word ≡ 0
-          → end_of y.end (upto p ys) ≤ y.end → y.word ≢ 0
+          → end_of y.end (ending_by p ys) ≤ y.end → y.word ≢ 0
       slot_before [] ascends apart past found gap first = absurd (cc)
       slot_before (w ∷ ws) ascends apart past found gap first = λ none.
           elim (cases_lt p w.end) as (λ _. ⊥) [
             | inl above ↦ apart.0 none (ap (λ (i : Item). i.word) (found_first p x w ws above found) ∙ gap)
-            | inr beyond ↦
-                let later = end_upto w.end p ws ascends.1 in
+            | inr ending_after ↦
+                let later = end_ending_by w.end p ws ascends.1 in
                 let more = ascends.0 in
-                let told = ap (end_of y.end) (upto-first p w ws beyond) in
+                let told = ap (end_of y.end) (ending_by-first p w ws ending_after) in
                 omega arith
           ]
 

@@ -50,8 +50,8 @@ tower_under at limit (suc level) items ascends tower =
 few_words : (writer : NodeWriter) (entries : List Item) → All (λ entry. entry.word ≤ (sight writer).size.slots) entries
     → All (λ entry. entry.word ≤ 2 ^ 32) entries
 few_words writer entries few =
-    let size = ap (λ s. s.slots) writer.desk.kept.size_is in
-    let bound = writer.desk.table.sized.few_slots in
+    let size = ap (λ s. s.slots) writer.writer_state.kept.size_is in
+    let bound = writer.writer_state.table.sized.few_slots in
     All-weaker (λ (entry : Item). entry.word ≤ (sight writer).size.slots) (λ (entry : Item). entry.word ≤ 2 ^ 32) (λ entry is. omega arith) entries few
 
 -- the whole of a tree that was built is under its root

@@ -6,7 +6,7 @@ use Rattle.maple_node.specs.declared.item.Item.{Item}
 use Rattle.maple_node.specs.Nodes.{items_of, leaf_items, inner_items}
 use Rattle.maple_node.specs.Levels.{is_leaf, at_of, read, IsNode}
 use Rattle.node_slots.specs.declared.seats.NodeWriter.{NodeWriter}
-use Rattle.node_slots.specs.Seats.{desk, row_count}
+use Rattle.node_slots.specs.Seats.{writer_state, row_count}
 use Rattle.node_slots.specs.Built.{words_at}
 use Rattle.maple_gap.specs.Internal.Searches.{IsUnder}
 
@@ -27,14 +27,14 @@ row_there rows leaf limit start item node = elim (cases_lt item.word (length row
       absurd (omega arith)
 ]
 
-rows_counted : (writer : NodeWriter) → length (desk writer).words ≡ row_count writer
+rows_counted : (writer : NodeWriter) → length (writer_state writer).words ≡ row_count writer
 rows_counted writer =
-    let kept = writer.desk.kept in
+    let kept = writer.writer_state.kept in
     ap (λ (ws : List (List ℕ)). length ws) kept.words_are ∙ kept.rows ∙ sym (ap (λ s. s.rows) kept.size_is)
 
 pub node_there : (writer : NodeWriter) (leaf : Bool) (limit start : ℕ) (item : Item) → IsNode (words_at writer) leaf limit start item → item.word < row_count writer
 node_there writer leaf limit start item node =
-    let there = row_there (desk writer).words leaf limit start item node in
+    let there = row_there (writer_state writer).words leaf limit start item node in
     let long = rows_counted writer in
     omega arith
 

@@ -4,7 +4,7 @@ ghost use Rattle.std.specs.Prelude.{◌≡◌, ◌<◌, ◌≤◌, ◌+◌, true
 ghost use Rattle.std.specs.Option.{option_or};
 ghost use Rattle.maple_node.specs.Nodes.{end_of};
 ghost use Rattle.maple_node.specs.Levels.{is_leaf, item_at};
-ghost use Rattle.maple_items.specs.Splices.{upto};
+ghost use Rattle.maple_items.specs.Splices.{ending_by};
 ghost use Rattle.node_slots.specs.Seats.{row_count};
 ghost use Rattle.node_slots.specs.Built.{words_at, IsWriters};
 ghost use Rattle.maple_gap.specs.Internal.Searches.{may_have, entries_under, best_under, best_of, spare_from, IsBranch, IsAnyBranch, IsSpare, IsFar, IsPartOf, IsRootOf};
@@ -157,7 +157,7 @@ pub(crate) fn entry_at<L>(
     requires above { root.place.start ≤ page }
     requires within { page < root.place.item.end }
     ensures item { item_at page (entries_under (words_at writer.now) root) ≡ Some result.item }
-    ensures start { result.start ≡ end_of root.place.start (upto page (entries_under (words_at writer.now) root)) }
+    ensures start { result.start ≡ end_of root.place.start (ending_by page (entries_under (words_at writer.now) root)) }
 {
     let mut branch = root;
     while branch.level > 0 {
@@ -214,7 +214,7 @@ pub(crate) fn entry_near<L>(
     requires same { IsPartOf (words_at writer.now) root part }
     requires above { root.place.start ≤ page }
     requires within { page < root.place.item.end }
-    requires beyond { part.place.start ≤ page }
+    requires ending_after { part.place.start ≤ page }
     ensures item { item_at page (entries_under (words_at writer.now) root) ≡ Some result.item }
 {
     let near = if page < part.place.item.end {

@@ -10,35 +10,35 @@ use Rattle.maple_node.specs.Nodes.{end_of, Ascends, IsPlain}
 use Rattle.maple_node.specs.Levels.{item_at}
 use Rattle.maple_node.specs.Trees.{Pair, pair_of, pairs_from}
 use Rattle.maple_node.proofs.Lists.{end_of-append, Ascends-append}
-use Rattle.maple_items.specs.Splices.{upto, beyond, piece_of, piece_below, overwrite}
+use Rattle.maple_items.specs.Splices.{ending_by, ending_after, piece_of, piece_below, overwrite}
 use Rattle.maple_items.specs.Pairs.{lower_part, upper_part, overwritten}
-use Rattle.maple_items.proofs.Lists.{upto_all, upto_below, upto-ascends, beyond-ascends, beyond-ends, item_at-first, item_at-later, item_at-none, IsPlain-append, IsPlain-upto, IsPlain-beyond}
+use Rattle.maple_items.proofs.Lists.{ending_by_all, ending_by_below, ending_by-ascends, ending_after-ascends, ending_after-ends, item_at-first, item_at-later, item_at-none, IsPlain-append, IsPlain-ending_by, IsPlain-ending_after}
 use Rattle.maple_items.proofs.Pairs.{pairs_from-append, pairs_below, pairs_above, piece_end}
 
 -- the entries below a page, with the piece of the one that has it
 abbrev pub lower_entries : ℕ → List Item → List Item
-lower_entries page entries = upto page entries ++ piece_of (end_of 0 (upto page entries)) page (item_at page entries)
+lower_entries page entries = ending_by page entries ++ piece_of (end_of 0 (ending_by page entries)) page (item_at page entries)
 
 -- overwritten entries are those below, a new one, and those above
 pub overwrite-parts : (lo hi word : ℕ) (entries : List Item)
-    → overwrite lo hi word entries ≡ lower_entries lo entries ++ ((record { end = hi; word = word; gap = 0 } ∷ []) ++ beyond hi entries)
+    → overwrite lo hi word entries ≡ lower_entries lo entries ++ ((record { end = hi; word = word; gap = 0 } ∷ []) ++ ending_after hi entries)
 unfolding piece_below
 overwrite-parts lo hi word entries =
-    let front = upto lo entries in
+    let front = ending_by lo entries in
     let piece = piece_of (end_of 0 front) lo (item_at lo entries) in
     let one : List Item = record { end = hi; word = word; gap = 0 } ∷ [] in
-    ap (λ (xs : List Item). front ++ xs) (append_assoc piece one (beyond hi entries))
-    ∙ sym (append_assoc front piece (one ++ beyond hi entries))
+    ap (λ (xs : List Item). front ++ xs) (append_assoc piece one (ending_after hi entries))
+    ∙ sym (append_assoc front piece (one ++ ending_after hi entries))
 
 -- those below ascend, and end at the page
 pub lower-ends : (page : ℕ) (entries : List Item) → Ascends 0 entries → page ≤ end_of 0 entries → end_of 0 (lower_entries page entries) ≡ page
 lower-ends page entries ascends within =
-    let front = upto page entries in
+    let front = ending_by page entries in
     let o = item_at page entries in
-    let below = upto_below 0 page entries (omega arith) in
+    let below = ending_by_below 0 page entries (omega arith) in
     let last : o ≡ None → end_of 0 front ≡ page = λ none.
     let past = item_at-none 0 page entries none (omega arith) in
-    ap (end_of 0) (upto_all 0 page entries ascends past) ∙ (omega arith) in
+    ap (end_of 0) (ending_by_all 0 page entries ascends past) ∙ (omega arith) in
     end_of-append 0 front (piece_of (end_of 0 front) page o) ∙ piece_end (end_of 0 front) page o below last
 
 piece-ascends : (start page : ℕ) (o : Option Item) → Ascends start (piece_of start page o)
@@ -51,8 +51,8 @@ piece-ascends start page (Some x) =
 
 pub lower-ascends : (page : ℕ) (entries : List Item) → Ascends 0 entries → Ascends 0 (lower_entries page entries)
 lower-ascends page entries ascends =
-    let front = upto page entries in
-    Ascends-append 0 front (piece_of (end_of 0 front) page (item_at page entries)) (upto-ascends 0 page entries ascends)
+    let front = ending_by page entries in
+    Ascends-append 0 front (piece_of (end_of 0 front) page (item_at page entries)) (ending_by-ascends 0 page entries ascends)
     (piece-ascends (end_of 0 front) page (item_at page entries))
 
 -- overwritten entries ascend
@@ -61,11 +61,11 @@ pub overwrite-ascends : (lo hi word : ℕ) (entries : List Item) → Ascends 0 e
 overwrite-ascends lo hi word entries ascends some within =
     let front = lower_entries lo entries in
     let entry : Item = record { end = hi; word = word; gap = 0 } in
-    let rest = (entry ∷ []) ++ beyond hi entries in
+    let rest = (entry ∷ []) ++ ending_after hi entries in
     let From : ℕ → Type 0 = λ page. Ascends page rest in
     let Up : List Item → Type 0 = λ xs. Ascends 0 xs in
     let ends = lower-ends lo entries ascends (omega arith) in
-    let after : Ascends lo rest = (some, beyond-ascends 0 hi entries ascends (omega arith)) in
+    let after : Ascends lo rest = (some, ending_after-ascends 0 hi entries ascends (omega arith)) in
     subst Up (sym (overwrite-parts lo hi word entries))
     (Ascends-append 0 front rest (lower-ascends lo entries ascends) (subst From (sym ends) after))
 
@@ -75,9 +75,9 @@ pub overwrite-ends : (lo hi word : ℕ) (entries : List Item) → Ascends 0 entr
 overwrite-ends lo hi word entries ascends some within =
     let front = lower_entries lo entries in
     let entry : Item = record { end = hi; word = word; gap = 0 } in
-    let rest = (entry ∷ []) ++ beyond hi entries in
+    let rest = (entry ∷ []) ++ ending_after hi entries in
     ap (end_of 0) (overwrite-parts lo hi word entries) ∙ end_of-append 0 front rest
-    ∙ beyond-ends 0 hi entries ascends (omega arith) within
+    ∙ ending_after-ends 0 hi entries ascends (omega arith) within
 
 -- their pairs are the old ones, overwritten
 pub overwrite-pairs : (lo hi word : ℕ) (entries : List Item) → Ascends 0 entries → lo < hi → hi ≤ end_of 0 entries
@@ -85,10 +85,10 @@ pub overwrite-pairs : (lo hi word : ℕ) (entries : List Item) → Ascends 0 ent
 overwrite-pairs lo hi word entries ascends some within =
     let front = lower_entries lo entries in
     let entry : Item = record { end = hi; word = word; gap = 0 } in
-    let rest = (entry ∷ []) ++ beyond hi entries in
+    let rest = (entry ∷ []) ++ ending_after hi entries in
     let pairs = pairs_from 0 entries in
     let below : pairs_from 0 front ≡ flat_map (lower_part lo) pairs = sym (pairs_below 0 lo entries ascends (omega arith)) in
-    let above : pairs_from hi (beyond hi entries) ≡ flat_map (upper_part hi) pairs = sym (pairs_above 0 hi entries ascends (omega arith)) in
+    let above : pairs_from hi (ending_after hi entries) ≡ flat_map (upper_part hi) pairs = sym (pairs_above 0 hi entries ascends (omega arith)) in
     ap (pairs_from 0) (overwrite-parts lo hi word entries) ∙ pairs_from-append 0 front rest
     ∙ ap (λ (page : ℕ). pairs_from 0 front ++ pairs_from page rest) (lower-ends lo entries ascends (omega arith))
     ∙ ap (λ (ps : List Pair). ps ++ pairs_from lo rest) below
@@ -131,11 +131,11 @@ pub overwrite-words : (lo hi word bound : ℕ) (entries : List Item) → All (λ
 overwrite-words lo hi word bound entries all within =
     let P : Item → Type 0 = λ entry. entry.word ≤ bound in
     let Words : List Item → Type 0 = λ xs. All P xs in
-    let front = upto lo entries in
+    let front = ending_by lo entries in
     let o = item_at lo entries in
     let piece = piece_of (end_of 0 front) lo o in
     let entry : Item = record { end = hi; word = word; gap = 0 } in
-    let rest = beyond hi entries in
+    let rest = ending_after hi entries in
     let low : All P front = All-filter (λ item. nat_le item.end lo) P entries all in
     let high : All P rest = All-filter (λ item. nat_lt hi item.end) P entries all in
     let part : All P piece = piece_within bound (end_of 0 front) lo o (item_within bound lo entries all) in
@@ -153,10 +153,10 @@ piece-plain start page (Some x) =
 pub overwrite-plain : (lo hi word : ℕ) (entries : List Item) → IsPlain true entries → IsPlain true (overwrite lo hi word entries)
 overwrite-plain lo hi word entries plain =
     let Plain : List Item → Type 0 = λ xs. IsPlain true xs in
-    let front = upto lo entries in
+    let front = ending_by lo entries in
     let piece = piece_of (end_of 0 front) lo (item_at lo entries) in
     let entry : Item = record { end = hi; word = word; gap = 0 } in
     subst Plain (sym (overwrite-parts lo hi word entries))
-    (IsPlain-append true (front ++ piece) ((entry ∷ []) ++ beyond hi entries)
-    (IsPlain-append true front piece (IsPlain-upto true lo entries plain) (piece-plain (end_of 0 front) lo (item_at lo entries)))
-    (refl, IsPlain-beyond true hi entries plain))
+    (IsPlain-append true (front ++ piece) ((entry ∷ []) ++ ending_after hi entries)
+    (IsPlain-append true front piece (IsPlain-ending_by true lo entries plain) (piece-plain (end_of 0 front) lo (item_at lo entries)))
+    (refl, IsPlain-ending_after true hi entries plain))

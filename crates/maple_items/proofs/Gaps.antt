@@ -8,9 +8,9 @@ use Rattle.maple_node.specs.declared.item.Item.{Item}
 use Rattle.maple_node.specs.Nodes.{end_of, Ascends}
 use Rattle.maple_node.specs.Levels.{item_at}
 use Rattle.maple_node.specs.Trees.{Pair, pair_of, pairs_from, ApartFrom}
-use Rattle.maple_items.specs.Splices.{upto, beyond, piece_of, overwrite, gap_begin, gap_end, widened_lo, widened_hi}
+use Rattle.maple_items.specs.Splices.{ending_by, ending_after, piece_of, overwrite, gap_begin, gap_end, widened_lo, widened_hi}
 use Rattle.maple_items.specs.Pairs.{lower_part, upper_part, overwritten}
-use Rattle.maple_items.proofs.Lists.{upto-first, upto_first, upto_none, upto_below, end_upto, beyond-later, beyond_first, item_at-first, item_at-later, found_at, stands}
+use Rattle.maple_items.proofs.Lists.{ending_by-first, ending_by_first, ending_by_none, ending_by_below, end_ending_by, ending_after-later, ending_after_first, item_at-first, item_at-later, found_at, stands}
 use Rattle.maple_items.proofs.Pairs.{lower-cons, upper-cons, lower_all, upper_none, below_none, above_all}
 use Rattle.maple_items.proofs.Entries.{lower_entries, overwrite-parts, overwrite-pairs}
 
@@ -30,14 +30,14 @@ same_item x y is = cc
 
 -- in the entries below a page, with the piece of the one that has it
 abbrev lower_from : ℕ → ℕ → List Item → List Item
-lower_from start page xs = upto page xs ++ piece_of (end_of start (upto page xs)) page (item_at page xs)
+lower_from start page xs = ending_by page xs ++ piece_of (end_of start (ending_by page xs)) page (item_at page xs)
 
 lower-above : (start page : ℕ) (x : Item) (xs : List Item) → Ascends start (x ∷ xs) → page < x.end
     → lower_from start page (x ∷ xs) ≡ piece_of start page (Some x)
-lower-above start page x xs ascends above = rw (upto_first start page x xs ascends above, item_at-first page x xs above) refl
+lower-above start page x xs ascends above = rw (ending_by_first start page x xs ascends above, item_at-first page x xs above) refl
 
 lower-within : (start page : ℕ) (x : Item) (xs : List Item) → x.end ≤ page → lower_from start page (x ∷ xs) ≡ x ∷ lower_from x.end page xs
-lower-within start page x xs within = rw (upto-first page x xs within, item_at-later page x xs within) refl
+lower-within start page x xs within = rw (ending_by-first page x xs within, item_at-later page x xs within) refl
 
 piece-none : (start page : ℕ) (o : Option Item) → page ≤ start → piece_of start page o ≡ []
 piece-none start page None begins = refl
@@ -48,7 +48,7 @@ piece-some start page x some = let test : nat_lt start page ≡ true = grind (ar
 
 lower-none : (start page : ℕ) (xs : List Item) → Ascends start xs → page ≤ start → lower_from start page xs ≡ []
 lower-none start page xs ascends begins =
-    ap (λ (ys : List Item). ys ++ piece_of (end_of start ys) page (item_at page xs)) (upto_none start page xs ascends begins)
+    ap (λ (ys : List Item). ys ++ piece_of (end_of start ys) page (item_at page xs)) (ending_by_none start page xs ascends begins)
     ∙ piece-none start page (item_at page xs) begins
 
 pub lower-apart : (before start page : ℕ) (xs : List Item) → Ascends start xs → ApartFrom before xs → ApartFrom before (lower_from start page xs)
@@ -65,14 +65,14 @@ lower-apart before start page (x ∷ xs) ascends apart =
     ]
 
 -- in the entries that end above a page, after an entry with some word
-pub beyond-apart : (word before start page : ℕ) (xs : List Item) → Ascends start xs → ApartFrom before xs
-    → (word ≡ 0 → (y : Item) → item_at page xs ≡ Some y → y.word ≡ 0 → ⊥) → ApartFrom word (beyond page xs)
-beyond-apart word before start page [] ascends apart next = tt
-beyond-apart word before start page (x ∷ xs) ascends apart next =
-    elim (cases_lt page x.end) as (λ _. ApartFrom word (beyond page (x ∷ xs))) [
-      | inl above ↦ rw (beyond_first start page x xs ascends above) ((λ zero. next zero x (item_at-first page x xs above)), apart.1)
-      | inr within ↦ rw (beyond-later page x xs within)
-          (beyond-apart word x.word x.end page xs ascends.1 apart.1
+pub ending_after-apart : (word before start page : ℕ) (xs : List Item) → Ascends start xs → ApartFrom before xs
+    → (word ≡ 0 → (y : Item) → item_at page xs ≡ Some y → y.word ≡ 0 → ⊥) → ApartFrom word (ending_after page xs)
+ending_after-apart word before start page [] ascends apart next = tt
+ending_after-apart word before start page (x ∷ xs) ascends apart next =
+    elim (cases_lt page x.end) as (λ _. ApartFrom word (ending_after page (x ∷ xs))) [
+      | inl above ↦ rw (ending_after_first start page x xs ascends above) ((λ zero. next zero x (item_at-first page x xs above)), apart.1)
+      | inr within ↦ rw (ending_after-later page x xs within)
+          (ending_after-apart word x.word x.end page xs ascends.1 apart.1
           (λ zero y found. next zero y (item_at-later page x xs within ∙ found)))
     ]
 
@@ -84,8 +84,8 @@ overwrite-apart lo hi word xs ascends apart low high =
     let entry : Item = record { end = hi; word = word; gap = 0 } in
     let Apart : List Item → Type 0 = λ ys. ApartFrom 1 ys in
     subst Apart (sym (overwrite-parts lo hi word xs))
-    (apart-append 1 (lower_entries lo xs) ((entry ∷ []) ++ beyond hi xs) (lower-apart 1 0 lo xs ascends apart)
-    ((λ before gap. low gap before), beyond-apart word 1 0 hi xs ascends apart high))
+    (apart-append 1 (lower_entries lo xs) ((entry ∷ []) ++ ending_after hi xs) (lower-apart 1 0 lo xs ascends apart)
+    ((λ before gap. low gap before), ending_after-apart word 1 0 hi xs ascends apart high))
 
 -- the last entry below a page is the one that has the page before
 last_below : (before start last page : ℕ) (xs : List Item) (x : Item) → Ascends start xs → last + 1 ≡ page → start ≤ last
@@ -110,33 +110,33 @@ last_below before start last page (y ∷ ys) x ascends next begins found =
 
 -- no gap stands before a gap
 before_gap : (before start last : ℕ) (xs : List Item) (x : Item) → Ascends start xs → ApartFrom before xs → start ≤ last
-    → item_at last xs ≡ Some x → x.word ≡ 0 → last_word before (lower_from start (end_of start (upto last xs)) xs) ≡ 0 → ⊥
+    → item_at last xs ≡ Some x → x.word ≡ 0 → last_word before (lower_from start (end_of start (ending_by last xs)) xs) ≡ 0 → ⊥
 before_gap before start last [] x ascends apart begins found gap = absurd (cc)
 before_gap before start last (y ∷ ys) x ascends apart begins found gap =
     let No : ℕ → Type 0 = λ page. last_word before (lower_from start page (y ∷ ys)) ≡ 0 → ⊥ in
     let Last : List Item → Type 0 = λ zs. last_word before zs ≡ 0 → ⊥ in
     let End : List Item → Type 0 = λ zs. No (end_of start zs) in
-    elim (cases_lt last y.end) as (λ _. End (upto last (y ∷ ys))) [
+    elim (cases_lt last y.end) as (λ _. End (ending_by last (y ∷ ys))) [
       | inl here ↦
           let same : y ≡ x = same_item y x (sym (item_at-first last y ys here) ∙ found) in
           let zero : y.word ≡ 0 = ap (λ (item : Item). item.word) same ∙ gap in
           let none : lower_from start start (y ∷ ys) ≡ [] = lower-none start start (y ∷ ys) ascends (omega arith) in
-          subst End (sym (upto_first start last y ys ascends here)) (subst Last (sym none) (λ first. apart.0 first zero))
+          subst End (sym (ending_by_first start last y ys ascends here)) (subst Last (sym none) (λ first. apart.0 first zero))
       | inr later ↦
-          let page = end_of y.end (upto last ys) in
-          let past : y.end ≤ page = end_upto y.end last ys ascends.1 in
-          subst End (sym (upto-first last y ys later)) (subst Last (sym (lower-within start page y ys past))
+          let page = end_of y.end (ending_by last ys) in
+          let past : y.end ≤ page = end_ending_by y.end last ys ascends.1 in
+          subst End (sym (ending_by-first last y ys later)) (subst Last (sym (lower-within start page y ys past))
           (before_gap y.word y.end last ys x ascends.1 apart.1 later (sym (item_at-later last y ys later) ∙ found) gap))
     ]
 
 -- the pairs below a gap that has the page before a page
 gap_below : (start last page : ℕ) (xs : List Item) (x : Item) → Ascends start xs → last + 1 ≡ page → start ≤ last → item_at last xs ≡ Some x
-    → x.word ≡ 0 → flat_map (lower_part (end_of start (upto last xs))) (pairs_from start xs) ≡ flat_map (lower_part page) (pairs_from start xs)
+    → x.word ≡ 0 → flat_map (lower_part (end_of start (ending_by last xs))) (pairs_from start xs) ≡ flat_map (lower_part page) (pairs_from start xs)
 gap_below start last page [] x ascends next begins found gap = absurd (cc)
 gap_below start last page (y ∷ ys) x ascends next begins found gap =
     let all = flat_map (lower_part page) (pairs_from start (y ∷ ys)) in
     let End : List Item → Type 0 = λ zs. flat_map (lower_part (end_of start zs)) (pairs_from start (y ∷ ys)) ≡ all in
-    elim (cases_lt last y.end) as (λ _. End (upto last (y ∷ ys))) [
+    elim (cases_lt last y.end) as (λ _. End (ending_by last (y ∷ ys))) [
       | inl here ↦
           let same : y ≡ x = same_item y x (sym (item_at-first last y ys here) ∙ found) in
           let zero : y.word ≡ 0 = ap (λ (item : Item). item.word) same ∙ gap in
@@ -144,13 +144,13 @@ gap_below start last page (y ∷ ys) x ascends next begins found gap =
           let none : flat_map (lower_part page) (pair_of start y) ≡ [] =
           let test : nat_eq y.word 0 ≡ true = grind (arith, nat_tests) in rw test refl in
           let low = lower-cons start page y ys [] [] none (below_none y.end page ys ascends.1 (omega arith)) in
-          subst End (sym (upto_first start last y ys ascends here)) (below_none start start (y ∷ ys) ascends (omega arith) ∙ sym low)
+          subst End (sym (ending_by_first start last y ys ascends here)) (below_none start start (y ∷ ys) ascends (omega arith) ∙ sym low)
       | inr later ↦
-          let begin = end_of y.end (upto last ys) in
-          let past : y.end ≤ begin = end_upto y.end last ys ascends.1 in
+          let begin = end_of y.end (ending_by last ys) in
+          let past : y.end ≤ begin = end_ending_by y.end last ys ascends.1 in
           let rest = flat_map (lower_part page) (pairs_from y.end ys) in
           let deep = gap_below y.end last page ys x ascends.1 next later (sym (item_at-later last y ys later) ∙ found) gap in
-          subst End (sym (upto-first last y ys later))
+          subst End (sym (ending_by-first last y ys later))
           (lower-cons start begin y ys (pair_of start y) rest (lower_all start begin y ascends.0 past) deep
           ∙ sym (lower-cons start page y ys (pair_of start y) rest (lower_all start page y ascends.0 (omega arith)) refl))
     ]
@@ -214,9 +214,9 @@ low_first xs ascends =
     record { down = omega arith; lower = refl; before = subst Last (sym (lower-none 0 0 xs ascends (omega arith))) (λ is. absurd (omega arith)) }
 
 low_gap : (lo last : ℕ) (xs : List Item) (x : Item) → Ascends 0 xs → ApartFrom 1 xs → last + 1 ≡ lo → item_at last xs ≡ Some x → x.word ≡ 0
-    → Low lo (end_of 0 (upto last xs)) xs
+    → Low lo (end_of 0 (ending_by last xs)) xs
 low_gap lo last xs x ascends apart next found gap =
-    let below = upto_below 0 last xs (omega arith) in
+    let below = ending_by_below 0 last xs (omega arith) in
     record {
       down = omega arith;
       lower = gap_below 0 last lo xs x ascends next (omega arith) found gap;
@@ -234,7 +234,7 @@ low_at : (lo : ℕ) (xs : List Item) → Ascends 0 xs → ApartFrom 1 xs → lo 
 unfolding widened_lo
 low_at lo xs ascends apart within =
     let last = lo - 1 in
-    let begin = end_of 0 (upto last xs) in
+    let begin = end_of 0 (ending_by last xs) in
     let At : ℕ → Type 0 = λ low. Low lo low xs in
     let Test : Bool → Type 0 = λ b. At (if b then 0 else gap_begin begin lo (item_at last xs)) in
     elim (cases_lt 0 lo) as (λ _. Test (nat_eq lo 0)) [

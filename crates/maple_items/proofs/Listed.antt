@@ -5,9 +5,9 @@ use Rattle.std.proofs.lemmas.Bool.{cases_lt}
 use Rattle.maple_node.specs.declared.item.Item.{Item}
 use Rattle.maple_node.specs.Nodes.{leaf_items, inner_items, items_of, end_of, Ascends}
 use Rattle.maple_node.specs.Levels.{item_at}
-use Rattle.maple_items.specs.Splices.{upto}
+use Rattle.maple_items.specs.Splices.{ending_by}
 use Rattle.maple_node.specs.Codec.{width_of, listed_at}
-use Rattle.maple_items.proofs.Lists.{upto-first, upto_first, item_at-first, item_at-later}
+use Rattle.maple_items.proofs.Lists.{ending_by-first, ending_by_first, item_at-first, item_at-later}
 use Rattle.maple_items.proofs.Words.{leaf_items-more, leaf_items-zero, inner_items-more, inner_items-zero}
 
 -- too few words list no item
@@ -55,7 +55,7 @@ listed false words place begin page above within = by (cases_lt (place + 2) (len
 -- the items before a place end up to a page, and those from it on begin at `begin`
 pub record Comes (leaf : Bool) (start page place begin : ℕ) (words : List ℕ) : Type 0 where
   pub found : item_at page (items_of leaf words) ≡ item_at page (items_of leaf (drop place words))
-  pub front : end_of start (upto page (items_of leaf words)) ≡ end_of begin (upto page (items_of leaf (drop place words)))
+  pub front : end_of start (ending_by page (items_of leaf words)) ≡ end_of begin (ending_by page (items_of leaf (drop place words)))
   pub above : begin ≤ page
   pub within : page < end_of begin (items_of leaf (drop place words))
   pub ascends : Ascends begin (items_of leaf (drop place words))
@@ -69,7 +69,7 @@ comes_more leaf start page place begin words comes ends =
     let more = (listed leaf words place begin page comes.above comes.within).is in
     record {
       found = comes.found ∙ ap (item_at page) more ∙ item_at-later page item rest ends;
-      front = comes.front ∙ ap (λ (xs : List Item). end_of begin (upto page xs)) more ∙ ap (end_of begin) (upto-first page item rest ends);
+      front = comes.front ∙ ap (λ (xs : List Item). end_of begin (ending_by page xs)) more ∙ ap (end_of begin) (ending_by-first page item rest ends);
       above = ends;
       within = subst (λ (xs : List Item). page < end_of begin xs) more comes.within;
       ascends = (subst (Ascends begin) more comes.ascends).1;
@@ -78,7 +78,7 @@ comes_more leaf start page place begin words comes ends =
 -- it ends above the page
 pub record Found (leaf : Bool) (start page begin : ℕ) (words : List ℕ) (item : Item) : Type 0 where
   pub found : item_at page (items_of leaf words) ≡ Some item
-  pub front : begin ≡ end_of start (upto page (items_of leaf words))
+  pub front : begin ≡ end_of start (ending_by page (items_of leaf words))
 
 pub comes_there : (leaf : Bool) (start page place begin : ℕ) (words : List ℕ) → Comes leaf start page place begin words
     → page < (listed_at leaf words place).end → Found leaf start page begin words (listed_at leaf words place)
@@ -88,6 +88,6 @@ comes_there leaf start page place begin words comes past =
     let more = (listed leaf words place begin page comes.above comes.within).is in
     record {
       found = comes.found ∙ ap (item_at page) more ∙ item_at-first page item rest past;
-      front = sym (comes.front ∙ ap (λ (xs : List Item). end_of begin (upto page xs)) more
-          ∙ ap (end_of begin) (upto_first begin page item rest (subst (Ascends begin) more comes.ascends) past));
+      front = sym (comes.front ∙ ap (λ (xs : List Item). end_of begin (ending_by page xs)) more
+          ∙ ap (end_of begin) (ending_by_first begin page item rest (subst (Ascends begin) more comes.ascends) past));
     }

@@ -8,20 +8,20 @@ use Rattle.maple_node.specs.declared.item.Item.{Item}
 use Rattle.maple_node.specs.Nodes.{end_of, Ascends, IsPlain}
 use Rattle.maple_node.specs.Levels.{item_at, AllFrom}
 use Rattle.maple_node.proofs.Lists.{ends_above}
-use Rattle.maple_items.specs.Splices.{upto, beyond}
+use Rattle.maple_items.specs.Splices.{ending_by, ending_after}
 
 -- an item that ends up to a page, or above it, before others
-pub upto-first : (page : ℕ) (x : Item) (xs : List Item) → x.end ≤ page → upto page (x ∷ xs) ≡ x ∷ upto page xs
-upto-first page x xs ends = let test : nat_le x.end page ≡ true = grind (arith, nat_tests) in rw test refl
+pub ending_by-first : (page : ℕ) (x : Item) (xs : List Item) → x.end ≤ page → ending_by page (x ∷ xs) ≡ x ∷ ending_by page xs
+ending_by-first page x xs ends = let test : nat_le x.end page ≡ true = grind (arith, nat_tests) in rw test refl
 
-pub upto-later : (page : ℕ) (x : Item) (xs : List Item) → page < x.end → upto page (x ∷ xs) ≡ upto page xs
-upto-later page x xs ends = let test : nat_le x.end page ≡ false = grind (arith, nat_tests) in rw test refl
+pub ending_by-later : (page : ℕ) (x : Item) (xs : List Item) → page < x.end → ending_by page (x ∷ xs) ≡ ending_by page xs
+ending_by-later page x xs ends = let test : nat_le x.end page ≡ false = grind (arith, nat_tests) in rw test refl
 
-pub beyond-first : (page : ℕ) (x : Item) (xs : List Item) → page < x.end → beyond page (x ∷ xs) ≡ x ∷ beyond page xs
-beyond-first page x xs ends = let test : nat_lt page x.end ≡ true = grind (arith, nat_tests) in rw test refl
+pub ending_after-first : (page : ℕ) (x : Item) (xs : List Item) → page < x.end → ending_after page (x ∷ xs) ≡ x ∷ ending_after page xs
+ending_after-first page x xs ends = let test : nat_lt page x.end ≡ true = grind (arith, nat_tests) in rw test refl
 
-pub beyond-later : (page : ℕ) (x : Item) (xs : List Item) → x.end ≤ page → beyond page (x ∷ xs) ≡ beyond page xs
-beyond-later page x xs ends = let test : nat_lt page x.end ≡ false = grind (arith, nat_tests) in rw test refl
+pub ending_after-later : (page : ℕ) (x : Item) (xs : List Item) → x.end ≤ page → ending_after page (x ∷ xs) ≡ ending_after page xs
+ending_after-later page x xs ends = let test : nat_lt page x.end ≡ false = grind (arith, nat_tests) in rw test refl
 
 pub item_at-first : (page : ℕ) (x : Item) (xs : List Item) → page < x.end → item_at page (x ∷ xs) ≡ Some x
 item_at-first page x xs ends = let test : nat_lt page x.end ≡ true = grind (arith, nat_tests) in rw test refl
@@ -68,40 +68,40 @@ IsPlain-append leaf [] ys left right = right
 IsPlain-append true (x ∷ xs) ys left right = (left.0, IsPlain-append true xs ys left.1 right)
 IsPlain-append false (x ∷ xs) ys left right = IsPlain-append false xs ys left right
 
-pub IsPlain-upto : (leaf : Bool) (page : ℕ) (xs : List Item) → IsPlain leaf xs → IsPlain leaf (upto page xs)
-IsPlain-upto leaf page [] plain = tt
-IsPlain-upto true page (x ∷ xs) plain = elim (cases_lt page x.end) as (λ _. IsPlain true (upto page (x ∷ xs))) [
-  | inl above ↦ rw (upto-later page x xs above) (IsPlain-upto true page xs plain.1)
-  | inr within ↦ rw (upto-first page x xs within) (plain.0, IsPlain-upto true page xs plain.1)
+pub IsPlain-ending_by : (leaf : Bool) (page : ℕ) (xs : List Item) → IsPlain leaf xs → IsPlain leaf (ending_by page xs)
+IsPlain-ending_by leaf page [] plain = tt
+IsPlain-ending_by true page (x ∷ xs) plain = elim (cases_lt page x.end) as (λ _. IsPlain true (ending_by page (x ∷ xs))) [
+  | inl above ↦ rw (ending_by-later page x xs above) (IsPlain-ending_by true page xs plain.1)
+  | inr within ↦ rw (ending_by-first page x xs within) (plain.0, IsPlain-ending_by true page xs plain.1)
 ]
-IsPlain-upto false page (x ∷ xs) plain = elim (cases_lt page x.end) as (λ _. IsPlain false (upto page (x ∷ xs))) [
-  | inl above ↦ rw (upto-later page x xs above) (IsPlain-upto false page xs plain)
-  | inr within ↦ rw (upto-first page x xs within) (IsPlain-upto false page xs plain)
+IsPlain-ending_by false page (x ∷ xs) plain = elim (cases_lt page x.end) as (λ _. IsPlain false (ending_by page (x ∷ xs))) [
+  | inl above ↦ rw (ending_by-later page x xs above) (IsPlain-ending_by false page xs plain)
+  | inr within ↦ rw (ending_by-first page x xs within) (IsPlain-ending_by false page xs plain)
 ]
 
-pub IsPlain-beyond : (leaf : Bool) (page : ℕ) (xs : List Item) → IsPlain leaf xs → IsPlain leaf (beyond page xs)
-IsPlain-beyond leaf page [] plain = tt
-IsPlain-beyond true page (x ∷ xs) plain = elim (cases_lt page x.end) as (λ _. IsPlain true (beyond page (x ∷ xs))) [
-  | inl above ↦ rw (beyond-first page x xs above) (plain.0, IsPlain-beyond true page xs plain.1)
-  | inr within ↦ rw (beyond-later page x xs within) (IsPlain-beyond true page xs plain.1)
+pub IsPlain-ending_after : (leaf : Bool) (page : ℕ) (xs : List Item) → IsPlain leaf xs → IsPlain leaf (ending_after page xs)
+IsPlain-ending_after leaf page [] plain = tt
+IsPlain-ending_after true page (x ∷ xs) plain = elim (cases_lt page x.end) as (λ _. IsPlain true (ending_after page (x ∷ xs))) [
+  | inl above ↦ rw (ending_after-first page x xs above) (plain.0, IsPlain-ending_after true page xs plain.1)
+  | inr within ↦ rw (ending_after-later page x xs within) (IsPlain-ending_after true page xs plain.1)
 ]
-IsPlain-beyond false page (x ∷ xs) plain = elim (cases_lt page x.end) as (λ _. IsPlain false (beyond page (x ∷ xs))) [
-  | inl above ↦ rw (beyond-first page x xs above) (IsPlain-beyond false page xs plain)
-  | inr within ↦ rw (beyond-later page x xs within) (IsPlain-beyond false page xs plain)
+IsPlain-ending_after false page (x ∷ xs) plain = elim (cases_lt page x.end) as (λ _. IsPlain false (ending_after page (x ∷ xs))) [
+  | inl above ↦ rw (ending_after-first page x xs above) (IsPlain-ending_after false page xs plain)
+  | inr within ↦ rw (ending_after-later page x xs within) (IsPlain-ending_after false page xs plain)
 ]
 
 -- items that end up to a page, or begin there or above it
-pub upto_all : (start page : ℕ) (xs : List Item) → Ascends start xs → end_of start xs ≤ page → upto page xs ≡ xs
-upto_all start page [] ascends ends = refl
-upto_all start page (x ∷ xs) ascends ends =
+pub ending_by_all : (start page : ℕ) (xs : List Item) → Ascends start xs → end_of start xs ≤ page → ending_by page xs ≡ xs
+ending_by_all start page [] ascends ends = refl
+ending_by_all start page (x ∷ xs) ascends ends =
     let later = ends_above x.end xs ascends.1 in
-    rw (upto-first page x xs (omega arith)) (ap (λ (ys : List Item). x ∷ ys) (upto_all x.end page xs ascends.1 ends))
+    rw (ending_by-first page x xs (omega arith)) (ap (λ (ys : List Item). x ∷ ys) (ending_by_all x.end page xs ascends.1 ends))
 
-pub beyond_none : (start page : ℕ) (xs : List Item) → Ascends start xs → end_of start xs ≤ page → beyond page xs ≡ []
-beyond_none start page [] ascends ends = refl
-beyond_none start page (x ∷ xs) ascends ends =
+pub ending_after_none : (start page : ℕ) (xs : List Item) → Ascends start xs → end_of start xs ≤ page → ending_after page xs ≡ []
+ending_after_none start page [] ascends ends = refl
+ending_after_none start page (x ∷ xs) ascends ends =
     let later = ends_above x.end xs ascends.1 in
-    rw (beyond-later page x xs (omega arith)) (beyond_none x.end page xs ascends.1 ends)
+    rw (ending_after-later page x xs (omega arith)) (ending_after_none x.end page xs ascends.1 ends)
 
 pub item_at-past : (start page : ℕ) (xs : List Item) → Ascends start xs → end_of start xs ≤ page → item_at page xs ≡ None
 item_at-past start page [] ascends ends = refl
@@ -109,67 +109,67 @@ item_at-past start page (x ∷ xs) ascends ends =
     let later = ends_above x.end xs ascends.1 in
     rw (item_at-later page x xs (omega arith)) (item_at-past x.end page xs ascends.1 ends)
 
-pub upto_none : (start page : ℕ) (xs : List Item) → Ascends start xs → page ≤ start → upto page xs ≡ []
-upto_none start page [] ascends begins = refl
-upto_none start page (x ∷ xs) ascends begins =
+pub ending_by_none : (start page : ℕ) (xs : List Item) → Ascends start xs → page ≤ start → ending_by page xs ≡ []
+ending_by_none start page [] ascends begins = refl
+ending_by_none start page (x ∷ xs) ascends begins =
     let first = ascends.0 in
-    rw (upto-later page x xs (omega arith)) (upto_none x.end page xs ascends.1 (omega arith))
+    rw (ending_by-later page x xs (omega arith)) (ending_by_none x.end page xs ascends.1 (omega arith))
 
-pub beyond_all : (start page : ℕ) (xs : List Item) → Ascends start xs → page ≤ start → beyond page xs ≡ xs
-beyond_all start page [] ascends begins = refl
-beyond_all start page (x ∷ xs) ascends begins =
+pub ending_after_all : (start page : ℕ) (xs : List Item) → Ascends start xs → page ≤ start → ending_after page xs ≡ xs
+ending_after_all start page [] ascends begins = refl
+ending_after_all start page (x ∷ xs) ascends begins =
     let first = ascends.0 in
-    rw (beyond-first page x xs (omega arith)) (ap (λ (ys : List Item). x ∷ ys) (beyond_all x.end page xs ascends.1 (omega arith)))
+    rw (ending_after-first page x xs (omega arith)) (ap (λ (ys : List Item). x ∷ ys) (ending_after_all x.end page xs ascends.1 (omega arith)))
 
 -- the first item ends above the page
-pub upto_first : (start page : ℕ) (x : Item) (xs : List Item) → Ascends start (x ∷ xs) → page < x.end → upto page (x ∷ xs) ≡ []
-upto_first start page x xs ascends above = rw (upto-later page x xs above) (upto_none x.end page xs ascends.1 (omega arith))
+pub ending_by_first : (start page : ℕ) (x : Item) (xs : List Item) → Ascends start (x ∷ xs) → page < x.end → ending_by page (x ∷ xs) ≡ []
+ending_by_first start page x xs ascends above = rw (ending_by-later page x xs above) (ending_by_none x.end page xs ascends.1 (omega arith))
 
-pub beyond_first : (start page : ℕ) (x : Item) (xs : List Item) → Ascends start (x ∷ xs) → page < x.end → beyond page (x ∷ xs) ≡ x ∷ xs
-beyond_first start page x xs ascends above =
-    rw (beyond-first page x xs above) (ap (λ (ys : List Item). x ∷ ys) (beyond_all x.end page xs ascends.1 (omega arith)))
+pub ending_after_first : (start page : ℕ) (x : Item) (xs : List Item) → Ascends start (x ∷ xs) → page < x.end → ending_after page (x ∷ xs) ≡ x ∷ xs
+ending_after_first start page x xs ascends above =
+    rw (ending_after-first page x xs above) (ap (λ (ys : List Item). x ∷ ys) (ending_after_all x.end page xs ascends.1 (omega arith)))
 
 -- those that end up to a page are followed by those that end above it
-pub upto-beyond : (start page : ℕ) (xs : List Item) → Ascends start xs → upto page xs ++ beyond page xs ≡ xs
-upto-beyond start page [] ascends = refl
-upto-beyond start page (x ∷ xs) ascends = elim (cases_lt page x.end) as (λ _. upto page (x ∷ xs) ++ beyond page (x ∷ xs) ≡ x ∷ xs) [
-  | inl above ↦ rw (upto_first start page x xs ascends above, beyond_first start page x xs ascends above) refl
-  | inr within ↦ rw (upto-first page x xs within, beyond-later page x xs within)
-      (ap (λ (ys : List Item). x ∷ ys) (upto-beyond x.end page xs ascends.1))
+pub ending_by-ending_after : (start page : ℕ) (xs : List Item) → Ascends start xs → ending_by page xs ++ ending_after page xs ≡ xs
+ending_by-ending_after start page [] ascends = refl
+ending_by-ending_after start page (x ∷ xs) ascends = elim (cases_lt page x.end) as (λ _. ending_by page (x ∷ xs) ++ ending_after page (x ∷ xs) ≡ x ∷ xs) [
+  | inl above ↦ rw (ending_by_first start page x xs ascends above, ending_after_first start page x xs ascends above) refl
+  | inr within ↦ rw (ending_by-first page x xs within, ending_after-later page x xs within)
+      (ap (λ (ys : List Item). x ∷ ys) (ending_by-ending_after x.end page xs ascends.1))
 ]
 
 -- they end up to the page
-pub upto_below : (start page : ℕ) (xs : List Item) → start ≤ page → end_of start (upto page xs) ≤ page
-upto_below start page [] begins = begins
-upto_below start page (x ∷ xs) begins = elim (cases_lt page x.end) as (λ _. end_of start (upto page (x ∷ xs)) ≤ page) [
-  | inl above ↦ rw (upto-later page x xs above) (upto_below start page xs begins)
-  | inr within ↦ rw (upto-first page x xs within) (upto_below x.end page xs within)
+pub ending_by_below : (start page : ℕ) (xs : List Item) → start ≤ page → end_of start (ending_by page xs) ≤ page
+ending_by_below start page [] begins = begins
+ending_by_below start page (x ∷ xs) begins = elim (cases_lt page x.end) as (λ _. end_of start (ending_by page (x ∷ xs)) ≤ page) [
+  | inl above ↦ rw (ending_by-later page x xs above) (ending_by_below start page xs begins)
+  | inr within ↦ rw (ending_by-first page x xs within) (ending_by_below x.end page xs within)
 ]
 
 -- and where they begin or above it
-pub end_upto : (start page : ℕ) (xs : List Item) → Ascends start xs → start ≤ end_of start (upto page xs)
-end_upto start page xs ascends =
-    let joined : Ascends start (upto page xs ++ beyond page xs) =
-    let whole : List Item → Type 0 = λ ys. Ascends start ys in subst whole (sym (upto-beyond start page xs ascends)) ascends in
-    ends_above start (upto page xs) (Ascends-left start (upto page xs) (beyond page xs) joined)
+pub end_ending_by : (start page : ℕ) (xs : List Item) → Ascends start xs → start ≤ end_of start (ending_by page xs)
+end_ending_by start page xs ascends =
+    let joined : Ascends start (ending_by page xs ++ ending_after page xs) =
+    let whole : List Item → Type 0 = λ ys. Ascends start ys in subst whole (sym (ending_by-ending_after start page xs ascends)) ascends in
+    ends_above start (ending_by page xs) (Ascends-left start (ending_by page xs) (ending_after page xs) joined)
 
 -- a part of items, filtered, is no longer than the items
-pub length-upto : (page : ℕ) (xs : List Item) → length (upto page xs) ≤ length xs
-length-upto page [] = omega arith
-length-upto page (x ∷ xs) =
-    let later = length-upto page xs in
-    elim (cases_lt page x.end) as (λ _. length (upto page (x ∷ xs)) ≤ suc (length xs)) [
-      | inl above ↦ rw (upto-later page x xs above) (omega arith)
-      | inr within ↦ rw (upto-first page x xs within) (omega arith)
+pub length-ending_by : (page : ℕ) (xs : List Item) → length (ending_by page xs) ≤ length xs
+length-ending_by page [] = omega arith
+length-ending_by page (x ∷ xs) =
+    let later = length-ending_by page xs in
+    elim (cases_lt page x.end) as (λ _. length (ending_by page (x ∷ xs)) ≤ suc (length xs)) [
+      | inl above ↦ rw (ending_by-later page x xs above) (omega arith)
+      | inr within ↦ rw (ending_by-first page x xs within) (omega arith)
     ]
 
-pub length-beyond : (page : ℕ) (xs : List Item) → length (beyond page xs) ≤ length xs
-length-beyond page [] = omega arith
-length-beyond page (x ∷ xs) =
-    let later = length-beyond page xs in
-    elim (cases_lt page x.end) as (λ _. length (beyond page (x ∷ xs)) ≤ suc (length xs)) [
-      | inl above ↦ rw (beyond-first page x xs above) (omega arith)
-      | inr within ↦ rw (beyond-later page x xs within) (omega arith)
+pub length-ending_after : (page : ℕ) (xs : List Item) → length (ending_after page xs) ≤ length xs
+length-ending_after page [] = omega arith
+length-ending_after page (x ∷ xs) =
+    let later = length-ending_after page xs in
+    elim (cases_lt page x.end) as (λ _. length (ending_after page (x ∷ xs)) ≤ suc (length xs)) [
+      | inl above ↦ rw (ending_after-first page x xs above) (omega arith)
+      | inr within ↦ rw (ending_after-later page x xs within) (omega arith)
     ]
 
 -- there is room for one more of the items that are left
@@ -183,7 +183,7 @@ room_left place before list some items is short there room =
 pub record Stands (start page : ℕ) (xs : List Item) (item : Item) : Type 0 where
   pub above : page < item.end
   pub within : item.end ≤ end_of start xs
-  pub beyond : beyond page xs ≡ item ∷ beyond item.end xs
+  pub ending_after : ending_after page xs ≡ item ∷ ending_after item.end xs
 
 pub stands : (start page : ℕ) (xs : List Item) (item : Item) → Ascends start xs → item_at page xs ≡ Some item → Stands start page xs item
 stands start page [] item ascends found = absurd (cc)
@@ -195,7 +195,7 @@ stands start page (x ∷ xs) item ascends found = elim (cases_lt page x.end) as 
       subst Here same (record {
         above = above;
         within = ends_above x.end xs ascends.1;
-        beyond = rw (beyond_first start page x xs ascends above, beyond-later x.end x xs (omega arith), beyond_all x.end x.end xs ascends.1 (omega arith)) refl;
+        ending_after = rw (ending_after_first start page x xs ascends above, ending_after-later x.end x xs (omega arith), ending_after_all x.end x.end xs ascends.1 (omega arith)) refl;
       })
   | inr within ↦
       let deep = stands x.end page xs item ascends.1 (sym (item_at-later page x xs within) ∙ found) in
@@ -203,7 +203,7 @@ stands start page (x ∷ xs) item ascends found = elim (cases_lt page x.end) as 
       record {
         above = deep.above;
         within = deep.within;
-        beyond = rw (beyond-later page x xs within, beyond-later item.end x xs (omega arith)) deep.beyond;
+        ending_after = rw (ending_after-later page x xs within, ending_after-later item.end x xs (omega arith)) deep.ending_after;
       }
 ]
 
@@ -244,38 +244,38 @@ item_at-right start page (x ∷ xs) ys ascends ends =
 
 -- what holds of each item and the page where it begins holds of the one that has a page
 pub AllFrom-at : (P : ℕ → Item → Type 0) (start page : ℕ) (xs : List Item) (item : Item) → Ascends start xs → AllFrom P start xs
-    → item_at page xs ≡ Some item → P (end_of start (upto page xs)) item
+    → item_at page xs ≡ Some item → P (end_of start (ending_by page xs)) item
 AllFrom-at P start page [] item ascends all found = absurd (cc)
 AllFrom-at P start page (x ∷ xs) item ascends all found =
     let Holds : List Item → Type 0 = λ ys. P (end_of start ys) item in
-    elim (cases_lt page x.end) as (λ _. Holds (upto page (x ∷ xs))) [
+    elim (cases_lt page x.end) as (λ _. Holds (ending_by page (x ∷ xs))) [
       | inl above ↦
           let first : Some x ≡ Some item = sym (item_at-first page x xs above) ∙ found in
           let same : x ≡ item = cc in
           let Of : Item → Type 0 = λ y. P start y in
-          rw (upto_first start page x xs ascends above) (subst Of same all.0)
+          rw (ending_by_first start page x xs ascends above) (subst Of same all.0)
       | inr within ↦
-          rw (upto-first page x xs within) (AllFrom-at P x.end page xs item ascends.1 all.1 (sym (item_at-later page x xs within) ∙ found))
+          rw (ending_by-first page x xs within) (AllFrom-at P x.end page xs item ascends.1 all.1 (sym (item_at-later page x xs within) ∙ found))
     ]
 
 -- the items that end above a page ascend from it, and end where all do
-pub beyond-ascends : (start page : ℕ) (xs : List Item) → Ascends start xs → start ≤ page → Ascends page (beyond page xs)
-beyond-ascends start page [] ascends begins = tt
-beyond-ascends start page (x ∷ xs) ascends begins = elim (cases_lt page x.end) as (λ _. Ascends page (beyond page (x ∷ xs))) [
-  | inl above ↦ rw (beyond_first start page x xs ascends above) (above, ascends.1)
-  | inr within ↦ rw (beyond-later page x xs within) (beyond-ascends x.end page xs ascends.1 within)
+pub ending_after-ascends : (start page : ℕ) (xs : List Item) → Ascends start xs → start ≤ page → Ascends page (ending_after page xs)
+ending_after-ascends start page [] ascends begins = tt
+ending_after-ascends start page (x ∷ xs) ascends begins = elim (cases_lt page x.end) as (λ _. Ascends page (ending_after page (x ∷ xs))) [
+  | inl above ↦ rw (ending_after_first start page x xs ascends above) (above, ascends.1)
+  | inr within ↦ rw (ending_after-later page x xs within) (ending_after-ascends x.end page xs ascends.1 within)
 ]
 
-pub beyond-ends : (start page : ℕ) (xs : List Item) → Ascends start xs → start ≤ page → page ≤ end_of start xs
-    → end_of page (beyond page xs) ≡ end_of start xs
-beyond-ends start page [] ascends begins within = omega arith
-beyond-ends start page (x ∷ xs) ascends begins within = elim (cases_lt page x.end) as (λ _. end_of page (beyond page (x ∷ xs)) ≡ end_of x.end xs) [
-  | inl above ↦ rw (beyond_first start page x xs ascends above) refl
-  | inr later ↦ rw (beyond-later page x xs later) (beyond-ends x.end page xs ascends.1 later within)
+pub ending_after-ends : (start page : ℕ) (xs : List Item) → Ascends start xs → start ≤ page → page ≤ end_of start xs
+    → end_of page (ending_after page xs) ≡ end_of start xs
+ending_after-ends start page [] ascends begins within = omega arith
+ending_after-ends start page (x ∷ xs) ascends begins within = elim (cases_lt page x.end) as (λ _. end_of page (ending_after page (x ∷ xs)) ≡ end_of x.end xs) [
+  | inl above ↦ rw (ending_after_first start page x xs ascends above) refl
+  | inr later ↦ rw (ending_after-later page x xs later) (ending_after-ends x.end page xs ascends.1 later within)
 ]
 
 -- those that end up to a page ascend
-pub upto-ascends : (start page : ℕ) (xs : List Item) → Ascends start xs → Ascends start (upto page xs)
-upto-ascends start page xs ascends =
+pub ending_by-ascends : (start page : ℕ) (xs : List Item) → Ascends start xs → Ascends start (ending_by page xs)
+ending_by-ascends start page xs ascends =
     let Whole : List Item → Type 0 = λ ys. Ascends start ys in
-    Ascends-left start (upto page xs) (beyond page xs) (subst Whole (sym (upto-beyond start page xs ascends)) ascends)
+    Ascends-left start (ending_by page xs) (ending_after page xs) (subst Whole (sym (ending_by-ending_after start page xs ascends)) ascends)

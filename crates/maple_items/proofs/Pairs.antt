@@ -9,9 +9,9 @@ use Rattle.maple_node.specs.declared.item.Item.{Item}
 use Rattle.maple_node.specs.Nodes.{end_of, Ascends}
 use Rattle.maple_node.specs.Levels.{item_at}
 use Rattle.maple_node.specs.Trees.{Pair, pair_of, pairs_from}
-use Rattle.maple_items.specs.Splices.{upto, beyond, piece_of}
+use Rattle.maple_items.specs.Splices.{ending_by, ending_after, piece_of}
 use Rattle.maple_items.specs.Pairs.{lower_part, upper_part}
-use Rattle.maple_items.proofs.Lists.{upto-first, upto_first, beyond-later, beyond_first, item_at-first, item_at-later}
+use Rattle.maple_items.proofs.Lists.{ending_by-first, ending_by_first, ending_after-later, ending_after_first, item_at-first, item_at-later}
 
 -- the pairs of joined entries
 pub pairs_from-append : (start : ℕ) (xs ys : List Item) → pairs_from start (xs ++ ys) ≡ pairs_from start xs ++ pairs_from (end_of start xs) ys
@@ -120,32 +120,32 @@ piece_pairs start page x xs ascends begins above =
 
 -- the part below a page is that of the entries up to it and of the piece of the next
 pub pairs_below : (start page : ℕ) (xs : List Item) → Ascends start xs → start ≤ page
-    → flat_map (lower_part page) (pairs_from start xs) ≡ pairs_from start (upto page xs ++ piece_of (end_of start (upto page xs)) page (item_at page xs))
+    → flat_map (lower_part page) (pairs_from start xs) ≡ pairs_from start (ending_by page xs ++ piece_of (end_of start (ending_by page xs)) page (item_at page xs))
 pairs_below start page [] ascends begins = refl
 pairs_below start page (x ∷ xs) ascends begins =
     let first = ascends.0 in
     let Goal : List Item → Option Item → Type 0 =
     λ ys o. flat_map (lower_part page) (pairs_from start (x ∷ xs)) ≡ pairs_from start (ys ++ piece_of (end_of start ys) page o) in
-    elim (cases_lt page x.end) as (λ _. Goal (upto page (x ∷ xs)) (item_at page (x ∷ xs))) [
-      | inl above ↦ rw (upto_first start page x xs ascends above, item_at-first page x xs above)
+    elim (cases_lt page x.end) as (λ _. Goal (ending_by page (x ∷ xs)) (item_at page (x ∷ xs))) [
+      | inl above ↦ rw (ending_by_first start page x xs ascends above, item_at-first page x xs above)
           (piece_pairs start page x xs ascends begins above)
-      | inr within ↦ rw (upto-first page x xs within, item_at-later page x xs within)
-          (lower-cons start page x xs (pair_of start x) (pairs_from x.end (upto page xs ++ piece_of (end_of x.end (upto page xs)) page (item_at page xs)))
+      | inr within ↦ rw (ending_by-first page x xs within, item_at-later page x xs within)
+          (lower-cons start page x xs (pair_of start x) (pairs_from x.end (ending_by page xs ++ piece_of (end_of x.end (ending_by page xs)) page (item_at page xs)))
           (lower_all start page x first within) (pairs_below x.end page xs ascends.1 within))
     ]
 
 -- the part from a page on is that of the entries that end above it
 pub pairs_above : (start page : ℕ) (xs : List Item) → Ascends start xs → start ≤ page
-    → flat_map (upper_part page) (pairs_from start xs) ≡ pairs_from page (beyond page xs)
+    → flat_map (upper_part page) (pairs_from start xs) ≡ pairs_from page (ending_after page xs)
 pairs_above start page [] ascends begins = refl
 pairs_above start page (x ∷ xs) ascends begins =
     let Goal : List Item → Type 0 = λ ys. flat_map (upper_part page) (pairs_from start (x ∷ xs)) ≡ pairs_from page ys in
-    elim (cases_lt page x.end) as (λ _. Goal (beyond page (x ∷ xs))) [
-      | inl above ↦ rw (beyond_first start page x xs ascends above)
+    elim (cases_lt page x.end) as (λ _. Goal (ending_after page (x ∷ xs))) [
+      | inl above ↦ rw (ending_after_first start page x xs ascends above)
           (upper-cons start page x xs (pair_of page x) (pairs_from x.end xs) (upper_cut start page x begins above)
           (above_all x.end page xs ascends.1 (omega arith)))
-      | inr within ↦ rw (beyond-later page x xs within)
-          (upper-cons start page x xs [] (pairs_from page (beyond page xs)) (upper_none start page x within)
+      | inr within ↦ rw (ending_after-later page x xs within)
+          (upper-cons start page x xs [] (pairs_from page (ending_after page xs)) (upper_none start page x within)
           (pairs_above x.end page xs ascends.1 within))
     ]
 

@@ -6,7 +6,7 @@ use Rattle.std.proofs.lemmas.Bool.Decides.{nat_tests}
 use Rattle.maple_node.specs.declared.item.Item.{Item}
 use Rattle.maple_node.specs.Nodes.{leaf_items, inner_items, items_of, most}
 use Rattle.maple_items.specs.declared.part.Part.{Part}
-use Rattle.maple_items.specs.declared.part.Part.TheVariants.{Whole, Upto, Beyond}
+use Rattle.maple_items.specs.declared.part.Part.TheVariants.{Whole, EndingBy, EndingAfter}
 use Rattle.maple_node.specs.Codec.{width_of, listed_at}
 use Rattle.maple_items.specs.Parts.{keeps, part_of}
 use Rattle.maple_items.proofs.Words.{leaf_items-more, leaf_items-zero, inner_items-more, inner_items-zero}
@@ -30,18 +30,18 @@ listed_past false words place past = short_inner (drop place words) (omega (arit
 -- the part of an item before others
 pub part_more : (part : Part) (item : Item) (items : List Item) → keeps part item.end ≡ true → part_of part (item ∷ items) ≡ item ∷ part_of part items
 part_more Whole item items kept = refl
-part_more (Upto page) item items kept = rw kept refl
-part_more (Beyond page) item items kept = rw kept refl
+part_more (EndingBy page) item items kept = rw kept refl
+part_more (EndingAfter page) item items kept = rw kept refl
 
 pub part_less : (part : Part) (item : Item) (items : List Item) → keeps part item.end ≡ false → part_of part (item ∷ items) ≡ part_of part items
 part_less Whole item items out = absurd (cc)
-part_less (Upto page) item items out = rw out refl
-part_less (Beyond page) item items out = rw out refl
+part_less (EndingBy page) item items out = rw out refl
+part_less (EndingAfter page) item items out = rw out refl
 
 pub part_none : (part : Part) → part_of part [] ≡ []
 part_none Whole = refl
-part_none (Upto page) = refl
-part_none (Beyond page) = refl
+part_none (EndingBy page) = refl
+part_none (EndingAfter page) = refl
 
 -- a leaf has two words for each entry at least, and an inner node three for each child
 leaf_count : (words : List ℕ) → 2 * length (leaf_items words) ≤ length words

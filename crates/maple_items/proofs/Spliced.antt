@@ -5,11 +5,11 @@ use Rattle.std.proofs.lemmas.Grind.{flat_map-append}
 use Rattle.std.specs.List.{flat_map}
 use Rattle.maple_node.specs.declared.item.Item.{Item}
 use Rattle.maple_node.specs.Nodes.{item_words, words_of, items_of, most, end_of, Ascends, item_gap, gap_of}
-use Rattle.maple_items.specs.Splices.{upto, beyond, spliced}
+use Rattle.maple_items.specs.Splices.{ending_by, ending_after, spliced}
 use Rattle.maple_node.specs.Codec.{width_of, listed_at}
 use Rattle.maple_node.specs.Padding.{padded}
 use Rattle.maple_items.specs.Internal.Counts.{IsCounted}
-use Rattle.maple_items.proofs.Lists.{upto-first, upto_first, upto_all, upto-beyond, length-upto}
+use Rattle.maple_items.proofs.Lists.{ending_by-first, ending_by_first, ending_by_all, ending_by-ending_after, length-ending_by}
 use Rattle.maple_items.proofs.Parts.{listed_there}
 use Rattle.maple_node.proofs.Padded.{length-words}
 
@@ -24,17 +24,17 @@ ascends_from start low [] below ascends = tt
 ascends_from start low (item ∷ items) below ascends = let first = ascends.0 in (omega arith, ascends.1)
 
 -- the item at the place ends up to the page
-pub upto_more : (leaf : Bool) (page place : ℕ) (words : List ℕ) → IsCounted leaf page place words → place + width_of leaf ≤ length words
+pub ending_by_more : (leaf : Bool) (page place : ℕ) (words : List ℕ) → IsCounted leaf page place words → place + width_of leaf ≤ length words
     → get_or words place 0 ≢ 0 → get_or words place 0 ≤ page → IsCounted leaf page (place + width_of leaf) words
-upto_more leaf page place words is room some ends =
+ending_by_more leaf page place words is room some ends =
     let item = listed_at leaf words place in
     let rest = items_of leaf (drop (place + width_of leaf) words) in
     let there = listed_there leaf words place room some in
     let end = ends_at leaf words place in
-    let more = ap (λ (xs : List Item). length (upto page xs)) there ∙ ap (λ (xs : List Item). length xs) (upto-first page item rest (omega arith)) in
+    let more = ap (λ (xs : List Item). length (ending_by page xs)) there ∙ ap (λ (xs : List Item). length xs) (ending_by-first page item rest (omega arith)) in
     let ascends = subst (Ascends 0) there is.ascends in
     record {
-      count = counted leaf (length (upto page (items_of leaf words))) (length (upto page (items_of leaf (drop place words)))) (length (upto page rest))
+      count = counted leaf (length (ending_by page (items_of leaf words))) (length (ending_by page (items_of leaf (drop place words)))) (length (ending_by page rest))
           place is.count more;
       ascends = ascends_from item.end 0 rest (omega arith) ascends.1;
     } where
@@ -44,22 +44,22 @@ upto_more leaf page place words is room some ends =
       counted false all here later at is more = omega arith
 
 -- no item from the place on does
-pub upto_done : (leaf : Bool) (page place : ℕ) (words : List ℕ) → IsCounted leaf page place words → upto page (items_of leaf (drop place words)) ≡ []
-    → place ≡ width_of leaf * length (upto page (items_of leaf words))
-upto_done leaf page place words is none =
+pub ending_by_done : (leaf : Bool) (page place : ℕ) (words : List ℕ) → IsCounted leaf page place words → ending_by page (items_of leaf (drop place words)) ≡ []
+    → place ≡ width_of leaf * length (ending_by page (items_of leaf words))
+ending_by_done leaf page place words is none =
     let long = ap (λ (xs : List Item). width_of leaf * length xs) none in
     let zero : width_of leaf * 0 ≡ 0 = omega arith in
     let count = is.count in
     omega arith
 
-pub upto_past : (leaf : Bool) (page place : ℕ) (words : List ℕ) → IsCounted leaf page place words → place + width_of leaf ≤ length words
-    → get_or words place 0 ≢ 0 → page < get_or words place 0 → upto page (items_of leaf (drop place words)) ≡ []
-upto_past leaf page place words is room some above =
+pub ending_by_past : (leaf : Bool) (page place : ℕ) (words : List ℕ) → IsCounted leaf page place words → place + width_of leaf ≤ length words
+    → get_or words place 0 ≢ 0 → page < get_or words place 0 → ending_by page (items_of leaf (drop place words)) ≡ []
+ending_by_past leaf page place words is room some above =
     let item = listed_at leaf words place in
     let rest = items_of leaf (drop (place + width_of leaf) words) in
     let there = listed_there leaf words place room some in
     let end = ends_at leaf words place in
-    ap (upto page) there ∙ upto_first 0 page item rest (subst (Ascends 0) there is.ascends) (omega arith)
+    ap (ending_by page) there ∙ ending_by_first 0 page item rest (subst (Ascends 0) there is.ascends) (omega arith)
 
 -- the largest gap is that of the items before a place or of those from it on, which begin at `begin`
 pub record Gapped (leaf : Bool) (start place begin largest : ℕ) (words : List ℕ) : Type 0 where
@@ -90,8 +90,8 @@ pub record Parted (leaf : Bool) (lo hi before past used : ℕ) (words : List ℕ
   pub before_used : before ≤ used
   pub past_used : past ≤ used
   pub within : used ≤ length words
-  pub front : take before words ≡ flat_map (item_words leaf) (upto lo (items_of leaf words))
-  pub back : take (used - past) (drop past words) ≡ flat_map (item_words leaf) (beyond hi (items_of leaf words))
+  pub front : take before words ≡ flat_map (item_words leaf) (ending_by lo (items_of leaf words))
+  pub back : take (used - past) (drop past words) ≡ flat_map (item_words leaf) (ending_after hi (items_of leaf words))
 
 -- fewer items have fewer words
 ordered : (leaf : Bool) (a b m n : ℕ) → a ≡ width_of leaf * m → b ≡ width_of leaf * n → m ≤ n → a ≤ b
@@ -105,33 +105,33 @@ backs false past used back up_hi all a b c = omega arith
 
 pub parted : (leaf : Bool) (lo hi end before past used : ℕ) (words : List ℕ) → Ascends 0 (items_of leaf words)
     → words ≡ words_of leaf (items_of leaf words) → end_of 0 (items_of leaf words) ≤ end
-    → before ≡ width_of leaf * length (upto lo (items_of leaf words)) → past ≡ width_of leaf * length (upto hi (items_of leaf words))
-    → used ≡ width_of leaf * length (upto end (items_of leaf words)) → Parted leaf lo hi before past used words
+    → before ≡ width_of leaf * length (ending_by lo (items_of leaf words)) → past ≡ width_of leaf * length (ending_by hi (items_of leaf words))
+    → used ≡ width_of leaf * length (ending_by end (items_of leaf words)) → Parted leaf lo hi before past used words
 unfolding words_of
 parted leaf lo hi end before past used words ascends whole ends at_lo at_hi at_end =
     let items = items_of leaf words in
     let F : List Item → List ℕ = flat_map (item_words leaf) in
     let zeros : List ℕ = replicate (32 - length (F items)) 0 in
-    let all : upto end items ≡ items = upto_all 0 end items ascends ends in
-    let parts : (page : ℕ) → words ≡ F (upto page items) ++ (F (beyond page items) ++ zeros) = λ page.
-    whole ∙ ap (λ (xs : List Item). F xs ++ zeros) (sym (upto-beyond 0 page items ascends))
-    ∙ ap (λ (ws : List ℕ). ws ++ zeros) (flat_map-append (item_words leaf) (upto page items) (beyond page items))
-    ∙ append_assoc (F (upto page items)) (F (beyond page items)) zeros in
+    let all : ending_by end items ≡ items = ending_by_all 0 end items ascends ends in
+    let parts : (page : ℕ) → words ≡ F (ending_by page items) ++ (F (ending_after page items) ++ zeros) = λ page.
+    whole ∙ ap (λ (xs : List Item). F xs ++ zeros) (sym (ending_by-ending_after 0 page items ascends))
+    ∙ ap (λ (ws : List ℕ). ws ++ zeros) (flat_map-append (item_words leaf) (ending_by page items) (ending_after page items))
+    ∙ append_assoc (F (ending_by page items)) (F (ending_after page items)) zeros in
     let at_used : used ≡ width_of leaf * length items = at_end ∙ ap (λ (xs : List Item). width_of leaf * length xs) all in
-    let split : length items ≡ length (upto hi items) + length (beyond hi items) =
-    ap (λ (xs : List Item). length xs) (sym (upto-beyond 0 hi items ascends)) ∙ length-append (upto hi items) (beyond hi items) in
+    let split : length items ≡ length (ending_by hi items) + length (ending_after hi items) =
+    ap (λ (xs : List Item). length xs) (sym (ending_by-ending_after 0 hi items ascends)) ∙ length-append (ending_by hi items) (ending_after hi items) in
     let sized = ap (λ (ws : List ℕ). length ws) whole ∙ length-append (F items) zeros in
     let long = length-words leaf items in
-    let back_long : length (F (beyond hi items)) ≡ used - past =
-    length-words leaf (beyond hi items) ∙ backs leaf past used (length (beyond hi items)) (length (upto hi items)) (length items) at_hi at_used split in
+    let back_long : length (F (ending_after hi items)) ≡ used - past =
+    length-words leaf (ending_after hi items) ∙ backs leaf past used (length (ending_after hi items)) (length (ending_by hi items)) (length items) at_hi at_used split in
     record {
-      before_used = ordered leaf before used (length (upto lo items)) (length items) at_lo at_used (length-upto lo items);
-      past_used = ordered leaf past used (length (upto hi items)) (length items) at_hi at_used (length-upto hi items);
+      before_used = ordered leaf before used (length (ending_by lo items)) (length items) at_lo at_used (length-ending_by lo items);
+      past_used = ordered leaf past used (length (ending_by hi items)) (length items) at_hi at_used (length-ending_by hi items);
       within = omega arith;
-      front = ap (take before) (parts lo) ∙ take_at (F (upto lo items)) (F (beyond lo items) ++ zeros) before (length-words leaf (upto lo items) ∙ sym at_lo);
+      front = ap (take before) (parts lo) ∙ take_at (F (ending_by lo items)) (F (ending_after lo items) ++ zeros) before (length-words leaf (ending_by lo items) ∙ sym at_lo);
       back = ap (λ (ws : List ℕ). take (used - past) (drop past ws)) (parts hi)
-          ∙ ap (take (used - past)) (drop_at (F (upto hi items)) (F (beyond hi items) ++ zeros) past (length-words leaf (upto hi items) ∙ sym at_hi))
-          ∙ take_at (F (beyond hi items)) zeros (used - past) back_long;
+          ∙ ap (take (used - past)) (drop_at (F (ending_by hi items)) (F (ending_after hi items) ++ zeros) past (length-words leaf (ending_by hi items) ∙ sym at_hi))
+          ∙ take_at (F (ending_after hi items)) zeros (used - past) back_long;
     }
 
 -- how many words they have with new ones between
@@ -141,29 +141,29 @@ joined_words true before back a b new some whole p q r s = omega arith
 joined_words false before back a b new some whole p q r s = omega arith
 
 pub count_is : (leaf : Bool) (lo hi before past used : ℕ) (words : List ℕ) (new : List Item) → before ≤ length words → used ≤ length words
-    → past ≤ used → take before words ≡ flat_map (item_words leaf) (upto lo (items_of leaf words))
-    → take (used - past) (drop past words) ≡ flat_map (item_words leaf) (beyond hi (items_of leaf words))
+    → past ≤ used → take before words ≡ flat_map (item_words leaf) (ending_by lo (items_of leaf words))
+    → take (used - past) (drop past words) ≡ flat_map (item_words leaf) (ending_after hi (items_of leaf words))
     → before + width_of leaf * length new + (used - past) ≡ width_of leaf * length (spliced lo hi new (items_of leaf words))
 count_is leaf lo hi before past used words new low within order front back =
     let items = items_of leaf words in
-    let first : before ≡ width_of leaf * length (upto lo items) =
-    sym (length-take-le before words low) ∙ ap (λ (ws : List ℕ). length ws) front ∙ length-words leaf (upto lo items) in
+    let first : before ≡ width_of leaf * length (ending_by lo items) =
+    sym (length-take-le before words low) ∙ ap (λ (ws : List ℕ). length ws) front ∙ length-words leaf (ending_by lo items) in
     let rest = length-drop past words in
-    let last : used - past ≡ width_of leaf * length (beyond hi items) =
-    sym (length-take-le (used - past) (drop past words) (omega arith)) ∙ ap (λ (ws : List ℕ). length ws) back ∙ length-words leaf (beyond hi items) in
-    joined_words leaf before (used - past) (length (upto lo items)) (length (beyond hi items)) (length new) (length (new ++ beyond hi items))
-    (length (spliced lo hi new items)) first last (length-append new (beyond hi items)) (length-append (upto lo items) (new ++ beyond hi items))
+    let last : used - past ≡ width_of leaf * length (ending_after hi items) =
+    sym (length-take-le (used - past) (drop past words) (omega arith)) ∙ ap (λ (ws : List ℕ). length ws) back ∙ length-words leaf (ending_after hi items) in
+    joined_words leaf before (used - past) (length (ending_by lo items)) (length (ending_after hi items)) (length new) (length (new ++ ending_after hi items))
+    (length (spliced lo hi new items)) first last (length-append new (ending_after hi items)) (length-append (ending_by lo items) (new ++ ending_after hi items))
 
 -- they are the words of a node
 pub spliced_is : (leaf : Bool) (lo hi : ℕ) (new items : List Item)
-    → padded ((flat_map (item_words leaf) (upto lo items) ++ flat_map (item_words leaf) new) ++ flat_map (item_words leaf) (beyond hi items))
+    → padded ((flat_map (item_words leaf) (ending_by lo items) ++ flat_map (item_words leaf) new) ++ flat_map (item_words leaf) (ending_after hi items))
     ≡ words_of leaf (spliced lo hi new items)
 unfolding words_of
 spliced_is leaf lo hi new items =
     let F : List Item → List ℕ = flat_map (item_words leaf) in
-    ap padded (append_assoc (F (upto lo items)) (F new) (F (beyond hi items))
-    ∙ ap (λ (ws : List ℕ). F (upto lo items) ++ ws) (sym (flat_map-append (item_words leaf) new (beyond hi items)))
-    ∙ sym (flat_map-append (item_words leaf) (upto lo items) (new ++ beyond hi items)))
+    ap padded (append_assoc (F (ending_by lo items)) (F new) (F (ending_after hi items))
+    ∙ ap (λ (ws : List ℕ). F (ending_by lo items) ++ ws) (sym (flat_map-append (item_words leaf) new (ending_after hi items)))
+    ∙ sym (flat_map-append (item_words leaf) (ending_by lo items) (new ++ ending_after hi items)))
 
 -- what a count of words tells of one of items
 pub record Fits (leaf : Bool) (fewest count : ℕ) : Type 0 where

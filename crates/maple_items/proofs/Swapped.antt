@@ -8,12 +8,12 @@ use Rattle.maple_node.specs.Nodes.{item_words, words_of, items_of, end_of, Ascen
 use Rattle.maple_node.specs.Levels.{item_at}
 use Rattle.maple_node.proofs.Packing.{length-inner_words}
 use Rattle.maple_node.proofs.Places.{items_of_words}
-use Rattle.maple_items.specs.Splices.{upto, beyond, spliced}
+use Rattle.maple_items.specs.Splices.{ending_by, ending_after, spliced}
 use Rattle.maple_node.specs.Codec.{listed_at}
 use Rattle.maple_items.specs.Internal.Counts.{IsCounted}
-use Rattle.maple_items.proofs.Lists.{upto-beyond, upto_first, item_at-first, item_at-later, stands}
+use Rattle.maple_items.proofs.Lists.{ending_by-ending_after, ending_by_first, item_at-first, item_at-later, stands}
 use Rattle.maple_items.proofs.Listed.{listed}
-use Rattle.maple_items.proofs.Spliced.{upto_more, upto_done}
+use Rattle.maple_items.proofs.Spliced.{ending_by_more, ending_by_done}
 
 -- the children before a place end up to a page, which one from it on has
 pub record Near (page place : ℕ) (words : List ℕ) : Type 0 where
@@ -36,7 +36,7 @@ near_more page place words near ends =
     let first = ascends.0 in
     let within : page < end_of item.end rest = subst (λ (xs : List Item). page < end_of 0 xs) is near.within in
     record {
-      counted = upto_more false page place words near.counted there.room (omega arith) ends;
+      counted = ending_by_more false page place words near.counted there.room (omega arith) ends;
       found = near.found ∙ ap (item_at page) is ∙ item_at-later page item rest ends;
       within = end_from item.end page rest ends within;
     } where
@@ -46,7 +46,7 @@ near_more page place words near ends =
 
 -- it ends above the page
 pub record There (page place : ℕ) (words : List ℕ) : Type 0 where
-  pub at : place ≡ 3 * length (upto page (items_of false words))
+  pub at : place ≡ 3 * length (ending_by page (items_of false words))
   pub item : item_at page (items_of false words) ≡ Some (listed_at false words place)
 
 pub near_there : (page place : ℕ) (words : List ℕ) → Near page place words → page < get_or words place 0 → There page place words
@@ -57,7 +57,7 @@ near_there page place words near past =
     let is : items_of false (drop place words) ≡ item ∷ rest = there.is in
     let ascends : Ascends 0 (item ∷ rest) = subst (Ascends 0) is near.counted.ascends in
     record {
-      at = upto_done false page place words near.counted (ap (upto page) is ∙ upto_first 0 page item rest ascends past);
+      at = ending_by_done false page place words near.counted (ap (ending_by page) is ∙ ending_by_first 0 page item rest ascends past);
       item = near.found ∙ ap (item_at page) is ∙ item_at-first page item rest past;
     }
 
@@ -90,13 +90,13 @@ swapped page place words child ascends whole there ends =
     let items = items_of false words in
     let item = listed_at false words place in
     let F : List Item → List ℕ = flat_map (item_words false) in
-    let front = upto page items in
-    let rest = beyond child.end items in
+    let front = ending_by page items in
+    let rest = ending_after child.end items in
     let new = front ++ child ∷ rest in
-    let first : beyond page items ≡ item ∷ beyond item.end items = (stands 0 page items item ascends there.item).beyond in
+    let first : ending_after page items ≡ item ∷ ending_after item.end items = (stands 0 page items item ascends there.item).ending_after in
     let is : items ≡ front ++ item ∷ rest =
-    sym (upto-beyond 0 page items ascends) ∙ ap (λ (xs : List Item). front ++ xs) first
-    ∙ ap (λ (end : ℕ). front ++ item ∷ beyond end items) ends in
+    sym (ending_by-ending_after 0 page items ascends) ∙ ap (λ (xs : List Item). front ++ xs) first
+    ∙ ap (λ (end : ℕ). front ++ item ∷ ending_after end items) ends in
     let zeros : List ℕ = replicate (32 - length (F items)) 0 in
     let parts : words ≡ F front ++ (item.end ∷ item.word ∷ item.gap ∷ (F rest ++ zeros)) =
     whole ∙ ap (λ (xs : List Item). F xs ++ zeros) is ∙ ap (λ (ws : List ℕ). ws ++ zeros) (flat_map-append (item_words false) front (item ∷ rest))

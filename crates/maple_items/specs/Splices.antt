@@ -6,16 +6,16 @@ use Rattle.maple_node.specs.Nodes.{end_of}
 use Rattle.maple_node.specs.Levels.{item_at}
 
 -- the items that end up to a page
-abbrev pub upto : ℕ → List Item → List Item
-upto page items = filter (λ item. nat_le item.end page) items
+abbrev pub ending_by : ℕ → List Item → List Item
+ending_by page items = filter (λ item. nat_le item.end page) items
 
 -- the items that end above a page
-abbrev pub beyond : ℕ → List Item → List Item
-beyond page items = filter (λ item. nat_lt page item.end) items
+abbrev pub ending_after : ℕ → List Item → List Item
+ending_after page items = filter (λ item. nat_lt page item.end) items
 
 -- items with new ones in the place of those between the ones that end up to `lo` and the ones that end above `hi`
 abbrev pub spliced : ℕ → ℕ → List Item → List Item → List Item
-spliced lo hi new items = upto lo items ++ (new ++ beyond hi items)
+spliced lo hi new items = ending_by lo items ++ (new ++ ending_after hi items)
 
 -- the part below a page of the entry that has it, as an entry, where the entry begins below the page
 abbrev pub piece_of : ℕ → ℕ → Option Item → List Item
@@ -24,7 +24,7 @@ piece_of start page (Some item) = if nat_lt start page then (record { end = page
 
 -- that part of entries that begin at page 0
 unfoldable pub piece_below : ℕ → List Item → List Item
-piece_below page entries = piece_of (end_of 0 (upto page entries)) page (item_at page entries)
+piece_below page entries = piece_of (end_of 0 (ending_by page entries)) page (item_at page entries)
 
 -- entries with one that has this word for the pages from `lo` up to `hi`, in the place of what they had
 abbrev pub overwrite : ℕ → ℕ → ℕ → List Item → List Item
@@ -37,7 +37,7 @@ gap_begin start page (Some item) = if nat_eq item.word 0 then start else page
 
 -- where a gap from a page on begins, with the gap that has the page before
 unfoldable pub widened_lo : ℕ → List Item → ℕ
-widened_lo page entries = if nat_eq page 0 then 0 else gap_begin (end_of 0 (upto (page - 1) entries)) page (item_at (page - 1) entries)
+widened_lo page entries = if nat_eq page 0 then 0 else gap_begin (end_of 0 (ending_by (page - 1) entries)) page (item_at (page - 1) entries)
 
 -- where an entry ends if it is a gap, and otherwise the page
 abbrev pub gap_end : ℕ → Option Item → ℕ

@@ -12,7 +12,7 @@ mod splice;
 pub use laws::{
     gaps_stay_apart, overwriting_replaces_pairs, overwritten_pages, written_items_are_read,
 };
-pub use list::{ItemList, push_all, push_beyond};
+pub use list::{ItemList, push_all, push_ending_after};
 pub use node::{item_gap, lists_nothing, share};
 pub use part::{Part, push_part};
 pub use place::{Place, item_in};

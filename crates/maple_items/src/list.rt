@@ -1,7 +1,7 @@
 //! Short lists of items.
 
 ghost use Rattle.std.specs.Prelude.{◌≡◌, ◌≤◌, ◌+◌, ◌++◌, length};
-ghost use Rattle.maple_items.specs.Splices.{beyond};
+ghost use Rattle.maple_items.specs.Splices.{ending_after};
 
 use arrayvec::ArrayVec;
 use maple_node::Item;
@@ -13,9 +13,9 @@ const ROOM: usize = 40;
 pub type ItemList = ArrayVec<Item, ROOM>;
 
 /// Adds those of the items that end above a page.
-pub fn push_beyond(list: &mut ItemList, page: u64, items: &[Item])
+pub fn push_ending_after(list: &mut ItemList, page: u64, items: &[Item])
     requires { length list.old.items + length items.now ≤ 40 }
-    ensures { list.new.items ≡ list.old.items ++ beyond page items.now }
+    ensures { list.new.items ≡ list.old.items ++ ending_after page items.now }
 {
     for item in items {
         if page < item.end {

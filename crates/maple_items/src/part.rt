@@ -13,9 +13,9 @@ pub enum Part {
     /// All items.
     Whole,
     /// Those that end up to a page.
-    Upto(u64),
+    EndingBy(u64),
     /// Those that end above a page.
-    Beyond(u64),
+    EndingAfter(u64),
 }
 
 impl Part {
@@ -25,8 +25,8 @@ impl Part {
     {
         match self {
             Part::Whole => true,
-            Part::Upto(page) => end <= page,
-            Part::Beyond(page) => page < end,
+            Part::EndingBy(page) => end <= page,
+            Part::EndingAfter(page) => page < end,
         }
     }
 }
@@ -77,8 +77,8 @@ mod tests {
         let words = node_words(true, &ITEMS);
         let parts = [
             (Part::Whole, 3, 0x12),
-            (Part::Upto(0x13), 2, 0x12),
-            (Part::Beyond(0x12), 2, 0x13),
+            (Part::EndingBy(0x13), 2, 0x12),
+            (Part::EndingAfter(0x12), 2, 0x13),
         ];
         for (part, count, first) in parts {
             let mut list = ItemList::new();

@@ -3,7 +3,7 @@
 ghost use Rattle.std.specs.Prelude.{◌≡◌, ◌<◌, ◌≤◌, Some};
 ghost use Rattle.maple_node.specs.Nodes.{items_of, Ascends, end_of};
 ghost use Rattle.maple_node.specs.Levels.{item_at};
-ghost use Rattle.maple_items.specs.Splices.{upto};
+ghost use Rattle.maple_items.specs.Splices.{ending_by};
 
 use maple_node::{Item, listed_at, width_of};
 
@@ -23,7 +23,7 @@ pub fn item_in(leaf: bool, words: &[u64; 32], start: u64, page: u64) -> Place
     requires above { start ≤ page }
     requires within { page < end_of start (items_of leaf words.now) }
     ensures item { item_at page (items_of leaf words.now) ≡ Some result.item }
-    ensures start { result.start ≡ end_of start (upto page (items_of leaf words.now)) }
+    ensures start { result.start ≡ end_of start (ending_by page (items_of leaf words.now)) }
     ensures above { result.start ≤ page }
 {
     let width = width_of(leaf);

@@ -5,7 +5,7 @@ ghost use Rattle.std.specs.List.{flat_map};
 ghost use Rattle.maple_node.specs.Nodes.{items_of, words_of, item_words, most, end_of, Ascends, gap_of};
 ghost use Rattle.maple_node.specs.declared.item.Item.{Item};
 ghost use Rattle.maple_node.specs.Levels.{item_at};
-ghost use Rattle.maple_items.specs.Splices.{upto, beyond, spliced};
+ghost use Rattle.maple_items.specs.Splices.{ending_by, ending_after, spliced};
 ghost use Rattle.maple_node.specs.Codec.{width_of, listed_at};
 ghost use Rattle.maple_node.specs.Padding.{padded};
 ghost use Rattle.maple_items.specs.Internal.Counts.{IsCounted};
@@ -14,10 +14,10 @@ use crate::node::item_gap;
 use maple_node::{Item, NODE_WORDS, NodeWords, listed_at, most, width_of};
 
 /// How many words the items of a node have that end up to a page, counted from a place up to which they do.
-fn words_upto(leaf: bool, words: &[u64; 32], from: usize, page: u64) -> usize
+fn words_ending_by(leaf: bool, words: &[u64; 32], from: usize, page: u64) -> usize
     requires within { from ≤ 32 }
     requires counted { (later : ℕ) → page ≤ later → IsCounted leaf later from words.now }
-    ensures count { result ≡ width_of leaf * length (upto page (items_of leaf words.now)) }
+    ensures count { result ≡ width_of leaf * length (ending_by page (items_of leaf words.now)) }
     ensures within { result ≤ 32 }
     ensures counted { (later : ℕ) → page ≤ later → IsCounted leaf later result words.now }
 {
@@ -47,13 +47,13 @@ fn parts_of(leaf: bool, words: &[u64; 32], end: u64, lo: u64, hi: u64) -> Parts
     ensures before { result.before ≤ result.used }
     ensures past { result.past ≤ result.used }
     ensures within { result.used ≤ 32 }
-    ensures front { take result.before words.now ≡ flat_map (item_words leaf) (upto lo (items_of leaf words.now)) }
-    ensures back { slice_range words.now result.past result.used ≡ flat_map (item_words leaf) (beyond hi (items_of leaf words.now)) }
+    ensures front { take result.before words.now ≡ flat_map (item_words leaf) (ending_by lo (items_of leaf words.now)) }
+    ensures back { slice_range words.now result.past result.used ≡ flat_map (item_words leaf) (ending_after hi (items_of leaf words.now)) }
 {
-    let before = words_upto(leaf, words, 0, lo);
+    let before = words_ending_by(leaf, words, 0, lo);
     let from = if lo <= hi { before } else { 0 };
-    let past = words_upto(leaf, words, from, hi);
-    let used = words_upto(leaf, words, past, end.max(hi));
+    let past = words_ending_by(leaf, words, from, hi);
+    let used = words_ending_by(leaf, words, past, end.max(hi));
     Parts { before, past, used }
 }
 
@@ -167,7 +167,7 @@ fn child_place(words: &[u64; 32], page: u64) -> usize
     requires ascends { Ascends 0 (items_of false words.now) }
     requires within { page < end_of 0 (items_of false words.now) }
     ensures room { result + 3 ≤ 32 }
-    ensures place { result ≡ 3 * length (upto page (items_of false words.now)) }
+    ensures place { result ≡ 3 * length (ending_by page (items_of false words.now)) }
     ensures item { item_at page (items_of false words.now) ≡ Some (listed_at false words.now result) }
 {
     let mut place = 0;

@@ -1,6 +1,6 @@
 //! Walks of tree 0, and of trees that are one leaf.
 ghost use Rattle.std.specs.Prelude.{◌≡◌, ◌<◌, ◌-◌, ◌^◌, IfOk};
-ghost use Rattle.node_slots.specs.Seats.{Writes, desk, IsOf, IsClosed};
+ghost use Rattle.node_slots.specs.Seats.{Writes, writer_state, IsOf, IsClosed};
 ghost use Rattle.node_slots.specs.Internal.Leaves.{IsOneLeaf};
 
 use super::walk;
@@ -33,7 +33,7 @@ fn a_leaf_has_the_pages_of_its_entry(rt: HostRuntime) -> Result<(), NoMemory> {
 
 /// A new table with its writer and a reader.
 fn open<R: Abort>(rt: &R, alloc: Global) -> Result<(NodeTable, NodeWriter, NodeSeat), NoMemory>
-    ensures writer { IfOk result (λ made. Writes made.1 made.0 × IsOneLeaf made.1 0 × ((desk made.1).tree.number ≡ 0)) }
+    ensures writer { IfOk result (λ made. Writes made.1 made.0 × IsOneLeaf made.1 0 × ((writer_state made.1).tree.number ≡ 0)) }
     ensures seat { IfOk result (λ made. IsOf made.2 made.0 × IsClosed made.2) }
 {
     let (table, writer, mut seats) = NodeTable::new(alloc, 8, 4, 1)?;
@@ -48,7 +48,7 @@ fn open<R: Abort>(rt: &R, alloc: Global) -> Result<(NodeTable, NodeWriter, NodeS
 fn publish_leaf(table: &NodeTable, writer: &mut NodeWriter, end: Page, slot: Slot) -> Option<Row>
     requires table { Writes writer.old table.now }
     requires alone { IsOneLeaf writer.old 0 }
-    requires number { (desk writer.old).tree.number ≡ 0 }
+    requires number { (writer_state writer.old).tree.number ≡ 0 }
     requires end { 0 < end.0 }
     requires slot { slot.0 < 4 }
 {

@@ -26,8 +26,8 @@ only_first : (writer : NodeWriter) (size : Size) (readers row : ℕ) → sight w
     → left_of writer ≡ [] → is_kept writer row ≡ nat_eq row 0
 only_first writer size readers row seen free left =
     let rows : row_count writer ≡ size.rows = ap (λ (v : NodeView). v.size.rows) seen in
-    let table = ap (λ (s : Size). s.rows) writer.desk.kept.size_is in
-    let some = writer.desk.table.sized.fits.some_rows in
+    let table = ap (λ (s : Size). s.rows) writer.writer_state.kept.size_is in
+    let some = writer.writer_state.table.sized.fits.some_rows in
     let none_left : times row (left_of writer) ≡ 0 = ap (times row) left in
     let Goal : Type 0 = is_kept writer row ≡ nat_eq row 0 in
     elim (cases_lt 0 row) as (λ _. Goal) [
@@ -55,14 +55,14 @@ pub blank_new : (writer : NodeWriter) (tree : Tree) (size : Size) (readers : ℕ
     → IsFreeFrom 1 size.rows (free_of writer) → left_of writer ≡ [] → tree.root.0 ≡ 0 → tree.height ≡ 1 → 0 < tree.limit.0 → IsBlank writer tree
 blank_new writer tree size readers seen free left root height some =
     let rows : row_count writer ≡ size.rows = ap (λ (v : NodeView). v.size.rows) seen in
-    let table = ap (λ (s : Size). s.rows) writer.desk.kept.size_is in
-    let some_rows = writer.desk.table.sized.fits.some_rows in
+    let table = ap (λ (s : Size). s.rows) writer.writer_state.kept.size_is in
+    let some_rows = writer.writer_state.table.sized.fits.some_rows in
     record {
-      first = ap (λ (v : NodeView). v.known.desk.tree.number) seen;
+      first = ap (λ (v : NodeView). v.known.writer_state.tree.number) seen;
       root = root;
       height = height;
       some = some;
-      words = ap (λ (v : NodeView). row_at v.known.desk.words 0) seen ∙ first_row size.rows (omega arith);
+      words = ap (λ (v : NodeView). row_at v.known.writer_state.words 0) seen ∙ first_row size.rows (omega arith);
       rows = omega arith;
       kept = λ row. only_first writer size readers row seen free left;
     }

@@ -10,8 +10,8 @@ use Rattle.maple_node.specs.Trees.{Tree, entries_of}
 use Rattle.maple_node.proofs.Lists.{ends_above, ends_behind}
 use Rattle.maple_node.proofs.Levels.{level-ascends, level-ends}
 use Rattle.maple_node.proofs.Frames.{times-append}
-use Rattle.maple_items.specs.Splices.{upto, beyond, spliced, piece_of, piece_below, overwrite}
-use Rattle.maple_items.proofs.Lists.{upto-later, upto_all, beyond_none, upto_below, upto-ascends, beyond-ends}
+use Rattle.maple_items.specs.Splices.{ending_by, ending_after, spliced, piece_of, piece_below, overwrite}
+use Rattle.maple_items.proofs.Lists.{ending_by-later, ending_by_all, ending_after_none, ending_by_below, ending_by-ascends, ending_after-ends}
 use Rattle.maple_items.proofs.Entries.{overwrite-ascends}
 use Rattle.maple_write.specs.Internal.Tables.{Table, rows_in, gone, Stand}
 use Rattle.maple_write.specs.Internal.Stores.{old_level, new_level, new_entries, Partly, IsShaped}
@@ -42,40 +42,40 @@ whole_list (y ∷ ys) = ap (λ (zs : List Item). y ∷ zs) (whole_list ys)
 
 -- new items that have all pages are the level
 pub all_new : (table : Table) (top : Item) (height level lo hi : ℕ) (new : List Item) → Partly table top height level lo hi new
-    → end_of 0 (upto lo (old_level table top height level)) ≡ 0 → hi ≡ top.end → new_level table top height level lo hi new ≡ new
+    → end_of 0 (ending_by lo (old_level table top height level)) ≡ 0 → hi ≡ top.end → new_level table top height level lo hi new ≡ new
 all_new table top height level lo hi new partly begins ends =
     let old = old_level table top height level in
     let pages = partly.pages in
     let is = full table top height level partly.tower (omega arith) in
     let e = is.ends in
-    let front : upto lo old ≡ [] = none_from_end (upto lo old) (upto-ascends 0 lo old is.ascends) begins in
-    let back : beyond hi old ≡ [] = beyond_none 0 hi old is.ascends (omega arith) in
-    ap (λ (xs : List Item). xs ++ (new ++ beyond hi old)) front ∙ ap (λ (xs : List Item). new ++ xs) back ∙ whole_list new
+    let front : ending_by lo old ≡ [] = none_from_end (ending_by lo old) (ending_by-ascends 0 lo old is.ascends) begins in
+    let back : ending_after hi old ≡ [] = ending_after_none 0 hi old is.ascends (omega arith) in
+    ap (λ (xs : List Item). xs ++ (new ++ ending_after hi old)) front ∙ ap (λ (xs : List Item). new ++ xs) back ∙ whole_list new
 
 -- at the highest level they have all pages
 pub at_top : (table : Table) (top : Item) (height level lo hi : ℕ) (new : List Item) → Partly table top height level lo hi new → height ≤ level
-    → 1 ≤ height → (end_of 0 (upto lo (old_level table top height level)) ≡ 0) × (hi ≡ top.end)
+    → 1 ≤ height → (end_of 0 (ending_by lo (old_level table top height level)) ≡ 0) × (hi ≡ top.end)
 at_top table top height level lo hi new partly high tall =
     let one = level_of-top (at_of table.rows) height level (top ∷ []) high in
     let pages = partly.pages in
     let limit = partly.limit in
     let Ends : Type 0 = hi ≡ top.end in
-    let edge : end_of 0 (upto hi (top ∷ [])) ≡ hi = sym (ap (λ (xs : List Item). end_of 0 (upto hi xs)) one) ∙ partly.edge (omega arith) in (
-      ap (λ (xs : List Item). end_of 0 (upto lo xs)) one ∙ ap (end_of 0) (upto-later lo top [] (omega arith)),
+    let edge : end_of 0 (ending_by hi (top ∷ [])) ≡ hi = sym (ap (λ (xs : List Item). end_of 0 (ending_by hi xs)) one) ∙ partly.edge (omega arith) in (
+      ap (λ (xs : List Item). end_of 0 (ending_by lo xs)) one ∙ ap (end_of 0) (ending_by-later lo top [] (omega arith)),
       elim (cases_lt hi top.end) as (λ _. Ends) [
-        | inl short ↦ let none = ap (end_of 0) (upto-later hi top [] short) in absurd (omega arith)
+        | inl short ↦ let none = ap (end_of 0) (ending_by-later hi top [] short) in absurd (omega arith)
         | inr all ↦ omega arith
       ],
     )
 
 -- new items that do not have all pages, or are several, are not alone
 pub two_items : (table : Table) (top : Item) (height level lo hi begin : ℕ) (new : List Item) → Partly table top height level lo hi new → 1 ≤ level
-    → begin ≡ end_of 0 (upto lo (old_level table top height level))
+    → begin ≡ end_of 0 (ending_by lo (old_level table top height level))
     → (begin ≢ 0) ⊎ ((hi ≢ top.end) ⊎ (length new ≢ 1)) → 2 ≤ length (new_level table top height level lo hi new)
 two_items table top height level lo hi begin new partly inner begins which =
     let old = old_level table top height level in
-    let front = upto lo old in
-    let back = beyond hi old in
+    let front = ending_by lo old in
+    let back = ending_after hi old in
     let pages = partly.pages in
     let limit = partly.limit in
     let some = partly.some in
@@ -87,7 +87,7 @@ two_items table top height level lo hi begin new partly inner begins which =
       | inl later ↦ let more = some_from_end front (λ none. later (begins ∙ none)) in omega arith
       | inr rest ↦ elim rest as (λ _. Goal) [
         | inl short ↦
-            let ends = beyond-ends 0 hi old is.ascends (omega arith) (let e = is.ends in omega arith) in
+            let ends = ending_after-ends 0 hi old is.ascends (omega arith) (let e = is.ends in omega arith) in
             let more = some_to_end hi back (λ none. short (sym none ∙ ends ∙ is.ends)) in
             omega arith
         | inr several ↦ elim (cases_lt (length new) 2) as (λ _. Goal) [
@@ -125,17 +125,17 @@ first_of_store start lo hi word item = go (nat_lt start lo) where
 
 -- they are what `overwrite` puts there
 pub first_entries : (start lo hi word : ℕ) (item : Item) (entries : List Item) → item_at lo entries ≡ Some item
-    → start ≡ end_of 0 (upto lo entries)
+    → start ≡ end_of 0 (ending_by lo entries)
     → spliced lo hi (piece_of start lo (Some item) ++ record { end = hi; word = word; gap = 0 } ∷ []) entries ≡ overwrite lo hi word entries
 unfolding piece_below
 first_entries start lo hi word item entries found begins =
     let entry : Item = record { end = hi; word = word; gap = 0 } in
     ap (λ (p : ℕ). spliced lo hi (piece_of p lo (Some item) ++ entry ∷ []) entries) begins
-    ∙ sym (ap (λ o. spliced lo hi (piece_of (end_of 0 (upto lo entries)) lo o ++ entry ∷ []) entries) found)
+    ∙ sym (ap (λ o. spliced lo hi (piece_of (end_of 0 (ending_by lo entries)) lo o ++ entry ∷ []) entries) found)
 
 pub begun : (table : Table) (tree : Tree) (start lo hi word : ℕ) (item : Item) → IsShaped table tree → lo < hi → hi ≤ tree.top.end
     → 4 * tree.height + 4 ≤ length table.free
-    → item_at lo (old_level table tree.top tree.height 0) ≡ Some item → start ≡ end_of 0 (upto lo (old_level table tree.top tree.height 0))
+    → item_at lo (old_level table tree.top tree.height 0) ≡ Some item → start ≡ end_of 0 (ending_by lo (old_level table tree.top tree.height 0))
     → Partly table tree.top tree.height 0 lo hi (piece_of start lo (Some item) ++ record { end = hi; word = word; gap = 0 } ∷ [])
 unfolding IsTower rows_of
 begun table tree start lo hi word item shaped some limit room found begins =
@@ -158,7 +158,7 @@ begun table tree start lo hi word item shaped some limit room found begins =
       tower = tower;
       built = tt;
       ascends = subst (λ (xs : List Item). Ascends 0 xs) (sym same) (overwrite-ascends lo hi word (old_level table top height 0) is.ascends some (omega arith));
-      ending = first.ending (end_of 0 (upto lo (old_level table top height 0)));
+      ending = first.ending (end_of 0 (ending_by lo (old_level table top height 0)));
       edge = λ inner. absurd (omega arith);
       plain = first.plain;
       stand = record {
@@ -244,10 +244,10 @@ crowned old after level items node words tall tower ascends two stand is reads e
 -- what leaving the rest of the old tree does, a level at a time
 pub record Upper (table : Table) (top : Item) (height next : ℕ) : Type 0 where
   pub tower : IsTower (at_of table.rows) top.end (next + 1) (height - (next + 1)) (top ∷ [])
-  pub edge : end_of 0 (upto top.end (old_level table top height (next + 1))) ≡ top.end
+  pub edge : end_of 0 (ending_by top.end (old_level table top height (next + 1))) ≡ top.end
   pub rows : (row : ℕ) → times row (rows_of (at_of table.rows) next (height - next) (top ∷ []))
       ≡ times row (rows_of (at_of table.rows) (next + 1) (height - (next + 1)) (top ∷ []))
-      + times row (rows_in (upto top.end (beyond 0 (old_level table top height (next + 1)))))
+      + times row (rows_in (ending_by top.end (ending_after 0 (old_level table top height (next + 1)))))
 
 pub upper_at : (table : Table) (top : Item) (height level next : ℕ) → IsTower (at_of table.rows) top.end level (height - level) (top ∷ []) → 0 < top.end
     → level ≤ next → next < height → Upper table top height next
@@ -257,11 +257,11 @@ upper_at table top height level next tower some order less =
     let is = full table top height (next + 1) above some in
     let old = old_level table top height (next + 1) in
     let ends = is.ends in
-    let all : upto top.end old ≡ old = upto_all 0 top.end old is.ascends (omega arith) in
+    let all : ending_by top.end old ≡ old = ending_by_all 0 top.end old is.ascends (omega arith) in
     let up : height - next ≡ suc (height - (next + 1)) = omega arith in
     let e : suc next ≡ next + 1 = omega arith in
-    let none : upto 0 old ≡ [] = none_from_end (upto 0 old) (upto-ascends 0 0 old is.ascends) (let b = upto_below 0 0 old (omega arith) in omega arith) in
-    let past : beyond top.end old ≡ [] = beyond_none 0 top.end old is.ascends (omega arith) in
+    let none : ending_by 0 old ≡ [] = none_from_end (ending_by 0 old) (ending_by-ascends 0 0 old is.ascends) (let b = ending_by_below 0 0 old (omega arith) in omega arith) in
+    let past : ending_after top.end old ≡ [] = ending_after_none 0 top.end old is.ascends (omega arith) in
     record {
       tower = above;
       edge = ap (end_of 0) all ∙ is.ends;
@@ -302,7 +302,7 @@ root_made old after level items told node tall tower ascends some several stand 
 -- the first items of a store, as they were made
 pub begins_as : (table : Table) (tree : Tree) (start lo hi word end : ℕ) (item : Item) (items : List Item) → IsShaped table tree → lo < hi
     → hi ≤ tree.top.end → 4 * tree.height + 4 ≤ length table.free
-    → item_at lo (old_level table tree.top tree.height 0) ≡ Some item → start ≡ end_of 0 (upto lo (old_level table tree.top tree.height 0))
+    → item_at lo (old_level table tree.top tree.height 0) ≡ Some item → start ≡ end_of 0 (ending_by lo (old_level table tree.top tree.height 0))
     → end ≡ hi → items ≡ piece_of start lo (Some item) ++ record { end = hi; word = word; gap = 0 } ∷ []
     → Partly table tree.top tree.height 0 lo end items
 begins_as table tree start lo hi word end item items shaped some limit room found begins ends are =
@@ -311,7 +311,7 @@ begins_as table tree start lo hi word end item items shaped some limit room foun
     (begun table tree start lo hi word item shaped some limit room found begins))
 
 pub starts_with : (table : Table) (tree : Tree) (start lo hi word end : ℕ) (item : Item) (items : List Item)
-    → item_at lo (old_level table tree.top tree.height 0) ≡ Some item → start ≡ end_of 0 (upto lo (old_level table tree.top tree.height 0))
+    → item_at lo (old_level table tree.top tree.height 0) ≡ Some item → start ≡ end_of 0 (ending_by lo (old_level table tree.top tree.height 0))
     → end ≡ hi → items ≡ piece_of start lo (Some item) ++ record { end = hi; word = word; gap = 0 } ∷ []
     → new_entries table tree.top tree.height 0 lo end items ≡ overwrite lo hi word (entries_of (at_of table.rows) tree)
 unfolding level_of
@@ -341,7 +341,7 @@ pub record CrownReady (table : Table) (top : Item) (height level lo hi : ℕ) (n
   pub ascends : Ascends 0 new
 
 pub crown_ready : (table : Table) (top : Item) (height level lo hi : ℕ) (new : List Item) → Partly table top height level lo hi new
-    → end_of 0 (upto lo (old_level table top height level)) ≡ 0 → hi ≡ top.end → CrownReady table top height level lo hi new
+    → end_of 0 (ending_by lo (old_level table top height level)) ≡ 0 → hi ≡ top.end → CrownReady table top height level lo hi new
 crown_ready table top height level lo hi new partly begins ends =
     let at = at_of table.rows in
     let same = all_new table top height level lo hi new partly begins ends in

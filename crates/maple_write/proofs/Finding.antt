@@ -3,8 +3,8 @@ use Rattle.std.proofs.Common.{ℕ, ◌≡◌, ◌<◌, ◌≤◌, ◌+◌, ◌-�
 use Rattle.maple_node.specs.declared.item.Item.{Item}
 use Rattle.maple_node.specs.Nodes.{end_of, Ascends}
 use Rattle.maple_node.specs.Levels.{is_leaf, at_of, read, item_at, level_of, IsTower, times}
-use Rattle.maple_items.specs.Splices.{upto, beyond}
-use Rattle.maple_items.proofs.Lists.{item_at-first, upto-later, stands}
+use Rattle.maple_items.specs.Splices.{ending_by, ending_after}
+use Rattle.maple_items.proofs.Lists.{item_at-first, ending_by-later, stands}
 use Rattle.maple_write.specs.Internal.Tables.{rows_in}
 use Rattle.maple_write.proofs.Levels.{descend, row_there, step_down, level_of-top}
 use Rattle.maple_write.proofs.Times.{times_same}
@@ -14,14 +14,14 @@ use Rattle.maple_write.proofs.Steps.{counts}
 -- the root has each page
 pub record AtTop (at : ℕ → List ℕ) (height page : ℕ) (top : Item) : Type 0 where
   pub found : item_at page (level_of at height (height - height) (top ∷ [])) ≡ Some top
-  pub begins : 0 ≡ end_of 0 (upto page (level_of at height (height - height) (top ∷ [])))
+  pub begins : 0 ≡ end_of 0 (ending_by page (level_of at height (height - height) (top ∷ [])))
 
 pub at_top_of : (at : ℕ → List ℕ) (height page : ℕ) (top : Item) → page < top.end → AtTop at height page top
 at_top_of at height page top less =
     let whole = level_of-top at height height (top ∷ []) (omega arith) in
     record {
       found = ap (item_at page) whole ∙ item_at-first page top [] less;
-      begins = sym (ap (λ (xs : List Item). end_of 0 (upto page xs)) whole ∙ ap (end_of 0) (upto-later page top [] less));
+      begins = sym (ap (λ (xs : List Item). end_of 0 (ending_by page xs)) whole ∙ ap (end_of 0) (ending_by-later page top [] less));
     }
 
 -- the node of a level that has the page, and the step into it
@@ -30,12 +30,12 @@ pub record Inside (rows : List (List ℕ)) (height next page start : ℕ) (top i
   pub ascends : Ascends start items
   pub within : page < end_of start items
   pub found : (child : Item) → item_at page items ≡ Some child → item_at page (level_of (at_of rows) next (height - next) (top ∷ [])) ≡ Some child
-  pub begins : (begin : ℕ) → begin ≡ end_of start (upto page items) → begin ≡ end_of 0 (upto page (level_of (at_of rows) next (height - next) (top ∷ [])))
+  pub begins : (begin : ℕ) → begin ≡ end_of start (ending_by page items) → begin ≡ end_of 0 (ending_by page (level_of (at_of rows) next (height - next) (top ∷ [])))
 
 pub inside_at : (rows : List (List ℕ)) (limit height low level next page start : ℕ) (top item : Item) (items : List Item)
     → IsTower (at_of rows) limit low (height - low) (top ∷ []) → low ≤ next → next + 1 ≡ level → level ≤ height
     → item_at page (level_of (at_of rows) level (height - level) (top ∷ [])) ≡ Some item
-    → start ≡ end_of 0 (upto page (level_of (at_of rows) level (height - level) (top ∷ [])))
+    → start ≡ end_of 0 (ending_by page (level_of (at_of rows) level (height - level) (top ∷ [])))
     → items ≡ read (at_of rows) (is_leaf next) item.word → Inside rows height next page start top item items
 inside_at rows limit height low level next page start top item items tower order one within found begins are =
     let at = at_of rows in
@@ -43,7 +43,7 @@ inside_at rows limit height low level next page start top item items tower order
     let upper = level_of at level (height - level) (top ∷ []) in
     let step = step_down at limit height low level next top tower order one within in
     let is = descend at leaf limit 0 page upper item step.nodes (omega arith) found in
-    let front : ℕ = end_of 0 (upto page upper) in
+    let front : ℕ = end_of 0 (ending_by page upper) in
     record {
       there = row_there rows leaf limit front item is.node;
       ascends = subst (λ (xs : List Item). Ascends start xs) (sym are) (subst (λ (p : ℕ). Ascends p (read at leaf item.word)) (sym begins) is.node.ascends);
@@ -51,9 +51,9 @@ inside_at rows limit height low level next page start top item items tower order
           let ends : end_of start items ≡ item.end = ap (end_of start) are ∙ ap (λ (p : ℕ). end_of p (read at leaf item.word)) begins ∙ is.node.until in
           let w = is.within in omega arith;
       found = λ child here. ap (item_at page) step.down ∙ is.found ∙ sym (ap (item_at page) are) ∙ here;
-      begins = λ begin told. told ∙ ap (λ (xs : List Item). end_of start (upto page xs)) are
-          ∙ ap (λ (p : ℕ). end_of p (upto page (read at leaf item.word))) begins ∙ sym is.front
-          ∙ sym (ap (λ (xs : List Item). end_of 0 (upto page xs)) step.down);
+      begins = λ begin told. told ∙ ap (λ (xs : List Item). end_of start (ending_by page xs)) are
+          ∙ ap (λ (p : ℕ). end_of p (ending_by page (read at leaf item.word))) begins ∙ sym is.front
+          ∙ sym (ap (λ (xs : List Item). end_of 0 (ending_by page xs)) step.down);
     }
 
 -- the row of the node that has the page
@@ -61,7 +61,7 @@ pub down_from : (rows : List (List ℕ)) (limit height low level next page : ℕ
     → IsTower (at_of rows) limit low (height - low) (top ∷ []) → low ≤ next → next + 1 ≡ level → level ≤ height
     → item_at page (level_of (at_of rows) level (height - level) (top ∷ [])) ≡ Some item → item.word < length rows
 down_from rows limit height low level next page top item tower order one within found =
-    (inside_at rows limit height low level next page (end_of 0 (upto page (level_of (at_of rows) level (height - level) (top ∷ [])))) top item
+    (inside_at rows limit height low level next page (end_of 0 (ending_by page (level_of (at_of rows) level (height - level) (top ∷ [])))) top item
     (read (at_of rows) (is_leaf next) item.word) tower order one within found refl refl).there
 
 -- the next node to leave
@@ -70,24 +70,24 @@ pub record LeavesNext (items : List Item) (page hi : ℕ) (item : Item) (gone : 
   pub there : item.word < rows
   pub above : page < item.end
   pub within : item.end ≤ hi
-  pub rest : (row : ℕ) → times row (rows_in (upto hi (beyond page items)))
-      ≡ times row (item.word ∷ []) + times row (rows_in (upto hi (beyond item.end items)))
+  pub rest : (row : ℕ) → times row (rows_in (ending_by hi (ending_after page items)))
+      ≡ times row (item.word ∷ []) + times row (rows_in (ending_by hi (ending_after item.end items)))
 
 pub leaves_next : (items : List Item) (page lo hi : ℕ) (item : Item) (before gone : ℕ → ℕ) (rows : ℕ) → Ascends 0 items → page < hi
-    → end_of 0 (upto hi items) ≡ hi → item_at page items ≡ Some item
-    → ((row : ℕ) → gone row + times row (rows_in (upto hi (beyond page items))) ≡ before row + times row (rows_in (upto hi (beyond lo items))))
-    → ((row : ℕ) → before row + times row (rows_in (upto hi (beyond lo items))) ≤ cond (nat_lt row rows) 1 0)
+    → end_of 0 (ending_by hi items) ≡ hi → item_at page items ≡ Some item
+    → ((row : ℕ) → gone row + times row (rows_in (ending_by hi (ending_after page items))) ≡ before row + times row (rows_in (ending_by hi (ending_after lo items))))
+    → ((row : ℕ) → before row + times row (rows_in (ending_by hi (ending_after lo items))) ≤ cond (nat_lt row rows) 1 0)
     → LeavesNext items page hi item gone rows
 leaves_next items page lo hi item before gone rows ascends less edge found same few =
     let is = next_of page hi items item ascends less edge found in
-    let rest : (row : ℕ) → times row (rows_in (upto hi (beyond page items)))
-    ≡ times row (item.word ∷ []) + times row (rows_in (upto hi (beyond item.end items))) = λ row.
+    let rest : (row : ℕ) → times row (rows_in (ending_by hi (ending_after page items)))
+    ≡ times row (item.word ∷ []) + times row (rows_in (ending_by hi (ending_after item.end items))) = λ row.
     let e = ap (λ (xs : List Item). times row (rows_in xs)) is.next in omega arith in
     let here = times_same item.word [] in
     let count = same item.word in
     let bound = few item.word in
     let split = rest item.word in
-    let told = counts item.word rows (before item.word + times item.word (rows_in (upto hi (beyond lo items)))) bound in
+    let told = counts item.word rows (before item.word + times item.word (rows_in (ending_by hi (ending_after lo items)))) bound in
     let most = told.0 in
     record {
       none = omega arith;
@@ -101,10 +101,10 @@ leaves_next items page lo hi item before gone rows ascends less edge found same 
 pub record LeavesOne (items : List Item) (page : ℕ) (item : Item) (gone : ℕ → ℕ) (rows : ℕ) : Type 0 where
   pub none : gone item.word ≡ 0
   pub there : item.word < rows
-  pub one : (row : ℕ) → times row (rows_in (upto item.end (beyond page items))) ≡ times row (item.word ∷ [])
+  pub one : (row : ℕ) → times row (rows_in (ending_by item.end (ending_after page items))) ≡ times row (item.word ∷ [])
 
 pub leaves_one : (items : List Item) (page : ℕ) (item : Item) (gone : ℕ → ℕ) (rows : ℕ) → Ascends 0 items → item_at page items ≡ Some item
-    → ((row : ℕ) → gone row + times row (rows_in (upto item.end (beyond page items))) ≤ cond (nat_lt row rows) 1 0)
+    → ((row : ℕ) → gone row + times row (rows_in (ending_by item.end (ending_after page items))) ≤ cond (nat_lt row rows) 1 0)
     → LeavesOne items page item gone rows
 leaves_one items page item gone rows ascends found few =
     let next = leaves_next items page page item.end item gone gone rows ascends (stands 0 page items item ascends found).above

@@ -9,19 +9,19 @@ use Rattle.maple_node.specs.Nodes.{items_of, leaf_items, inner_items, end_of}
 use Rattle.maple_node.specs.Levels.{is_leaf, at_of, read, below, item_at, AllFrom, IsNode, level_of, IsTower}
 use Rattle.maple_node.proofs.Lists.{end_of-append}
 use Rattle.maple_node.proofs.Levels.{nodes-ascend, end_of-below, below-ascends}
-use Rattle.maple_items.specs.Splices.{upto, beyond}
-use Rattle.maple_items.proofs.Lists.{upto-first, beyond-later, item_at-first, item_at-later, upto_all, upto_none, upto_first, beyond_all, beyond_none, stands, item_at-left, item_at-right, AllFrom-at, upto_below}
+use Rattle.maple_items.specs.Splices.{ending_by, ending_after}
+use Rattle.maple_items.proofs.Lists.{ending_by-first, ending_after-later, item_at-first, item_at-later, ending_by_all, ending_by_none, ending_by_first, ending_after_all, ending_after_none, stands, item_at-left, item_at-right, AllFrom-at, ending_by_below}
 
 -- nodes, of which the first begins at a page
 abbrev pub AreNodes : (ℕ → List ℕ) → Bool → ℕ → ℕ → List Item → Type 0
 AreNodes at leaf limit start items = AllFrom (IsNode at leaf limit) start items
 
 -- parts of joined items
-pub upto-append : (page : ℕ) (xs ys : List Item) → upto page (xs ++ ys) ≡ upto page xs ++ upto page ys
-upto-append page xs ys = filter-append (λ (item : Item). nat_le item.end page) xs ys
+pub ending_by-append : (page : ℕ) (xs ys : List Item) → ending_by page (xs ++ ys) ≡ ending_by page xs ++ ending_by page ys
+ending_by-append page xs ys = filter-append (λ (item : Item). nat_le item.end page) xs ys
 
-pub beyond-append : (page : ℕ) (xs ys : List Item) → beyond page (xs ++ ys) ≡ beyond page xs ++ beyond page ys
-beyond-append page xs ys = filter-append (λ (item : Item). nat_lt page item.end) xs ys
+pub ending_after-append : (page : ℕ) (xs ys : List Item) → ending_after page (xs ++ ys) ≡ ending_after page xs ++ ending_after page ys
+ending_after-append page xs ys = filter-append (λ (item : Item). nat_lt page item.end) xs ys
 
 -- the item that is found first is the first, where it ends above the page
 found_first : (page : ℕ) (x item : Item) (xs : List Item) → page < x.end → item_at page (x ∷ xs) ≡ Some item → x ≡ item
@@ -31,60 +31,60 @@ found_later : (page : ℕ) (x item : Item) (xs : List Item) → x.end ≤ page �
 found_later page x item xs past found = sym (item_at-later page x xs past) ∙ found
 
 -- what ends up to a page in the level below
-pub upto-below : (at : ℕ → List ℕ) (leaf : Bool) (limit start page : ℕ) (items : List Item) (left : Item) → AreNodes at leaf limit start items
+pub ending_by-below : (at : ℕ → List ℕ) (leaf : Bool) (limit start page : ℕ) (items : List Item) (left : Item) → AreNodes at leaf limit start items
     → item_at page items ≡ Some left
-    → upto page (below at leaf items) ≡ below at leaf (upto page items) ++ upto page (read at leaf left.word)
-upto-below at leaf limit start page [] left nodes found = absurd (cc)
-upto-below at leaf limit start page (x ∷ xs) left nodes found =
+    → ending_by page (below at leaf items) ≡ below at leaf (ending_by page items) ++ ending_by page (read at leaf left.word)
+ending_by-below at leaf limit start page [] left nodes found = absurd (cc)
+ending_by-below at leaf limit start page (x ∷ xs) left nodes found =
     let deep = below at leaf xs in
-    let Goal : Type 0 = upto page (read at leaf x.word ++ deep) ≡ below at leaf (upto page (x ∷ xs)) ++ upto page (read at leaf left.word) in
+    let Goal : Type 0 = ending_by page (read at leaf x.word ++ deep) ≡ below at leaf (ending_by page (x ∷ xs)) ++ ending_by page (read at leaf left.word) in
     elim (cases_lt page x.end) as (λ _. Goal) [
       | inl above ↦
           let same = found_first page x left xs above found in
-          let none : upto page deep ≡ [] = upto_none x.end page deep (below-ascends at leaf limit x.end xs nodes.1) (omega arith) in
-          let first : upto page (x ∷ xs) ≡ [] = upto_first start page x xs (nodes-ascend at leaf limit start (x ∷ xs) nodes) above in
-          upto-append page (read at leaf x.word) deep ∙ ap (λ (ys : List Item). upto page (read at leaf x.word) ++ ys) none
-          ∙ whole (upto page (read at leaf x.word)) ∙ ap (λ (y : Item). upto page (read at leaf y.word)) same
-          ∙ sym (ap (λ (ys : List Item). below at leaf ys ++ upto page (read at leaf left.word)) first)
+          let none : ending_by page deep ≡ [] = ending_by_none x.end page deep (below-ascends at leaf limit x.end xs nodes.1) (omega arith) in
+          let first : ending_by page (x ∷ xs) ≡ [] = ending_by_first start page x xs (nodes-ascend at leaf limit start (x ∷ xs) nodes) above in
+          ending_by-append page (read at leaf x.word) deep ∙ ap (λ (ys : List Item). ending_by page (read at leaf x.word) ++ ys) none
+          ∙ whole (ending_by page (read at leaf x.word)) ∙ ap (λ (y : Item). ending_by page (read at leaf y.word)) same
+          ∙ sym (ap (λ (ys : List Item). below at leaf ys ++ ending_by page (read at leaf left.word)) first)
       | inr past ↦
-          let all : upto page (read at leaf x.word) ≡ read at leaf x.word =
-          upto_all start page (read at leaf x.word) nodes.0.ascends (let until = nodes.0.until in omega arith) in
-          let rest = upto-below at leaf limit x.end page xs left nodes.1 (found_later page x left xs past found) in
-          upto-append page (read at leaf x.word) deep
-          ∙ ap (λ (ys : List Item). ys ++ upto page deep) all ∙ ap (λ (ys : List Item). read at leaf x.word ++ ys) rest
-          ∙ sym (append_assoc (read at leaf x.word) (below at leaf (upto page xs)) (upto page (read at leaf left.word)))
-          ∙ sym (ap (λ (ys : List Item). below at leaf ys ++ upto page (read at leaf left.word)) (upto-first page x xs past))
+          let all : ending_by page (read at leaf x.word) ≡ read at leaf x.word =
+          ending_by_all start page (read at leaf x.word) nodes.0.ascends (let until = nodes.0.until in omega arith) in
+          let rest = ending_by-below at leaf limit x.end page xs left nodes.1 (found_later page x left xs past found) in
+          ending_by-append page (read at leaf x.word) deep
+          ∙ ap (λ (ys : List Item). ys ++ ending_by page deep) all ∙ ap (λ (ys : List Item). read at leaf x.word ++ ys) rest
+          ∙ sym (append_assoc (read at leaf x.word) (below at leaf (ending_by page xs)) (ending_by page (read at leaf left.word)))
+          ∙ sym (ap (λ (ys : List Item). below at leaf ys ++ ending_by page (read at leaf left.word)) (ending_by-first page x xs past))
     ] where
       whole : (ys : List Item) → ys ++ [] ≡ ys
       whole [] = refl
       whole (y ∷ ys) = ap (λ (zs : List Item). y ∷ zs) (whole ys)
 
 -- what ends above a page in the level below, where the page before is in a node
-pub beyond-below : (at : ℕ → List ℕ) (leaf : Bool) (limit start page last : ℕ) (items : List Item) (right : Item) → AreNodes at leaf limit start items
+pub ending_after-below : (at : ℕ → List ℕ) (leaf : Bool) (limit start page last : ℕ) (items : List Item) (right : Item) → AreNodes at leaf limit start items
     → last + 1 ≡ page → item_at last items ≡ Some right
-    → beyond page (below at leaf items) ≡ beyond page (read at leaf right.word) ++ below at leaf (beyond right.end items)
-beyond-below at leaf limit start page last [] right nodes next found = absurd (cc)
-beyond-below at leaf limit start page last (x ∷ xs) right nodes next found =
+    → ending_after page (below at leaf items) ≡ ending_after page (read at leaf right.word) ++ below at leaf (ending_after right.end items)
+ending_after-below at leaf limit start page last [] right nodes next found = absurd (cc)
+ending_after-below at leaf limit start page last (x ∷ xs) right nodes next found =
     let deep = below at leaf xs in
     let here = read at leaf x.word in
     let ascends = nodes-ascend at leaf limit start (x ∷ xs) nodes in
-    let Goal : Type 0 = beyond page (here ++ deep) ≡ beyond page (read at leaf right.word) ++ below at leaf (beyond right.end (x ∷ xs)) in
+    let Goal : Type 0 = ending_after page (here ++ deep) ≡ ending_after page (read at leaf right.word) ++ below at leaf (ending_after right.end (x ∷ xs)) in
     elim (cases_lt last x.end) as (λ _. Goal) [
       | inl above ↦
           let same = found_first last x right xs above found in
-          let all : beyond page deep ≡ deep = beyond_all x.end page deep (below-ascends at leaf limit x.end xs nodes.1) (omega arith) in
-          let rest : beyond x.end (x ∷ xs) ≡ xs = beyond-later x.end x xs (omega arith) ∙ beyond_all x.end x.end xs ascends.1 (omega arith) in
-          beyond-append page here deep ∙ ap (λ (ys : List Item). beyond page here ++ ys) all
-          ∙ sym (ap (λ (ys : List Item). beyond page here ++ below at leaf ys) rest)
-          ∙ ap (λ (y : Item). beyond page (read at leaf y.word) ++ below at leaf (beyond y.end (x ∷ xs))) same
+          let all : ending_after page deep ≡ deep = ending_after_all x.end page deep (below-ascends at leaf limit x.end xs nodes.1) (omega arith) in
+          let rest : ending_after x.end (x ∷ xs) ≡ xs = ending_after-later x.end x xs (omega arith) ∙ ending_after_all x.end x.end xs ascends.1 (omega arith) in
+          ending_after-append page here deep ∙ ap (λ (ys : List Item). ending_after page here ++ ys) all
+          ∙ sym (ap (λ (ys : List Item). ending_after page here ++ below at leaf ys) rest)
+          ∙ ap (λ (y : Item). ending_after page (read at leaf y.word) ++ below at leaf (ending_after y.end (x ∷ xs))) same
       | inr past ↦
           let until = nodes.0.until in
-          let none : beyond page here ≡ [] = beyond_none start page here nodes.0.ascends (omega arith) in
+          let none : ending_after page here ≡ [] = ending_after_none start page here nodes.0.ascends (omega arith) in
           let later = found_later last x right xs past found in
           let high = (stands x.end last xs right ascends.1 later).above in
-          beyond-append page here deep ∙ ap (λ (ys : List Item). ys ++ beyond page deep) none
-          ∙ beyond-below at leaf limit x.end page last xs right nodes.1 next later
-          ∙ sym (ap (λ (ys : List Item). beyond page (read at leaf right.word) ++ below at leaf ys) (beyond-later right.end x xs (omega arith)))
+          ending_after-append page here deep ∙ ap (λ (ys : List Item). ys ++ ending_after page deep) none
+          ∙ ending_after-below at leaf limit x.end page last xs right nodes.1 next later
+          ∙ sym (ap (λ (ys : List Item). ending_after page (read at leaf right.word) ++ below at leaf ys) (ending_after-later right.end x xs (omega arith)))
     ]
 
 -- the item that has a page in the level below is the one in the node that has it
@@ -106,21 +106,21 @@ item_at-below at leaf limit start page (x ∷ xs) item nodes begins found =
     ]
 
 -- the nodes that end up to a page
-pub nodes-upto : (at : ℕ → List ℕ) (leaf : Bool) (limit start page : ℕ) (items : List Item) → AreNodes at leaf limit start items
-    → AreNodes at leaf limit start (upto page items)
-nodes-upto at leaf limit start page [] nodes = tt
-nodes-upto at leaf limit start page (x ∷ xs) nodes = elim (cases_lt page x.end) as (λ _. AreNodes at leaf limit start (upto page (x ∷ xs))) [
-  | inl above ↦ rw (upto_first start page x xs (nodes-ascend at leaf limit start (x ∷ xs) nodes) above) tt
-  | inr past ↦ rw (upto-first page x xs past) (nodes.0, nodes-upto at leaf limit x.end page xs nodes.1)
+pub nodes-ending_by : (at : ℕ → List ℕ) (leaf : Bool) (limit start page : ℕ) (items : List Item) → AreNodes at leaf limit start items
+    → AreNodes at leaf limit start (ending_by page items)
+nodes-ending_by at leaf limit start page [] nodes = tt
+nodes-ending_by at leaf limit start page (x ∷ xs) nodes = elim (cases_lt page x.end) as (λ _. AreNodes at leaf limit start (ending_by page (x ∷ xs))) [
+  | inl above ↦ rw (ending_by_first start page x xs (nodes-ascend at leaf limit start (x ∷ xs) nodes) above) tt
+  | inr past ↦ rw (ending_by-first page x xs past) (nodes.0, nodes-ending_by at leaf limit x.end page xs nodes.1)
 ]
 
 -- what is so of the node that has a page, and of the item in it that has the page
 pub record Descent (at : ℕ → List ℕ) (leaf : Bool) (limit start page : ℕ) (items : List Item) (item : Item) : Type 0 where
-  pub node : IsNode at leaf limit (end_of start (upto page items)) item
+  pub node : IsNode at leaf limit (end_of start (ending_by page items)) item
   pub within : page < item.end
-  pub begins : end_of start (upto page items) ≤ page
+  pub begins : end_of start (ending_by page items) ≤ page
   pub found : item_at page (below at leaf items) ≡ item_at page (read at leaf item.word)
-  pub front : end_of start (upto page (below at leaf items)) ≡ end_of (end_of start (upto page items)) (upto page (read at leaf item.word))
+  pub front : end_of start (ending_by page (below at leaf items)) ≡ end_of (end_of start (ending_by page items)) (ending_by page (read at leaf item.word))
 
 pub descend : (at : ℕ → List ℕ) (leaf : Bool) (limit start page : ℕ) (items : List Item) (item : Item) → AreNodes at leaf limit start items
     → start ≤ page → item_at page items ≡ Some item → Descent at leaf limit start page items item
@@ -129,14 +129,14 @@ descend at leaf limit start page items item nodes begins found =
     record {
       node = AllFrom-at (IsNode at leaf limit) start page items item ascends nodes found;
       within = (stands start page items item ascends found).above;
-      begins = upto_below start page items begins;
+      begins = ending_by_below start page items begins;
       found = sym (item_at-below at leaf limit start page items item nodes begins found);
-      front = ap (end_of start) (upto-below at leaf limit start page items item nodes found)
-          ∙ end_of-append start (below at leaf (upto page items)) (upto page (read at leaf item.word))
-          ∙ ap (λ (p : ℕ). end_of p (upto page (read at leaf item.word))) (ends_upto nodes);
+      front = ap (end_of start) (ending_by-below at leaf limit start page items item nodes found)
+          ∙ end_of-append start (below at leaf (ending_by page items)) (ending_by page (read at leaf item.word))
+          ∙ ap (λ (p : ℕ). end_of p (ending_by page (read at leaf item.word))) (ends_ending_by nodes);
     } where
-      ends_upto : AreNodes at leaf limit start items → end_of start (below at leaf (upto page items)) ≡ end_of start (upto page items)
-      ends_upto nodes = end_of-below at leaf limit start (upto page items) (nodes-upto at leaf limit start page items nodes)
+      ends_ending_by : AreNodes at leaf limit start items → end_of start (below at leaf (ending_by page items)) ≡ end_of start (ending_by page items)
+      ends_ending_by nodes = end_of-below at leaf limit start (ending_by page items) (nodes-ending_by at leaf limit start page items nodes)
 
 -- a level is the one below the next one up
 pub level_of-down : (at : ℕ → List ℕ) (low up : ℕ) (items : List Item)

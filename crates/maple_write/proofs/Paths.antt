@@ -6,8 +6,8 @@ use Rattle.maple_node.specs.Nodes.{end_of, Ascends}
 use Rattle.maple_node.specs.Levels.{at_of, item_at, level_of, IsTower, rows_of, times, Agree}
 use Rattle.maple_node.proofs.Levels.{level-ascends}
 use Rattle.maple_node.proofs.Frames.{level_of-agree}
-use Rattle.maple_items.specs.Splices.{upto, beyond}
-use Rattle.maple_items.proofs.Lists.{upto-first, item_at-first, item_at-later, upto_first, end_upto}
+use Rattle.maple_items.specs.Splices.{ending_by, ending_after}
+use Rattle.maple_items.proofs.Lists.{ending_by-first, item_at-first, item_at-later, ending_by_first, end_ending_by}
 use Rattle.maple_write.specs.declared.path.Path.{Path}
 use Rattle.maple_write.specs.Internal.Tables.{Table, rows_in, gone}
 use Rattle.maple_write.specs.Internal.Stores.{old_level, Partly, Begins, IsPath}
@@ -23,10 +23,10 @@ path_high at top height low higher path above is = record { each = λ level orde
 -- the item that has a page has each other page from where it begins up to where it ends
 pub record Near (page later : ℕ) (items : List Item) (item : Item) : Type 0 where
   pub found : item_at later items ≡ Some item
-  pub same : upto later items ≡ upto page items
+  pub same : ending_by later items ≡ ending_by page items
 
 pub near : (start page later : ℕ) (items : List Item) (item : Item) → Ascends start items → item_at page items ≡ Some item
-    → end_of start (upto page items) ≤ later → later < item.end → Near page later items item
+    → end_of start (ending_by page items) ≤ later → later < item.end → Near page later items item
 near start page later [] item ascends found begins ends = absurd (cc)
 near start page later (x ∷ xs) item ascends found begins ends = elim (cases_lt page x.end) as (λ _. Near page later (x ∷ xs) item) [
   | inl above ↦
@@ -36,18 +36,18 @@ near start page later (x ∷ xs) item ascends found begins ends = elim (cases_lt
       let within : later < x.end = omega (arith, end, ends) in
       record {
         found = item_at-first later x xs within ∙ first;
-        same = upto_first start later x xs ascends within ∙ sym (upto_first start page x xs ascends above);
+        same = ending_by_first start later x xs ascends within ∙ sym (ending_by_first start page x xs ascends above);
       }
   | inr past ↦
-      let front = upto-first page x xs past in
-      let high = end_upto x.end page xs ascends.1 in
-      let moved : end_of start (upto page (x ∷ xs)) ≡ end_of x.end (upto page xs) = ap (end_of start) front in
-      let after : end_of x.end (upto page xs) ≤ later = omega (arith, moved, begins) in
+      let front = ending_by-first page x xs past in
+      let high = end_ending_by x.end page xs ascends.1 in
+      let moved : end_of start (ending_by page (x ∷ xs)) ≡ end_of x.end (ending_by page xs) = ap (end_of start) front in
+      let after : end_of x.end (ending_by page xs) ≤ later = omega (arith, moved, begins) in
       let over : x.end ≤ later = omega (arith, high, after) in
       let deep = near x.end page later xs item ascends.1 (sym (item_at-later page x xs past) ∙ found) after ends in
       record {
         found = item_at-later later x xs over ∙ deep.found;
-        same = upto-first later x xs over ∙ ap (λ (ys : List Item). x ∷ ys) deep.same ∙ sym front;
+        same = ending_by-first later x xs over ∙ ap (λ (ys : List Item). x ∷ ys) deep.same ∙ sym front;
       }
 ]
 
@@ -91,14 +91,14 @@ path_kept at after top height low path agree is = record {
       in
       record {
         found = ap (item_at path.page) same ∙ old.found;
-        begins = old.begins ∙ sym (ap (λ (xs : List Item). end_of 0 (upto path.page xs)) same);
+        begins = old.begins ∙ sym (ap (λ (xs : List Item). end_of 0 (ending_by path.page xs)) same);
         above = old.above;
       };
 }
 
 pub path_rises : (old : Table) (after : ℕ → List ℕ) (top : Item) (height level lo hi end : ℕ) (new : List Item) (path : Path)
     → Partly old top height level lo hi new → level < height → lo ≤ end
-    → ((row : ℕ) → gone old row + times row (rows_in (upto end (beyond lo (old_level old top height (level + 1))))) ≡ 0 → after row ≡ at_of old.rows row)
+    → ((row : ℕ) → gone old row + times row (rows_in (ending_by end (ending_after lo (old_level old top height (level + 1))))) ≡ 0 → after row ≡ at_of old.rows row)
     → IsPath (at_of old.rows) top height (level + 1) path → IsPath after top height (level + 1) path
 path_rises old after top height level lo hi end new path partly less order kept is =
     path_kept (at_of old.rows) after top height (level + 1) path (framed old after top height level lo hi end new partly less order kept).above is

@@ -5,7 +5,7 @@ use Rattle.maple_node.specs.Nodes.{words_of, items_of, most, least, end_of, Asce
 use Rattle.maple_node.specs.Levels.{is_leaf, at_of, read, below, item_at, times}
 use Rattle.maple_node.proofs.Places.{items_of_words}
 use Rattle.maple_items.specs.declared.place.Place.{Place}
-use Rattle.maple_items.specs.Splices.{upto, beyond, spliced}
+use Rattle.maple_items.specs.Splices.{ending_by, ending_after, spliced}
 use Rattle.maple_items.proofs.Spliced.{ascends_from}
 use Rattle.maple_write.specs.Internal.Tables.{Table, rows_in, gone}
 use Rattle.maple_write.specs.Internal.Stores.{old_level, Partly, Cut, IsRenewed}
@@ -30,7 +30,7 @@ pub source_of : (table : Table) (top : Item) (height level lo hi page : ℕ) (ne
     → words ≡ at_of table.rows item.word → Source words table level item
 source_of table top height level lo hi page new item words partly less found is =
     let leaf = is_leaf level in
-    let begin = end_of 0 (upto page (old_level table top height (level + 1))) in
+    let begin = end_of 0 (ending_by page (old_level table top height (level + 1))) in
     let there = there_at table top height level lo hi page new item partly less found in
     let node = there.node in
     let ends : end_of 0 (read (at_of table.rows) leaf item.word) ≡ item.end = ends_same 0 begin (read (at_of table.rows) leaf item.word) node.some ∙ node.until in
@@ -45,7 +45,7 @@ source_of table top height level lo hi page new item words partly less found is 
 -- its items with the new ones among them
 spliced_cut : (table : Table) (top : Item) (height level lo hi : ℕ) (new : List Item) (left : Place)
     → Partly table top height level lo hi new → level < height → item_at lo (old_level table top height (level + 1)) ≡ Some left.item
-    → left.start ≡ end_of 0 (upto lo (old_level table top height (level + 1))) → hi ≤ left.item.end
+    → left.start ≡ end_of 0 (ending_by lo (old_level table top height (level + 1))) → hi ≤ left.item.end
     → Cut table top height level lo hi new left.start left.item.end (spliced lo hi new (read (at_of table.rows) (is_leaf level) left.item.word))
 spliced_cut table top height level lo hi new left partly less found begins within =
     let pages = partly.pages in
@@ -56,7 +56,7 @@ spliced_cut table top height level lo hi new left partly less found begins withi
 -- words that were made of them list them
 pub lists_spliced : (table : Table) (top : Item) (height level lo hi : ℕ) (new : List Item) (left : Place) (words made : List ℕ)
     → Partly table top height level lo hi new → level < height → item_at lo (old_level table top height (level + 1)) ≡ Some left.item
-    → left.start ≡ end_of 0 (upto lo (old_level table top height (level + 1))) → hi ≤ left.item.end
+    → left.start ≡ end_of 0 (ending_by lo (old_level table top height (level + 1))) → hi ≤ left.item.end
     → words ≡ at_of table.rows left.item.word
     → made ≡ words_of (is_leaf level) (spliced lo hi new (items_of (is_leaf level) words))
     → items_of (is_leaf level) made ≡ spliced lo hi new (items_of (is_leaf level) words)
@@ -70,7 +70,7 @@ lists_spliced table top height level lo hi new left words made partly less found
 -- the node anew
 pub renewed_is : (table : Table) (top : Item) (height level lo hi fewest : ℕ) (new : List Item) (left : Place) (words made : List ℕ)
     → Partly table top height level lo hi new → level < height → item_at lo (old_level table top height (level + 1)) ≡ Some left.item
-    → left.start ≡ end_of 0 (upto lo (old_level table top height (level + 1))) → hi ≤ left.item.end
+    → left.start ≡ end_of 0 (ending_by lo (old_level table top height (level + 1))) → hi ≤ left.item.end
     → words ≡ at_of table.rows left.item.word
     → made ≡ words_of (is_leaf level) (spliced lo hi new (items_of (is_leaf level) words))
     → length (spliced lo hi new (items_of (is_leaf level) words)) ≤ most (is_leaf level)
@@ -96,7 +96,7 @@ renewed_is table top height level lo hi fewest new left words made partly less f
 pub rose_anew : (old mid after : Table) (top : Item) (height level lo hi : ℕ) (new nodes : List Item) (left : Place) (words : List ℕ)
     → Partly old top height level lo hi new → level < height → IsRenewed old top height level lo hi new left words
     → mid.rows ≡ old.rows → length old.free ≤ length mid.free
-    → ((row : ℕ) → gone mid row ≡ gone old row + times row (rows_in (upto left.item.end (beyond lo (old_level old top height (level + 1))))))
+    → ((row : ℕ) → gone mid row ≡ gone old row + times row (rows_in (ending_by left.item.end (ending_after lo (old_level old top height (level + 1))))))
     → ((limit : ℕ) → (end_of left.start (items_of (is_leaf level) words) < limit → least (is_leaf level) ≤ length (items_of (is_leaf level) words))
     → AreNodes (at_of after.rows) (is_leaf level) limit left.start nodes)
     → below (at_of after.rows) (is_leaf level) nodes ≡ items_of (is_leaf level) words → length nodes ≡ 1

@@ -6,11 +6,11 @@ use Rattle.maple_node.specs.Nodes.{end_of, Ascends, IsPlain}
 use Rattle.maple_node.specs.Levels.{is_leaf, at_of, read, below, IsNode, level_of, IsTower, rows_of, times, Agree}
 use Rattle.maple_node.proofs.Levels.{nodes-ascend, end_of-below}
 use Rattle.maple_node.proofs.Frames.{times-append, below-agree}
-use Rattle.maple_items.specs.Splices.{upto, beyond, spliced}
-use Rattle.maple_items.proofs.Lists.{AllFrom-append, AllFrom-right, upto-beyond}
+use Rattle.maple_items.specs.Splices.{ending_by, ending_after, spliced}
+use Rattle.maple_items.proofs.Lists.{AllFrom-append, AllFrom-right, ending_by-ending_after}
 use Rattle.maple_write.specs.Internal.Tables.{Table, rows_in, gone}
 use Rattle.maple_write.specs.Internal.Stores.{old_level, new_level, new_entries, Partly, Cut}
-use Rattle.maple_write.proofs.Levels.{AreNodes, nodes-upto}
+use Rattle.maple_write.proofs.Levels.{AreNodes, nodes-ending_by}
 use Rattle.maple_write.proofs.Times.{times-rows_in, kept-nodes, Kept, kept-tower, times-lowest}
 use Rattle.maple_write.proofs.Blocks.{inner-plain, times-parts}
 use Rattle.maple_write.proofs.Steps.{upper_of, raised, inner_level, counts}
@@ -42,16 +42,16 @@ counted table top height level lo hi new row partly less =
 pub record Frame (old : Table) (at : ℕ → List ℕ) (top : Item) (height level lo hi end : ℕ) (new : List Item) : Type 0 where
   pub above : Agree (at_of old.rows) at (rows_of (at_of old.rows) (level + 1) (height - (level + 1)) (top ∷ []))
   pub built : Agree (at_of old.rows) at (rows_of (at_of old.rows) 0 level (new_level old top height level lo hi new))
-  pub before : Agree (at_of old.rows) at (rows_in (upto lo (old_level old top height (level + 1))))
-  pub after : Agree (at_of old.rows) at (rows_in (beyond end (old_level old top height (level + 1))))
+  pub before : Agree (at_of old.rows) at (rows_in (ending_by lo (old_level old top height (level + 1))))
+  pub after : Agree (at_of old.rows) at (rows_in (ending_after end (old_level old top height (level + 1))))
 
 pub framed : (old : Table) (at : ℕ → List ℕ) (top : Item) (height level lo hi end : ℕ) (new : List Item) → Partly old top height level lo hi new
     → level < height → lo ≤ end
-    → ((row : ℕ) → gone old row + times row (rows_in (upto end (beyond lo (old_level old top height (level + 1))))) ≡ 0 → at row ≡ at_of old.rows row)
+    → ((row : ℕ) → gone old row + times row (rows_in (ending_by end (ending_after lo (old_level old top height (level + 1))))) ≡ 0 → at row ≡ at_of old.rows row)
     → Frame old at top height level lo hi end new
 framed old at top height level lo hi end new partly less order kept =
     let upper = old_level old top height (level + 1) in
-    let block : ℕ → ℕ = λ row. times row (rows_in (upto end (beyond lo upper))) in
+    let block : ℕ → ℕ = λ row. times row (rows_in (ending_by end (ending_after lo upper))) in
     let free : (row : ℕ) (n : ℕ) → n + (gone old row + block row) ≤ cond (nat_lt row (length old.rows)) 1 0 → 1 ≤ n → at_of old.rows row ≡ at row =
     λ row n few some. let least = (counts row (length old.rows) (n + (gone old row + block row)) few).0 in sym (kept row (omega arith)) in
     record {
@@ -63,16 +63,16 @@ framed old at top height level lo hi end new partly less order kept =
           free row (times row (rows_of (at_of old.rows) 0 level (new_level old top height level lo hi new))) (omega arith) some;
       before = λ row some. let c = (counted old top height level lo hi new row partly less).all in
           let p = times-parts row lo end upper order in
-          free row (times row (rows_in (upto lo upper))) (omega arith) some;
+          free row (times row (rows_in (ending_by lo upper))) (omega arith) some;
       after = λ row some. let c = (counted old top height level lo hi new row partly less).all in
           let p = times-parts row lo end upper order in
-          free row (times row (rows_in (beyond end upper))) (omega arith) some;
+          free row (times row (rows_in (ending_after end upper))) (omega arith) some;
     }
 
 -- the old level above, in a table whose free rows were filled
 pub kept_level : (old : Table) (after : Table) (top : Item) (height level lo hi end : ℕ) (new : List Item) → Partly old top height level lo hi new
     → level < height → lo ≤ end
-    → ((row : ℕ) → gone old row + times row (rows_in (upto end (beyond lo (old_level old top height (level + 1))))) ≡ 0 → at_of after.rows row ≡ at_of old.rows row)
+    → ((row : ℕ) → gone old row + times row (rows_in (ending_by end (ending_after lo (old_level old top height (level + 1))))) ≡ 0 → at_of after.rows row ≡ at_of old.rows row)
     → Kept (at_of old.rows) (at_of after.rows) top.end (level + 1) (height - (level + 1)) (top ∷ [])
 kept_level old after top height level lo hi end new partly less order kept =
     let frame = framed old (at_of after.rows) top height level lo hi end new partly less order kept in
@@ -86,12 +86,12 @@ record Level (old after : Table) (top : Item) (height level lo hi : ℕ) (new : 
   pub all : AreNodes (at_of after.rows) (is_leaf level) top.end 0 (spliced lo end nodes (old_level old top height (level + 1)))
   pub under : below (at_of after.rows) (is_leaf level) (spliced lo end nodes (old_level old top height (level + 1))) ≡ new_level old top height level lo hi new
   pub built : Kept (at_of old.rows) (at_of after.rows) top.end 0 level (new_level old top height level lo hi new)
-  pub front : end_of (end_of 0 (upto lo (old_level old top height (level + 1)))) nodes ≡ end
+  pub front : end_of (end_of 0 (ending_by lo (old_level old top height (level + 1)))) nodes ≡ end
 
 level_of_nodes : (old after : Table) (top : Item) (height level lo hi begin end : ℕ) (new items nodes : List Item)
     → Partly old top height level lo hi new → level < height
     → Cut old top height level lo hi new begin end items
-    → ((row : ℕ) → gone old row + times row (rows_in (upto end (beyond lo (old_level old top height (level + 1))))) ≡ 0 → at_of after.rows row ≡ at_of old.rows row)
+    → ((row : ℕ) → gone old row + times row (rows_in (ending_by end (ending_after lo (old_level old top height (level + 1))))) ≡ 0 → at_of after.rows row ≡ at_of old.rows row)
     → AreNodes (at_of after.rows) (is_leaf level) top.end begin nodes → below (at_of after.rows) (is_leaf level) nodes ≡ items
     → Level old after top height level lo hi new end nodes
 level_of_nodes old after top height level lo hi begin end new items nodes partly less cut kept are under =
@@ -103,14 +103,14 @@ level_of_nodes old after top height level lo hi begin end new items nodes partly
     let above = cut.above in
     let frame = framed old at' top height level lo hi end new partly less (omega arith) kept in
     let lev = kept_level old after top height level lo hi end new partly less (omega arith) kept in
-    let front = upto lo upper in
-    let back = beyond end upper in
+    let front = ending_by lo upper in
+    let back = ending_after end upper in
     let ascends = nodes-ascend at leaf top.end 0 upper step.nodes in
-    let whole : AreNodes at leaf top.end 0 (upto end upper ++ back) =
-    subst (λ (xs : List Item). AreNodes at leaf top.end 0 xs) (sym (upto-beyond 0 end upper ascends)) step.nodes in
+    let whole : AreNodes at leaf top.end 0 (ending_by end upper ++ back) =
+    subst (λ (xs : List Item). AreNodes at leaf top.end 0 xs) (sym (ending_by-ending_after 0 end upper ascends)) step.nodes in
     let right : AreNodes at leaf top.end end back =
-    subst (λ (p : ℕ). AreNodes at leaf top.end p back) cut.edge (AllFrom-right (IsNode at leaf top.end) 0 (upto end upper) back whole) in
-    let left' : AreNodes at' leaf top.end 0 front = kept-nodes at at' leaf top.end 0 front frame.before (nodes-upto at leaf top.end 0 lo upper step.nodes) in
+    subst (λ (p : ℕ). AreNodes at leaf top.end p back) cut.edge (AllFrom-right (IsNode at leaf top.end) 0 (ending_by end upper) back whole) in
+    let left' : AreNodes at' leaf top.end 0 front = kept-nodes at at' leaf top.end 0 front frame.before (nodes-ending_by at leaf top.end 0 lo upper step.nodes) in
     let right' : AreNodes at' leaf top.end end back = kept-nodes at at' leaf top.end end back frame.after right in
     let start = cut.start in
     let ends : end_of begin nodes ≡ end =
@@ -136,7 +136,7 @@ level_of_nodes old after top height level lo hi begin end new items nodes partly
 -- the step of a store: the level is built, and the old nodes in its place are left
 pub record Rose (old after : Table) (top : Item) (height level lo hi : ℕ) (new : List Item) (begin end : ℕ) (nodes : List Item) : Type 0 where
   pub partly : Partly after top height (level + 1) lo end nodes
-  pub starts : begin ≡ end_of 0 (upto lo (old_level after top height (level + 1)))
+  pub starts : begin ≡ end_of 0 (ending_by lo (old_level after top height (level + 1)))
   pub entries : new_entries after top height (level + 1) lo end nodes ≡ new_entries old top height level lo hi new
   pub under : below (at_of after.rows) (is_leaf level) (new_level after top height (level + 1) lo end nodes) ≡ new_level old top height level lo hi new
 
@@ -154,7 +154,7 @@ pub rose : (old mid after : Table) (top : Item) (height level lo hi begin end : 
     → AreNodes (at_of after.rows) (is_leaf level) top.end begin nodes → below (at_of after.rows) (is_leaf level) nodes ≡ items
     → 1 ≤ length nodes → length nodes ≤ 3
     → mid.rows ≡ old.rows → length old.free ≤ length mid.free
-    → ((row : ℕ) → gone mid row ≡ gone old row + times row (rows_in (upto end (beyond lo (old_level old top height (level + 1))))))
+    → ((row : ℕ) → gone mid row ≡ gone old row + times row (rows_in (ending_by end (ending_after lo (old_level old top height (level + 1))))))
     → ((row : ℕ) → times row mid.free ≡ 0 → at_of after.rows row ≡ at_of mid.rows row)
     → length after.rows ≡ length mid.rows
     → ((row : ℕ) → times row mid.free ≡ times row after.free + times row (rows_in nodes))
@@ -168,7 +168,7 @@ rose old mid after top height level lo hi begin end new items nodes partly less 
     let upper = old_level old top height (level + 1) in
     let made = spliced lo end nodes upper in
     let above = cut.above in
-    let block : ℕ → ℕ = λ row. times row (rows_in (upto end (beyond lo upper))) in
+    let block : ℕ → ℕ = λ row. times row (rows_in (ending_by end (ending_after lo upper))) in
     let kept' : (row : ℕ) → gone old row + block row ≡ 0 → at' row ≡ at row = kept_after old mid after block rows left_now kept in
     let is = level_of_nodes old after top height level lo hi begin end new items nodes partly less cut kept' are under in
     let lev = kept_level old after top height level lo hi end new partly less (omega arith) kept' in
@@ -183,8 +183,8 @@ rose old mid after top height level lo hi begin end new items nodes partly less 
         tower = lev.tower;
         built = subst (λ (xs : List Item). IsTower at' top.end 0 (level + 1) xs) (sym is.upper) up.tower;
         ascends = subst (λ (xs : List Item). Ascends 0 xs) (sym is.upper) (nodes-ascend at' leaf top.end 0 made is.all);
-        ending = ap (λ (xs : List Item). end_of (end_of 0 (upto lo xs)) nodes) is.same ∙ is.front;
-        edge = λ inner. ap (λ (xs : List Item). end_of 0 (upto end xs)) is.same ∙ cut.edge;
+        ending = ap (λ (xs : List Item). end_of (end_of 0 (ending_by lo xs)) nodes) is.same ∙ is.front;
+        edge = λ inner. ap (λ (xs : List Item). end_of 0 (ending_by end xs)) is.same ∙ cut.edge;
         plain = subst (λ b. IsPlain b nodes) (sym (inner_level level)) (inner-plain nodes);
         stand = record {
           each = λ row.
@@ -197,8 +197,8 @@ rose old mid after top height level lo hi begin end new items nodes partly less 
               ap (λ (xs : List Item). times row (rows_of at' 0 (level + 1) xs)) is.upper in
               let third = up.rows row in
               let fourth = ap (times row) is.built.rows in
-              let fifth = times-rows_in row (upto lo upper) (nodes ++ beyond end upper) in
-              let sixth = times-rows_in row nodes (beyond end upper) in
+              let fifth = times-rows_in row (ending_by lo upper) (nodes ++ ending_after end upper) in
+              let sixth = times-rows_in row nodes (ending_after end upper) in
               let seventh = left_now row in
               let ninth = taken row in
               let tenth = ap (times row) left in
@@ -209,7 +209,7 @@ rose old mid after top height level lo hi begin end new items nodes partly less 
         };
         free = let f = partly.free in omega arith;
       };
-      starts = cut.start ∙ sym (ap (λ (xs : List Item). end_of 0 (upto lo xs)) is.same);
+      starts = cut.start ∙ sym (ap (λ (xs : List Item). end_of 0 (ending_by lo xs)) is.same);
       entries = ap (level_of at' 0 (level + 1)) is.upper ∙ up.entries ∙ is.built.level;
       under = ap (below at' leaf) is.upper ∙ is.under;
     }
@@ -217,7 +217,7 @@ rose old mid after top height level lo hi begin end new items nodes partly less 
 -- what leaving the old nodes of the level asks for
 pub record Ready (old : Table) (top : Item) (height level lo end : ℕ) : Type 0 where
   pub tower : IsTower (at_of old.rows) top.end level (height - level) (top ∷ [])
-  pub apart : (row : ℕ) → gone old row + times row (rows_in (upto end (beyond lo (old_level old top height level))))
+  pub apart : (row : ℕ) → gone old row + times row (rows_in (ending_by end (ending_after lo (old_level old top height level))))
       ≤ cond (nat_lt row (length old.rows)) 1 0
 
 pub ready : (old : Table) (top : Item) (height level lo hi begin end : ℕ) (new items : List Item) → Partly old top height level lo hi new

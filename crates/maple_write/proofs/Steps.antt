@@ -8,12 +8,12 @@ use Rattle.maple_node.specs.Levels.{is_leaf, at_of, read, below, item_at, IsNode
 use Rattle.maple_node.proofs.Lists.{end_of-append, Ascends-append}
 use Rattle.maple_node.proofs.Levels.{nodes-ascend, end_of-below, level-ends}
 use Rattle.maple_node.proofs.Frames.{times-append}
-use Rattle.maple_items.specs.Splices.{upto, beyond}
-use Rattle.maple_items.proofs.Lists.{Ascends-left, Ascends-right, IsPlain-append, IsPlain-upto, IsPlain-beyond, item_at-first, item_at-later, stands, AllFrom-at, beyond-ends}
+use Rattle.maple_items.specs.Splices.{ending_by, ending_after}
+use Rattle.maple_items.proofs.Lists.{Ascends-left, Ascends-right, IsPlain-append, IsPlain-ending_by, IsPlain-ending_after, item_at-first, item_at-later, stands, AllFrom-at, ending_after-ends}
 use Rattle.maple_write.specs.Internal.Tables.{Table, rows_in, gone, Stand}
 use Rattle.maple_write.specs.Internal.Stores.{old_level, new_level, Partly, Cut}
-use Rattle.maple_write.proofs.Levels.{AreNodes, upto-below, beyond-below, descend, nodes-upto, row_there, Step, step_down}
-use Rattle.maple_write.proofs.Blocks.{item_edge, items-plain, length-upto, length-beyond}
+use Rattle.maple_write.proofs.Levels.{AreNodes, ending_by-below, ending_after-below, descend, nodes-ending_by, row_there, Step, step_down}
+use Rattle.maple_write.proofs.Blocks.{item_edge, items-plain, length-ending_by, length-ending_after}
 
 -- the nodes of the level above, and how it is told from the level itself
 pub upper_of : (table : Table) (top : Item) (height level lo hi : ℕ) (new : List Item) → Partly table top height level lo hi new → level < height
@@ -34,14 +34,14 @@ pub record There (table : Table) (limit level begin : ℕ) (item : Item) : Type 
 
 pub there_at : (table : Table) (top : Item) (height level lo hi page : ℕ) (new : List Item) (item : Item)
     → Partly table top height level lo hi new → level < height → item_at page (old_level table top height (level + 1)) ≡ Some item
-    → There table top.end level (end_of 0 (upto page (old_level table top height (level + 1)))) item
+    → There table top.end level (end_of 0 (ending_by page (old_level table top height (level + 1)))) item
 there_at table top height level lo hi page new item partly less found =
     let step = upper_of table top height level lo hi new partly less in
     let upper = old_level table top height (level + 1) in
     let node = AllFrom-at (IsNode (at_of table.rows) (is_leaf level) top.end) 0 page upper item
     (nodes-ascend (at_of table.rows) (is_leaf level) top.end 0 upper step.nodes) step.nodes found in
     record {
-      row = row_there table.rows (is_leaf level) top.end (end_of 0 (upto page upper)) item node;
+      row = row_there table.rows (is_leaf level) top.end (end_of 0 (ending_by page upper)) item node;
       few = node.most;
       node = node;
     }
@@ -67,9 +67,9 @@ joined_parts a b c d e = simp append_assoc
 pub cut_of : (table : Table) (top : Item) (height level lo hi last begin : ℕ) (new : List Item) (left right : Item)
     → Partly table top height level lo hi new → level < height
     → item_at lo (old_level table top height (level + 1)) ≡ Some left → last + 1 ≡ hi → item_at last (old_level table top height (level + 1)) ≡ Some right
-    → begin ≡ end_of 0 (upto lo (old_level table top height (level + 1)))
-    → Cut table top height level lo hi new begin right.end (upto lo (read (at_of table.rows) (is_leaf level) left.word)
-    ++ (new ++ beyond hi (read (at_of table.rows) (is_leaf level) right.word)))
+    → begin ≡ end_of 0 (ending_by lo (old_level table top height (level + 1)))
+    → Cut table top height level lo hi new begin right.end (ending_by lo (read (at_of table.rows) (is_leaf level) left.word)
+    ++ (new ++ ending_after hi (read (at_of table.rows) (is_leaf level) right.word)))
 cut_of table top height level lo hi last begin new left right partly less found next found' begins =
     let at = at_of table.rows in
     let leaf = is_leaf level in
@@ -79,27 +79,27 @@ cut_of table top height level lo hi last begin new left right partly less found 
     let nodes = step.nodes in
     let ascends = nodes-ascend at leaf top.end 0 upper nodes in
     let ends = ends_at table top height level lo hi new partly less in
-    let front = upto lo (read at leaf left.word) in
-    let back = beyond hi (read at leaf right.word) in
-    let before = below at leaf (upto lo upper) in
-    let after = below at leaf (beyond right.end upper) in
+    let front = ending_by lo (read at leaf left.word) in
+    let back = ending_after hi (read at leaf right.word) in
+    let before = below at leaf (ending_by lo upper) in
+    let after = below at leaf (ending_after right.end upper) in
     let items = front ++ (new ++ back) in
-    let low : upto lo lower ≡ before ++ front = ap (upto lo) step.down ∙ upto-below at leaf top.end 0 lo upper left nodes found in
-    let high : beyond hi lower ≡ back ++ after = ap (beyond hi) step.down ∙ beyond-below at leaf top.end 0 hi last upper right nodes next found' in
+    let low : ending_by lo lower ≡ before ++ front = ap (ending_by lo) step.down ∙ ending_by-below at leaf top.end 0 lo upper left nodes found in
+    let high : ending_after hi lower ≡ back ++ after = ap (ending_after hi) step.down ∙ ending_after-below at leaf top.end 0 hi last upper right nodes next found' in
     let split : new_level table top height level lo hi new ≡ before ++ (items ++ after) =
-    ap (λ (xs : List Item). xs ++ (new ++ beyond hi lower)) low ∙ ap (λ (xs : List Item). (before ++ front) ++ (new ++ xs)) high
+    ap (λ (xs : List Item). xs ++ (new ++ ending_after hi lower)) low ∙ ap (λ (xs : List Item). (before ++ front) ++ (new ++ xs)) high
     ∙ joined_parts before front new back after in
     let here = descend at leaf top.end 0 lo upper left nodes (omega arith) found in
     let there = descend at leaf top.end 0 last upper right nodes (omega arith) found' in
     let is = stands 0 last upper right ascends found' in
-    let front_end : end_of begin front ≡ end_of 0 (upto lo lower) =
-    ap (λ (p : ℕ). end_of p front) begins ∙ sym here.front ∙ sym (ap (λ (xs : List Item). end_of 0 (upto lo xs)) step.down) in
+    let front_end : end_of begin front ≡ end_of 0 (ending_by lo lower) =
+    ap (λ (p : ℕ). end_of p front) begins ∙ sym here.front ∙ sym (ap (λ (xs : List Item). end_of 0 (ending_by lo xs)) step.down) in
     let inside = there.within in
     let outside = there.begins in
     let until = there.node.until in
     let back_end : end_of hi back ≡ right.end =
-    beyond-ends (end_of 0 (upto last upper)) hi (read at leaf right.word) there.node.ascends (omega arith) (omega arith) ∙ until in
-    let before_end : end_of 0 before ≡ begin = end_of-below at leaf top.end 0 (upto lo upper) (nodes-upto at leaf top.end 0 lo upper nodes) ∙ sym begins in
+    ending_after-ends (end_of 0 (ending_by last upper)) hi (read at leaf right.word) there.node.ascends (omega arith) (omega arith) ∙ until in
+    let before_end : end_of 0 before ≡ begin = end_of-below at leaf top.end 0 (ending_by lo upper) (nodes-ending_by at leaf top.end 0 lo upper nodes) ∙ sym begins in
     let pages = partly.pages in
     let whole : Ascends 0 (before ++ (items ++ after)) = subst (λ (xs : List Item). Ascends 0 xs) split partly.ascends in
     let rest : Ascends begin (items ++ after) = subst (λ (p : ℕ). Ascends p (items ++ after)) before_end (Ascends-right 0 before (items ++ after) whole) in
@@ -111,11 +111,11 @@ cut_of table top height level lo hi last begin new left right partly less found 
       ending = end_of-append begin front (new ++ back) ∙ end_of-append (end_of begin front) new back
           ∙ ap (λ (p : ℕ). end_of (end_of p new) back) front_end ∙ ap (λ (p : ℕ). end_of p back) partly.ending ∙ back_end;
       ascends = Ascends-left begin items after rest;
-      plain = IsPlain-append leaf front (new ++ back) (IsPlain-upto leaf lo (read at leaf left.word) (items-plain leaf (at left.word)))
-          (IsPlain-append leaf new back partly.plain (IsPlain-beyond leaf hi (read at leaf right.word) (items-plain leaf (at right.word))));
+      plain = IsPlain-append leaf front (new ++ back) (IsPlain-ending_by leaf lo (read at leaf left.word) (items-plain leaf (at left.word)))
+          (IsPlain-append leaf new back partly.plain (IsPlain-ending_after leaf hi (read at leaf right.word) (items-plain leaf (at right.word))));
       some = let l1 = length-append front (new ++ back) in let l2 = length-append new back in let s = partly.some in omega arith;
       few = let l1 = length-append front (new ++ back) in let l2 = length-append new back in let s = partly.few in
-          let f1 = length-upto lo (read at leaf left.word) in let f2 = length-beyond hi (read at leaf right.word) in omega arith;
+          let f1 = length-ending_by lo (read at leaf left.word) in let f2 = length-ending_after hi (read at leaf right.word) in omega arith;
       edge = item_edge 0 last upper right ascends found';
       above = omega arith;
       limit = let w = is.within in omega arith;
@@ -141,10 +141,10 @@ cut_more table top height level lo hi begin end new items next partly less cut f
     let is = stands 0 end upper next ascends found in
     let there = there_at table top height level lo hi end new next partly less found in
     let node : IsNode at leaf top.end end next = subst (λ (p : ℕ). IsNode at leaf top.end p next) cut.edge there.node in
-    let before = below at leaf (upto lo upper) in
-    let after = below at leaf (beyond next.end upper) in
+    let before = below at leaf (ending_by lo upper) in
+    let after = below at leaf (ending_after next.end upper) in
     let more = read at leaf next.word in
-    let rest : below at leaf (beyond end upper) ≡ more ++ after = ap (below at leaf) is.beyond in
+    let rest : below at leaf (ending_after end upper) ≡ more ++ after = ap (below at leaf) is.ending_after in
     let long = length-append items more in
     let fits = least_less leaf in
     let some = cut.some in

@@ -9,16 +9,16 @@ use Rattle.maple_node.specs.Nodes.{leaf_items, least, end_of, Ascends, IsPlain, 
 use Rattle.maple_node.specs.Levels.{is_leaf, at_of, read, item_at, IsNode, level_of, IsTower, rows_of, times}
 use Rattle.maple_node.specs.Trees.{Tree, Pair, top_of, entries_of, tree_rows, pairs_from, pairs_of, ApartFrom, IsLayout}
 use Rattle.maple_node.proofs.Trees.{root-named, limit_above}
-use Rattle.maple_items.specs.Splices.{upto, beyond, piece_of, overwrite, gap_end, widened_lo, widened_hi}
+use Rattle.maple_items.specs.Splices.{ending_by, ending_after, piece_of, overwrite, gap_end, widened_lo, widened_hi}
 use Rattle.maple_items.specs.Pairs.{overwritten}
-use Rattle.maple_items.proofs.Lists.{item_at-past, item_at-first, upto-later}
+use Rattle.maple_items.proofs.Lists.{item_at-past, item_at-first, ending_by-later}
 use Rattle.maple_items.proofs.Entries.{overwrite-pairs, overwrite-words}
 use Rattle.maple_items.proofs.Gaps.{widened, stored-apart}
 use Rattle.node_slots.specs.declared.tree.Tree.{Tree as View}
 use Rattle.node_slots.specs.declared.view.Size.{Size}
 use Rattle.node_slots.specs.declared.view.NodeView.{NodeView}
 use Rattle.node_slots.specs.declared.seats.NodeWriter.{NodeWriter}
-use Rattle.node_slots.specs.Seats.{sight, desk, row_count, free_of, left_of, is_kept, count_of}
+use Rattle.node_slots.specs.Seats.{sight, writer_state, row_count, free_of, left_of, is_kept, count_of}
 use Rattle.node_slots.specs.Built.{words_at, built, built_rows, IsBuilt, IsWriters, pairs_now}
 use Rattle.node_slots.proofs.Listing.{gone_few}
 use Rattle.maple_write.specs.declared.rows.Rooted.{Rooted}
@@ -30,7 +30,7 @@ use Rattle.maple_write.proofs.Times.{whole_list}
 use Rattle.maple_write.proofs.Steps.{counts}
 use Rattle.maple_write.proofs.Writers.{rows_counted, kept_counts, is_kept_from}
 use Rattle.maple_write.proofs.Crowns.{full, first_entries}
-use Rattle.maple_write.proofs.Blocks.{length-beyond}
+use Rattle.maple_write.proofs.Blocks.{length-ending_after}
 
 -- the entries of a tree have all its pages
 pub record Covers (table : Table) (tree : Tree) : Type 0 where
@@ -55,11 +55,11 @@ entry_found table tree page item found =
     let e : tree.height ≡ tree.height - 0 = omega arith in
     ap (λ (n : ℕ). item_at page (level_of (at_of table.rows) 0 n (tree.top ∷ []))) e ∙ found
 
-pub entry_begins : (table : Table) (tree : Tree) (page start : ℕ) → start ≡ end_of 0 (upto page (old_level table tree.top tree.height 0))
-    → start ≡ end_of 0 (upto page (entries_of (at_of table.rows) tree))
+pub entry_begins : (table : Table) (tree : Tree) (page start : ℕ) → start ≡ end_of 0 (ending_by page (old_level table tree.top tree.height 0))
+    → start ≡ end_of 0 (ending_by page (entries_of (at_of table.rows) tree))
 entry_begins table tree page start begins =
     let e : tree.height - 0 ≡ tree.height = omega arith in
-    begins ∙ ap (λ (n : ℕ). end_of 0 (upto page (level_of (at_of table.rows) 0 n (tree.top ∷ [])))) e
+    begins ∙ ap (λ (n : ℕ). end_of 0 (ending_by page (level_of (at_of table.rows) 0 n (tree.top ∷ [])))) e
 
 -- the root is a node in a row of the table
 root_is : (at : ℕ → List ℕ) (limit height : ℕ) (top : Item) → 1 ≤ height → IsTower at limit 0 height (top ∷ []) → IsNode at (is_leaf (height - 1)) limit 0 top
@@ -81,7 +81,7 @@ unfolding widened_lo
 lo_zero page xs none = let test : nat_eq page 0 ≡ true = grind (arith, nat_tests) in rw test refl
 
 pub lo_gap : (page start : ℕ) (item : Item) (xs : List Item) → page ≢ 0 → item_at (page - 1) xs ≡ Some item
-    → start ≡ end_of 0 (upto (page - 1) xs) → item.word ≡ 0 → start ≡ widened_lo page xs
+    → start ≡ end_of 0 (ending_by (page - 1) xs) → item.word ≡ 0 → start ≡ widened_lo page xs
 unfolding widened_lo
 lo_gap page start item xs some found begins gap =
     let test : nat_eq page 0 ≡ false = grind (arith, nat_tests) in
@@ -309,7 +309,7 @@ root_of_view writer tree is = elim is as (λ _. Root writer tree) [
   | inl made ↦
       let layout = made.layout in
       let node = root_is (words_at writer) (built writer tree).top.end tree.height (built writer tree).top layout.tall layout.tower in
-      let row = row_there (desk writer).words (is_leaf (tree.height - 1)) (built writer tree).top.end 0 (built writer tree).top node in
+      let row = row_there (writer_state writer).words (is_leaf (tree.height - 1)) (built writer tree).top.end 0 (built writer tree).top node in
       let long = rows_counted writer in
       record { leaf = one_less tree.height layout.tall; there = omega arith; ascends = node.ascends; ends = λ some. sym made.limit }
   | inr blank ↦
@@ -345,7 +345,7 @@ root_told writer tree end word gap leaf words told here below ends gaps =
 pub free_few : (writer : NodeWriter) → length (free_of writer) ≤ 2 ^ 20
 free_few writer =
     let all = gone_few _ _ _ _ _ writer.rows in
-    let few = writer.desk.table.sized.fits.few_rows in
+    let few = writer.writer_state.table.sized.fits.few_rows in
     let long = length-map writer.free.items (λ r. r.0) in
     omega arith
 
@@ -369,8 +369,8 @@ built_from old new t tree fills whole limit root height =
       each = λ row. refl;
       once = λ row.
           let each = shaped.stand.each row in
-          let few : times row (tree_rows at t) ≤ cond (nat_lt row (length (desk new).words)) 1 0 = omega arith in
-          (counts row (length (desk new).words) (times row (tree_rows at t)) few).0;
+          let few : times row (tree_rows at t) ≤ cond (nat_lt row (length (writer_state new).words)) 1 0 = omega arith in
+          (counts row (length (writer_state new).words) (times row (tree_rows at t)) few).0;
     } in
     let made : Item → ℕ → Tree = λ top h. record { top = top; height = h } in
     let named = root-named at (sight old).size.slots (tree_rows at t) t layout in
@@ -392,7 +392,7 @@ built_from old new t tree fills whole limit root height =
     }
 
 -- a view that stays while nothing that it tells of changes
-pub still_built : (old new : NodeWriter) (tree : View) → (desk new).words ≡ (desk old).words → (sight new).size ≡ (sight old).size
+pub still_built : (old new : NodeWriter) (tree : View) → (writer_state new).words ≡ (writer_state old).words → (sight new).size ≡ (sight old).size
     → free_of new ≡ free_of old → left_of new ≡ left_of old → IsBuilt old tree → IsBuilt new tree
 still_built old new tree words size free left is =
     let made : (ws : List (List ℕ)) → Tree = λ ws. record { top = top_of (at_of ws) tree.height tree.root.0; height = tree.height } in
@@ -415,7 +415,7 @@ gap_lo limit lo less =
     let gap : Item = record { end = limit; word = 0; gap = 0 } in
     elim (cases_lt 0 lo) as (λ _. 0 ≡ widened_lo lo (all_gap limit)) [
       | inl some ↦ lo_gap lo 0 gap (all_gap limit) (λ none. omega arith) (item_at-first (lo - 1) gap [] (omega arith))
-          (sym (ap (end_of 0) (upto-later (lo - 1) gap [] (omega arith)))) refl
+          (sym (ap (end_of 0) (ending_by-later (lo - 1) gap [] (omega arith)))) refl
       | inr none ↦ lo_zero lo (all_gap limit) (omega arith)
     ]
 
@@ -444,13 +444,13 @@ pub record GapEntries (limit lo hi word : ℕ) (items : List Item) : Type 0 wher
 
 pub gap_entries : (limit lo hi word : ℕ) (new items : List Item) → lo < hi → hi ≤ limit
     → new ≡ piece_of 0 lo (Some (record { end = limit; word = 0; gap = 0 })) ++ record { end = hi; word = word; gap = 0 } ∷ []
-    → items ≡ new ++ beyond hi (all_gap limit) → GapEntries limit lo hi word items
+    → items ≡ new ++ ending_after hi (all_gap limit) → GapEntries limit lo hi word items
 gap_entries limit lo hi word new items some within news are =
     let gap : Item = record { end = limit; word = 0; gap = 0 } in
     let entry : Item = record { end = hi; word = word; gap = 0 } in
     let piece = piece_of 0 lo (Some gap) in
-    let back = beyond hi (all_gap limit) in
-    let front : upto lo (all_gap limit) ≡ [] = upto-later lo gap [] (omega arith) in
+    let back = ending_after hi (all_gap limit) in
+    let front : ending_by lo (all_gap limit) ≡ [] = ending_by-later lo gap [] (omega arith) in
     let found : item_at lo (all_gap limit) ≡ Some gap = item_at-first lo gap [] (omega arith) in
     let same = first_entries 0 lo hi word gap (all_gap limit) found (sym (ap (end_of 0) front)) in
     let all : items ≡ (piece ++ entry ∷ []) ++ back = are ∙ ap (λ (xs : List Item). xs ++ back) news in
@@ -458,7 +458,7 @@ gap_entries limit lo hi word new items some within news are =
     let l1 = length-append (piece ++ entry ∷ []) back in
     let l2 = length-append piece (entry ∷ []) in
     let one = piece_few 0 lo gap in
-    let rest = length-beyond hi (all_gap limit) in
+    let rest = length-ending_after hi (all_gap limit) in
     record {
       entries = all ∙ sym (ap (λ (xs : List Item). xs ++ ((piece ++ entry ∷ []) ++ back)) front) ∙ same;
       some = omega arith;
@@ -471,14 +471,14 @@ pub kept_after_put : (old made : NodeWriter) (word : ℕ) → ((row : ℕ) → i
 kept_after_put old made word kept rows fills free left =
     let count = kept_counts old 0 in
     let here = ap count_of (kept 0) in
-    let bound = (counts 0 (length (desk old).words) (gone (table_at old) 0 + 1) (omega arith)).0 in
+    let bound = (counts 0 (length (writer_state old).words) (gone (table_at old) 0 + 1) (omega arith)).0 in
     let same = ap (λ (v : NodeView). v.size.rows) fills.seen in
     let a = free 0 in
     let b = ap (times 0) left in
     is_kept_from made 0 (omega arith) (omega arith)
 
 pub kept_zero : (old : NodeWriter) → ((row : ℕ) → is_kept old row ≡ nat_eq row 0) → (row : ℕ)
-    → gone (table_at old) row + cond (nat_eq row 0) 1 0 ≡ cond (nat_lt row (length (desk old).words)) 1 0
+    → gone (table_at old) row + cond (nat_eq row 0) 1 0 ≡ cond (nat_lt row (length (writer_state old).words)) 1 0
 kept_zero old kept row =
     let count = kept_counts old row in
     let here = ap count_of (kept row) in

@@ -6,7 +6,7 @@ use Rattle.maple_node.specs.Nodes.{words_of, items_of, most, least, end_of, Asce
 use Rattle.maple_node.specs.Levels.{is_leaf, at_of, read, item_at}
 use Rattle.maple_node.proofs.Levels.{nodes-ascend}
 use Rattle.maple_items.specs.declared.place.Place.{Place}
-use Rattle.maple_items.specs.Splices.{upto, spliced}
+use Rattle.maple_items.specs.Splices.{ending_by, spliced}
 use Rattle.maple_items.proofs.Lists.{stands}
 use Rattle.maple_write.specs.Internal.Tables.{Table}
 use Rattle.maple_write.specs.Internal.Stores.{old_level, Partly, IsRenewed}
@@ -33,7 +33,7 @@ pub children_of : (table : Table) (top : Item) (height level lo hi : ℕ) (new :
     → Partly table top height level lo hi new → level < height → 0 < level → item_at lo (old_level table top height (level + 1)) ≡ Some item
     → words ≡ at_of table.rows item.word → Children words lo item.gap
 children_of table top height level lo hi new item words partly less inner found is =
-    let begin = end_of 0 (upto lo (old_level table top height (level + 1))) in
+    let begin = end_of 0 (ending_by lo (old_level table top height (level + 1))) in
     let source = source_of table top height level lo hi lo new item words partly less found is in
     let there = there_at table top height level lo hi lo new item partly less found in
     let nodes = (upper_of table top height level lo hi new partly less).nodes in
@@ -62,7 +62,7 @@ pub record Swapped (table : Table) (top : Item) (height level lo hi : ℕ) (new 
 pub swapped_is : (table : Table) (top : Item) (height level lo hi : ℕ) (new : List Item) (left : Place) (child : Item) (words made : List ℕ) (gap : ℕ)
     → Partly table top height level lo hi new → level < height → 0 < level → new ≡ child ∷ []
     → item_at lo (old_level table top height (level + 1)) ≡ Some left.item
-    → left.start ≡ end_of 0 (upto lo (old_level table top height (level + 1))) → hi ≤ left.item.end
+    → left.start ≡ end_of 0 (ending_by lo (old_level table top height (level + 1))) → hi ≤ left.item.end
     → words ≡ at_of table.rows left.item.word
     → made ≡ words_of false (spliced lo child.end (child ∷ []) (items_of false words))
     → length (spliced lo child.end (child ∷ []) (items_of false words)) ≡ length (items_of false words)
@@ -71,7 +71,7 @@ pub swapped_is : (table : Table) (top : Item) (height level lo hi : ℕ) (new : 
 swapped_is table top height level lo hi new left child words made gap partly less inner one found begins within is told count largest =
     let leaf = is_leaf level in
     let leafless = inner_is level inner in
-    let low = end_of 0 (upto lo (old_level table top height level)) in
+    let low = end_of 0 (ending_by lo (old_level table top height level)) in
     let ends : child.end ≡ hi = sym (ap (end_of low) one) ∙ partly.ending in
     let same : spliced lo child.end (child ∷ []) (items_of false words) ≡ spliced lo hi new (items_of false words) =
     ap (λ (xs : List Item). spliced lo child.end xs (items_of false words)) (sym one)

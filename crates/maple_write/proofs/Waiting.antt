@@ -7,13 +7,13 @@ use Rattle.grace_core.specs.Core.{times, has_row}
 use Rattle.node_slots.specs.declared.view.NodeView.{NodeView}
 use Rattle.node_slots.specs.declared.seats.NodeWriter.{NodeWriter}
 use Rattle.node_slots.specs.Views.{fill_at}
-use Rattle.node_slots.specs.Seats.{sight, desk, left_of, is_present, is_waiting, StaysAt}
+use Rattle.node_slots.specs.Seats.{sight, writer_state, left_of, is_present, is_waiting, StaysAt}
 use Rattle.node_slots.proofs.Counting.{times_last, none_if}
 use Rattle.maple_write.specs.Tables.{FillsRows}
 use Rattle.maple_write.proofs.Writers.{with_words}
 
 -- where no row was left and the same tree is present
-pub waits_same : (old new : NodeWriter) (row : ℕ) → (desk new).tree ≡ (desk old).tree → left_of new ≡ left_of old
+pub waits_same : (old new : NodeWriter) (row : ℕ) → (writer_state new).tree ≡ (writer_state old).tree → left_of new ≡ left_of old
     → is_waiting new row ≡ is_waiting old row
 waits_same old new row tree left =
     ap (λ t. nat_lt 0 (times row (left_of new)) && not (has_row t row)) tree
@@ -24,7 +24,7 @@ pub leave_waits : (old new : NodeWriter) (row other : ℕ) → sight new ≡ sig
     → left_of new ≡ cond (is_present old row) (left_of old ++ row ∷ []) (left_of old) → is_waiting new other ≡ is_waiting old other
 leave_waits old new row other view left =
     let change : is_waiting new other ≡ (nat_lt 0 (times other (left_of new)) && not (is_present old other)) =
-    ap (λ (v : NodeView). nat_lt 0 (times other (left_of new)) && not (has_row v.known.desk.tree other)) view in
+    ap (λ (v : NodeView). nat_lt 0 (times other (left_of new)) && not (has_row v.known.writer_state.tree other)) view in
     elim (cases_Bool (is_present old row)) [
       | inl here ↦
           let more : left_of new ≡ left_of old ++ row ∷ [] = left ∙ cond-true (is_present old row) (left_of old ++ row ∷ []) (left_of old) here in
@@ -48,11 +48,11 @@ leave_waits old new row other view left =
 pub fills_one : (old taken new : NodeWriter) (row : ℕ) (words : List ℕ) → sight taken ≡ sight old → sight new ≡ fill_at (sight taken) row words
     → left_of taken ≡ left_of old → left_of new ≡ left_of taken → StaysAt old taken → StaysAt taken new → FillsRows old new
 fills_one old taken new row words first view before after takes fills =
-    let all : sight new ≡ with_words (sight old) (set (desk old).words row words) = view ∙ ap (λ (v : NodeView). fill_at v row words) first in
-    let same : (desk new).words ≡ set (desk old).words row words = ap (λ (v : NodeView). v.known.desk.words) all in
+    let all : sight new ≡ with_words (sight old) (set (writer_state old).words row words) = view ∙ ap (λ (v : NodeView). fill_at v row words) first in
+    let same : (writer_state new).words ≡ set (writer_state old).words row words = ap (λ (v : NodeView). v.known.writer_state.words) all in
     record {
       seen = all ∙ ap (with_words (sight old)) (sym same);
-      long = ap (λ (ws : List (List ℕ)). length ws) same ∙ length-set (desk old).words row words;
-      waits = λ other. waits_same old new other (ap (λ (v : NodeView). v.known.desk.tree) all) (after ∙ before);
+      long = ap (λ (ws : List (List ℕ)). length ws) same ∙ length-set (writer_state old).words row words;
+      waits = λ other. waits_same old new other (ap (λ (v : NodeView). v.known.writer_state.tree) all) (after ∙ before);
       table = λ nodes here. fills nodes (takes nodes here);
     }

@@ -14,7 +14,7 @@ use Rattle.node_slots.specs.declared.view.NodeView.{NodeView}
 use Rattle.node_slots.specs.declared.seats.NodeWriter.{NodeWriter}
 use Rattle.node_slots.specs.Views.{fill_at}
 use Rattle.node_slots.specs.Kept.{times_gone}
-use Rattle.node_slots.specs.Seats.{sight, desk, row_count, free_of, left_of, is_present, is_waiting, is_kept, is_taken, StaysAt}
+use Rattle.node_slots.specs.Seats.{sight, writer_state, row_count, free_of, left_of, is_present, is_waiting, is_kept, is_taken, StaysAt}
 use Rattle.node_slots.proofs.Listing.{kept_from}
 use Rattle.node_slots.proofs.Writers.{writer_kept, writer_taken, times_same}
 use Rattle.maple_write.specs.Internal.Tables.{table_at, gone}
@@ -22,44 +22,44 @@ use Rattle.maple_write.specs.Tables.{FillsRows}
 
 -- a view with other words of rows
 abbrev pub with_words : NodeView → List (List ℕ) → NodeView
-with_words view words = record view { known = record view.known { desk = record view.known.desk { words = words } } }
+with_words view words = record view { known = record view.known { writer_state = record view.known.writer_state { words = words } } }
 
 -- a writer that nothing was changed of, or that was changed twice
 pub fills_none : (old new : NodeWriter) → sight new ≡ sight old → ((row : ℕ) → is_waiting new row ≡ is_waiting old row) → StaysAt old new
     → FillsRows old new
 fills_none old new same waits table = record {
-  seen = ap (λ (v : NodeView). with_words v (desk new).words) same;
-  long = ap (λ (v : NodeView). length v.known.desk.words) same;
+  seen = ap (λ (v : NodeView). with_words v (writer_state new).words) same;
+  long = ap (λ (v : NodeView). length v.known.writer_state.words) same;
   waits = waits;
   table = table;
 }
 
 pub fills_both : (one two three : NodeWriter) → FillsRows one two → FillsRows two three → FillsRows one three
 fills_both one two three first second = record {
-  seen = second.seen ∙ ap (λ (v : NodeView). with_words v (desk three).words) first.seen;
+  seen = second.seen ∙ ap (λ (v : NodeView). with_words v (writer_state three).words) first.seen;
   long = second.long ∙ first.long;
   waits = λ row. second.waits row ∙ first.waits row;
   table = λ nodes here. second.table nodes (first.table nodes here);
 }
 
 -- the table has a row for each number below the count
-pub rows_counted : (writer : NodeWriter) → length (desk writer).words ≡ row_count writer
+pub rows_counted : (writer : NodeWriter) → length (writer_state writer).words ≡ row_count writer
 rows_counted writer =
-    let kept = writer.desk.kept in
+    let kept = writer.writer_state.kept in
     ap (λ (ws : List (List ℕ)). length ws) kept.words_are ∙ kept.rows ∙ sym (ap (λ s. s.rows) kept.size_is)
 
 pub few_rows : (writer : NodeWriter) → row_count writer ≤ 2 ^ 20
 few_rows writer =
-    let same = ap (λ s. s.rows) writer.desk.kept.size_is in
-    let few = writer.desk.table.sized.fits.few_rows in
+    let same = ap (λ s. s.rows) writer.writer_state.kept.size_is in
+    let few = writer.writer_state.table.sized.fits.few_rows in
     omega arith
 
 -- a row that was taken is one of the table
-pub taken_there : (writer : NodeWriter) (row : ℕ) → is_taken writer row ≡ true → row < length (desk writer).words
+pub taken_there : (writer : NodeWriter) (row : ℕ) → is_taken writer row ≡ true → row < length (writer_state writer).words
 taken_there writer row is =
     let parts = writer_taken writer row is in
     let within = parts.0 in
-    let kept = writer.desk.kept in
+    let kept = writer.writer_state.kept in
     let long = ap (λ (ws : List (List ℕ)). length ws) kept.words_are in
     let rows = kept.rows in
     omega arith
@@ -77,18 +77,18 @@ once_free writer row =
     let once = writer.rows.once row in
     omega arith
 
-pub gone_few : (writer : NodeWriter) (row : ℕ) → gone (table_at writer) row ≤ cond (nat_lt row (length (desk writer).words)) 1 0
+pub gone_few : (writer : NodeWriter) (row : ℕ) → gone (table_at writer) row ≤ cond (nat_lt row (length (writer_state writer).words)) 1 0
 gone_few writer row =
     let same = gone_same writer row in
     let once = writer.rows.once row in
-    let kept = writer.desk.kept in
+    let kept = writer.writer_state.kept in
     let long = ap (λ (ws : List (List ℕ)). length ws) kept.words_are in
     let rows = kept.rows in
-    let Goal : Type 0 = gone (table_at writer) row ≤ cond (nat_lt row (length (desk writer).words)) 1 0 in
+    let Goal : Type 0 = gone (table_at writer) row ≤ cond (nat_lt row (length (writer_state writer).words)) 1 0 in
     elim (cases_lt 0 (times_gone writer.free.items writer.left.items row)) as (λ _. Goal) [
       | inl some ↦
           let inside = writer.rows.inside row some in
-          let one = cond-true {A = ℕ} (nat_lt row (length (desk writer).words)) 1 0 (lt-ltb row (length (desk writer).words) (omega arith)) in
+          let one = cond-true {A = ℕ} (nat_lt row (length (writer_state writer).words)) 1 0 (lt-ltb row (length (writer_state writer).words) (omega arith)) in
           omega arith
       | inr none ↦ omega arith
     ]
@@ -99,14 +99,14 @@ is_kept_from writer row within none =
     kept_from (row_count writer) row (times_gone writer.free.items writer.left.items row) within (sym (gone_same writer row) ∙ none)
 
 pub kept_counts : (writer : NodeWriter) (row : ℕ)
-    → gone (table_at writer) row + (if is_kept writer row then 1 else 0) ≡ cond (nat_lt row (length (desk writer).words)) 1 0
+    → gone (table_at writer) row + (if is_kept writer row then 1 else 0) ≡ cond (nat_lt row (length (writer_state writer).words)) 1 0
 kept_counts writer row =
     let long = rows_counted writer in
-    let Goal : Type 0 = gone (table_at writer) row + (if is_kept writer row then 1 else 0) ≡ cond (nat_lt row (length (desk writer).words)) 1 0 in
+    let Goal : Type 0 = gone (table_at writer) row + (if is_kept writer row then 1 else 0) ≡ cond (nat_lt row (length (writer_state writer).words)) 1 0 in
     let few = gone_few writer row in
-    elim (cases_lt row (length (desk writer).words)) as (λ _. Goal) [
+    elim (cases_lt row (length (writer_state writer).words)) as (λ _. Goal) [
       | inl within ↦
-          let one = cond-true {A = ℕ} (nat_lt row (length (desk writer).words)) 1 0 (lt-ltb row (length (desk writer).words) within) in
+          let one = cond-true {A = ℕ} (nat_lt row (length (writer_state writer).words)) 1 0 (lt-ltb row (length (writer_state writer).words) within) in
           elim (cases_lt 0 (gone (table_at writer) row)) as (λ _. Goal) [
             | inl some ↦
                 elim (cases_Bool (is_kept writer row)) as (λ _. Goal) [
@@ -118,13 +118,13 @@ kept_counts writer row =
                 let one_it = cond-true {A = ℕ} (is_kept writer row) 1 0 kept in omega arith
           ]
       | inr past ↦
-          let test : nat_lt row (length (desk writer).words) ≡ false = grind (arith, nat_tests) in
-          let none = cond-false {A = ℕ} (nat_lt row (length (desk writer).words)) 1 0 test in
+          let test : nat_lt row (length (writer_state writer).words) ≡ false = grind (arith, nat_tests) in
+          let none = cond-false {A = ℕ} (nat_lt row (length (writer_state writer).words)) 1 0 test in
           elim (cases_Bool (is_kept writer row)) as (λ _. Goal) [
             | inl kept ↦
                 let parts = writer_kept writer row kept in
                 let within = parts.0 in
-                let size = ap (λ s. s.rows) writer.desk.kept.size_is in absurd (omega arith)
+                let size = ap (λ s. s.rows) writer.writer_state.kept.size_is in absurd (omega arith)
             | inr out ↦ let zero_it = cond-false {A = ℕ} (is_kept writer row) 1 0 out in omega arith
           ]
     ]
@@ -155,19 +155,19 @@ free_more old new row free = go (is_present old row) free where
 -- what a row that was taken and filled has
 pub filled_words : (old taken filled : NodeWriter) (row told : ℕ) (words : List ℕ) (leaf : Bool) (items : List Item) → sight taken ≡ sight old
     → sight filled ≡ fill_at (sight taken) row words → words ≡ words_of leaf items → told ≡ row
-    → (desk filled).words ≡ set (desk old).words told (words_of leaf items)
+    → (writer_state filled).words ≡ set (writer_state old).words told (words_of leaf items)
 filled_words old taken filled row told words leaf items seen fills are is =
-    ap (λ (v : NodeView). v.known.desk.words) fills
-    ∙ ap (λ (v : NodeView). set v.known.desk.words row words) seen
-    ∙ ap (λ (ws : List ℕ). set (desk old).words row ws) are
-    ∙ ap (λ (r : ℕ). set (desk old).words r (words_of leaf items)) (sym is)
+    ap (λ (v : NodeView). v.known.writer_state.words) fills
+    ∙ ap (λ (v : NodeView). set v.known.writer_state.words row words) seen
+    ∙ ap (λ (ws : List ℕ). set (writer_state old).words row ws) are
+    ∙ ap (λ (r : ℕ). set (writer_state old).words r (words_of leaf items)) (sym is)
 
 pub taken_row : (old taken : NodeWriter) (found : Option Row) (row : Row) → found ≡ Some row → IfSome found (λ r. is_taken taken r.0 ≡ true)
-    → sight taken ≡ sight old → row.0 < length (desk old).words
+    → sight taken ≡ sight old → row.0 < length (writer_state old).words
 taken_row old taken found row is some seen =
     let here : is_taken taken row.0 ≡ true = subst (λ (o : Option Row). IfSome o (λ r. is_taken taken r.0 ≡ true)) is some in
     let within = taken_there taken row.0 here in
-    let same = ap (λ (v : NodeView). length v.known.desk.words) seen in
+    let same = ap (λ (v : NodeView). length v.known.writer_state.words) seen in
     omega arith
 
 -- and it is free no more: as often as before it and the free rows have each row, and there is one free row less

@@ -3,7 +3,7 @@
 ghost use Rattle.std.specs.Prelude.{◌≡◌, ◌<◌, ◌≤◌, ◌+◌, ◌-◌, ℕ, true, Some, [], ◌∷◌, ◌++◌, length, if◌then◌else◌, nat_lt, IfSome};
 ghost use Rattle.maple_node.specs.Nodes.{items_of, least, end_of, gap_of};
 ghost use Rattle.maple_node.specs.Levels.{is_leaf, read, below, item_at, IsTower, times};
-ghost use Rattle.maple_items.specs.Splices.{upto, beyond};
+ghost use Rattle.maple_items.specs.Splices.{ending_by, ending_after};
 ghost use Rattle.maple_node.specs.Padding.{padded};
 ghost use Rattle.node_slots.specs.Seats.{StaysAt, sight, row_count, free_of, is_waiting};
 ghost use Rattle.node_slots.specs.Built.{words_at};
@@ -47,16 +47,16 @@ pub(crate) fn leave_block(
     requires limit { hi ≤ old.top.end }
     requires tower { IsTower (words_at writer.old) old.top.end level (old.height - level) (old.top ∷ []) }
     requires path { IsPath (words_at writer.old) old.top old.height level path.now }
-    requires edge { end_of 0 (upto hi (old_level (table_at writer.old) old.top old.height level)) ≡ hi }
+    requires edge { end_of 0 (ending_by hi (old_level (table_at writer.old) old.top old.height level)) ≡ hi }
     requires apart { (row : ℕ) → gone (table_at writer.old) row
-        + times row (rows_in (upto hi (beyond lo (old_level (table_at writer.old) old.top old.height level))))
+        + times row (rows_in (ending_by hi (ending_after lo (old_level (table_at writer.old) old.top old.height level))))
         ≤ (if nat_lt row (row_count writer.old) then 1 else 0) }
     ensures table { StaysAt writer.old writer.new }
     ensures view { sight writer.new ≡ sight writer.old }
     ensures free { length (free_of writer.old) ≤ length (free_of writer.new) }
     ensures waits { (row : ℕ) → is_waiting writer.new row ≡ is_waiting writer.old row }
     ensures gone { (row : ℕ) → gone (table_at writer.new) row ≡ gone (table_at writer.old) row
-        + times row (rows_in (upto hi (beyond lo (old_level (table_at writer.old) old.top old.height level)))) }
+        + times row (rows_in (ending_by hi (ending_after lo (old_level (table_at writer.old) old.top old.height level)))) }
 {
     let mut page = lo;
     while page < hi {
@@ -73,14 +73,14 @@ fn leave_one(writer: &mut NodeWriter, old: Rooted, level: u32, lo: u64, left: Pl
     requires left { item_at lo (old_level (table_at writer.old) old.top old.height level) ≡ Some left.item }
     requires row { row.0 ≡ left.item.word }
     requires apart { (row : ℕ) → gone (table_at writer.old) row
-        + times row (rows_in (upto left.item.end (beyond lo (old_level (table_at writer.old) old.top old.height level))))
+        + times row (rows_in (ending_by left.item.end (ending_after lo (old_level (table_at writer.old) old.top old.height level))))
         ≤ (if nat_lt row (row_count writer.old) then 1 else 0) }
     ensures table { StaysAt writer.old writer.new }
     ensures view { sight writer.new ≡ sight writer.old }
     ensures free { length (free_of writer.old) ≤ length (free_of writer.new) }
     ensures waits { (row : ℕ) → is_waiting writer.new row ≡ is_waiting writer.old row }
     ensures gone { (row : ℕ) → gone (table_at writer.new) row ≡ gone (table_at writer.old) row
-        + times row (rows_in (upto left.item.end (beyond lo (old_level (table_at writer.old) old.top old.height level)))) }
+        + times row (rows_in (ending_by left.item.end (ending_after lo (old_level (table_at writer.old) old.top old.height level)))) }
 {
     writer.leave(row);
 }
@@ -100,12 +100,17 @@ fn joined(
     requires right { right < row_count writer.now }
     requires few { length new.now.items.items ≤ 3 }
     requires none { items.old.items ≡ [] }
-    ensures { items.new.items ≡ upto lo (read (words_at writer.now) leaf left)
-        ++ (new.now.items.items ++ beyond new.now.end (read (words_at writer.now) leaf right)) }
+    ensures { items.new.items ≡ ending_by lo (read (words_at writer.now) leaf left)
+        ++ (new.now.items.items ++ ending_after new.now.end (read (words_at writer.now) leaf right)) }
 {
-    push_part(items, Part::Upto(lo), leaf, words(writer, left));
+    push_part(items, Part::EndingBy(lo), leaf, words(writer, left));
     push_all(items, new.items.as_slice());
-    push_part(items, Part::Beyond(new.end), leaf, words(writer, right));
+    push_part(
+        items,
+        Part::EndingAfter(new.end),
+        leaf,
+        words(writer, right),
+    );
 }
 
 /// The node where the new items of a level end, of which the one where they begin is given. Most end in it.
@@ -208,7 +213,7 @@ fn rise_by_list(
     ensures same { FillsRows writer.old writer.new }
     ensures path { IsPath (words_at writer.new) old.top old.height (level + 1) path.now }
     ensures partly { Partly (table_at writer.new) old.top old.height (level + 1) lo new.new.end new.new.items.items }
-    ensures begin { new.new.begin ≡ end_of 0 (upto lo (old_level (table_at writer.new) old.top old.height (level + 1))) }
+    ensures begin { new.new.begin ≡ end_of 0 (ending_by lo (old_level (table_at writer.new) old.top old.height (level + 1))) }
     ensures entries { new_entries (table_at writer.new) old.top old.height (level + 1) lo new.new.end new.new.items.items
         ≡ new_entries (table_at writer.old) old.top old.height level lo new.old.end new.old.items.items }
     ensures free { length (free_of writer.old) ≤ length (free_of writer.new) + 3 }
@@ -244,7 +249,7 @@ fn renewed(
     requires partly { Partly (table_at writer.now) old.top old.height level lo new.now.end new.now.items.items }
     requires below { level < old.height }
     requires left { item_at lo (old_level (table_at writer.now) old.top old.height (level + 1)) ≡ Some left.item }
-    requires start { left.start ≡ end_of 0 (upto lo (old_level (table_at writer.now) old.top old.height (level + 1))) }
+    requires start { left.start ≡ end_of 0 (ending_by lo (old_level (table_at writer.now) old.top old.height (level + 1))) }
     requires none { made.old ≡ [] }
     ensures { result ≡ true → IsRenewed (table_at writer.now) old.top old.height level lo new.now.end new.now.items.items left (padded made.new) }
 {
@@ -285,7 +290,7 @@ fn swapped(
     requires inner { 0 < level }
     requires one { length new.now.items.items ≡ 1 }
     requires left { item_at lo (old_level (table_at writer.now) old.top old.height (level + 1)) ≡ Some left.item }
-    requires start { left.start ≡ end_of 0 (upto lo (old_level (table_at writer.now) old.top old.height (level + 1))) }
+    requires start { left.start ≡ end_of 0 (ending_by lo (old_level (table_at writer.now) old.top old.height (level + 1))) }
     requires words { words.old ≡ words_at writer.now left.item.word }
     ensures renewed { IfSome result (λ gap. IsRenewed (table_at writer.now) old.top old.height level lo new.now.end new.now.items.items left words.new) }
     ensures gap { IfSome result (λ gap. gap ≡ gap_of (is_leaf level) left.start (items_of (is_leaf level) words.new)) }
@@ -318,7 +323,7 @@ fn rise_by_words(
     ensures same { FillsRows writer.old writer.new }
     ensures path { IsPath (words_at writer.new) old.top old.height (level + 1) path.now }
     ensures partly { Partly (table_at writer.new) old.top old.height (level + 1) lo new.new.end new.new.items.items }
-    ensures begin { new.new.begin ≡ end_of 0 (upto lo (old_level (table_at writer.new) old.top old.height (level + 1))) }
+    ensures begin { new.new.begin ≡ end_of 0 (ending_by lo (old_level (table_at writer.new) old.top old.height (level + 1))) }
     ensures entries { new_entries (table_at writer.new) old.top old.height (level + 1) lo new.new.end new.new.items.items
         ≡ new_entries (table_at writer.old) old.top old.height level lo new.old.end new.old.items.items }
     ensures free { length (free_of writer.old) ≤ length (free_of writer.new) + 3 }
@@ -349,7 +354,7 @@ pub(crate) fn rise(
     ensures same { FillsRows writer.old writer.new }
     ensures path { IsPath (words_at writer.new) old.top old.height (level + 1) path.now }
     ensures partly { Partly (table_at writer.new) old.top old.height (level + 1) lo new.new.end new.new.items.items }
-    ensures begin { new.new.begin ≡ end_of 0 (upto lo (old_level (table_at writer.new) old.top old.height (level + 1))) }
+    ensures begin { new.new.begin ≡ end_of 0 (ending_by lo (old_level (table_at writer.new) old.top old.height (level + 1))) }
     ensures entries { new_entries (table_at writer.new) old.top old.height (level + 1) lo new.new.end new.new.items.items
         ≡ new_entries (table_at writer.old) old.top old.height level lo new.old.end new.old.items.items }
     ensures free { length (free_of writer.old) ≤ length (free_of writer.new) + 3 }

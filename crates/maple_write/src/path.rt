@@ -4,7 +4,7 @@ ghost use Rattle.std.specs.Prelude.{◌≡◌, ◌<◌, ◌≤◌, ◌+◌, ◌-
 ghost use Rattle.maple_node.specs.Nodes.{end_of};
 ghost use Rattle.maple_node.specs.declared.item.Item.{Item};
 ghost use Rattle.maple_node.specs.Levels.{item_at, IsTower};
-ghost use Rattle.maple_items.specs.Splices.{upto};
+ghost use Rattle.maple_items.specs.Splices.{ending_by};
 ghost use Rattle.node_slots.specs.Built.{words_at};
 ghost use Rattle.maple_write.specs.Internal.Tables.{table_at};
 ghost use Rattle.maple_write.specs.Internal.Stores.{old_level, Begins, IsPath};
@@ -129,7 +129,7 @@ pub(crate) fn find(writer: &NodeWriter, tree: Rooted, path: &Path, low: u32, pag
     requires order { low ≤ tree.height }
     requires within { page < tree.top.end }
     ensures item { item_at page (old_level (table_at writer.now) tree.top tree.height low) ≡ Some result.item }
-    ensures start { result.start ≡ end_of 0 (upto page (old_level (table_at writer.now) tree.top tree.height low)) }
+    ensures start { result.start ≡ end_of 0 (ending_by page (old_level (table_at writer.now) tree.top tree.height low)) }
     ensures above { result.start ≤ page }
 {
     let mut begin = path.nearest(tree, low, page);

@@ -3,7 +3,7 @@
 ghost use Rattle.std.specs.Prelude.{◌≡◌, ◌<◌, ◌≤◌, ◌+◌, ◌*◌, ℕ, ◌∷◌, length, slice_set};
 ghost use Rattle.maple_node.specs.Nodes.{words_of, items_of, most, least, end_of, gap_of, Ascends, IsPlain};
 ghost use Rattle.maple_node.specs.Levels.{read, below, AllFrom, IsNode, times};
-ghost use Rattle.node_slots.specs.Seats.{desk, row_count, free_of, left_of};
+ghost use Rattle.node_slots.specs.Seats.{writer_state, row_count, free_of, left_of};
 ghost use Rattle.node_slots.specs.Built.{words_at};
 ghost use Rattle.maple_write.specs.Internal.Tables.{rows_in};
 ghost use Rattle.maple_write.specs.Tables.{FillsRows};
@@ -55,7 +55,7 @@ fn put_words(
         → IsNode (words_at writer.new) leaf limit start result }
     ensures items { read (words_at writer.new) leaf result.word ≡ items_of leaf words.now }
     ensures until { result.end ≡ end }
-    ensures words { (desk writer.new).words ≡ slice_set (desk writer.old).words result.word words.now }
+    ensures words { (writer_state writer.new).words ≡ slice_set (writer_state writer.old).words result.word words.now }
     ensures free { length (free_of writer.old) ≡ length (free_of writer.new) + 1 }
     ensures taken { (row : ℕ) → times row (free_of writer.old) ≡ times row (result.word ∷ free_of writer.new) }
     ensures left { left_of writer.new ≡ left_of writer.old }
@@ -81,7 +81,7 @@ pub(crate) fn put(writer: &mut NodeWriter, old: Row, leaf: bool, start: u64, ite
         → IsNode (words_at writer.new) leaf limit start result }
     ensures items { read (words_at writer.new) leaf result.word ≡ items.now }
     ensures until { result.end ≡ end_of start items.now }
-    ensures words { (desk writer.new).words ≡ slice_set (desk writer.old).words result.word (words_of leaf items.now) }
+    ensures words { (writer_state writer.new).words ≡ slice_set (writer_state writer.old).words result.word (words_of leaf items.now) }
     ensures free { length (free_of writer.old) ≡ length (free_of writer.new) + 1 }
     ensures taken { (row : ℕ) → times row (free_of writer.old) ≡ times row (result.word ∷ free_of writer.new) }
     ensures left { left_of writer.new ≡ left_of writer.old }

@@ -6,7 +6,7 @@ ghost use Rattle.maple_node.specs.Words.{slot_word};
 ghost use Rattle.maple_items.specs.Splices.{overwrite, widened_lo, widened_hi};
 ghost use Rattle.maple_items.specs.Pairs.{overwritten};
 ghost use Rattle.node_slots.specs.Views.{publish_at};
-ghost use Rattle.node_slots.specs.Seats.{Writes, sight, desk, row_count, free_of, left_of, is_kept, next_root};
+ghost use Rattle.node_slots.specs.Seats.{Writes, sight, writer_state, row_count, free_of, left_of, is_kept, next_root};
 ghost use Rattle.node_slots.specs.Built.{words_at, built, IsBuilt, IsWriters, pairs_now};
 ghost use Rattle.maple_write.specs.Internal.Tables.{table_at};
 ghost use Rattle.maple_write.specs.Tables.{FillsRows};
@@ -15,7 +15,7 @@ ghost use Rattle.maple_write.specs.Internal.Stores.{IsShaped, IsWhole, Finds, tr
 use crate::path::{LEVELS, NO_PLACE, Path, find};
 use crate::rows::{Rooted, put, words};
 use crate::tree::{first, replace};
-use maple_items::{ItemList, Place, gap_in, lists_nothing, push_all, push_beyond};
+use maple_items::{ItemList, Place, gap_in, lists_nothing, push_all, push_ending_after};
 use maple_node::{Item, slot_word};
 use mm_types::{Row, Slot, Span};
 use node_slots::{NodeTable, NodeWriter, Tree};
@@ -60,7 +60,7 @@ pub fn publish_tree(nodes: &NodeTable, writer: &mut NodeWriter, tree: &Tree)
     requires table { Writes writer.old nodes.now }
     requires built { IsBuilt writer.old tree.now }
     requires height { tree.now.height ≤ 9 }
-    requires number { (desk writer.old).tree.number < 2 ^ 40 - 1 }
+    requires number { (writer_state writer.old).tree.number < 2 ^ 40 - 1 }
     ensures table { Writes writer.new nodes.now }
     ensures view { sight writer.new ≡ publish_at (sight writer.old) (next_root writer.old tree.now.root.0 tree.now.height) }
     ensures lists { (free_of writer.new ≡ free_of writer.old) × (left_of writer.new ≡ left_of writer.old) }
@@ -177,7 +177,7 @@ fn first_entries(limit: u64, lo: u64, hi: u64, word: u64) -> ItemList
     let stretch = first(place, lo, hi, word);
     let mut entries = ItemList::new();
     push_all(&mut entries, stretch.items.as_slice());
-    push_beyond(&mut entries, hi, &[gap]);
+    push_ending_after(&mut entries, hi, &[gap]);
     entries
 }
 

@@ -1,4 +1,4 @@
--- For `Board::change_all`: a whole plan is carried out.
+-- For `AreaStore::change_all`: a whole plan is carried out.
 use Rattle.std.proofs.Common.{◌≡◌, ◌≤◌, ◌<◌, ◌+◌, ℕ, List, [], ◌∷◌, length, take, drop, get_or, All, refl, sym, ap, ◌∙◌, arith, length-append, drop-cons, add-one, vec_len, vec_capacity}
 use Rattle.std.specs.List.{Contains}
 use Rattle.std.proofs.lemmas.List.{length-map, get_or-map, take-append-drop}
@@ -14,12 +14,12 @@ use Rattle.split_merge.proofs.Leaving.{there_in}
 use Rattle.vma_lock.specs.Seats.{slots_of}
 use Rattle.area_tree.specs.declared.shown.ShownArea.{ShownArea}
 use Rattle.area_tree.specs.AreaTrees.{AreaTreeView, shown_of, areas_of, areas_shown}
-use Rattle.mm_state.specs.declared.board.Board.{Board}
-use Rattle.mm_state.specs.Internal.Boards.{adds, adds_of, CanChange, IsShown, IsChanging}
+use Rattle.mm_state.specs.declared.store.AreaStore.{AreaStore}
+use Rattle.mm_state.specs.Internal.AreaStores.{adds, adds_of, CanChange, IsShown, IsChanging}
 
--- the board can be changed on
-pub can_change : (start board : Board) (done : List Change) (tree : ℕ) → CanChange start → IsChanging start board done tree → CanChange board
-can_change start board done tree can changing = record {
+-- the store can be changed on
+pub can_change : (start store : AreaStore) (done : List Change) (tree : ℕ) → CanChange start → IsChanging start store done tree → CanChange store
+can_change start store done tree can changing = record {
   table = changing.mine;
   open_call = rw changing.beside.seq can.open_call;
   count = changing.count ∙ can.count ∙ ap slots_of (sym changing.table);
@@ -50,10 +50,10 @@ drop_one changes place left d within next =
     ap (λ n. get_or changes place d ∷ drop n changes) (sym next ∙ add-one place) ∙ sym (drop-cons changes place d within)
 
 -- a slot is free for what a change adds
-pub free_left : (start board : Board) (changes : List Change) (place left : ℕ) (d : Change) (tree : ℕ) → IsChanging start board (drop left changes) tree
+pub free_left : (start store : AreaStore) (changes : List Change) (place left : ℕ) (d : Change) (tree : ℕ) → IsChanging start store (drop left changes) tree
     → place < length changes → place + 1 ≡ left → adds_of changes ≤ length start.slots.free
-    → adds (get_or changes place d) ≤ length board.slots.free
-free_left start board changes place left d tree changing within next room = omega (
+    → adds (get_or changes place d) ≤ length store.slots.free
+free_left start store changes place left d tree changing within next room = omega (
   arith,
   changing.free,
   room,
@@ -63,12 +63,12 @@ free_left start board changes place left d tree changing within next room = omeg
 )
 
 -- there is room for what a change moves
-pub room_left : (start board : Board) (changes : List Change) (place left : ℕ) (d : Change) (tree : ℕ) → IsChanging start board (drop left changes) tree
+pub room_left : (start store : AreaStore) (changes : List Change) (place left : ℕ) (d : Change) (tree : ℕ) → IsChanging start store (drop left changes) tree
     → place < length changes → place + 1 ≡ left → length (news_of changes) ≤ vec_capacity start.moved
-    → vec_len board.moved + length (news_of (get_or changes place d ∷ [])) ≤ vec_capacity board.moved
-room_left start board changes place left d tree changing within next room = omega (
+    → vec_len store.moved + length (news_of (get_or changes place d ∷ [])) ≤ vec_capacity store.moved
+room_left start store changes place left d tree changing within next room = omega (
   arith,
-  board.moved.ok.0,
+  store.moved.ok.0,
   changing.moved_room,
   room,
   changing.few_moved,
@@ -76,10 +76,10 @@ room_left start board changes place left d tree changing within next room = omeg
 )
 
 -- what a change takes away is left when the later ones are carried out
-pub left_there : (start board : Board) (changes : List Change) (place left : ℕ) (d : Change) (tree : ℕ) → IsChanging start board (drop left changes) tree
+pub left_there : (start store : AreaStore) (changes : List Change) (place left : ℕ) (d : Change) (tree : ℕ) → IsChanging start store (drop left changes) tree
     → IsPlanOf (areas_of start.areas) changes → place < length changes → place + 1 ≡ left
     → All (Contains (without (olds_of (drop left changes)) (areas_of start.areas))) (olds_of (get_or changes place d ∷ []))
-left_there start board changes place left d tree changing plan within next =
+left_there start store changes place left d tree changing plan within next =
     there_in (areas_of start.areas) (without (olds_of (drop left changes)) (areas_of start.areas)) changes place left d changing.ascend plan.members plan.distinct within next refl
 
 pub shown_contained : (tree : List ShownArea) (area : Record) → IsShown tree area → Contains (areas_shown tree) area
@@ -90,13 +90,13 @@ shown_contained tree area (slot, member) = (
 )
 
 -- and so is in the tree
-pub in_tree : (start board : Board) (changes : List Change) (place left : ℕ) (d : Change) (tree : ℕ) → IsChanging start board (drop left changes) tree
+pub in_tree : (start store : AreaStore) (changes : List Change) (place left : ℕ) (d : Change) (tree : ℕ) → IsChanging start store (drop left changes) tree
     → IsPlanOf (areas_of start.areas) changes → place < length changes → place + 1 ≡ left
-    → All (Contains (areas_of board.areas)) (olds_of (get_or changes place d ∷ []))
-in_tree start board changes place left d tree changing plan within next =
-    All-weaker (Contains rest) (Contains (areas_of board.areas))
-    (λ area member. shown_contained (shown_of board.areas) area (All-contains (IsShown (shown_of board.areas)) rest area changing.there member))
-    (olds_of (get_or changes place d ∷ [])) (left_there start board changes place left d tree changing plan within next)
+    → All (Contains (areas_of store.areas)) (olds_of (get_or changes place d ∷ []))
+in_tree start store changes place left d tree changing plan within next =
+    All-weaker (Contains rest) (Contains (areas_of store.areas))
+    (λ area member. shown_contained (shown_of store.areas) area (All-contains (IsShown (shown_of store.areas)) rest area changing.there member))
+    (olds_of (get_or changes place d ∷ [])) (left_there start store changes place left d tree changing plan within next)
   where
     rest : List Record
     rest = without (olds_of (drop left changes)) (areas_of start.areas)

@@ -1,4 +1,4 @@
--- For `Board::change_all`: one change more is carried out.
+-- For `AreaStore::change_all`: one change more is carried out.
 use Rattle.std.proofs.Common.{◌≡◌, ◌≢◌, ◌≤◌, ◌<◌, ◌+◌, ℕ, Bool, true, false, not, List, [], ◌∷◌, ◌++◌, length, get_or, set, All, refl, sym, ap, ◌∙◌, subst, append_assoc, ◌⊎◌, inl, inr, arith, nat_lt, nat_eq, ◌&&◌, if◌then◌else◌}
 use Rattle.std.specs.List.{Contains, filter}
 use Rattle.std.specs.List.Sorted.{IsPermutation}
@@ -25,10 +25,10 @@ use Rattle.vma_lock.specs.declared.view.View.{View}
 use Rattle.vma_lock.specs.Seats.{Writes, sight, slots}
 use Rattle.area_tree.specs.declared.shown.ShownArea.{ShownArea}
 use Rattle.area_tree.specs.AreaTrees.{AreaTreeView, shown_of, areas_of, areas_shown, times_shown, AreasRise, IsEndOf, IsRoomFor}
-use Rattle.mm_state.specs.declared.board.Board.{Board}
+use Rattle.mm_state.specs.declared.store.AreaStore.{AreaStore}
 use Rattle.mm_state.specs.Shelves.{ShowsIt, Hangs}
 use Rattle.mm_state.specs.States.{MarksChanged, HaveLeft}
-use Rattle.mm_state.specs.Internal.Boards.{adds, weigh, IsBeside, after_leaving, HasPageOf, Moves, Carries, IsSane, IsShown, IsStill, ChangesAtMost, IsChanging, IsSameTree}
+use Rattle.mm_state.specs.Internal.AreaStores.{adds, weigh, IsBeside, after_leaving, HasPageOf, Moves, Carries, IsSane, IsShown, IsStill, ChangesAtMost, IsChanging, IsSameTree}
 use Rattle.mm_state.proofs.Rows.{packed_attached, packed_apart, not_packed}
 use Rattle.mm_state.proofs.Hanging.{hangs_permuted, alone, IsAlone, self, left_more, detached, altered, added, free_is_none}
 use Rattle.mm_state.proofs.Writing.{hangs_out}
@@ -211,13 +211,13 @@ module _ (tree after rest : List ShownArea) (slot : ℕ) (area : Record) (is : I
 gone_out : (tree after : List ShownArea) (slot : ℕ) (area : Record) → IsPermutation (record { slot = slot; area = area } ∷ after) tree → IsOut tree after after slot area
 gone_out tree after slot area out = record { out = out; stays = λ s member. member; came = λ s member apart. member }
 
-pub detach_step : (start board after : Board) (done : List Change) (tree : ℕ) (area : Record) → IsChanging start board done tree
-    → Contains (without (olds_of done) (areas_of start.areas)) area → Carries board after (Detach area) tree → IsChanging start after (Detach area ∷ done) tree
-detach_step start board after done tree area changing member (slot, changes, out, moved, set_is) = record {
+pub detach_step : (start store after : AreaStore) (done : List Change) (tree : ℕ) (area : Record) → IsChanging start store done tree
+    → Contains (without (olds_of done) (areas_of start.areas)) area → Carries store after (Detach area) tree → IsChanging start after (Detach area ∷ done) tree
+detach_step start store after done tree area changing member (slot, changes, out, moved, set_is) = record {
   table = changes.table ∙ changing.table;
   mine = changes.mine;
   beside = beside_beside changing.beside changes.written.beside;
-  hangs = rw changes.written.slots (rw moved (rw set_is (detached (slots board.writer) shown (shown_of after.areas ++ board.moved.items) board.slots seq tree there)));
+  hangs = rw changes.written.slots (rw moved (rw set_is (detached (slots store.writer) shown (shown_of after.areas ++ store.moved.items) store.slots seq tree there)));
   count = ap (λ (s : SlotSet). s.count) set_is ∙ changing.count;
   ascend = changing.ascend;
   rise = changing.rise;
@@ -225,39 +225,39 @@ detach_step start board after done tree area changing member (slot, changes, out
     arith,
     changing.areas weight,
     sum_by-cons weight area (olds_of done),
-    sum_by_pushed (λ (s : ShownArea). weight s.area) shown (shown_of after.areas) (shown_of board.areas) out,
+    sum_by_pushed (λ (s : ShownArea). weight s.area) shown (shown_of after.areas) (shown_of store.areas) out,
     sum_by-append (λ (s : ShownArea). weight s.area) (shown_of after.areas) after.moved.items,
-    sum_by-append (λ (s : ShownArea). weight s.area) (shown_of board.areas) board.moved.items,
+    sum_by-append (λ (s : ShownArea). weight s.area) (shown_of store.areas) store.moved.items,
     ap (weigh weight) moved,
   );
-  there = left_then (IsShown (shown_of board.areas)) (IsShown (shown_of after.areas)) (olds_of done) (areas_of start.areas) area
-      (shown_then (shown_of board.areas) (shown_of after.areas) (shown_of after.areas) slot area is) changing.there;
+  there = left_then (IsShown (shown_of store.areas)) (IsShown (shown_of after.areas)) (olds_of done) (areas_of start.areas) area
+      (shown_then (shown_of store.areas) (shown_of after.areas) (shown_of after.areas) slot area is) changing.there;
   still = rw changes.written.slots (left_then
-      (λ b. IsStill (slots start.writer) (slots board.writer) (shown_of board.areas) b × (b.span.lo ≢ area.span.lo → Beside area b))
-      (IsStill (slots start.writer) (set (slots board.writer) slot state) (shown_of after.areas)) (olds_of done) (areas_of start.areas) area
-      (still_then (shown_of board.areas) (shown_of after.areas) (shown_of after.areas) slot area is (slots start.writer) (slots board.writer) state alone_there)
-      (left_beside (IsStill (slots start.writer) (slots board.writer) (shown_of board.areas)) start.areas.tree.limit 0 (olds_of done) (areas_of start.areas) area
+      (λ b. IsStill (slots start.writer) (slots store.writer) (shown_of store.areas) b × (b.span.lo ≢ area.span.lo → Beside area b))
+      (IsStill (slots start.writer) (set (slots store.writer) slot state) (shown_of after.areas)) (olds_of done) (areas_of start.areas) area
+      (still_then (shown_of store.areas) (shown_of after.areas) (shown_of after.areas) slot area is (slots start.writer) (slots store.writer) state alone_there)
+      (left_beside (IsStill (slots start.writer) (slots store.writer) (shown_of store.areas)) start.areas.tree.limit 0 (olds_of done) (areas_of start.areas) area
       changing.rise member changing.still));
-  unused = rw changes.written.slots (unused_more (slots start.writer) (slots board.writer) slot state board.slots.free after.slots.free
+  unused = rw changes.written.slots (unused_more (slots start.writer) (slots store.writer) slot state store.slots.free after.slots.free
       (ap (λ (s : SlotSet). times slot s.free) set_is ∙ one.taken.not_free) (λ other. omega (arith, ap (λ (s : SlotSet). times other s.free) set_is)) changing.unused);
   free = omega (arith, changing.free, ap (λ (s : SlotSet). length s.free) set_is, sum_by-cons adds (Detach area) done);
   leaving = subst (λ (s : SlotSet). All (λ (l : Leaving). l.tree ≤ tree) s.left) (sym set_is)
-      (All-permutation (λ (l : Leaving). l.tree ≤ tree) (leaving ∷ board.slots.left) (after_leaving board.slots slot tree).left (left_more board.slots slot tree)
-      (All-cons (λ (l : Leaving). l.tree ≤ tree) leaving board.slots.left (omega arith) changing.leaving));
-  same = tree_step start.areas board.areas after.areas changing.same changes.same;
+      (All-permutation (λ (l : Leaving). l.tree ≤ tree) (leaving ∷ store.slots.left) (after_leaving store.slots slot tree).left (left_more store.slots slot tree)
+      (All-cons (λ (l : Leaving). l.tree ≤ tree) leaving store.slots.left (omega arith) changing.leaving));
+  same = tree_step start.areas store.areas after.areas changing.same changes.same;
   moved_room = changes.moved_room ∙ changing.moved_room;
   few_moved = omega (arith, ap length moved, changing.few_moved);
-  few = rw changes.written.slots (few_more (slots start.writer) (slots board.writer) slot state (length done) (length (Detach area ∷ done)) (omega arith) changing.few);
-  marks = rw changes.written.slots (marks_more (slots start.writer) (slots board.writer) slot state within changing.marks
+  few = rw changes.written.slots (few_more (slots start.writer) (slots store.writer) slot state (length done) (length (Detach area ∷ done)) (omega arith) changing.few);
+  marks = rw changes.written.slots (marks_more (slots start.writer) (slots store.writer) slot state within changing.marks
       (λ same. not_packed detached_row area refl (same ∙ ap (λ (s : SlotState). s.row) (sym was) ∙ shows)));
-  waits = rw changes.written.slots (waits_more (slots start.writer) (slots board.writer) slot state start.slots.left board.slots.left after.slots.left changing.waits more
+  waits = rw changes.written.slots (waits_more (slots start.writer) (slots store.writer) slot state start.slots.left store.slots.left after.slots.left changing.waits more
       one.taken.not_left);
-  gone = rw changes.written.slots (gone_more (slots start.writer) (slots board.writer) slot state tree board.slots.left after.slots.left changing.gone more
+  gone = rw changes.written.slots (gone_more (slots start.writer) (slots store.writer) slot state tree store.slots.left after.slots.left changing.gone more
       (λ is. among leaving (0, omega arith, refl)) within);
 }
   where
     seq : ℕ
-    seq = (sight board.writer).desk.seq
+    seq = (sight store.writer).writer_state.seq
 
     shown : ShownArea
     shown = record { slot = slot; area = area }
@@ -268,34 +268,34 @@ detach_step start board after done tree area changing member (slot, changes, out
     state : SlotState
     state = record { lock_seq = seq; row = detached_row }
 
-    among : (l : Leaving) → Contains (leaving ∷ board.slots.left) l → Contains after.slots.left l
+    among : (l : Leaving) → Contains (leaving ∷ store.slots.left) l → Contains after.slots.left l
     among l member = subst (λ (s : SlotSet). Contains s.left l) (sym set_is)
-        (Contains-permutation (leaving ∷ board.slots.left) (after_leaving board.slots slot tree).left l (left_more board.slots slot tree) member)
+        (Contains-permutation (leaving ∷ store.slots.left) (after_leaving store.slots slot tree).left l (left_more store.slots slot tree) member)
 
-    more : (l : Leaving) → Contains board.slots.left l → Contains after.slots.left l
-    more l member = among l (Contains-append_right (leaving ∷ []) board.slots.left l member)
+    more : (l : Leaving) → Contains store.slots.left l → Contains after.slots.left l
+    more l member = among l (Contains-append_right (leaving ∷ []) store.slots.left l member)
 
-    is : IsOut (shown_of board.areas) (shown_of after.areas) (shown_of after.areas) slot area
-    is = gone_out (shown_of board.areas) (shown_of after.areas) slot area out
+    is : IsOut (shown_of store.areas) (shown_of after.areas) (shown_of after.areas) slot area
+    is = gone_out (shown_of store.areas) (shown_of after.areas) slot area out
 
-    there : Hangs (slots board.writer) (shown ∷ (shown_of after.areas ++ board.moved.items)) board.slots
-    there = hangs_out (slots board.writer) (shown_of board.areas) (shown_of after.areas) board.moved.items board.slots shown changing.hangs out
+    there : Hangs (slots store.writer) (shown ∷ (shown_of after.areas ++ store.moved.items)) store.slots
+    there = hangs_out (slots store.writer) (shown_of store.areas) (shown_of after.areas) store.moved.items store.slots shown changing.hangs out
 
-    one : IsAlone shown (shown_of after.areas ++ board.moved.items) board.slots
-    one = alone (slots board.writer) shown (shown_of after.areas ++ board.moved.items) board.slots there
+    one : IsAlone shown (shown_of after.areas ++ store.moved.items) store.slots
+    one = alone (slots store.writer) shown (shown_of after.areas ++ store.moved.items) store.slots there
 
     alone_there : times_shown slot (shown_of after.areas) ≡ 0
-    alone_there = omega (arith, one.no_other, sum_by-append (λ (s : ShownArea). one_at slot s.slot) (shown_of after.areas) board.moved.items)
+    alone_there = omega (arith, one.no_other, sum_by-append (λ (s : ShownArea). one_at slot s.slot) (shown_of after.areas) store.moved.items)
 
-    within : slot < length (slots board.writer)
+    within : slot < length (slots store.writer)
     within = omega (arith, there.sized, one.taken.below)
 
-    shows : (slot_at (slots board.writer) slot).row ≡ packed area
-    shows = All-head (ShowsIt (slots board.writer)) shown (shown_of after.areas ++ board.moved.items) there.rows
+    shows : (slot_at (slots store.writer) slot).row ≡ packed area
+    shows = All-head (ShowsIt (slots store.writer)) shown (shown_of after.areas ++ store.moved.items) there.rows
 
-    was : slot_at (slots board.writer) slot ≡ slot_at (slots start.writer) slot
-    was = All-contains (IsStill (slots start.writer) (slots board.writer) (shown_of board.areas)) (without (olds_of done) (areas_of start.areas)) area changing.still member
-        slot (first_there (shown_of board.areas) (shown_of after.areas) (shown_of after.areas) slot area is)
+    was : slot_at (slots store.writer) slot ≡ slot_at (slots start.writer) slot
+    was = All-contains (IsStill (slots start.writer) (slots store.writer) (shown_of store.areas)) (without (olds_of done) (areas_of start.areas)) area changing.still member
+        slot (first_there (shown_of store.areas) (shown_of after.areas) (shown_of after.areas) slot area is)
 
 pub same_span : (a b : Span) (test : Bool) → test ≡ true → test ≡ nat_eq a.lo b.lo && nat_eq a.hi b.hi → a ≡ b
 same_span a b test holds is =
@@ -365,53 +365,53 @@ at_end rest after moved now out =
     (IsPermutation-append_left (moved ++ now ∷ []) rest after out)
 
 -- what a slot of the tree that shows another area makes of the areas
-record IsMoved (board after : Board) (rest : List ShownArea) (slot : ℕ) (area changed : Record) : Type 0 where
-  is : IsOut (shown_of board.areas) (shown_of after.areas) rest slot area
-  all : IsPermutation (record { slot = slot; area = changed } ∷ (rest ++ board.moved.items)) (shown_of after.areas ++ after.moved.items)
-  few : length after.moved.items ≤ length board.moved.items + 1
+record IsMoved (store after : AreaStore) (rest : List ShownArea) (slot : ℕ) (area changed : Record) : Type 0 where
+  is : IsOut (shown_of store.areas) (shown_of after.areas) rest slot area
+  all : IsPermutation (record { slot = slot; area = changed } ∷ (rest ++ store.moved.items)) (shown_of after.areas ++ after.moved.items)
+  few : length after.moved.items ≤ length store.moved.items + 1
 
-is_moved : (board after : Board) (slot : ℕ) (area changed : Record) → (moves : Moves board after slot area changed) → IsMoved board after moves.rest slot area changed
-is_moved board after slot area changed moves = by moves.after
+is_moved : (store after : AreaStore) (slot : ℕ) (area changed : Record) → (moves : Moves store after slot area changed) → IsMoved store after moves.rest slot area changed
+is_moved store after slot area changed moves = by moves.after
   where
     now : ShownArea
     now = record { slot = slot; area = changed }
 
-    by : (IsPermutation (now ∷ moves.rest) (shown_of after.areas) × (after.moved.items ≡ board.moved.items) × HasPageOf area changed)
-        ⊎ (IsPermutation moves.rest (shown_of after.areas) × (after.moved.items ≡ board.moved.items ++ now ∷ [])
-        × ¬ (IsEndOf changed.span area.span) × ¬ (IsRoomFor board.areas.tree.limit (areas_of board.areas) area.span changed.span))
-        ⊎ ((other : ShownArea) × IsPermutation (now ∷ other ∷ moves.rest) (shown_of after.areas) × (board.moved.items ≡ after.moved.items ++ other ∷ [])
-        × HasPageOf area changed × HasPageOf area other.area) → IsMoved board after moves.rest slot area changed
+    by : (IsPermutation (now ∷ moves.rest) (shown_of after.areas) × (after.moved.items ≡ store.moved.items) × HasPageOf area changed)
+        ⊎ (IsPermutation moves.rest (shown_of after.areas) × (after.moved.items ≡ store.moved.items ++ now ∷ [])
+        × ¬ (IsEndOf changed.span area.span) × ¬ (IsRoomFor store.areas.tree.limit (areas_of store.areas) area.span changed.span))
+        ⊎ ((other : ShownArea) × IsPermutation (now ∷ other ∷ moves.rest) (shown_of after.areas) × (store.moved.items ≡ after.moved.items ++ other ∷ [])
+        × HasPageOf area changed × HasPageOf area other.area) → IsMoved store after moves.rest slot area changed
     by (inl (in_place, moved, meets)) = record {
-      is = altered_out (shown_of board.areas) (shown_of after.areas) moves.rest (now ∷ []) slot area moves.before in_place
+      is = altered_out (shown_of store.areas) (shown_of after.areas) moves.rest (now ∷ []) slot area moves.before in_place
           (All-cons (λ s. HasPageOf area s.area) now [] meets (All-nil (λ s. HasPageOf area s.area)));
-      all = subst (λ (list : List ShownArea). IsPermutation (now ∷ (moves.rest ++ board.moved.items)) (shown_of after.areas ++ list)) (sym moved)
-          (IsPermutation-append_left board.moved.items (now ∷ moves.rest) (shown_of after.areas) in_place);
+      all = subst (λ (list : List ShownArea). IsPermutation (now ∷ (moves.rest ++ store.moved.items)) (shown_of after.areas ++ list)) (sym moved)
+          (IsPermutation-append_left store.moved.items (now ∷ moves.rest) (shown_of after.areas) in_place);
       few = omega (arith, ap length moved);
     }
     by (inr (inl (out, moved, _, _))) = record {
-      is = altered_out (shown_of board.areas) (shown_of after.areas) moves.rest [] slot area moves.before out (All-nil (λ s. HasPageOf area s.area));
-      all = subst (λ (list : List ShownArea). IsPermutation (now ∷ (moves.rest ++ board.moved.items)) (shown_of after.areas ++ list)) (sym moved)
-          (at_end moves.rest (shown_of after.areas) board.moved.items now out);
-      few = omega (arith, ap length moved, length-append board.moved.items (now ∷ []));
+      is = altered_out (shown_of store.areas) (shown_of after.areas) moves.rest [] slot area moves.before out (All-nil (λ s. HasPageOf area s.area));
+      all = subst (λ (list : List ShownArea). IsPermutation (now ∷ (moves.rest ++ store.moved.items)) (shown_of after.areas ++ list)) (sym moved)
+          (at_end moves.rest (shown_of after.areas) store.moved.items now out);
+      few = omega (arith, ap length moved, length-append store.moved.items (now ∷ []));
     }
     by (inr (inr (other, in_place, moved, meets, touches))) = record {
-      is = altered_out (shown_of board.areas) (shown_of after.areas) moves.rest (now ∷ other ∷ []) slot area moves.before in_place
+      is = altered_out (shown_of store.areas) (shown_of after.areas) moves.rest (now ∷ other ∷ []) slot area moves.before in_place
           (All-cons (λ s. HasPageOf area s.area) now (other ∷ []) meets (All-cons (λ s. HasPageOf area s.area) other [] touches (All-nil (λ s. HasPageOf area s.area))));
-      all = moved_in (now ∷ moves.rest) board.moved.items (shown_of after.areas) after.moved.items other moved
+      all = moved_in (now ∷ moves.rest) store.moved.items (shown_of after.areas) after.moved.items other moved
           (IsPermutation-trans (other ∷ now ∷ moves.rest) (now ∷ other ∷ moves.rest) (shown_of after.areas) (IsPermutation-middle (other ∷ []) now moves.rest) in_place);
       few = omega (arith, ap length moved, length-append after.moved.items (other ∷ []));
     }
 
-pub alter_step : (start board after : Board) (done : List Change) (tree : ℕ) (area changed : Record) → IsChanging start board done tree
+pub alter_step : (start store after : AreaStore) (done : List Change) (tree : ℕ) (area changed : Record) → IsChanging start store done tree
     → Contains (without (olds_of done) (areas_of start.areas)) area → IsSane (Alter area changed)
-    → Carries board after (Alter area changed) tree → IsChanging start after (Alter area changed ∷ done) tree
-alter_step start board after done tree area changed changing member sane (slot, changes, moves, set_is) = record {
+    → Carries store after (Alter area changed) tree → IsChanging start after (Alter area changed ∷ done) tree
+alter_step start store after done tree area changed changing member sane (slot, changes, moves, set_is) = record {
   table = changes.table ∙ changing.table;
   mine = changes.mine;
   beside = beside_beside changing.beside changes.written.beside;
-  hangs = rw changes.written.slots (rw set_is (hangs_permuted (set (slots board.writer) slot state) (now ∷ (rest ++ board.moved.items))
-      (shown_of after.areas ++ after.moved.items) board.slots m.all
-      (altered (slots board.writer) shown (rest ++ board.moved.items) board.slots seq changed there)));
+  hangs = rw changes.written.slots (rw set_is (hangs_permuted (set (slots store.writer) slot state) (now ∷ (rest ++ store.moved.items))
+      (shown_of after.areas ++ after.moved.items) store.slots m.all
+      (altered (slots store.writer) shown (rest ++ store.moved.items) store.slots seq changed there)));
   count = ap (λ (s : SlotSet). s.count) set_is ∙ changing.count;
   ascend = changing.ascend;
   rise = changing.rise;
@@ -420,37 +420,37 @@ alter_step start board after done tree area changed changing member sane (slot, 
     changing.areas weight,
     sum_by-cons weight area (olds_of done),
     sum_by-cons weight changed (news_of done),
-    sum_by_pushed (λ (s : ShownArea). weight s.area) shown rest (shown_of board.areas) moves.before,
-    sum_by_pushed (λ (s : ShownArea). weight s.area) now (rest ++ board.moved.items) (shown_of after.areas ++ after.moved.items) m.all,
-    sum_by-append (λ (s : ShownArea). weight s.area) rest board.moved.items,
-    sum_by-append (λ (s : ShownArea). weight s.area) (shown_of board.areas) board.moved.items,
+    sum_by_pushed (λ (s : ShownArea). weight s.area) shown rest (shown_of store.areas) moves.before,
+    sum_by_pushed (λ (s : ShownArea). weight s.area) now (rest ++ store.moved.items) (shown_of after.areas ++ after.moved.items) m.all,
+    sum_by-append (λ (s : ShownArea). weight s.area) rest store.moved.items,
+    sum_by-append (λ (s : ShownArea). weight s.area) (shown_of store.areas) store.moved.items,
   );
-  there = left_then (IsShown (shown_of board.areas)) (IsShown (shown_of after.areas)) (olds_of done) (areas_of start.areas) area
-      (shown_then (shown_of board.areas) (shown_of after.areas) rest slot area m.is) changing.there;
+  there = left_then (IsShown (shown_of store.areas)) (IsShown (shown_of after.areas)) (olds_of done) (areas_of start.areas) area
+      (shown_then (shown_of store.areas) (shown_of after.areas) rest slot area m.is) changing.there;
   still = rw changes.written.slots (left_then
-      (λ b. IsStill (slots start.writer) (slots board.writer) (shown_of board.areas) b × (b.span.lo ≢ area.span.lo → Beside area b))
-      (IsStill (slots start.writer) (set (slots board.writer) slot state) (shown_of after.areas)) (olds_of done) (areas_of start.areas) area
-      (still_then (shown_of board.areas) (shown_of after.areas) rest slot area m.is (slots start.writer) (slots board.writer) state alone_there)
-      (left_beside (IsStill (slots start.writer) (slots board.writer) (shown_of board.areas)) start.areas.tree.limit 0 (olds_of done) (areas_of start.areas) area
+      (λ b. IsStill (slots start.writer) (slots store.writer) (shown_of store.areas) b × (b.span.lo ≢ area.span.lo → Beside area b))
+      (IsStill (slots start.writer) (set (slots store.writer) slot state) (shown_of after.areas)) (olds_of done) (areas_of start.areas) area
+      (still_then (shown_of store.areas) (shown_of after.areas) rest slot area m.is (slots start.writer) (slots store.writer) state alone_there)
+      (left_beside (IsStill (slots start.writer) (slots store.writer) (shown_of store.areas)) start.areas.tree.limit 0 (olds_of done) (areas_of start.areas) area
       changing.rise member changing.still));
-  unused = rw changes.written.slots (unused_more (slots start.writer) (slots board.writer) slot state board.slots.free after.slots.free
+  unused = rw changes.written.slots (unused_more (slots start.writer) (slots store.writer) slot state store.slots.free after.slots.free
       (ap (λ (s : SlotSet). times slot s.free) set_is ∙ one.taken.not_free) (λ other. omega (arith, ap (λ (s : SlotSet). times other s.free) set_is)) changing.unused);
   free = omega (arith, changing.free, ap (λ (s : SlotSet). length s.free) set_is, sum_by-cons adds (Alter area changed) done);
   leaving = subst (λ (s : SlotSet). All (λ (l : Leaving). l.tree ≤ tree) s.left) (sym set_is) changing.leaving;
-  same = tree_step start.areas board.areas after.areas changing.same changes.same;
+  same = tree_step start.areas store.areas after.areas changing.same changes.same;
   moved_room = changes.moved_room ∙ changing.moved_room;
   few_moved = omega (arith, m.few, changing.few_moved);
-  few = rw changes.written.slots (few_more (slots start.writer) (slots board.writer) slot state (length done) (length (Alter area changed ∷ done)) (omega arith) changing.few);
-  marks = rw changes.written.slots (marks_more (slots start.writer) (slots board.writer) slot state within changing.marks
+  few = rw changes.written.slots (few_more (slots start.writer) (slots store.writer) slot state (length done) (length (Alter area changed ∷ done)) (omega arith) changing.few);
+  marks = rw changes.written.slots (marks_more (slots start.writer) (slots store.writer) slot state within changing.marks
       (λ same. packed_apart area changed sane.0 sane.1 sane.2 (sym (same ∙ ap (λ (s : SlotState). s.row) (sym was) ∙ shows))));
-  waits = rw changes.written.slots (waits_more (slots start.writer) (slots board.writer) slot state start.slots.left board.slots.left after.slots.left changing.waits more
+  waits = rw changes.written.slots (waits_more (slots start.writer) (slots store.writer) slot state start.slots.left store.slots.left after.slots.left changing.waits more
       one.taken.not_left);
-  gone = rw changes.written.slots (gone_more (slots start.writer) (slots board.writer) slot state tree board.slots.left after.slots.left changing.gone more
+  gone = rw changes.written.slots (gone_more (slots start.writer) (slots store.writer) slot state tree store.slots.left after.slots.left changing.gone more
       (λ is. absurd (both_ways (is_detached (packed changed)) is (packed_attached changed))) within);
 }
   where
     seq : ℕ
-    seq = (sight board.writer).desk.seq
+    seq = (sight store.writer).writer_state.seq
 
     rest : List ShownArea
     rest = moves.rest
@@ -464,30 +464,30 @@ alter_step start board after done tree area changed changing member sane (slot, 
     state : SlotState
     state = record { lock_seq = seq; row = packed changed }
 
-    more : (l : Leaving) → Contains board.slots.left l → Contains after.slots.left l
+    more : (l : Leaving) → Contains store.slots.left l → Contains after.slots.left l
     more l member = subst (λ (s : SlotSet). Contains s.left l) (sym set_is) member
 
-    m : IsMoved board after rest slot area changed
-    m = is_moved board after slot area changed moves
+    m : IsMoved store after rest slot area changed
+    m = is_moved store after slot area changed moves
 
-    there : Hangs (slots board.writer) (shown ∷ (rest ++ board.moved.items)) board.slots
-    there = hangs_out (slots board.writer) (shown_of board.areas) rest board.moved.items board.slots shown changing.hangs moves.before
+    there : Hangs (slots store.writer) (shown ∷ (rest ++ store.moved.items)) store.slots
+    there = hangs_out (slots store.writer) (shown_of store.areas) rest store.moved.items store.slots shown changing.hangs moves.before
 
-    one : IsAlone shown (rest ++ board.moved.items) board.slots
-    one = alone (slots board.writer) shown (rest ++ board.moved.items) board.slots there
+    one : IsAlone shown (rest ++ store.moved.items) store.slots
+    one = alone (slots store.writer) shown (rest ++ store.moved.items) store.slots there
 
     alone_there : times_shown slot rest ≡ 0
-    alone_there = omega (arith, one.no_other, sum_by-append (λ (s : ShownArea). one_at slot s.slot) rest board.moved.items)
+    alone_there = omega (arith, one.no_other, sum_by-append (λ (s : ShownArea). one_at slot s.slot) rest store.moved.items)
 
-    within : slot < length (slots board.writer)
+    within : slot < length (slots store.writer)
     within = omega (arith, there.sized, one.taken.below)
 
-    shows : (slot_at (slots board.writer) slot).row ≡ packed area
-    shows = All-head (ShowsIt (slots board.writer)) shown (rest ++ board.moved.items) there.rows
+    shows : (slot_at (slots store.writer) slot).row ≡ packed area
+    shows = All-head (ShowsIt (slots store.writer)) shown (rest ++ store.moved.items) there.rows
 
-    was : slot_at (slots board.writer) slot ≡ slot_at (slots start.writer) slot
-    was = All-contains (IsStill (slots start.writer) (slots board.writer) (shown_of board.areas)) (without (olds_of done) (areas_of start.areas)) area changing.still member
-        slot (first_there (shown_of board.areas) (shown_of after.areas) rest slot area m.is)
+    was : slot_at (slots store.writer) slot ≡ slot_at (slots start.writer) slot
+    was = All-contains (IsStill (slots start.writer) (slots store.writer) (shown_of store.areas)) (without (olds_of done) (areas_of start.areas)) area changing.still member
+        slot (first_there (shown_of store.areas) (shown_of after.areas) rest slot area m.is)
 
 -- a free slot shows no area of the tree
 not_shown : (slot : ℕ) (tree : List ShownArea) (area : Record) → times_shown slot tree ≡ 0 → (place : ℕ) → Contains tree (record { slot = place; area = area }) → place ≢ slot
@@ -495,15 +495,15 @@ not_shown slot tree area none place member same =
     let some = get_or-le-sum_by (λ (s : ShownArea). one_at slot s.slot) tree member.0 (record { slot = place; area = area }) member.1 in
     omega (arith, some, ap (λ (s : ShownArea). one_at slot s.slot) member.2, none, self slot, ap (one_at slot) same)
 
-pub add_step : (start board after : Board) (done : List Change) (tree : ℕ) (area : Record) → IsChanging start board done tree
-    → Carries board after (Add area) tree → IsChanging start after (Add area ∷ done) tree
-add_step start board after done tree area changing (slot, changes, tree_is, moved, set_is) = record {
+pub add_step : (start store after : AreaStore) (done : List Change) (tree : ℕ) (area : Record) → IsChanging start store done tree
+    → Carries store after (Add area) tree → IsChanging start after (Add area ∷ done) tree
+add_step start store after done tree area changing (slot, changes, tree_is, moved, set_is) = record {
   table = changes.table ∙ changing.table;
   mine = changes.mine;
   beside = beside_beside changing.beside changes.written.beside;
-  hangs = rw changes.written.slots (hangs_permuted (set (slots board.writer) slot state) (now ∷ (shown_of board.areas ++ board.moved.items))
+  hangs = rw changes.written.slots (hangs_permuted (set (slots store.writer) slot state) (now ∷ (shown_of store.areas ++ store.moved.items))
       (shown_of after.areas ++ after.moved.items) after.slots all
-      (added (slots board.writer) (shown_of board.areas ++ board.moved.items) board.slots after.slots slot seq area changing.hangs set_is));
+      (added (slots store.writer) (shown_of store.areas ++ store.moved.items) store.slots after.slots slot seq area changing.hangs set_is));
   count = sym (ap (λ (s : SlotSet). s.count) set_is) ∙ changing.count;
   ascend = changing.ascend;
   rise = changing.rise;
@@ -511,32 +511,32 @@ add_step start board after done tree area changing (slot, changes, tree_is, move
     arith,
     changing.areas weight,
     sum_by-cons weight area (news_of done),
-    sum_by_pushed (λ (s : ShownArea). weight s.area) now (shown_of board.areas ++ board.moved.items) (shown_of after.areas ++ after.moved.items) all,
+    sum_by_pushed (λ (s : ShownArea). weight s.area) now (shown_of store.areas ++ store.moved.items) (shown_of after.areas ++ after.moved.items) all,
   );
   there = subst (λ (t : AreaTreeView). All (IsShown (shown_of t)) (without (olds_of done) (areas_of start.areas))) (sym tree_is) changing.there;
-  still = rw changes.written.slots (subst (λ (t : AreaTreeView). All (IsStill (slots start.writer) (set (slots board.writer) slot state) (shown_of t))
+  still = rw changes.written.slots (subst (λ (t : AreaTreeView). All (IsStill (slots start.writer) (set (slots store.writer) slot state) (shown_of t))
       (without (olds_of done) (areas_of start.areas))) (sym tree_is)
-      (λ k d within place member. get_or-set_other (slots board.writer) slot place state free_slot
-      (not_shown slot (shown_of board.areas) (get_or (without (olds_of done) (areas_of start.areas)) k d) none place member)
+      (λ k d within place member. get_or-set_other (slots store.writer) slot place state free_slot
+      (not_shown slot (shown_of store.areas) (get_or (without (olds_of done) (areas_of start.areas)) k d) none place member)
       ∙ changing.still k d within place member));
-  unused = rw changes.written.slots (unused_more (slots start.writer) (slots board.writer) slot state board.slots.free after.slots.free was_free.0
+  unused = rw changes.written.slots (unused_more (slots start.writer) (slots store.writer) slot state store.slots.free after.slots.free was_free.0
       (λ other. omega (arith, ap (λ (s : SlotSet). times other s.free) set_is, sum_by_push (one_at other) after.slots.free slot)) changing.unused);
   free = omega (arith, changing.free, ap (λ (s : SlotSet). length s.free) set_is, length-append after.slots.free (slot ∷ []), sum_by-cons adds (Add area) done);
   leaving = subst (λ (left : List Leaving). All (λ (l : Leaving). l.tree ≤ tree) left) (ap (λ (s : SlotSet). s.left) set_is) changing.leaving;
-  same = tree_step start.areas board.areas after.areas changing.same changes.same;
+  same = tree_step start.areas store.areas after.areas changing.same changes.same;
   moved_room = changes.moved_room ∙ changing.moved_room;
-  few_moved = omega (arith, ap length moved, length-append board.moved.items (now ∷ []), changing.few_moved);
-  few = rw changes.written.slots (few_more (slots start.writer) (slots board.writer) slot state (length done) (length (Add area ∷ done)) (omega arith) changing.few);
-  marks = rw changes.written.slots (marks_more (slots start.writer) (slots board.writer) slot state within changing.marks
-      (λ same. not_packed (slot_at (slots board.writer) slot).row area (changing.hangs.others slot free.1) (ap (λ (s : SlotState). s.row) was ∙ sym same)));
-  waits = rw changes.written.slots (waits_more (slots start.writer) (slots board.writer) slot state start.slots.left board.slots.left after.slots.left changing.waits more
+  few_moved = omega (arith, ap length moved, length-append store.moved.items (now ∷ []), changing.few_moved);
+  few = rw changes.written.slots (few_more (slots start.writer) (slots store.writer) slot state (length done) (length (Add area ∷ done)) (omega arith) changing.few);
+  marks = rw changes.written.slots (marks_more (slots start.writer) (slots store.writer) slot state within changing.marks
+      (λ same. not_packed (slot_at (slots store.writer) slot).row area (changing.hangs.others slot free.1) (ap (λ (s : SlotState). s.row) was ∙ sym same)));
+  waits = rw changes.written.slots (waits_more (slots start.writer) (slots store.writer) slot state start.slots.left store.slots.left after.slots.left changing.waits more
       was_free.1);
-  gone = rw changes.written.slots (gone_more (slots start.writer) (slots board.writer) slot state tree board.slots.left after.slots.left changing.gone more
+  gone = rw changes.written.slots (gone_more (slots start.writer) (slots store.writer) slot state tree store.slots.left after.slots.left changing.gone more
       (λ is. absurd (both_ways (is_detached (packed area)) is (packed_attached area))) within);
 }
   where
     seq : ℕ
-    seq = (sight board.writer).desk.seq
+    seq = (sight store.writer).writer_state.seq
 
     now : ShownArea
     now = record { slot = slot; area = area }
@@ -544,72 +544,72 @@ add_step start board after done tree area changing (slot, changes, tree_is, move
     state : SlotState
     state = record { lock_seq = seq; row = packed area }
 
-    all : IsPermutation (now ∷ (shown_of board.areas ++ board.moved.items)) (shown_of after.areas ++ after.moved.items)
-    all = rw (tree_is, moved) (subst (IsPermutation (now ∷ (shown_of board.areas ++ board.moved.items))) (append_assoc (shown_of board.areas) board.moved.items (now ∷ []))
-        (IsPermutation-sym ((shown_of board.areas ++ board.moved.items) ++ now ∷ []) (now ∷ (shown_of board.areas ++ board.moved.items))
-        (IsPermutation-to_front (shown_of board.areas ++ board.moved.items) now)))
+    all : IsPermutation (now ∷ (shown_of store.areas ++ store.moved.items)) (shown_of after.areas ++ after.moved.items)
+    all = rw (tree_is, moved) (subst (IsPermutation (now ∷ (shown_of store.areas ++ store.moved.items))) (append_assoc (shown_of store.areas) store.moved.items (now ∷ []))
+        (IsPermutation-sym ((shown_of store.areas ++ store.moved.items) ++ now ∷ []) (now ∷ (shown_of store.areas ++ store.moved.items))
+        (IsPermutation-to_front (shown_of store.areas ++ store.moved.items) now)))
 
-    free : (slot < board.slots.count) × (times_shown slot (shown_of board.areas ++ board.moved.items) ≡ 0)
-    free = free_is_none (slots board.writer) (shown_of board.areas ++ board.moved.items) board.slots after.slots slot changing.hangs set_is
+    free : (slot < store.slots.count) × (times_shown slot (shown_of store.areas ++ store.moved.items) ≡ 0)
+    free = free_is_none (slots store.writer) (shown_of store.areas ++ store.moved.items) store.slots after.slots slot changing.hangs set_is
 
-    none : times_shown slot (shown_of board.areas) ≡ 0
-    none = omega (arith, free.1, sum_by-append (λ (s : ShownArea). one_at slot s.slot) (shown_of board.areas) board.moved.items)
+    none : times_shown slot (shown_of store.areas) ≡ 0
+    none = omega (arith, free.1, sum_by-append (λ (s : ShownArea). one_at slot s.slot) (shown_of store.areas) store.moved.items)
 
-    within : slot < length (slots board.writer)
+    within : slot < length (slots store.writer)
     within = omega (arith, changing.hangs.sized, free.0)
 
-    freed : times slot board.slots.free ≡ times slot after.slots.free + 1
+    freed : times slot store.slots.free ≡ times slot after.slots.free + 1
     freed = omega (arith, ap (λ (s : SlotSet). times slot s.free) set_is, sum_by_push (one_at slot) after.slots.free slot, self slot)
 
-    more : (l : Leaving) → Contains board.slots.left l → Contains after.slots.left l
+    more : (l : Leaving) → Contains store.slots.left l → Contains after.slots.left l
     more l member = subst (λ (left : List Leaving). Contains left l) (ap (λ (s : SlotSet). s.left) set_is) member
 
-    was_free : (times slot after.slots.free ≡ 0) × (times_left slot board.slots.left ≡ 0)
-    was_free = by (cases_lt slot board.slots.count) (changing.hangs.once slot)
+    was_free : (times slot after.slots.free ≡ 0) × (times_left slot store.slots.left ≡ 0)
+    was_free = by (cases_lt slot store.slots.count) (changing.hangs.once slot)
       where
-        by : ((slot < board.slots.count) ⊎ (board.slots.count ≤ slot))
-            → times_shown slot (shown_of board.areas ++ board.moved.items) + times slot board.slots.free + times_left slot board.slots.left ≡ (if nat_lt slot board.slots.count then 1 else 0)
-            → (times slot after.slots.free ≡ 0) × (times_left slot board.slots.left ≡ 0)
+        by : ((slot < store.slots.count) ⊎ (store.slots.count ≤ slot))
+            → times_shown slot (shown_of store.areas ++ store.moved.items) + times slot store.slots.free + times_left slot store.slots.left ≡ (if nat_lt slot store.slots.count then 1 else 0)
+            → (times slot after.slots.free ≡ 0) × (times_left slot store.slots.left ≡ 0)
         by (inl below) once =
-            let bit : ◌≡◌ {A = ℕ} (if nat_lt slot board.slots.count then 1 else 0) 1 = grind (arith, nat_tests, below) in
+            let bit : ◌≡◌ {A = ℕ} (if nat_lt slot store.slots.count then 1 else 0) 1 = grind (arith, nat_tests, below) in
             (omega (arith, once, bit, freed), omega (arith, once, bit, freed))
         by (inr above) once = absurd (omega (arith, free.0, above))
 
-    was : slot_at (slots board.writer) slot ≡ slot_at (slots start.writer) slot
+    was : slot_at (slots store.writer) slot ≡ slot_at (slots start.writer) slot
     was = changing.unused slot (omega (arith, freed))
 
 -- any change of what is still to go
-pub change_step : (start board after : Board) (done : List Change) (tree : ℕ) (change : Change) → IsChanging start board done tree
+pub change_step : (start store after : AreaStore) (done : List Change) (tree : ℕ) (change : Change) → IsChanging start store done tree
     → All (Contains (without (olds_of done) (areas_of start.areas))) (olds_of (change ∷ [])) → IsSane change
-    → Carries board after change tree → IsChanging start after (change ∷ done) tree
-change_step start board after done tree (Detach area) changing members sane carried =
-    detach_step start board after done tree area changing (All-head (Contains (without (olds_of done) (areas_of start.areas))) area [] members) carried
-change_step start board after done tree (Alter area changed) changing members sane carried =
-    alter_step start board after done tree area changed changing (All-head (Contains (without (olds_of done) (areas_of start.areas))) area [] members) sane carried
-change_step start board after done tree (Add area) changing members sane carried = add_step start board after done tree area changing carried
+    → Carries store after change tree → IsChanging start after (change ∷ done) tree
+change_step start store after done tree (Detach area) changing members sane carried =
+    detach_step start store after done tree area changing (All-head (Contains (without (olds_of done) (areas_of start.areas))) area [] members) carried
+change_step start store after done tree (Alter area changed) changing members sane carried =
+    alter_step start store after done tree area changed changing (All-head (Contains (without (olds_of done) (areas_of start.areas))) area [] members) sane carried
+change_step start store after done tree (Add area) changing members sane carried = add_step start store after done tree area changing carried
 
 -- what a tree shows is shown
 pub all_shown : (tree : List ShownArea) → All (IsShown tree) (areas_shown tree)
 all_shown tree = All-map (IsShown tree) (λ (s : ShownArea). s.area) tree (λ k d within. ((get_or tree k d).slot, Contains-get_or tree k d within))
 
 -- nothing was carried out
-pub none_changed : (board : Board) (tree : ℕ) → Writes board.writer board.table → Hangs (slots board.writer) (shown_of board.areas ++ board.moved.items) board.slots
-    → board.moved.items ≡ [] → All (λ leaving. leaving.tree ≤ tree) board.slots.left → AreasRise board.areas.tree.limit 0 (areas_of board.areas) → IsChanging board board [] tree
-none_changed board tree mine hangs empty leaving rises = record {
+pub none_changed : (store : AreaStore) (tree : ℕ) → Writes store.writer store.table → Hangs (slots store.writer) (shown_of store.areas ++ store.moved.items) store.slots
+    → store.moved.items ≡ [] → All (λ leaving. leaving.tree ≤ tree) store.slots.left → AreasRise store.areas.tree.limit 0 (areas_of store.areas) → IsChanging store store [] tree
+none_changed store tree mine hangs empty leaving rises = record {
   table = refl;
   mine = mine;
   beside = record { config = refl; seen = refl; turn = refl; seq = refl };
   hangs = hangs;
   count = refl;
-  ascend = (rise_ascend board.areas.tree.limit 0 (areas_of board.areas) rises).1;
+  ascend = (rise_ascend store.areas.tree.limit 0 (areas_of store.areas) rises).1;
   rise = rises;
   areas = λ weight. omega (
     arith,
-    sum_by-append (λ (s : ShownArea). weight s.area) (shown_of board.areas) board.moved.items,
+    sum_by-append (λ (s : ShownArea). weight s.area) (shown_of store.areas) store.moved.items,
     ap (weigh weight) empty,
-    weigh_map weight (shown_of board.areas),
+    weigh_map weight (shown_of store.areas),
   );
-  there = all_shown (shown_of board.areas);
+  there = all_shown (shown_of store.areas);
   still = λ k d within slot member. refl;
   unused = λ slot some. refl;
   free = omega arith;
@@ -620,5 +620,5 @@ none_changed board tree mine hangs empty leaving rises = record {
   few = ([], omega arith, λ slot apart. refl);
   marks = λ slot rose same. rose refl;
   waits = λ leaving member. (member, refl);
-  gone = λ slot was is. absurd (both_ways (is_detached (slot_at (slots board.writer) slot).row) is was);
+  gone = λ slot was is. absurd (both_ways (is_detached (slot_at (slots store.writer) slot).row) is was);
 }

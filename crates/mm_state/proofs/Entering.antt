@@ -23,8 +23,8 @@ use Rattle.split_merge.proofs.Walking.{in_order}
 use Rattle.sys_calls.proofs.Keeping.{opened_space}
 use Rattle.vma_lock.specs.Seats.{config_of, journal}
 use Rattle.area_tree.specs.AreaTrees.{areas_of, AreasRise}
-use Rattle.mm_state.specs.declared.board.Board.{Board}
-use Rattle.mm_state.specs.Internal.Boards.{IsEntered, IsPackable}
+use Rattle.mm_state.specs.declared.store.AreaStore.{AreaStore}
+use Rattle.mm_state.specs.Internal.AreaStores.{IsEntered, IsPackable}
 use Rattle.mm_state.proofs.Sane.{packable, sane}
 
 -- a canonical list is in order
@@ -53,15 +53,15 @@ kept_nil bounds most = record {
 }
 
 -- the state between two calls, and a call that was planned
-pub record IsPlanned (board : Board) (config : Config) (entries : List Entry) (counters : Counters) (entry : Entry) (old new : PlanView) : Type 0 where
-  pub settings : config_of board.table ≡ config
-  pub journal_is : journal board.writer ≡ entries
-  pub space : space_of (areas_of board.areas) counters ≡ after config entries
+pub record IsPlanned (store : AreaStore) (config : Config) (entries : List Entry) (counters : Counters) (entry : Entry) (old new : PlanView) : Type 0 where
+  pub settings : config_of store.table ≡ config
+  pub journal_is : journal store.writer ≡ entries
+  pub space : space_of (areas_of store.areas) counters ≡ after config entries
   pub valid : IsValidConfig config
   pub room : length entries < 2 ^ 31
-  pub most_is : board.areas.tree.areas ≡ config.areas
-  pub limit_is : board.areas.bounds.limit ≡ page_of config.limit
-  pub planned : IsPlannedCall board.areas.bounds board.areas.tree.areas (areas_of board.areas) (step config (space_of (areas_of board.areas) counters) entry.call)
+  pub most_is : store.areas.tree.areas ≡ config.areas
+  pub limit_is : store.areas.bounds.limit ≡ page_of config.limit
+  pub planned : IsPlannedCall store.areas.bounds store.areas.tree.areas (areas_of store.areas) (step config (space_of (areas_of store.areas) counters) entry.call)
       entry.reply old new
 
 pub ready_now : (config : Config) (entries : List Entry) (list : List Record) (counters : Counters) → IsValidConfig config → length entries ≤ 2 ^ 31
@@ -74,31 +74,31 @@ pub space_after : (config : Config) (entries : List Entry) (list : List Record) 
 space_after config entries list counters entry space =
     ap (λ (s : AddressSpace). (step config s entry.call).space) space ∙ sym (after-push config entries entry)
 
-pub entered : (board : Board) (config : Config) (entries : List Entry) (counters : Counters) (entry : Entry) (old new : PlanView)
-    → IsPlanned board config entries counters entry old new → IsEntered board new.changes entry
-entered board config entries counters entry old new p = record {
+pub entered : (store : AreaStore) (config : Config) (entries : List Entry) (counters : Counters) (entry : Entry) (old new : PlanView)
+    → IsPlanned store config entries counters entry old new → IsEntered store new.changes entry
+entered store config entries counters entry old new p = record {
   reply = p.planned.reply ∙ ap (λ (s : AddressSpace). (step config s entry.call).reply) p.space
       ∙ ap (λ (c : Config). (step c (after c entries) entry.call).reply) (sym p.settings)
-      ∙ ap (λ (j : List Entry). (step (config_of board.table) (after (config_of board.table) j) entry.call).reply) (sym p.journal_is);
+      ∙ ap (λ (j : List Entry). (step (config_of store.table) (after (config_of store.table) j) entry.call).reply) (sym p.journal_is);
   plan = p.planned.makes.plan_of;
   result = p.planned.makes.result ∙ ap (λ (s : AddressSpace). s.areas) next
       ∙ ap (λ (c : Config). list_after c (entries ++ entry ∷ [])) (sym p.settings)
-      ∙ ap (λ (j : List Entry). list_after (config_of board.table) (j ++ entry ∷ [])) (sym p.journal_is);
+      ∙ ap (λ (j : List Entry). list_after (config_of store.table) (j ++ entry ∷ [])) (sym p.journal_is);
   real = p.planned.makes.real;
-  sane = sane new.changes (areas_of board.areas) (step config (space_of (areas_of board.areas) counters) entry.call).space.areas before
+  sane = sane new.changes (areas_of store.areas) (step config (space_of (areas_of store.areas) counters) entry.call).space.areas before
       (subst (λ (s : AddressSpace). All IsPackable s.areas) (sym next)
       (packable config (after config (entries ++ entry ∷ [])) (after_ready config (entries ++ entry ∷ []) p.valid (omega (arith, length-append entries (entry ∷ []), p.room)))))
       p.planned.makes;
   packable = before;
   few_after = omega (arith, p.planned.kept.few, p.most_is, ap (λ (c : Config). c.areas) p.settings);
-  rise_after = subst (λ limit. AreasRise limit 0 (applied new.changes (areas_of board.areas))) (p.limit_is ∙ ap (λ (c : Config). page_of c.limit) (sym p.settings))
-      (canonical_rise board.areas.bounds.limit (applied new.changes (areas_of board.areas)) p.planned.kept.canonical);
+  rise_after = subst (λ limit. AreasRise limit 0 (applied new.changes (areas_of store.areas))) (p.limit_is ∙ ap (λ (c : Config). page_of c.limit) (sym p.settings))
+      (canonical_rise store.areas.bounds.limit (applied new.changes (areas_of store.areas)) p.planned.kept.canonical);
 }
   where
-    next : (step config (space_of (areas_of board.areas) counters) entry.call).space ≡ after config (entries ++ entry ∷ [])
-    next = space_after config entries (areas_of board.areas) counters entry p.space
+    next : (step config (space_of (areas_of store.areas) counters) entry.call).space ≡ after config (entries ++ entry ∷ [])
+    next = space_after config entries (areas_of store.areas) counters entry p.space
 
-    before : All IsPackable (areas_of board.areas)
+    before : All IsPackable (areas_of store.areas)
     before = subst (λ (s : AddressSpace). All IsPackable s.areas) (sym p.space)
         (packable config (after config entries) (after_ready config entries p.valid (omega (arith, p.room))))
 

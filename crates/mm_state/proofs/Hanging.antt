@@ -1,4 +1,4 @@
--- For all calls of `Board`: how slots hang together, step by step.
+-- For all calls of `AreaStore`: how slots hang together, step by step.
 use Rattle.std.proofs.Common.{◌≡◌, ◌≢◌, ◌≤◌, ◌<◌, ◌+◌, ℕ, Bool, true, false, nat_lt, nat_le, not, List, [], ◌∷◌, ◌++◌, length, get_or, set, sum_by, All, refl, sym, ap, ◌∙◌, subst, ◌⊎◌, inl, inr, arith, if◌then◌else◌, length-append}
 use Rattle.std.specs.List.{Contains}
 use Rattle.std.specs.List.Sorted.{IsPermutation}
@@ -21,7 +21,7 @@ use Rattle.area_slots.proofs.Counting.{times-slots_of}
 use Rattle.area_tree.specs.declared.shown.ShownArea.{ShownArea}
 use Rattle.area_tree.specs.AreaTrees.{areas_shown, times_shown}
 use Rattle.mm_state.specs.Shelves.{ShowsIt, Hangs}
-use Rattle.mm_state.specs.Internal.Boards.{IsFreed, after_leaving}
+use Rattle.mm_state.specs.Internal.AreaStores.{IsFreed, after_leaving}
 use Rattle.mm_state.proofs.Rows.{packed_attached}
 
 -- the weight of an area
@@ -314,45 +314,45 @@ seen_freed slots after tree is = subst (IsFreed tree slots) (sym is) record {
 }
 
 -- what is left after slots were freed left no later than before
-pub freed_upto : (settled last : ℕ) (old new : SlotSet) → IsFreed settled old new → All (λ leaving. leaving.tree ≤ last) old.left
+pub freed_upto : (elapsed last : ℕ) (old new : SlotSet) → IsFreed elapsed old new → All (λ leaving. leaving.tree ≤ last) old.left
     → All (λ leaving. leaving.tree ≤ last) new.left
-freed_upto settled last old new freed all = subst (λ (left : List Leaving). All (λ leaving. leaving.tree ≤ last) left) (sym freed.left)
-    (All-filter (λ (l : Leaving). not (left_by settled l)) (λ (l : Leaving). l.tree ≤ last) old.left all)
+freed_upto elapsed last old new freed all = subst (λ (left : List Leaving). All (λ leaving. leaving.tree ≤ last) left) (sym freed.left)
+    (All-filter (λ (l : Leaving). not (left_by elapsed l)) (λ (l : Leaving). l.tree ≤ last) old.left all)
 
--- what left after the settled tree is left still
-pub freed_waits : (settled : ℕ) (old new : SlotSet) → IsFreed settled old new → (leaving : Leaving) → Contains old.left leaving → settled < leaving.tree
+-- what left after the elapsed tree is left still
+pub freed_waits : (elapsed : ℕ) (old new : SlotSet) → IsFreed elapsed old new → (leaving : Leaving) → Contains old.left leaving → elapsed < leaving.tree
     → Contains new.left leaving
-freed_waits settled old new freed leaving member later = subst (λ (left : List Leaving). Contains left leaving) (sym freed.left)
-    (contains_filter (λ (l : Leaving). not (left_by settled l)) old.left leaving member (left_later settled leaving.tree later))
+freed_waits elapsed old new freed leaving member later = subst (λ (left : List Leaving). Contains left leaving) (sym freed.left)
+    (contains_filter (λ (l : Leaving). not (left_by elapsed l)) old.left leaving member (left_later elapsed leaving.tree later))
   where
-    left_later : (settled later : ℕ) → settled < later → not (nat_le later settled) ≡ true
-    left_later settled later above = grind (arith, nat_tests)
+    left_later : (elapsed later : ℕ) → elapsed < later → not (nat_le later elapsed) ≡ true
+    left_later elapsed later above = grind (arith, nat_tests)
 
 -- what left after a tree and after a later one is what left after the later one
-gone_on : (settled later : ℕ) → settled ≤ later → (left : List Leaving) → gone_after later (gone_after settled left) ≡ gone_after later left
-gone_on settled later upto [] = refl
-gone_on settled later upto (l ∷ left) = first (nat_le l.tree settled) (nat_le l.tree later) refl refl (gone_on settled later upto left)
+gone_on : (elapsed later : ℕ) → elapsed ≤ later → (left : List Leaving) → gone_after later (gone_after elapsed left) ≡ gone_after later left
+gone_on elapsed later upto [] = refl
+gone_on elapsed later upto (l ∷ left) = first (nat_le l.tree elapsed) (nat_le l.tree later) refl refl (gone_on elapsed later upto left)
   where
-    first : (a b : Bool) → nat_le l.tree settled ≡ a → nat_le l.tree later ≡ b → gone_after later (gone_after settled left) ≡ gone_after later left
-        → gone_after later (gone_after settled (l ∷ left)) ≡ gone_after later (l ∷ left)
+    first : (a b : Bool) → nat_le l.tree elapsed ≡ a → nat_le l.tree later ≡ b → gone_after later (gone_after elapsed left) ≡ gone_after later left
+        → gone_after later (gone_after elapsed (l ∷ left)) ≡ gone_after later (l ∷ left)
     first true true gone too rest = rw (gone, too) rest
     first true false gone stays rest = absurd (grind (arith, nat_tests))
     first false true stays gone rest = rw (stays, gone) rest
     first false false stays still rest = rw (stays, still) (ap (λ more. l ∷ more) rest)
 
 -- slots that were freed twice
-pub freed_freed : (first second third : SlotSet) (settled later : ℕ) → IsFreed settled first second → IsFreed later second third → settled ≤ later
+pub freed_freed : (first second third : SlotSet) (elapsed later : ℕ) → IsFreed elapsed first second → IsFreed later second third → elapsed ≤ later
     → IsFreed later first third
-freed_freed first second third settled later one two upto = record {
+freed_freed first second third elapsed later one two upto = record {
   count = two.count ∙ one.count;
   sum = two.sum ∙ one.sum;
   each = λ slot. two.each slot ∙ one.each slot;
-  left = two.left ∙ ap (gone_after later) one.left ∙ gone_on settled later upto first.left;
+  left = two.left ∙ ap (gone_after later) one.left ∙ gone_on elapsed later upto first.left;
 }
 
-pub hangs_freed : (states : List SlotState) (shown : List ShownArea) (settled : ℕ) (slots after : SlotSet) → IsFreed settled slots after → Hangs states shown slots
+pub hangs_freed : (states : List SlotState) (shown : List ShownArea) (elapsed : ℕ) (slots after : SlotSet) → IsFreed elapsed slots after → Hangs states shown slots
     → Hangs states shown after
-hangs_freed states shown settled slots after freed hangs = record {
+hangs_freed states shown elapsed slots after freed hangs = record {
   sized = hangs.sized ∙ sym freed.count;
   counted = omega (arith, hangs.counted, freed.sum, freed.count);
   once = λ slot. subst (λ count. times_shown slot shown + times slot after.free + times_left slot after.left ≡ (if nat_lt slot count then 1 else 0)) (sym freed.count)

@@ -1,4 +1,4 @@
--- For `Board::change_all`, `Board::enter` and `store_moved`: areas in order are told by their weights.
+-- For `AreaStore::change_all`, `AreaStore::enter` and `store_moved`: areas in order are told by their weights.
 use Rattle.std.proofs.Common.{ℕ, ◌≡◌, ◌≢◌, ◌<◌, ◌≤◌, ◌+◌, Bool, true, false, if◌then◌else◌, nat_eq, nat_lt, nat_le, ◌&&◌, ◌*◌, get_or, List, [], ◌∷◌, length, sum_by, All, refl, sym, ap, subst, ◌∙◌, arith, ◌⊎◌, inl, inr}
 use Rattle.std.proofs.lemmas.Bool.{cases_lt}
 use Rattle.std.proofs.lemmas.Bool.Decides.{nat_tests}
@@ -12,7 +12,7 @@ use Rattle.area_list.specs.Areas.{has_page}
 use Rattle.split_merge.specs.Internal.Sorted.{BeginsAscend}
 use Rattle.area_tree.specs.declared.shown.ShownArea.{ShownArea}
 use Rattle.area_tree.specs.AreaTrees.{areas_shown, times_shown, AreasRise}
-use Rattle.mm_state.specs.Internal.Boards.{at_page, weigh, IsWithin, CanHold}
+use Rattle.mm_state.specs.Internal.AreaStores.{at_page, weigh, IsWithin, CanHold}
 
 pub weigh_map : (weight : Record → ℕ) (shown : List ShownArea) → sum_by weight (areas_shown shown) ≡ weigh weight shown
 weigh_map weight [] = refl

@@ -1,4 +1,4 @@
--- For `Board::detach_all` and `Board::change_all`: slots of areas that adjoin each other leave one after the other, and the tree loses
+-- For `AreaStore::detach_all` and `AreaStore::change_all`: slots of areas that adjoin each other leave one after the other, and the tree loses
 -- the areas at once.
 use Rattle.std.proofs.Common.{◌≡◌, ◌≤◌, ◌<◌, ◌+◌, ℕ, suc, true, List, [], ◌∷◌, ◌++◌, length, drop, get_or, map, All, refl, sym, ap, ◌∙◌, subst, ◌⊎◌, inl, inr, arith, add-one, vec_capacity}
 use Rattle.std.specs.List.{Contains, remove}
@@ -19,9 +19,9 @@ use Rattle.area_slots.specs.Slots.{SlotSet, IsTaken}
 use Rattle.vma_lock.specs.Seats.{slots_of, Writes, sight, slots}
 use Rattle.area_tree.specs.declared.shown.ShownArea.{ShownArea}
 use Rattle.area_tree.specs.AreaTrees.{AreaTreeView, shown_at, shown_of, areas_of, areas_shown, AreasRise, Adjoin}
-use Rattle.mm_state.specs.declared.board.Board.{Board}
+use Rattle.mm_state.specs.declared.store.AreaStore.{AreaStore}
 use Rattle.mm_state.specs.Shelves.{Hangs}
-use Rattle.mm_state.specs.Internal.Boards.{IsBeside, IsSameTree, CanChange, Carries, IsShown, IsChanging, IsSane}
+use Rattle.mm_state.specs.Internal.AreaStores.{IsBeside, IsSameTree, CanChange, Carries, IsShown, IsChanging, IsSane}
 use Rattle.mm_state.specs.Internal.Runs.{IsRun, IsLetGo, CarriesAll}
 use Rattle.mm_state.proofs.Hanging.{taken_in, detached}
 use Rattle.mm_state.proofs.Writing.{hangs_out}
@@ -33,27 +33,27 @@ use Rattle.mm_state.proofs.Running.{IsPart, part_of, run_old, run_after}
 abbrev pub goes : ShownArea → Change
 goes shown = Detach shown.area
 
--- slots of a board were let go one after the other, from that of the last area on
-abbrev pub LetsGo : Board → Board → List ShownArea → ℕ → Type 0
-LetsGo start board [] tree = board ≡ start
-LetsGo start board (shown ∷ gone) tree = (between : Board) × LetsGo start between gone tree × IsLetGo between board shown.slot tree
+-- slots of a store were let go one after the other, from that of the last area on
+abbrev pub LetsGo : AreaStore → AreaStore → List ShownArea → ℕ → Type 0
+LetsGo start store [] tree = store ≡ start
+LetsGo start store (shown ∷ gone) tree = (between : AreaStore) × LetsGo start between gone tree × IsLetGo between store shown.slot tree
 
 -- The slots of the areas that these changes take away were let go, which the tree still has. The others hang together with what moved.
-pub record IsLettingGo (start board : Board) (done : List Change) (tree : ℕ) : Type 0 where
+pub record IsLettingGo (start store : AreaStore) (done : List Change) (tree : ℕ) : Type 0 where
   pub gone : List ShownArea
   pub rest : List ShownArea
   pub is : map goes gone ≡ done
-  pub chain : LetsGo start board gone tree
+  pub chain : LetsGo start store gone tree
   pub parted : IsPermutation (gone ++ rest) (shown_of start.areas)
-  pub hangs : Hangs (slots board.writer) (rest ++ start.moved.items) board.slots
-  pub table : board.table ≡ start.table
-  pub mine : Writes board.writer board.table
-  pub beside : IsBeside (sight start.writer) (sight board.writer)
-  pub count : board.slots.count ≡ start.slots.count
-  pub areas : board.areas ≡ start.areas
+  pub hangs : Hangs (slots store.writer) (rest ++ start.moved.items) store.slots
+  pub table : store.table ≡ start.table
+  pub mine : Writes store.writer store.table
+  pub beside : IsBeside (sight start.writer) (sight store.writer)
+  pub count : store.slots.count ≡ start.slots.count
+  pub areas : store.areas ≡ start.areas
 
 -- no slot was let go
-pub none_gone : (start : Board) (tree : ℕ) → CanChange start → IsLettingGo start start [] tree
+pub none_gone : (start : AreaStore) (tree : ℕ) → CanChange start → IsLettingGo start start [] tree
 none_gone start tree can = record {
   gone = [];
   rest = shown_of start.areas;
@@ -86,7 +86,7 @@ run_above (first ∷ gone) lo hi run some s member = elim (contains_cases first 
 contained : (tree : List ShownArea) (s : ShownArea) → Contains tree s → Contains (areas_shown tree) s.area
 contained tree s member = shown_contained tree s.area (s.slot, member)
 
-module _ (start board : Board) (done : List Change) (tree : ℕ) (going : IsLettingGo start board done tree) (limit : ℕ) (rises : AreasRise limit 0 (areas_of start.areas)) where
+module _ (start store : AreaStore) (done : List Change) (tree : ℕ) (going : IsLettingGo start store done tree) (limit : ℕ) (rises : AreasRise limit 0 (areas_of start.areas)) where
   -- those that went are of the tree
   pub were_there : (s : ShownArea) → Contains going.gone s → Contains (shown_of start.areas) s
   were_there s member = Contains-permutation (going.gone ++ going.rest) (shown_of start.areas) s going.parted (Contains-append_left going.gone going.rest s member)
@@ -109,29 +109,29 @@ module _ (start board : Board) (done : List Change) (tree : ℕ) (going : IsLett
       by (inr stays) = stays
 
 -- the slot of an area that has not gone is taken
-pub in_place : (start board : Board) (done : List Change) (tree : ℕ) (going : IsLettingGo start board done tree) (s : ShownArea) → Contains going.rest s
-    → IsTaken board.slots s.slot
-in_place start board done tree going s member = taken_in (slots board.writer) going.rest start.moved.items board.slots s going.hangs member
+pub in_place : (start store : AreaStore) (done : List Change) (tree : ℕ) (going : IsLettingGo start store done tree) (s : ShownArea) → Contains going.rest s
+    → IsTaken store.slots s.slot
+in_place start store done tree going s member = taken_in (slots store.writer) going.rest start.moved.items store.slots s going.hangs member
 
 -- one slot more is let go
-pub go_step : (start board after : Board) (done : List Change) (tree : ℕ) (going : IsLettingGo start board done tree) (s : ShownArea) → Contains going.rest s
-    → IsLetGo board after s.slot tree → IsLettingGo start after (goes s ∷ done) tree
-go_step start board after done tree going s member let_go = record {
+pub go_step : (start store after : AreaStore) (done : List Change) (tree : ℕ) (going : IsLettingGo start store done tree) (s : ShownArea) → Contains going.rest s
+    → IsLetGo store after s.slot tree → IsLettingGo start after (goes s ∷ done) tree
+go_step start store after done tree going s member let_go = record {
   gone = s ∷ going.gone;
   rest = others;
   is = ap (λ changes. goes s ∷ changes) going.is;
-  chain = (board, going.chain, let_go);
+  chain = (store, going.chain, let_go);
   parted = IsPermutation-trans (s ∷ (going.gone ++ others)) (going.gone ++ s ∷ others) (shown_of start.areas)
       (IsPermutation-sym (going.gone ++ s ∷ others) (s ∷ (going.gone ++ others)) (IsPermutation-middle going.gone s others))
       (IsPermutation-trans (going.gone ++ s ∷ others) (going.gone ++ going.rest) (shown_of start.areas)
       (IsPermutation-append_right going.gone (s ∷ others) going.rest out) going.parted);
-  hangs = rw let_go.written.slots (rw let_go.slots (detached (slots board.writer) s (others ++ start.moved.items) board.slots (sight board.writer).desk.seq tree
-      (hangs_out (slots board.writer) going.rest others start.moved.items board.slots s going.hangs out)));
-  table = ap (λ (b : Board). b.table) let_go.same ∙ going.table;
+  hangs = rw let_go.written.slots (rw let_go.slots (detached (slots store.writer) s (others ++ start.moved.items) store.slots (sight store.writer).writer_state.seq tree
+      (hangs_out (slots store.writer) going.rest others start.moved.items store.slots s going.hangs out)));
+  table = ap (λ (b : AreaStore). b.table) let_go.same ∙ going.table;
   mine = let_go.mine;
   beside = beside_beside going.beside let_go.written.beside;
   count = ap (λ (set : SlotSet). set.count) let_go.slots ∙ going.count;
-  areas = ap (λ (b : Board). b.areas) let_go.same ∙ going.areas;
+  areas = ap (λ (b : AreaStore). b.areas) let_go.same ∙ going.areas;
 }
   where
     others : List ShownArea
@@ -141,31 +141,31 @@ go_step start board after done tree going s member let_go = record {
     out = IsPermutation-sym going.rest (s ∷ others) (IsPermutation-remove going.rest member.0 s member.1 (sym member.2))
 
 -- the slot that shows the area of the next change
-module _ (start board : Board) (changes : List Change) (place left : ℕ) (d : Change) (slot : ℕ) (area : Record) (lo hi limit tree : ℕ)
-    (going : IsLettingGo start board (drop left changes) tree) (rises : AreasRise limit 0 (areas_of start.areas)) (run : IsRun lo hi changes)
+module _ (start store : AreaStore) (changes : List Change) (place left : ℕ) (d : Change) (slot : ℕ) (area : Record) (lo hi limit tree : ℕ)
+    (going : IsLettingGo start store (drop left changes) tree) (rises : AreasRise limit 0 (areas_of start.areas)) (run : IsRun lo hi changes)
     (within : place < length changes) (next : place + 1 ≡ left) (is : get_or changes place d ≡ Detach area)
-    (member : Contains (shown_of board.areas) (record { slot = slot; area = area })) where
+    (member : Contains (shown_of store.areas) (record { slot = slot; area = area })) where
   next_in : Contains going.rest (record { slot = slot; area = area })
-  next_in = still_in start board (drop left changes) tree going limit rises (record { slot = slot; area = area }) hi
+  next_in = still_in start store (drop left changes) tree going limit rises (record { slot = slot; area = area }) hi
       (subst (λ (t : AreaTreeView). Contains (shown_of t) (record { slot = slot; area = area })) going.areas member)
       (run_after lo hi changes place left d area run within next is)
 
-  pub next_taken : IsTaken board.slots slot
-  next_taken = in_place start board (drop left changes) tree going (record { slot = slot; area = area }) next_in
+  pub next_taken : IsTaken store.slots slot
+  next_taken = in_place start store (drop left changes) tree going (record { slot = slot; area = area }) next_in
 
-  pub next_below : CanChange start → slot < slots_of board.table
+  pub next_below : CanChange start → slot < slots_of store.table
   next_below can = omega (arith, next_taken.below, going.count, can.count, ap slots_of going.table)
 
-  pub next_gone : (after : Board) → IsLetGo board after slot tree → IsLettingGo start after (drop place changes) tree
+  pub next_gone : (after : AreaStore) → IsLetGo store after slot tree → IsLettingGo start after (drop place changes) tree
   next_gone after let_go = subst (λ done. IsLettingGo start after done tree)
       (ap (λ change. change ∷ drop left changes) (sym is) ∙ drop_one changes place left d within next)
-      (go_step start board after (drop left changes) tree going (record { slot = slot; area = area }) next_in let_go)
+      (go_step start store after (drop left changes) tree going (record { slot = slot; area = area }) next_in let_go)
 
 -- the next area is in the tree
-pub next_there : (start board : Board) (changes : List Change) (place left : ℕ) (d : Change) (area : Record) (lo hi tree : ℕ)
-    → IsLettingGo start board (drop left changes) tree → All (Contains (areas_of start.areas)) (olds_of changes) → IsRun lo hi changes
-    → place < length changes → get_or changes place d ≡ Detach area → Contains (areas_of board.areas) area
-next_there start board changes place left d area lo hi tree going olds run within is =
+pub next_there : (start store : AreaStore) (changes : List Change) (place left : ℕ) (d : Change) (area : Record) (lo hi tree : ℕ)
+    → IsLettingGo start store (drop left changes) tree → All (Contains (areas_of start.areas)) (olds_of changes) → IsRun lo hi changes
+    → place < length changes → get_or changes place d ≡ Detach area → Contains (areas_of store.areas) area
+next_there start store changes place left d area lo hi tree going olds run within is =
     subst (λ (t : AreaTreeView). Contains (areas_of t) area) (sym going.areas)
     (All-contains (Contains (areas_of start.areas)) (olds_of changes) area olds (run_old lo hi changes place d area run within is))
 
@@ -201,39 +201,39 @@ recorded areas s (place, within, is) = ap (λ n. shown_at areas.records (record 
     same = sym (get_or-map (shown_at areas.records) areas.tree.pairs place (pair_for s) s (omega (arith, within, length-map areas.tree.pairs (shown_at areas.records)))) ∙ is
 
 -- a slot that is let go, beside a tree that loses its area
-pub carries : (start board : Board) (old new : AreaTreeView) (s : ShownArea) (tree : ℕ) → IsLetGo start board s.slot tree → IsSameTree old new
-    → IsPermutation (s ∷ shown_of new) (shown_of old) → Carries (record start { areas = old }) (record board { areas = new }) (goes s) tree
-carries start board old new s tree let_go same out = (
+pub carries : (start store : AreaStore) (old new : AreaTreeView) (s : ShownArea) (tree : ℕ) → IsLetGo start store s.slot tree → IsSameTree old new
+    → IsPermutation (s ∷ shown_of new) (shown_of old) → Carries (record start { areas = old }) (record store { areas = new }) (goes s) tree
+carries start store old new s tree let_go same out = (
   s.slot,
   record {
-    table = ap (λ (b : Board). b.table) let_go.same;
+    table = ap (λ (b : AreaStore). b.table) let_go.same;
     mine = let_go.mine;
     written = let_go.written;
     same = same;
-    moved_room = ap (λ (b : Board). vec_capacity b.moved) let_go.same;
+    moved_room = ap (λ (b : AreaStore). vec_capacity b.moved) let_go.same;
   },
   out,
-  ap (λ (b : Board). b.moved.items) let_go.same,
+  ap (λ (b : AreaStore). b.moved.items) let_go.same,
   let_go.slots,
 )
 
-module _ (start : Board) (areas : AreaTreeView) (tree : ℕ) (same : IsSameTree start.areas areas) (records : areas.records ≡ start.areas.records) where
+module _ (start : AreaStore) (areas : AreaTreeView) (tree : ℕ) (same : IsSameTree start.areas areas) (records : areas.records ≡ start.areas.records) where
   same_with : (pairs : List Pair) → IsSameTree start.areas (with_pairs areas pairs)
   same_with pairs = ap (λ (t : AreaTreeView). with_pairs t pairs) same
 
   -- each area goes out of a tree that has those that go later
-  all_carried : (gone : List ShownArea) (s : ShownArea) (board : Board) (pairs : List Pair) → LetsGo start board (s ∷ gone) tree
+  all_carried : (gone : List ShownArea) (s : ShownArea) (store : AreaStore) (pairs : List Pair) → LetsGo start store (s ∷ gone) tree
       → IsPermutation (s ∷ (gone ++ shown_of (with_pairs areas pairs))) (shown_of start.areas)
-      → CarriesAll start (record board { areas = with_pairs areas pairs }) (goes s ∷ map goes gone) tree
-  all_carried [] s board pairs (between, is, let_go) out = (
+      → CarriesAll start (record store { areas = with_pairs areas pairs }) (goes s ∷ map goes gone) tree
+  all_carried [] s store pairs (between, is, let_go) out = (
     start,
     refl,
-    carries start board start.areas (with_pairs areas pairs) s tree (subst (λ (b : Board). IsLetGo b board s.slot tree) is let_go) (same_with pairs) out,
+    carries start store start.areas (with_pairs areas pairs) s tree (subst (λ (b : AreaStore). IsLetGo b store s.slot tree) is let_go) (same_with pairs) out,
   )
-  all_carried (next ∷ gone) s board pairs (between, chain, let_go) out = (
+  all_carried (next ∷ gone) s store pairs (between, chain, let_go) out = (
     record between { areas = with_pairs areas (pair_for s ∷ pairs) },
     all_carried gone next between (pair_for s ∷ pairs) chain earlier,
-    carries between board (with_pairs areas (pair_for s ∷ pairs)) (with_pairs areas pairs) s tree let_go refl
+    carries between store (with_pairs areas (pair_for s ∷ pairs)) (with_pairs areas pairs) s tree let_go refl
         (subst (λ t. IsPermutation (s ∷ left) (t ∷ left)) (sym is) (IsPermutation-refl (s ∷ left))),
   )
     where
@@ -248,38 +248,38 @@ module _ (start : Board) (areas : AreaTreeView) (tree : ℕ) (same : IsSameTree 
           (IsPermutation-trans ((next ∷ gone) ++ s ∷ left) (s ∷ ((next ∷ gone) ++ left)) (shown_of start.areas) (IsPermutation-middle (next ∷ gone) s left) out)
 
   -- so the changes that took these areas away were carried out once the tree loses all of them
-  pub all_gone : (board : Board) (changes : List Change) (going : IsLettingGo start board changes tree) → 0 < length changes
-      → IsPermutation (going.gone ++ shown_of areas) (shown_of start.areas) → CarriesAll start (record board { areas = areas }) changes tree
-  all_gone board changes going some out = subst (λ list. CarriesAll start (record board { areas = areas }) list tree) going.is (by going.gone going.chain going.is out)
+  pub all_gone : (store : AreaStore) (changes : List Change) (going : IsLettingGo start store changes tree) → 0 < length changes
+      → IsPermutation (going.gone ++ shown_of areas) (shown_of start.areas) → CarriesAll start (record store { areas = areas }) changes tree
+  all_gone store changes going some out = subst (λ list. CarriesAll start (record store { areas = areas }) list tree) going.is (by going.gone going.chain going.is out)
     where
-      by : (gone : List ShownArea) → LetsGo start board gone tree → map goes gone ≡ changes → IsPermutation (gone ++ shown_of areas) (shown_of start.areas)
-          → CarriesAll start (record board { areas = areas }) (map goes gone) tree
+      by : (gone : List ShownArea) → LetsGo start store gone tree → map goes gone ≡ changes → IsPermutation (gone ++ shown_of areas) (shown_of start.areas)
+          → CarriesAll start (record store { areas = areas }) (map goes gone) tree
       by [] chain is out = absurd (omega (arith, some, ap length is))
-      by (s ∷ gone) chain is out = all_carried gone s board areas.tree.pairs chain out
+      by (s ∷ gone) chain is out = all_carried gone s store areas.tree.pairs chain out
 
 -- every slot was let go
-module _ (start board : Board) (changes : List Change) (left lo hi limit tree : ℕ) (going : IsLettingGo start board (drop left changes) tree)
+module _ (start store : AreaStore) (changes : List Change) (left lo hi limit tree : ℕ) (going : IsLettingGo start store (drop left changes) tree)
     (rises : AreasRise limit 0 (areas_of start.areas)) (run : IsRun lo hi changes) (some : 0 < length changes) (none : left ≤ 0) where
-  all_let_go : IsLettingGo start board changes tree
-  all_let_go = let is : left ≡ 0 = omega arith in subst (λ n. IsLettingGo start board (drop n changes) tree) is going
+  all_let_go : IsLettingGo start store changes tree
+  all_let_go = let is : left ≡ 0 = omega arith in subst (λ n. IsLettingGo start store (drop n changes) tree) is going
 
-  all_there : All (Contains (shown_of board.areas)) all_let_go.gone
+  all_there : All (Contains (shown_of store.areas)) all_let_go.gone
   all_there k d within = subst (λ (t : AreaTreeView). Contains (shown_of t) (get_or all_let_go.gone k d)) (sym all_let_go.areas)
-      (were_there start board changes tree all_let_go limit rises (get_or all_let_go.gone k d) (Contains-get_or all_let_go.gone k d within))
+      (were_there start store changes tree all_let_go limit rises (get_or all_let_go.gone k d) (Contains-get_or all_let_go.gone k d within))
 
   all_adjoin : Adjoin lo hi (areas_shown all_let_go.gone)
-  all_adjoin = run_adjoins all_let_go.gone lo hi (subst (IsRun lo hi) (sym all_let_go.is) run) (had_pages start board changes tree all_let_go limit rises)
+  all_adjoin = run_adjoins all_let_go.gone lo hi (subst (IsRun lo hi) (sym all_let_go.is) run) (had_pages start store changes tree all_let_go limit rises)
 
-  pub can_remove : (taken : List ShownArea) × All (Contains (shown_of board.areas)) taken × Adjoin lo hi (areas_shown taken) × (length taken ≡ length changes)
+  pub can_remove : (taken : List ShownArea) × All (Contains (shown_of store.areas)) taken × Adjoin lo hi (areas_shown taken) × (length taken ≡ length changes)
       × (0 < length changes)
   can_remove = (all_let_go.gone, all_there, all_adjoin, sym (length-map all_let_go.gone goes) ∙ ap length all_let_go.is, some)
 
-  pub detached_all : (areas : AreaTreeView) → areas ≡ record board.areas { tree = record board.areas.tree { pairs = areas.tree.pairs; changed = true; free = areas.tree.free } }
-      → ((taken : List ShownArea) → All (Contains (shown_of board.areas)) taken → Adjoin lo hi (areas_shown taken) → IsPermutation (taken ++ shown_of areas) (shown_of board.areas))
-      → CarriesAll start (record board { areas = areas }) changes tree
+  pub detached_all : (areas : AreaTreeView) → areas ≡ record store.areas { tree = record store.areas.tree { pairs = areas.tree.pairs; changed = true; free = areas.tree.free } }
+      → ((taken : List ShownArea) → All (Contains (shown_of store.areas)) taken → Adjoin lo hi (areas_shown taken) → IsPermutation (taken ++ shown_of areas) (shown_of store.areas))
+      → CarriesAll start (record store { areas = areas }) changes tree
   detached_all areas same shown = all_gone start areas tree
-      (tree_step start.areas board.areas areas (subst (IsSameTree start.areas) (sym all_let_go.areas) refl) (subst (IsSameTree board.areas) (sym same) refl))
-      (ap (λ (t : AreaTreeView). t.records) same ∙ ap (λ (t : AreaTreeView). t.records) all_let_go.areas) board changes all_let_go some
+      (tree_step start.areas store.areas areas (subst (IsSameTree start.areas) (sym all_let_go.areas) refl) (subst (IsSameTree store.areas) (sym same) refl))
+      (ap (λ (t : AreaTreeView). t.records) same ∙ ap (λ (t : AreaTreeView). t.records) all_let_go.areas) store changes all_let_go some
       (subst (λ (t : AreaTreeView). IsPermutation (all_let_go.gone ++ shown_of areas) (shown_of t)) all_let_go.areas (shown all_let_go.gone all_there all_adjoin))
 
 -- what is left when more areas are gone was left before
@@ -290,11 +290,11 @@ weaker_left gone later areas area member =
     (subst (λ list. Contains list area) (without-append gone later areas ∙ without_swap later gone areas) member)
 
 -- what a part of a plan takes away is left when the later changes are carried out
-pub part_there : (start board : Board) (changes part : List Change) (first left : ℕ) (tree : ℕ) → IsChanging start board (drop left changes) tree
+pub part_there : (start store : AreaStore) (changes part : List Change) (first left : ℕ) (tree : ℕ) → IsChanging start store (drop left changes) tree
     → IsPlanOf (areas_of start.areas) changes → part ++ drop left changes ≡ drop first changes
     → All (Contains (without (olds_of (drop left changes)) (areas_of start.areas))) (olds_of part)
-part_there start board changes [] first left tree changing plan is = λ k d within. absurd (omega (arith, within))
-part_there start board changes (change ∷ part) first left tree changing plan is =
+part_there start store changes [] first left tree changing plan is = λ k d within. absurd (omega (arith, within))
+part_there start store changes (change ∷ part) first left tree changing plan is =
     subst (All (Contains (without (olds_of (drop left changes)) (areas_of start.areas)))) (sym (olds_of-append (change ∷ []) part))
     (All-append (Contains (without (olds_of (drop left changes)) (areas_of start.areas))) (olds_of (change ∷ [])) (olds_of part)
     (All-weaker (Contains (without (olds_of (part ++ drop left changes)) (areas_of start.areas))) (Contains (without (olds_of (drop left changes)) (areas_of start.areas)))
@@ -305,30 +305,30 @@ part_there start board changes (change ∷ part) first left tree changing plan i
     (subst (λ one. All (Contains (without (olds_of (drop (suc first) changes)) (areas_of start.areas))) (olds_of (one ∷ []))) parts.here
     (there_in (areas_of start.areas) (without (olds_of (drop (suc first) changes)) (areas_of start.areas)) changes first (suc first) change changing.ascend
     plan.members plan.distinct parts.within (add-one first) refl))))
-    (part_there start board changes part (suc first) left tree changing plan parts.rest))
+    (part_there start store changes part (suc first) left tree changing plan parts.rest))
   where
     parts : IsPart changes first change (part ++ drop left changes)
     parts = part_of changes first change (part ++ drop left changes) is
 
 -- and so is in the tree
-pub part_in_tree : (start board : Board) (changes part : List Change) (first left : ℕ) (tree : ℕ) → IsChanging start board (drop left changes) tree
-    → IsPlanOf (areas_of start.areas) changes → part ++ drop left changes ≡ drop first changes → All (Contains (areas_of board.areas)) (olds_of part)
-part_in_tree start board changes part first left tree changing plan is =
-    All-weaker (Contains rest) (Contains (areas_of board.areas))
-    (λ area member. shown_contained (shown_of board.areas) area (All-contains (IsShown (shown_of board.areas)) rest area changing.there member))
-    (olds_of part) (part_there start board changes part first left tree changing plan is)
+pub part_in_tree : (start store : AreaStore) (changes part : List Change) (first left : ℕ) (tree : ℕ) → IsChanging start store (drop left changes) tree
+    → IsPlanOf (areas_of start.areas) changes → part ++ drop left changes ≡ drop first changes → All (Contains (areas_of store.areas)) (olds_of part)
+part_in_tree start store changes part first left tree changing plan is =
+    All-weaker (Contains rest) (Contains (areas_of store.areas))
+    (λ area member. shown_contained (shown_of store.areas) area (All-contains (IsShown (shown_of store.areas)) rest area changing.there member))
+    (olds_of part) (part_there start store changes part first left tree changing plan is)
   where
     rest : List Record
     rest = without (olds_of (drop left changes)) (areas_of start.areas)
 
 -- a part of a plan is carried out
-pub part_step : (start board after : Board) (changes part : List Change) (first left : ℕ) (tree : ℕ) → IsChanging start board (drop left changes) tree
-    → IsPlanOf (areas_of start.areas) changes → All IsSane changes → part ++ drop left changes ≡ drop first changes → CarriesAll board after part tree
+pub part_step : (start store after : AreaStore) (changes part : List Change) (first left : ℕ) (tree : ℕ) → IsChanging start store (drop left changes) tree
+    → IsPlanOf (areas_of start.areas) changes → All IsSane changes → part ++ drop left changes ≡ drop first changes → CarriesAll store after part tree
     → IsChanging start after (drop first changes) tree
-part_step start board after changes [] first left tree changing plan sane is same =
-    subst (λ list. IsChanging start after list tree) is (subst (λ (b : Board). IsChanging start b (drop left changes) tree) (sym same) changing)
-part_step start board after changes (change ∷ part) first left tree changing plan sane is (between, more, carried) =
-    by (part_step start board between changes part (suc first) left tree changing plan sane parts.rest more)
+part_step start store after changes [] first left tree changing plan sane is same =
+    subst (λ list. IsChanging start after list tree) is (subst (λ (b : AreaStore). IsChanging start b (drop left changes) tree) (sym same) changing)
+part_step start store after changes (change ∷ part) first left tree changing plan sane is (between, more, carried) =
+    by (part_step start store between changes part (suc first) left tree changing plan sane parts.rest more)
   where
     parts : IsPart changes first change (part ++ drop left changes)
     parts = part_of changes first change (part ++ drop left changes) is

@@ -17,4 +17,4 @@ pub mod Opening
 pub mod Entering
 pub mod Made
 pub mod Storing
-pub mod Ceding
+pub mod Splitting

@@ -20,7 +20,7 @@ use Rattle.sys_calls.proofs.Keeping.{made_space}
 use Rattle.vma_lock.specs.Seats.{config_of, table_of, sight, slots}
 use Rattle.area_tree.specs.AreaTrees.{areas_of}
 use Rattle.mm_state.specs.declared.state.MmState.TheInside.{Inside}
-use Rattle.mm_state.specs.Internal.Boards.{IsAtRest, ChangesAtMost, IsEntered, IsCarriedOut}
+use Rattle.mm_state.specs.Internal.AreaStores.{IsAtRest, ChangesAtMost, IsEntered, IsCarriedOut}
 use Rattle.mm_state.specs.Kept.{IsState, state_of}
 use Rattle.mm_state.specs.States.{KeepsSlots, ChangesOne, Enters}
 use Rattle.mm_state.proofs.Entering.{space_after, entered}
@@ -30,14 +30,14 @@ pub record IsAsked (old : Inside) (entry : Entry) (answer : Planned) (plan : Pla
   pub state : IsState old
   pub spare : length old.journal.items < old.room
   pub reply : entry.reply ≡ answer.reply
-  pub planned : IsPlannedWhole old.board.areas.bounds old.board.areas.tree.areas (areas_of old.board.areas)
-      (step old.config (space_of (areas_of old.board.areas) old.counters) entry.call) answer old.plan plan
+  pub planned : IsPlannedWhole old.store.areas.bounds old.store.areas.tree.areas (areas_of old.store.areas)
+      (step old.config (space_of (areas_of old.store.areas) old.counters) entry.call) answer old.plan plan
 
 -- the plan can be carried out
-pub may_enter : (old : Inside) (entry : Entry) (answer : Planned) (plan : PlanView) → IsAsked old entry answer plan → IsEntered old.board plan.changes entry
+pub may_enter : (old : Inside) (entry : Entry) (answer : Planned) (plan : PlanView) → IsAsked old entry answer plan → IsEntered old.store plan.changes entry
 may_enter old entry answer plan asked =
     let i = asked.state in
-    entered old.board old.config old.journal.items old.counters entry old.plan plan record {
+    entered old.store old.config old.journal.items old.counters entry old.plan plan record {
       settings = i.settings;
       journal_is = i.journal;
       space = i.space;
@@ -50,9 +50,9 @@ may_enter old entry answer plan asked =
 
 -- the list after the plan is that after the entry
 list_then : (old : Inside) (entry : Entry) (answer : Planned) (plan : PlanView) (entries : List Entry) → IsAsked old entry answer plan
-    → entries ≡ old.journal.items ++ entry ∷ [] → applied plan.changes (areas_of old.board.areas) ≡ list_after old.config entries
+    → entries ≡ old.journal.items ++ entry ∷ [] → applied plan.changes (areas_of old.store.areas) ≡ list_after old.config entries
 list_then old entry answer plan entries asked pushed = asked.planned.planned.makes.result
-    ∙ ap (λ (space : AddressSpace). space.areas) (space_after old.config old.journal.items (areas_of old.board.areas) old.counters entry asked.state.space
+    ∙ ap (λ (space : AddressSpace). space.areas) (space_after old.config old.journal.items (areas_of old.store.areas) old.counters entry asked.state.space
     ∙ ap (after old.config) (sym pushed))
 
 -- where a plan has one change at most, all slots but one at most are as they were
@@ -67,19 +67,19 @@ one_slot count old new one (slot ∷ next ∷ rest, short, same) = absurd (omega
 
 -- an area of the lists before and after keeps its slot
 stays_made : (old : Inside) (entry : Entry) (answer : Planned) (plan : PlanView) (entries : List Entry) (new : List SlotState) → IsAsked old entry answer plan
-    → entries ≡ old.journal.items ++ entry ∷ [] → KeepsSlots (areas_of old.board.areas) (applied plan.changes (areas_of old.board.areas)) (slots old.board.writer) new
-    → KeepsSlots (list_after old.config old.journal.items) (list_after old.config entries) (slots old.board.writer) new
+    → entries ≡ old.journal.items ++ entry ∷ [] → KeepsSlots (areas_of old.store.areas) (applied plan.changes (areas_of old.store.areas)) (slots old.store.writer) new
+    → KeepsSlots (list_after old.config old.journal.items) (list_after old.config entries) (slots old.store.writer) new
 stays_made old entry answer plan entries new asked pushed stays =
-    subst (λ (areas : List Record). KeepsSlots areas (list_after old.config entries) (slots old.board.writer) new) (ap (λ (space : AddressSpace). space.areas) asked.state.space)
-    (subst (λ (areas : List Record). KeepsSlots (areas_of old.board.areas) areas (slots old.board.writer) new) (list_then old entry answer plan entries asked pushed) stays)
+    subst (λ (areas : List Record). KeepsSlots areas (list_after old.config entries) (slots old.store.writer) new) (ap (λ (space : AddressSpace). space.areas) asked.state.space)
+    (subst (λ (areas : List Record). KeepsSlots (areas_of old.store.areas) areas (slots old.store.writer) new) (list_then old entry answer plan entries asked pushed) stays)
 
 -- and was carried out and entered
 pub record IsMade (old new : Inside) (entry : Entry) (answer : Planned) (plan : PlanView) : Type 0 where
   pub asked : IsAsked old entry answer plan
-  pub rest : IsAtRest new.board
-  pub turn : (sight new.board.writer).turn ≡ None
-  pub table : new.board.table ≡ old.board.table
-  pub done : IsCarriedOut old.board new.board plan.changes entry
+  pub rest : IsAtRest new.store
+  pub turn : (sight new.store.writer).turn ≡ None
+  pub table : new.store.table ≡ old.store.table
+  pub done : IsCarriedOut old.store new.store plan.changes entry
   pub counters : new.counters ≡ answer.counters
   pub pushed : new.journal.items ≡ old.journal.items ++ entry ∷ []
   pub capacity : vec_capacity old.journal ≤ vec_capacity new.journal
@@ -92,18 +92,18 @@ module _ (old new : Inside) (entry : Entry) (answer : Planned) (plan : PlanView)
     made.asked.reply ∙ made.asked.planned.planned.reply ∙ ap (λ (space : AddressSpace). (step old.config space entry.call).reply) made.asked.state.space,
   ))
 
-  space_then : space_of (areas_of new.board.areas) new.counters ≡ after old.config new.journal.items
-  space_then = made_space (areas_of new.board.areas) new.counters (step old.config (space_of (areas_of old.board.areas) old.counters) entry.call).space
+  space_then : space_of (areas_of new.store.areas) new.counters ≡ after old.config new.journal.items
+  space_then = made_space (areas_of new.store.areas) new.counters (step old.config (space_of (areas_of old.store.areas) old.counters) entry.call).space
       (made.done.areas ∙ made.asked.planned.planned.makes.result) (made.counters ∙ made.asked.planned.counters)
-      ∙ space_after old.config old.journal.items (areas_of old.board.areas) old.counters entry made.asked.state.space ∙ ap (after old.config) (sym made.pushed)
+      ∙ space_after old.config old.journal.items (areas_of old.store.areas) old.counters entry made.asked.state.space ∙ ap (after old.config) (sym made.pushed)
 
-  kept_then : IsKept new.board.areas.bounds new.board.areas.tree.areas (areas_of new.board.areas)
-  kept_then = subst (λ (b : Bounds). IsKept b new.board.areas.tree.areas (areas_of new.board.areas)) (sym made.done.bounds)
-      (subst (λ (n : ℕ). IsKept old.board.areas.bounds n (areas_of new.board.areas)) (sym made.done.most)
-      (subst (λ (areas : List Record). IsKept old.board.areas.bounds old.board.areas.tree.areas areas) (sym made.done.areas) made.asked.planned.planned.kept))
+  kept_then : IsKept new.store.areas.bounds new.store.areas.tree.areas (areas_of new.store.areas)
+  kept_then = subst (λ (b : Bounds). IsKept b new.store.areas.tree.areas (areas_of new.store.areas)) (sym made.done.bounds)
+      (subst (λ (n : ℕ). IsKept old.store.areas.bounds n (areas_of new.store.areas)) (sym made.done.most)
+      (subst (λ (areas : List Record). IsKept old.store.areas.bounds old.store.areas.tree.areas areas) (sym made.done.areas) made.asked.planned.planned.kept))
 
   -- the state is kept
-  pub state_made : IsState (record old { board = new.board; counters = new.counters; plan = new.plan; journal = new.journal })
+  pub state_made : IsState (record old { store = new.store; counters = new.counters; plan = new.plan; journal = new.journal })
   state_made = record {
     rest = made.rest;
     turn = made.turn;
@@ -126,16 +126,16 @@ module _ (old new : Inside) (entry : Entry) (answer : Planned) (plan : PlanView)
 
   -- and the call was entered
   pub call_entered : ((page : Page) (access : Access) → entry.call ≡ Touch page access → length plan.changes ≤ 1)
-      → Enters (state_of old) (state_of (record old { board = new.board; counters = new.counters; plan = new.plan; journal = new.journal }))
+      → Enters (state_of old) (state_of (record old { store = new.store; counters = new.counters; plan = new.plan; journal = new.journal }))
       entry.caller entry.call entry.reply
   call_entered one = record {
     entry = made.pushed;
     same = (ap table_of made.table, refl, refl);
     nodes = made.done.nodes;
     reply = made.asked.reply ∙ made.asked.planned.planned.reply ∙ ap (λ (space : AddressSpace). (step old.config space entry.call).reply) made.asked.state.space;
-    touch = λ page access is. one_slot (length plan.changes) (slots old.board.writer) (slots new.board.writer) (one page access is) made.done.few;
+    touch = λ page access is. one_slot (length plan.changes) (slots old.store.writer) (slots new.store.writer) (one page access is) made.done.few;
     marks = made.done.marks;
-    stays = stays_made old entry answer plan new.journal.items (slots new.board.writer) made.asked made.pushed made.done.stays;
+    stays = stays_made old entry answer plan new.journal.items (slots new.store.writer) made.asked made.pushed made.done.stays;
     waits = made.done.waits;
     gone = made.done.gone;
   }

@@ -1,4 +1,4 @@
--- For `Board::new`: the slots of a new table hang together, since all are free.
+-- For `AreaStore::new`: the slots of a new table hang together, since all are free.
 use Rattle.std.proofs.Common.{◌≡◌, ◌≢◌, ◌≤◌, ◌<◌, ◌+◌, ℕ, suc, zero, nat_eq, nat_lt, [], reverse, replicate, refl, ap, ◌∙◌, ◌⊎◌, inl, inr, arith, if◌then◌else◌}
 use Rattle.std.specs.List.{range_with_len, list_all}
 use Rattle.std.proofs.lemmas.Bool.{cases_eq, cases_lt}

@@ -1,4 +1,4 @@
--- For `Board::enter`: a board whose writer was lent a turn, or gave it back, is the same but for that.
+-- For `AreaStore::enter`: a store whose writer was lent a turn, or gave it back, is the same but for that.
 use Rattle.std.proofs.Common.{◌≡◌, ◌++◌, ◌∷◌, [], ◌%◌, List, length, subst, sym, ap, ◌∙◌}
 use Rattle.mm_types.specs.declared.call.Entry.{Entry}
 use Rattle.area_rules.specs.Steps.{step, after}
@@ -7,30 +7,30 @@ use Rattle.lock_core.specs.Facts.{list_after}
 use Rattle.split_merge.specs.declared.plan.Change.{Change}
 use Rattle.split_merge.specs.Plans.{applied}
 use Rattle.vma_lock.specs.declared.view.View.{View}
-use Rattle.vma_lock.specs.declared.view.Desk.{Desk}
+use Rattle.vma_lock.specs.declared.view.LockWriterState.{LockWriterState}
 use Rattle.vma_lock.specs.declared.seats.WriterSeat.{WriterSeat}
 use Rattle.vma_lock.specs.Seats.{config_of, Writes, sight, slots}
 use Rattle.area_tree.specs.AreaTrees.{shown_of, areas_of}
-use Rattle.mm_state.specs.declared.board.Board.{Board}
+use Rattle.mm_state.specs.declared.store.AreaStore.{AreaStore}
 use Rattle.mm_state.specs.Shelves.{Hangs}
 use Rattle.mm_state.specs.States.{MarksChanged, KeepsSlots, KeepsLeft, HaveLeft}
-use Rattle.mm_state.specs.Internal.Boards.{IsAtRest, ChangesAtMost, IsEntered, IsCarriedOut}
+use Rattle.mm_state.specs.Internal.AreaStores.{IsAtRest, ChangesAtMost, IsEntered, IsCarriedOut}
 
 -- what a writer knows of its table and its journal is what it knew
 pub record IsLike (old new : View) : Type 0 where
   pub config : new.config ≡ old.config
   pub seen : new.seen ≡ old.seen
-  pub desk : new.desk ≡ old.desk
+  pub writer_state : new.writer_state ≡ old.writer_state
 
-pub at_rest_like : (board : Board) (writer : WriterSeat) → IsLike (sight board.writer) (sight writer) → Writes writer board.table → IsAtRest board
-    → IsAtRest (record board { writer = writer })
-at_rest_like board writer like mine rest = record {
+pub at_rest_like : (store : AreaStore) (writer : WriterSeat) → IsLike (sight store.writer) (sight writer) → Writes writer store.table → IsAtRest store
+    → IsAtRest (record store { writer = writer })
+at_rest_like store writer like mine rest = record {
   table = mine;
   config = like.config ∙ rest.config;
-  closed = ap (λ (d : Desk). d.seq % 2) like.desk ∙ rest.closed;
+  closed = ap (λ (d : LockWriterState). d.seq % 2) like.writer_state ∙ rest.closed;
   count = rest.count;
   records = rest.records;
-  hangs = subst (λ (states : List SlotState). Hangs states (shown_of board.areas) board.slots) (sym (ap (λ (d : Desk). d.slots) like.desk)) rest.hangs;
+  hangs = subst (λ (states : List SlotState). Hangs states (shown_of store.areas) store.slots) (sym (ap (λ (d : LockWriterState). d.slots) like.writer_state)) rest.hangs;
   tree = record {
     shown = rest.tree.shown;
     still = rest.tree.still;
@@ -43,12 +43,12 @@ at_rest_like board writer like mine rest = record {
   };
 }
 
-pub entered_like : (board : Board) (writer : WriterSeat) (changes : List Change) (entry : Entry) → IsLike (sight board.writer) (sight writer)
-    → IsEntered board changes entry → IsEntered (record board { writer = writer }) changes entry
-entered_like board writer changes entry like entered = record {
-  reply = subst (λ (seen : List Entry). entry.reply ≡ (step (config_of board.table) (after (config_of board.table) seen) entry.call).reply) (sym like.seen) entered.reply;
+pub entered_like : (store : AreaStore) (writer : WriterSeat) (changes : List Change) (entry : Entry) → IsLike (sight store.writer) (sight writer)
+    → IsEntered store changes entry → IsEntered (record store { writer = writer }) changes entry
+entered_like store writer changes entry like entered = record {
+  reply = subst (λ (seen : List Entry). entry.reply ≡ (step (config_of store.table) (after (config_of store.table) seen) entry.call).reply) (sym like.seen) entered.reply;
   plan = entered.plan;
-  result = subst (λ (seen : List Entry). applied changes (areas_of board.areas) ≡ list_after (config_of board.table) (seen ++ entry ∷ [])) (sym like.seen) entered.result;
+  result = subst (λ (seen : List Entry). applied changes (areas_of store.areas) ≡ list_after (config_of store.table) (seen ++ entry ∷ [])) (sym like.seen) entered.result;
   real = entered.real;
   sane = entered.sane;
   packable = entered.packable;
@@ -56,10 +56,10 @@ entered_like board writer changes entry like entered = record {
   rise_after = entered.rise_after;
 }
 
-pub carried_like : (board made : Board) (lent met : WriterSeat) (changes : List Change) (entry : Entry) → IsLike (sight board.writer) (sight lent)
-    → IsLike (sight made.writer) (sight met) → IsCarriedOut (record board { writer = lent }) made changes entry
-    → IsCarriedOut board (record made { writer = met }) changes entry
-carried_like board made lent met changes entry first second done = record {
+pub carried_like : (store made : AreaStore) (lent met : WriterSeat) (changes : List Change) (entry : Entry) → IsLike (sight store.writer) (sight lent)
+    → IsLike (sight made.writer) (sight met) → IsCarriedOut (record store { writer = lent }) made changes entry
+    → IsCarriedOut store (record made { writer = met }) changes entry
+carried_like store made lent met changes entry first second done = record {
   entered = second.seen ∙ done.entered ∙ ap (λ seen. seen ++ entry ∷ []) first.seen;
   areas = done.areas;
   bounds = done.bounds;
@@ -67,11 +67,11 @@ carried_like board made lent met changes entry first second done = record {
   nodes = done.nodes;
   few = between (ChangesAtMost (length changes)) done.few;
   marks = between MarksChanged done.marks;
-  stays = between (KeepsSlots (areas_of board.areas) (applied changes (areas_of board.areas))) done.stays;
-  waits = between (KeepsLeft made.areas.tree.settled board.slots.left made.slots.left) done.waits;
+  stays = between (KeepsSlots (areas_of store.areas) (applied changes (areas_of store.areas))) done.stays;
+  waits = between (KeepsLeft made.areas.tree.elapsed store.slots.left made.slots.left) done.waits;
   gone = between (HaveLeft made.areas.tree.number made.slots.left) done.gone;
 }
   where
-    between : (P : List SlotState → List SlotState → Type 0) → P (slots lent) (slots made.writer) → P (slots board.writer) (slots met)
-    between P holds = subst (λ states. P states (slots met)) (ap (λ (d : Desk). d.slots) first.desk)
-        (subst (P (slots lent)) (sym (ap (λ (d : Desk). d.slots) second.desk)) holds)
+    between : (P : List SlotState → List SlotState → Type 0) → P (slots lent) (slots made.writer) → P (slots store.writer) (slots met)
+    between P holds = subst (λ states. P states (slots met)) (ap (λ (d : LockWriterState). d.slots) first.writer_state)
+        (subst (P (slots lent)) (sym (ap (λ (d : LockWriterState). d.slots) second.writer_state)) holds)

@@ -1,10 +1,10 @@
--- For all calls of `Board`: no row of an area is detached, and two areas have two rows.
+-- For all calls of `AreaStore`: no row of an area is detached, and two areas have two rows.
 use Rattle.std.proofs.Common.{◌≡◌, ◌≢◌, ◌+◌, ◌*◌, ◌^◌, ℕ, Bool, true, false, nat_eq, ◌&&◌, List, sym, ap, ◌∙◌, arith}
 use Rattle.std.proofs.lemmas.Bool.{ne_eqb}
 use Rattle.std.proofs.lemmas.Option.{same_Some}
 use Rattle.mm_types.specs.declared.area.Record.{Record}
 use Rattle.mm_types.specs.Packed.{packed, unpacked, attr_bits}
-use Rattle.mm_state.specs.Internal.Boards.{IsPackable}
+use Rattle.mm_state.specs.Internal.AreaStores.{IsPackable}
 use Rattle.mm_types.proofs.PackedWords.{unpacked-packed}
 use Rattle.lock_core.specs.Rows.{is_detached}
 

@@ -1,4 +1,4 @@
--- For `run_before`, `Board::detach_all` and `Board::change_all`: changes that take away areas which adjoin each other.
+-- For `run_before`, `AreaStore::detach_all` and `AreaStore::change_all`: changes that take away areas which adjoin each other.
 use Rattle.std.proofs.Common.{◌≡◌, ◌≤◌, ◌<◌, ◌+◌, ◌-◌, ℕ, suc, zero, List, [], ◌∷◌, ◌++◌, length, take, drop, get_or, refl, sym, ap, ◌∙◌, subst, arith, drop-cons}
 use Rattle.std.specs.List.{Contains}
 use Rattle.std.proofs.lemmas.List.Elements.{Contains-append_right}

@@ -14,7 +14,7 @@ use Rattle.split_merge.specs.Plans.{olds_of, news_of, without, with_all, applied
 use Rattle.split_merge.proofs.Replacing.{each_contained}
 use Rattle.split_merge.specs.Internal.Sorted.{begins_below}
 use Rattle.split_merge.proofs.Going.{insert_is}
-use Rattle.mm_state.specs.Internal.Boards.{IsPackable, IsSane}
+use Rattle.mm_state.specs.Internal.AreaStores.{IsPackable, IsSane}
 
 -- the areas of a list before which a step may be taken can be packed
 pub packable : (config : Config) (space : AddressSpace) → IsReady config space → All IsPackable space.areas

@@ -9,17 +9,17 @@ use Rattle.span_tree.proofs.Scanning.{out_or_open}
 use Rattle.area_slots.specs.declared.leaving.Leaving.{Leaving}
 use Rattle.area_slots.specs.Slots.{SlotSet, left_by, gone_by, gone_after, slots_of}
 use Rattle.area_tree.specs.AreaTrees.{AreaTreeView}
-use Rattle.mm_state.specs.Internal.Boards.{CanFree, IsScanned}
+use Rattle.mm_state.specs.Internal.AreaStores.{CanFree, IsScanned}
 
 -- a scan is one of scans
 pub scanned : (old new : AreaTreeView) (scans : ℕ)
-    → new ≡ record old { tree = record old.tree { settled = new.tree.settled; scans = scans; pins = new.tree.pins; free = new.tree.free } } → IsScanned old new
+    → new ≡ record old { tree = record old.tree { elapsed = new.tree.elapsed; scans = scans; pins = new.tree.pins; free = new.tree.free } } → IsScanned old new
 scanned old new scans same = same
-    ∙ ap (λ n. record old { tree = record old.tree { settled = new.tree.settled; scans = n; pins = new.tree.pins; free = new.tree.free } }) (sym (ap (λ (t : AreaTreeView). t.tree.scans) same))
+    ∙ ap (λ n. record old { tree = record old.tree { elapsed = new.tree.elapsed; scans = n; pins = new.tree.pins; free = new.tree.free } }) (sym (ap (λ (t : AreaTreeView). t.tree.scans) same))
 
 pub scanned_more : (first second third : AreaTreeView) → IsScanned first second → IsScanned second third → IsScanned first third
 scanned_more first second third one two = two
-    ∙ ap (λ (t : AreaTreeView). record t { tree = record t.tree { settled = third.tree.settled; scans = third.tree.scans; pins = third.tree.pins; free = third.tree.free } }) one
+    ∙ ap (λ (t : AreaTreeView). record t { tree = record t.tree { elapsed = third.tree.elapsed; scans = third.tree.scans; pins = third.tree.pins; free = third.tree.free } }) one
 
 -- a tree that was prepared, and then scanned
 pub readied : (old prepared new : AreaTreeView) (changed : Bool)
@@ -27,7 +27,7 @@ pub readied : (old prepared new : AreaTreeView) (changed : Bool)
       tree = record old.tree {
         changed = changed;
         roomy = true;
-        settled = prepared.tree.settled;
+        elapsed = prepared.tree.elapsed;
         scans = prepared.tree.scans;
         pins = prepared.tree.pins;
         free = prepared.tree.free;
@@ -38,7 +38,7 @@ pub readied : (old prepared new : AreaTreeView) (changed : Bool)
       tree = record old.tree {
         changed = new.tree.changed;
         roomy = true;
-        settled = new.tree.settled;
+        elapsed = new.tree.elapsed;
         scans = new.tree.scans;
         pins = new.tree.pins;
         free = new.tree.free;
@@ -47,7 +47,7 @@ pub readied : (old prepared new : AreaTreeView) (changed : Bool)
 readied old prepared new changed same scanned_on =
     let one = ap (λ (t : AreaTreeView). record t {
       tree = record t.tree {
-        settled = new.tree.settled;
+        elapsed = new.tree.elapsed;
         scans = new.tree.scans;
         pins = new.tree.pins;
         free = new.tree.free;
@@ -58,7 +58,7 @@ readied old prepared new changed same scanned_on =
       tree = record old.tree {
         changed = b;
         roomy = true;
-        settled = new.tree.settled;
+        elapsed = new.tree.elapsed;
         scans = new.tree.scans;
         pins = new.tree.pins;
         free = new.tree.free;
@@ -77,23 +77,23 @@ scans_together first mid last pins later tries rounds one two same =
     omega (arith, one, two, more, sum)
 
 -- as many or more are gone by a later tree
-one_more : (settled later : ℕ) → settled ≤ later → (l : Leaving) (left : List Leaving) → length (gone_by settled left) ≤ length (gone_by later left)
-    → length (gone_by settled (l ∷ left)) ≤ length (gone_by later (l ∷ left))
-one_more settled later upto l left rest = first (nat_le l.tree settled) refl
+one_more : (elapsed later : ℕ) → elapsed ≤ later → (l : Leaving) (left : List Leaving) → length (gone_by elapsed left) ≤ length (gone_by later left)
+    → length (gone_by elapsed (l ∷ left)) ≤ length (gone_by later (l ∷ left))
+one_more elapsed later upto l left rest = first (nat_le l.tree elapsed) refl
   where
-    first : (b : Bool) → nat_le l.tree settled ≡ b → length (gone_by settled (l ∷ left)) ≤ length (gone_by later (l ∷ left))
+    first : (b : Bool) → nat_le l.tree elapsed ≡ b → length (gone_by elapsed (l ∷ left)) ≤ length (gone_by later (l ∷ left))
     first true gone =
         let too : nat_le l.tree later ≡ true = grind (arith, nat_tests) in
         rw (gone, too) (omega (arith, rest))
     first false stays = rw stays (second (nat_le l.tree later) refl)
       where
-        second : (b : Bool) → nat_le l.tree later ≡ b → length (gone_by settled left) ≤ length (gone_by later (l ∷ left))
+        second : (b : Bool) → nat_le l.tree later ≡ b → length (gone_by elapsed left) ≤ length (gone_by later (l ∷ left))
         second true gone = rw gone (omega (arith, rest))
         second false still = rw still rest
 
-pub gone_more : (settled later : ℕ) → settled ≤ later → (left : List Leaving) → length (gone_by settled left) ≤ length (gone_by later left)
-gone_more settled later upto [] = omega arith
-gone_more settled later upto (l ∷ left) = one_more settled later upto l left (gone_more settled later upto left)
+pub gone_more : (elapsed later : ℕ) → elapsed ≤ later → (left : List Leaving) → length (gone_by elapsed left) ≤ length (gone_by later left)
+gone_more elapsed later upto [] = omega arith
+gone_more elapsed later upto (l ∷ left) = one_more elapsed later upto l left (gone_more elapsed later upto left)
 
 -- each of those that left by a tree is gone by it
 all_gone : (tree : ℕ) (left : List Leaving) → All (λ leaving. leaving.tree ≤ tree) left → gone_by tree left ≡ left
@@ -104,8 +104,8 @@ all_gone tree left all = filter_all (left_by tree) left (recursion_from_All (λ 
 
 -- where fewer are free than wanted after a scan, it found a reader inside
 pub some_inside : (areas new : AreaTreeView) (set after : SlotSet) (wanted : ℕ) → CanFree areas set wanted → new.tree.number ≡ areas.tree.number
-    → (AreOut new.tree.pins → new.tree.settled ≡ new.tree.number)
-    → after ≡ record set { free = set.free ++ slots_of (gone_by new.tree.settled set.left); left = gone_after new.tree.settled set.left }
+    → (AreOut new.tree.pins → new.tree.elapsed ≡ new.tree.number)
+    → after ≡ record set { free = set.free ++ slots_of (gone_by new.tree.elapsed set.left); left = gone_after new.tree.elapsed set.left }
     → length after.free < wanted → HasOpen new.tree.pins
 some_inside areas new set after wanted can same gone seen few = by (out_or_open new.tree.pins)
   where
@@ -116,8 +116,8 @@ some_inside areas new set after wanted can same gone seen few = by (out_or_open 
       few,
       can.enough,
       ap (λ (s : SlotSet). length s.free) seen,
-      length-append set.free (slots_of (gone_by new.tree.settled set.left)),
-      length-map (gone_by new.tree.settled set.left) (λ (l : Leaving). l.slot),
+      length-append set.free (slots_of (gone_by new.tree.elapsed set.left)),
+      length-map (gone_by new.tree.elapsed set.left) (λ (l : Leaving). l.slot),
       ap (λ n. length (gone_by n set.left)) (gone out ∙ same),
       ap length (all_gone areas.tree.number set.left can.left),
     ))

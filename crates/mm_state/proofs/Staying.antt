@@ -1,4 +1,4 @@
--- For `Board::enter`: an area of the list before and after a call keeps its slot.
+-- For `AreaStore::enter`: an area of the list before and after a call keeps its slot.
 use Rattle.std.proofs.Common.{◌≡◌, ◌≢◌, ◌<◌, ◌≤◌, ℕ, suc, Bool, true, false, List, [], ◌∷◌, ◌++◌, get_or, All, AllPairs, Contains, refl, sym, ap, ◌∙◌, subst, ◌⊎◌, inl, inr, arith}
 use Rattle.std.proofs.lemmas.Bool.{cases_eq, cases_lt}
 use Rattle.std.proofs.lemmas.Bool.Decides.{nat_tests}
@@ -21,10 +21,10 @@ use Rattle.area_slots.specs.Slots.{SlotSet, one_at}
 use Rattle.vma_lock.specs.Seats.{slots}
 use Rattle.area_tree.specs.declared.shown.ShownArea.{ShownArea}
 use Rattle.area_tree.specs.AreaTrees.{shown_of, areas_of, areas_shown, times_shown}
-use Rattle.mm_state.specs.declared.board.Board.{Board}
+use Rattle.mm_state.specs.declared.store.AreaStore.{AreaStore}
 use Rattle.mm_state.specs.Shelves.{ShowsIt, Hangs}
 use Rattle.mm_state.specs.States.{KeepsSlots}
-use Rattle.mm_state.specs.Internal.Boards.{IsPackable, IsShown, IsStill, IsChanging}
+use Rattle.mm_state.specs.Internal.AreaStores.{IsPackable, IsShown, IsStill, IsChanging}
 use Rattle.mm_state.proofs.Rows.{packed_same, not_packed}
 
 -- in a list that ascends by a number, an element is told by its number
@@ -113,7 +113,7 @@ shows_it states shown set slot area hangs packable fits is = by (cases_lt 0 (tim
         (sym (All-contains (ShowsIt states) shown (record { slot = slot; area = other }) hangs.rows member) ∙ is) in
         subst (λ (a : Record). Contains shown (record { slot = slot; area = a })) same member
 
-module _ (start board : Board) (changes : List Change) (tree : ℕ) (set : SlotSet) (changing : IsChanging start board changes tree)
+module _ (start store : AreaStore) (changes : List Change) (tree : ℕ) (set : SlotSet) (changing : IsChanging start store changes tree)
     (hangs : Hangs (slots start.writer) (shown_of start.areas) set) (packable : All IsPackable (areas_of start.areas)) where
   -- the slots of the tree ascend by where their areas begin
   ascend_shown : AllPairs (λ a b. a.area.span.lo < b.area.span.lo) (shown_of start.areas)
@@ -126,21 +126,21 @@ module _ (start board : Board) (changes : List Change) (tree : ℕ) (set : SlotS
 
   -- the slot of an area that no change takes away is as it was
   slot_stays : (slot : ℕ) (area : Record) → Contains (without (olds_of changes) (areas_of start.areas)) area → Contains (areas_of start.areas) area
-      → (slot_at (slots start.writer) slot).row ≡ packed area → slot_at (slots board.writer) slot ≡ slot_at (slots start.writer) slot
+      → (slot_at (slots start.writer) slot).row ≡ packed area → slot_at (slots store.writer) slot ≡ slot_at (slots start.writer) slot
   slot_stays slot area left member is =
-      let (place, now) = All-contains (IsShown (shown_of board.areas)) (without (olds_of changes) (areas_of start.areas)) area changing.there left in
-      let still = All-contains (IsStill (slots start.writer) (slots board.writer) (shown_of board.areas)) (without (olds_of changes) (areas_of start.areas)) area changing.still left
+      let (place, now) = All-contains (IsShown (shown_of store.areas)) (without (olds_of changes) (areas_of start.areas)) area changing.there left in
+      let still = All-contains (IsStill (slots start.writer) (slots store.writer) (shown_of store.areas)) (without (olds_of changes) (areas_of start.areas)) area changing.still left
       place now in
-      let row = All-contains (ShowsIt (slots board.writer)) (shown_of board.areas ++ board.moved.items) (record { slot = place; area = area }) changing.hangs.rows
-      (Contains-append_left (shown_of board.areas) board.moved.items (record { slot = place; area = area }) now) in
+      let row = All-contains (ShowsIt (slots store.writer)) (shown_of store.areas ++ store.moved.items) (record { slot = place; area = area }) changing.hangs.rows
+      (Contains-append_left (shown_of store.areas) store.moved.items (record { slot = place; area = area }) now) in
       let fits = All-contains IsPackable (areas_of start.areas) area packable member in
       let there = shows_it (slots start.writer) (shown_of start.areas) set place area hangs packable fits (ap (λ (s : SlotState). s.row) (sym still) ∙ row) in
       let was = shows_it (slots start.writer) (shown_of start.areas) set slot area hangs packable fits is in
       let same = once (λ (s : ShownArea). s.area.span.lo) (shown_of start.areas) ascend_shown (record { slot = place; area = area }) (record { slot = slot; area = area }) there was refl in
-      subst (λ n. slot_at (slots board.writer) n ≡ slot_at (slots start.writer) n) (ap (λ (s : ShownArea). s.slot) same) still
+      subst (λ n. slot_at (slots store.writer) n ≡ slot_at (slots start.writer) n) (ap (λ (s : ShownArea). s.slot) same) still
 
   -- an area of the list before and after the plan keeps its slot
   pub stays : IsPlanOf (areas_of start.areas) changes → IsReal changes
-      → KeepsSlots (areas_of start.areas) (applied changes (areas_of start.areas)) (slots start.writer) (slots board.writer)
+      → KeepsSlots (areas_of start.areas) (applied changes (areas_of start.areas)) (slots start.writer) (slots store.writer)
   stays plan real slot area member after is =
       slot_stays slot area (untouched changes (areas_of start.areas) area changing.ascend plan real member after) member is

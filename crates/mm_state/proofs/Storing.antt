@@ -14,7 +14,7 @@ use Rattle.area_rules.proofs.Placing.{free_each}
 use Rattle.area_slots.specs.Slots.{one_at}
 use Rattle.area_tree.specs.declared.shown.ShownArea.{ShownArea}
 use Rattle.area_tree.specs.AreaTrees.{areas_shown, times_shown}
-use Rattle.mm_state.specs.Internal.Boards.{at_page, IsWithin, CanHold}
+use Rattle.mm_state.specs.Internal.AreaStores.{at_page, IsWithin, CanHold}
 use Rattle.mm_state.proofs.Hanging.{self}
 
 pub hold_permuted : (most limit : ℕ) (shown others : List ShownArea) → IsPermutation shown others → CanHold most limit shown → CanHold most limit others

@@ -1,4 +1,4 @@
--- For `Board::enter`: what a list weighs after a plan.
+-- For `AreaStore::enter`: what a list weighs after a plan.
 use Rattle.std.proofs.Common.{ℕ, ◌≡◌, ◌≢◌, ◌+◌, ◌⊎◌, inl, inr, Bool, true, false, not, if◌then◌else◌, nat_lt, List, [], ◌∷◌, sum_by, sym, ap, subst, arith}
 use Rattle.std.specs.List.{filter, Contains, AllByRecursion as Each}
 use Rattle.std.proofs.lemmas.Bool.{cond-true, not_from_false}

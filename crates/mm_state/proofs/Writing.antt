@@ -1,4 +1,4 @@
--- For `Board::change_all` and `write_slot`: a slot is marked and its row is written.
+-- For `AreaStore::change_all` and `write_slot`: a slot is marked and its row is written.
 use Rattle.std.proofs.Common.{◌≡◌, ◌<◌, ℕ, suc, zero, List, ◌∷◌, ◌++◌, [], length, set, refl, ap, ◌∙◌}
 use Rattle.std.proofs.lemmas.List.{get_or-set_same}
 use Rattle.std.specs.List.Sorted.{IsPermutation}
@@ -10,7 +10,7 @@ use Rattle.vma_lock.specs.Views.{write_at}
 use Rattle.area_slots.specs.Slots.{SlotSet}
 use Rattle.area_tree.specs.declared.shown.ShownArea.{ShownArea}
 use Rattle.mm_state.specs.Shelves.{Hangs}
-use Rattle.mm_state.specs.Internal.Boards.{IsWritten}
+use Rattle.mm_state.specs.Internal.AreaStores.{IsWritten}
 use Rattle.mm_state.proofs.Hanging.{hangs_permuted}
 
 set_again : (states : List SlotState) (slot : ℕ) (a b : SlotState) → set (set states slot a) slot b ≡ set states slot b
@@ -19,22 +19,22 @@ set_again (first ∷ states) zero a b = refl
 set_again (first ∷ states) (suc slot) a b = ap (λ rest. first ∷ rest) (set_again states slot a b)
 
 -- a mark and four stores write a slot
-pub written : (old marked new : View) (slot : ℕ) (row : List ℕ) → slot < length old.desk.slots
-    → IsWritten old slot (slot_at old.desk.slots slot).row marked → new ≡ write_at marked slot row → IsWritten old slot row new
+pub written : (old marked new : View) (slot : ℕ) (row : List ℕ) → slot < length old.writer_state.slots
+    → IsWritten old slot (slot_at old.writer_state.slots slot).row marked → new ≡ write_at marked slot row → IsWritten old slot row new
 written old marked new slot row within mark is = record {
   beside = record {
     config = ap (λ (v : View). v.config) is ∙ mark.beside.config;
     seen = ap (λ (v : View). v.seen) is ∙ mark.beside.seen;
     turn = ap (λ (v : View). v.turn) is ∙ mark.beside.turn;
-    seq = ap (λ (v : View). v.desk.seq) is ∙ mark.beside.seq;
+    seq = ap (λ (v : View). v.writer_state.seq) is ∙ mark.beside.seq;
   };
-  slots = ap (λ (v : View). v.desk.slots) is ∙ ap (λ (states : List SlotState). set states slot (record (slot_at states slot) { row = row })) mark.slots
-      ∙ ap (set (set old.desk.slots slot first) slot) (ap (λ (s : SlotState). record s { row = row }) (get_or-set_same old.desk.slots slot first free_slot within))
-      ∙ set_again old.desk.slots slot first (record { lock_seq = old.desk.seq; row = row });
+  slots = ap (λ (v : View). v.writer_state.slots) is ∙ ap (λ (states : List SlotState). set states slot (record (slot_at states slot) { row = row })) mark.slots
+      ∙ ap (set (set old.writer_state.slots slot first) slot) (ap (λ (s : SlotState). record s { row = row }) (get_or-set_same old.writer_state.slots slot first free_slot within))
+      ∙ set_again old.writer_state.slots slot first (record { lock_seq = old.writer_state.seq; row = row });
 }
   where
     first : SlotState
-    first = record { lock_seq = old.desk.seq; row = (slot_at old.desk.slots slot).row }
+    first = record { lock_seq = old.writer_state.seq; row = (slot_at old.writer_state.slots slot).row }
 
 -- an area of the tree stands before the rest
 pub hangs_out : (states : List SlotState) (tree rest moved : List ShownArea) (slots : SlotSet) (shown : ShownArea) → Hangs states (tree ++ moved) slots

@@ -1,4 +1,4 @@
 -- What no clause of a public function cites: it follows the code, and may change with it.
-pub mod Boards
+pub mod AreaStores
 pub mod Runs
 pub mod Waits

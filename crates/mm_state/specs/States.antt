@@ -21,7 +21,7 @@ use Rattle.maple_gap.specs.Gaps.{span_of}
 
 -- The state behind the mmap lock as contracts see it: its table and configuration, the sequence, whose turn the writer has, the
 -- slots as they are, those that left and with which tree, the journal, and for how many entries it has room; the table of the nodes
--- of its trees, the number and the pairs of the present tree, and the greatest tree that is settled.
+-- of its trees, the number and the pairs of the present tree, and the greatest tree whose grace period has elapsed.
 pub record StateView : Type 0 where
   pub table : TableId
   pub config : Config
@@ -34,7 +34,7 @@ pub record StateView : Type 0 where
   pub nodes : TableId
   pub number : ℕ
   pub pairs : List Pair
-  pub settled : ℕ
+  pub elapsed : ℕ
 
 -- the list of areas after the journal
 abbrev pub list_of : StateView → List Record
@@ -62,9 +62,9 @@ MarksChanged old new = (slot : ℕ) → (slot_at new slot).lock_seq ≢ (slot_at
 abbrev pub ChangesOne : List SlotState → List SlotState → Type 0
 ChangesOne old new = (slot : ℕ) × ((other : ℕ) → other ≢ slot → slot_at new other ≡ slot_at old other)
 
--- a slot that left after the settled tree is left still, and is as it was
-abbrev pub KeepsLeft : (settled : ℕ) → (before after : List Leaving) → (old new : List SlotState) → Type 0
-KeepsLeft settled before after old new = (leaving : Leaving) → Contains before leaving → settled < leaving.tree
+-- a slot that left after the elapsed tree is left still, and is as it was
+abbrev pub KeepsLeft : (elapsed : ℕ) → (before after : List Leaving) → (old new : List SlotState) → Type 0
+KeepsLeft elapsed before after old new = (leaving : Leaving) → Contains before leaving → elapsed < leaving.tree
     → Contains after leaving × (slot_at new leaving.slot ≡ slot_at old leaving.slot)
 
 -- a slot that showed an area and shows none has left with this tree
@@ -74,7 +74,7 @@ HaveLeft tree left old new = (slot : ℕ) → is_detached (slot_at old slot).row
 
 -- A call was made and entered: the journal has exactly one entry more, of this caller, with the reply of the call's step. A touch
 -- leaves all slots but one at most as they were. A slot that was marked shows another row, an area of both lists keeps its slot, a
--- slot that left is used again only once its tree is settled, and one whose area went left with the tree after the call.
+-- slot that left is used again only once its tree's grace period has elapsed, and one whose area went left with the tree after the call.
 pub record Enters (old new : StateView) (caller : ℕ) (call : Call) (answer : Reply) : Type 0 where
   pub entry : new.journal ≡ old.journal ++ record { caller = caller; call = call; reply = answer } ∷ []
   pub same : (new.table ≡ old.table) × (new.config ≡ old.config) × (new.room ≡ old.room)
@@ -83,5 +83,5 @@ pub record Enters (old new : StateView) (caller : ℕ) (call : Call) (answer : R
   pub touch : (page : Page) (access : Access) → call ≡ Touch page access → ChangesOne old.slots new.slots
   pub marks : MarksChanged old.slots new.slots
   pub stays : KeepsSlots (list_of old) (list_of new) old.slots new.slots
-  pub waits : KeepsLeft new.settled old.left new.left old.slots new.slots
+  pub waits : KeepsLeft new.elapsed old.left new.left old.slots new.slots
   pub gone : HaveLeft new.number new.left old.slots new.slots

@@ -2,10 +2,10 @@
 //! the calls.
 #![tactic(auto)]
 
-mod board;
 mod runs;
 mod spans;
 mod state;
+mod store;
 
 pub use state::MmState;
 

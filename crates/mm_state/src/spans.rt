@@ -4,7 +4,7 @@ ghost use Rattle.node_slots.specs.Seats.{HasOpen};
 ghost use Rattle.area_slots.specs.Slots.{slots_of, gone_by, gone_after};
 ghost use Rattle.area_tree.specs.declared.shown.ShownArea.{ShownArea};
 ghost use Rattle.area_tree.specs.AreaTrees.{shown_of, areas_of, IsEndOf, IsRoomFor};
-ghost use Rattle.mm_state.specs.Internal.Boards.{adds_of, CanFree, IsFreed, IsScanned, CanStore, IsSameTree};
+ghost use Rattle.mm_state.specs.Internal.AreaStores.{adds_of, CanFree, IsFreed, IsScanned, CanStore, IsSameTree};
 
 use area_slots::AreaSlots;
 use area_tree::{AreaTree, ShownArea};
@@ -26,17 +26,17 @@ pub(crate) fn count_adds(changes: &[Change]) -> usize
     adds
 }
 
-/// Frees the slots that left with trees up to the settled one: no reader finds them in a tree any more.
-fn free_settled(areas: &AreaTree, slots: &mut AreaSlots)
+/// Frees the slots that left with trees up to the elapsed tree: no reader finds them in a tree any more.
+fn free_elapsed(areas: &AreaTree, slots: &mut AreaSlots)
     ensures { slots.new ≡ record slots.old {
-      free = slots.old.free ++ slots_of (gone_by areas.now.tree.settled slots.old.left);
-      left = gone_after areas.now.tree.settled slots.old.left;
+      free = slots.old.free ++ slots_of (gone_by areas.now.tree.elapsed slots.old.left);
+      left = gone_after areas.now.tree.elapsed slots.old.left;
     } }
 {
-    slots.seen(areas.settled());
+    slots.seen(areas.elapsed());
 }
 
-/// Scans once where too few slots are free, frees what is settled then, and answers whether so many are. Where they are not, it found
+/// Scans once where too few slots are free, frees what has elapsed then, and answers whether so many are. Where they are not, it found
 /// a reader inside, and lets other threads run.
 fn scan_for(areas: &mut AreaTree, slots: &mut AreaSlots, wanted: usize) -> bool
     requires can { CanFree areas.old slots.old wanted }
@@ -44,14 +44,14 @@ fn scan_for(areas: &mut AreaTree, slots: &mut AreaSlots, wanted: usize) -> bool
     ensures areas { IsScanned areas.old areas.new }
     ensures scans { areas.new.tree.scans ≡ areas.old.tree.scans + length areas.old.tree.pins }
     ensures readers { length areas.new.tree.pins ≡ length areas.old.tree.pins }
-    ensures settled { areas.old.tree.settled ≤ areas.new.tree.settled }
-    ensures slots { IsFreed areas.new.tree.settled slots.old slots.new }
+    ensures elapsed { areas.old.tree.elapsed ≤ areas.new.tree.elapsed }
+    ensures slots { IsFreed areas.new.tree.elapsed slots.old slots.new }
     ensures free { result ≡ true → wanted ≤ length slots.new.free }
     ensures few { result ≡ false → length slots.new.free < wanted }
     ensures inside { result ≡ false → HasOpen areas.new.tree.pins }
 {
     areas.scan();
-    free_settled(areas, slots);
+    free_elapsed(areas, slots);
     if slots.count_free() >= wanted {
         return true;
     }
@@ -68,14 +68,14 @@ pub(crate) fn wait_for_slots<R: Wait>(
 )
     requires { CanFree areas.old slots.old wanted }
     ensures areas { IsScanned areas.old areas.new }
-    ensures still { wanted ≤ length slots.old.free + length (gone_by areas.old.tree.settled slots.old.left) → areas.new ≡ areas.old }
+    ensures still { wanted ≤ length slots.old.free + length (gone_by areas.old.tree.elapsed slots.old.left) → areas.new ≡ areas.old }
     ensures scans { (rounds : ℕ) × (areas.new.tree.scans ≡ areas.old.tree.scans + rounds * length areas.old.tree.pins) }
     ensures readers { length areas.new.tree.pins ≡ length areas.old.tree.pins }
-    ensures settled { areas.old.tree.settled ≤ areas.new.tree.settled }
-    ensures slots { IsFreed areas.new.tree.settled slots.old slots.new }
+    ensures elapsed { areas.old.tree.elapsed ≤ areas.new.tree.elapsed }
+    ensures slots { IsFreed areas.new.tree.elapsed slots.old slots.new }
     ensures free { wanted ≤ length slots.new.free }
 {
-    free_settled(areas, slots);
+    free_elapsed(areas, slots);
     if slots.count_free() >= wanted {
         return;
     }

@@ -14,7 +14,7 @@ ghost use Rattle.vma_lock.specs.Views.{slot_count, opened_view, look_at};
 ghost use Rattle.span_tree.specs.SpanTrees.{IsFreshWriter};
 ghost use Rattle.vma_lock.specs.Seats.{view, seen, stage, sight, HasTurn};
 
-use crate::board::Board;
+use crate::store::AreaStore;
 use mm_types::{Access, AreaList, Call, Config, Counters, Entry, NoMemory, Page, Reply, Verdict};
 use node_slots::NodeWriter;
 use split_merge::Plan;
@@ -29,7 +29,7 @@ use vma_lock::{ReaderSeat, WriterSeat};
 #[derive(Drop)]
 pub struct MmState {
     config: Config,
-    board: Board,
+    store: AreaStore,
     counters: Counters,
     /// Empty between two calls.
     plan: Plan,
@@ -75,19 +75,19 @@ impl MmState {
           left = [];
           journal = [];
           room = entries;
-          nodes = nodes.desk.seat.table_id;
+          nodes = nodes.writer_state.seat.table_id;
           number = 0;
           pairs = [];
-          settled = 0;
+          elapsed = 0;
         }) }
     {
-        let board = Board::new(alloc, &config, writer, nodes)?;
+        let store = AreaStore::new(alloc, &config, writer, nodes)?;
         let plan = Plan::with_room(alloc, config.areas)?;
         let journal = Vec::with_capacity(alloc, entries as usize)?;
         let counters = Counters::opening(&config);
         Ok(MmState {
             config,
-            board,
+            store,
             counters,
             plan,
             journal,
@@ -114,7 +114,7 @@ impl MmState {
         let called = plan_call(
             &self.config,
             self.counters,
-            &self.board.areas,
+            &self.store.areas,
             call,
             &mut self.plan,
         );
@@ -123,7 +123,7 @@ impl MmState {
             call: *call,
             reply: called.reply,
         };
-        self.board.enter(rt, seat, self.plan.changes(), entry);
+        self.store.enter(rt, seat, self.plan.changes(), entry);
         self.plan.clear();
         self.counters = called.counters;
         self.journal.push_reserved(entry);
@@ -139,7 +139,7 @@ impl MmState {
         let called = plan_call(
             &self.config,
             self.counters,
-            &self.board.areas,
+            &self.store.areas,
             call,
             &mut self.plan,
         );
@@ -148,7 +148,7 @@ impl MmState {
             call: *call,
             reply: called.reply,
         };
-        self.board.carry_out(rt, self.plan.changes(), entry);
+        self.store.carry_out(rt, self.plan.changes(), entry);
         self.plan.clear();
         self.counters = called.counters;
         self.journal.push_reserved(entry);
@@ -165,14 +165,14 @@ impl MmState {
         ensures later { StartsWith self.old.journal (seen seat.old) }
         ensures own { HasTurn seat.old → calls_by (view seat.old).caller self.old.journal ≡ calls_by (view seat.old).caller (seen seat.old) }
     {
-        self.board.meet(seat);
+        self.store.meet(seat);
     }
 
     /// Whether a fault grows an area, which only a call may do.
     pub fn grows(&self, page: Page, access: Access) -> bool
         ensures { result ≡ grows self.now.config (list_of self.now) page.0 access }
     {
-        grows(&self.config, &self.board.areas, page, access)
+        grows(&self.config, &self.store.areas, page, access)
     }
 
     /// The verdict on a fault that grows no area.
@@ -180,7 +180,7 @@ impl MmState {
         requires { grows self.now.config (list_of self.now) page.0 access ≡ false }
         ensures { result ≡ verdict self.now.config (list_of self.now) page.0 access }
     {
-        verdict(&self.config, &self.board.areas, page, access)
+        verdict(&self.config, &self.store.areas, page, access)
     }
 
     /// How many entries the journal has.
@@ -194,7 +194,7 @@ impl MmState {
     pub fn copy_list(&self, alloc: Global) -> Result<AreaList, NoMemory>
         ensures { IfOk result (λ list. list ≡ list_of self.now) }
     {
-        self.board.areas.copy_list(alloc)
+        self.store.areas.copy_list(alloc)
     }
 
     /// Hands the journal and the list out.
@@ -203,8 +203,8 @@ impl MmState {
         ensures list { result.1 ≡ list_of self }
         ensures legal { IsLegalJournal self.config self.journal }
     {
-        let board = self.board;
-        (self.journal, board.areas.into_list())
+        let store = self.store;
+        (self.journal, store.areas.into_list())
     }
 
     /// What the type keeps: no call is open and the writer has no turn, the journal is legal, and within its room, and the rows show
@@ -220,6 +220,6 @@ impl MmState {
         ensures pairs { ArePairsOf self.now.slots (list_of self.now) self.now.pairs }
         ensures left { All (λ leaving. leaving.tree ≤ self.now.number) self.now.left }
     {
-        self.board.areas.facts();
+        self.store.areas.facts();
     }
 }

@@ -4,10 +4,10 @@ use Rattle.std.proofs.lemmas.Bool.{both_ways, and_parts, ltb-true}
 use Rattle.std.proofs.lemmas.List.{length-map, get_or-map}
 use Rattle.std.specs.List.{swap_remove}
 use Rattle.mm_types.specs.declared.slot.Row.{Row}
-use Rattle.node_slots.specs.declared.note.Note.{Note}
+use Rattle.node_slots.specs.declared.note.RowNote.{RowNote}
 use Rattle.node_slots.specs.declared.seats.NodeWriter.{NodeWriter}
 use Rattle.node_slots.specs.Kept.{PlacesKept, free_numbers, firsts_of, spots_of, number_at}
-use Rattle.node_slots.specs.Seats.{desk, free_of, row_count}
+use Rattle.node_slots.specs.Seats.{writer_state, free_of, row_count}
 use Rattle.node_slots.specs.Choosing.{is_free_again, replaced_by, wants_fresh, takes_fresh}
 use Rattle.node_slots.specs.Internal.Places.{StandsAt, IsChosen}
 use Rattle.node_slots.proofs.Spots.{place_again, not_again, places_taken, taken_out, numbers_taken, once_free, free_within}
@@ -26,7 +26,7 @@ pub none_again : (writer : NodeWriter) (row spot : ℕ) → spot ≡ number_at (
     → is_free_again writer row ≡ false
 none_again writer row spot noted apart =
     let long = free_long writer in
-    not_again writer.desk.table.size.rows writer.fresh row (free_of writer) (spots_of writer.notes.items) writer.places
+    not_again writer.writer_state.table.size.rows writer.fresh row (free_of writer) (spots_of writer.notes.items) writer.places
     (λ behind inside here. apart (record {
       behind = omega (arith, behind, noted);
       inside = omega (arith, inside, noted, long);
@@ -97,22 +97,22 @@ chosen_spare writer row place out other none behind inside = record {
 pub taken_places : (writer : NodeWriter) (place : ℕ) → place < length writer.free.items → writer.fresh ≤ place + 1
     → (rest : List Row) (spots : List ℕ) (found last : Row) (at : ℕ) → rest ≡ swap_remove writer.free.items place found
     → at ≡ length writer.free.items - 1 → last ≡ get_or writer.free.items at last → spots ≡ set (spots_of writer.notes.items) last.0 place
-    → PlacesKept writer.desk.table.size.rows (min writer.fresh place) (free_numbers rest) spots
+    → PlacesKept writer.writer_state.table.size.rows (min writer.fresh place) (free_numbers rest) spots
 taken_places writer place inside behind rest spots found last at rest_is at_is last_is spots_is =
-    let rows : ℕ = writer.desk.table.size.rows in
+    let rows : ℕ = writer.writer_state.table.size.rows in
     let long = free_long writer in
     let noted : length (spots_of writer.notes.items) ≡ length (firsts_of writer.notes.items) =
-    length-map writer.notes.items (λ (n : Note). n.spot) ∙ sym (length-map writer.notes.items (λ (n : Note). n.first)) in
+    length-map writer.notes.items (λ (n : RowNote). n.spot) ∙ sym (length-map writer.notes.items (λ (n : RowNote). n.first)) in
     let place_is : length (free_of writer) - 1 ≡ at = omega (arith, long, at_is) in
     let number : number_at (free_of writer) (length (free_of writer) - 1) ≡ last.0 =
     ap (number_at (free_of writer)) place_is
     ∙ get_or-map (λ (r : Row). r.0) writer.free.items at last 0 (omega (arith, at_is, inside)) ∙ ap (λ (r : Row). r.0) (sym last_is) in
-    let within = free_within rows writer.free.items writer.left.items (firsts_of writer.notes.items) (desk writer) writer.rows (length writer.free.items - 1)
+    let within = free_within rows writer.free.items writer.left.items (firsts_of writer.notes.items) (writer_state writer) writer.rows (length writer.free.items - 1)
     (omega (arith, inside)) in
     let within_at : number_at (free_of writer) (length (free_of writer) - 1) < rows =
     subst (λ n. number_at (free_of writer) (n - 1) < rows) (sym long) within in
     let taken = places_taken rows writer.fresh place (free_of writer) (spots_of writer.notes.items) writer.places
-    (once_free rows writer.free.items writer.left.items (firsts_of writer.notes.items) (desk writer) writer.rows)
+    (once_free rows writer.free.items writer.left.items (firsts_of writer.notes.items) (writer_state writer) writer.rows)
     (omega (arith, inside, long)) behind (omega (arith, within_at, noted, writer.rows.sized)) in
     let rest_numbers : free_numbers rest ≡ taken_out (free_of writer) place =
     ap free_numbers rest_is ∙ numbers_taken writer.free.items place found (omega (arith, inside)) in

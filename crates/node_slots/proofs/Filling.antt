@@ -44,31 +44,31 @@ unfolding blend
 blend_none new old = refl
 
 with_words : NodeView → List (List ℕ) → NodeView
-with_words view words = record view { known = record view.known { desk = record view.known.desk { words = words } } }
+with_words view words = record view { known = record view.known { writer_state = record view.known.writer_state { words = words } } }
 
 -- a row filled with its words is as it was
-pub fill_same : (view : NodeView) (row : ℕ) → fill_at view row (row_at view.known.desk.words row) ≡ view
+pub fill_same : (view : NodeView) (row : ℕ) → fill_at view row (row_at view.known.writer_state.words row) ≡ view
 unfolding with_words
-fill_same view row = ap (with_words view) (set-get_or view.known.desk.words row [])
+fill_same view row = ap (with_words view) (set-get_or view.known.writer_state.words row [])
 
 -- a word stored into a row that was filled
-pub store_filled : (view : NodeView) (row place word : ℕ) (words : List ℕ) → row < length view.known.desk.words
+pub store_filled : (view : NodeView) (row place word : ℕ) (words : List ℕ) → row < length view.known.writer_state.words
     → store_at (fill_at view row words) row place word ≡ fill_at view row (set words place word)
 unfolding with_words
 store_filled view row place word words within =
-    ap (λ (l : List ℕ). with_words view (set (set view.known.desk.words row words) row (set l place word)))
-    (get_or-set_same view.known.desk.words row words [] within)
-    ∙ ap (with_words view) (set-set view.known.desk.words row words (set words place word))
+    ap (λ (l : List ℕ). with_words view (set (set view.known.writer_state.words row words) row (set l place word)))
+    (get_or-set_same view.known.writer_state.words row words [] within)
+    ∙ ap (with_words view) (set-set view.known.writer_state.words row words (set words place word))
 
 -- one word more of a row that was filled up to a place, and four
-one_filled : (view : NodeView) (row place next : ℕ) (words old : List ℕ) → row < length view.known.desk.words → place + 1 ≡ next
+one_filled : (view : NodeView) (row place next : ℕ) (words old : List ℕ) → row < length view.known.writer_state.words → place + 1 ≡ next
     → place < length words → place < length old
     → store_at (fill_at view row (blend place words old)) row place (get_or words place 0) ≡ fill_at view row (blend next words old)
 one_filled view row place next words old there one new_there old_there =
     store_filled view row place (get_or words place 0) (blend place words old) there
     ∙ ap (fill_at view row) (blend_next place words old new_there old_there ∙ ap (λ (n : ℕ). blend n words old) one)
 
-pub four_filled : (view : NodeView) (row place : ℕ) (words old : List ℕ) → row < length view.known.desk.words → place + 4 ≤ length words
+pub four_filled : (view : NodeView) (row place : ℕ) (words old : List ℕ) → row < length view.known.writer_state.words → place + 4 ≤ length words
     → place + 4 ≤ length old
     → store_four_at (fill_at view row (blend place words old)) row place words ≡ fill_at view row (blend (place + 4) words old)
 four_filled view row place words old there new_there old_there =

@@ -13,43 +13,43 @@ use Rattle.node_slots.specs.Seats.{AreOut}
 
 -- a reader whose last pin is even is cleared up to the present tree
 IsCleared : NodeView → ℕ → Type 0
-IsCleared view reader = (clearing_at view.known.desk.clearings reader).pin % 2 ≡ 0
-    → (clearing_at view.known.desk.clearings reader).cleared ≡ view.known.desk.tree.number
+IsCleared view reader = (clearing_at view.known.writer_state.clearings reader).pin % 2 ≡ 0
+    → (clearing_at view.known.writer_state.clearings reader).cleared ≡ view.known.writer_state.tree.number
 
 looked_cleared : (number found : ℕ) (clearing : Clearing) → (looked number found clearing).pin % 2 ≡ 0 → (looked number found clearing).cleared ≡ number
 looked_cleared number found clearing even =
     cond-true (nat_eq (found % 2) 0) number (cond (nat_eq found clearing.pin) clearing.cleared clearing.tree) (eq-eqb (found % 2) 0 even)
 
 -- so is each that was scanned
-scan_cleared : (reader other : ℕ) (pins : List ℕ) (view : NodeView) → reader + length pins ≤ length view.known.desk.clearings
+scan_cleared : (reader other : ℕ) (pins : List ℕ) (view : NodeView) → reader + length pins ≤ length view.known.writer_state.clearings
     → (other < reader → IsCleared view other) → other < reader + length pins → IsCleared (scan_from reader pins view) other
 unfolding IsCleared
 scan_cleared reader other [] view within before below = before (omega (arith, below))
 scan_cleared reader other (found ∷ pins) view within before below =
-    let clearings : List Clearing = view.known.desk.clearings in
-    let number : ℕ = view.known.desk.tree.number in
+    let clearings : List Clearing = view.known.writer_state.clearings in
+    let number : ℕ = view.known.writer_state.tree.number in
     let one : Clearing = looked number found (clearing_at clearings reader) in
     scan_cleared (reader + 1) other pins (scan_at view reader found) (omega (arith, within, length-set clearings reader one))
     (λ low. elim (eqb_tells other reader) [
       | inl same ↦
-          let here : clearing_at (scan_at view reader found).known.desk.clearings other ≡ one =
-          ap (clearing_at (scan_at view reader found).known.desk.clearings) same.1 ∙ get_or-set_same clearings reader one no_clearing (omega (arith, within)) in
+          let here : clearing_at (scan_at view reader found).known.writer_state.clearings other ≡ one =
+          ap (clearing_at (scan_at view reader found).known.writer_state.clearings) same.1 ∙ get_or-set_same clearings reader one no_clearing (omega (arith, within)) in
           rw here (looked_cleared number found (clearing_at clearings reader))
       | inr differ ↦
-          let still : clearing_at (scan_at view reader found).known.desk.clearings other ≡ clearing_at clearings other =
+          let still : clearing_at (scan_at view reader found).known.writer_state.clearings other ≡ clearing_at clearings other =
           get_or-set_other clearings reader other one no_clearing differ.1 in
           rw still (before (omega (arith, low, differ.1)))
     ])
     (omega (arith, below))
 
 -- where every reader is found closed, each is cleared up to the present tree
-pub scanned_least : (pins : List ℕ) (old new : NodeView) → new ≡ scan_from 0 pins old → length pins ≡ length old.known.desk.clearings
-    → length new.known.desk.clearings ≡ length pins → AreOut (map (λ (c : Clearing). c.pin) new.known.desk.clearings)
-    → new.known.desk.tree.number ≤ least new.known.desk.tree.number new.known.desk.clearings
+pub scanned_least : (pins : List ℕ) (old new : NodeView) → new ≡ scan_from 0 pins old → length pins ≡ length old.known.writer_state.clearings
+    → length new.known.writer_state.clearings ≡ length pins → AreOut (map (λ (c : Clearing). c.pin) new.known.writer_state.clearings)
+    → new.known.writer_state.tree.number ≤ least new.known.writer_state.tree.number new.known.writer_state.clearings
 unfolding IsCleared
 scanned_least pins old new is sized after out =
-    let clearings : List Clearing = new.known.desk.clearings in
-    least_greatest new.known.desk.tree.number new.known.desk.tree.number clearings (omega arith)
+    let clearings : List Clearing = new.known.writer_state.clearings in
+    least_greatest new.known.writer_state.tree.number new.known.writer_state.tree.number clearings (omega arith)
     (λ reader exists. elim (cases_lt reader (length clearings)) [
       | inl within ↦
           let even : (clearing_at clearings reader).pin % 2 ≡ 0 =

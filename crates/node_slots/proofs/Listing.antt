@@ -7,7 +7,7 @@ use Rattle.std.proofs.lemmas.List.Sums.{sum_by-append}
 use Rattle.std.proofs.lemmas.List.Sorted.{sum_by-IsPermutation, IsPermutation-map, IsPermutation-trans, IsPermutation-to_front, length_permutation}
 use Rattle.std.specs.List.Sorted.{IsPermutation}
 use Rattle.mm_types.specs.declared.slot.Row.{Row}
-use Rattle.grace_core.specs.Core.{Desk, times, has_row, since_at, is_free}
+use Rattle.grace_core.specs.Core.{WriterState, times, has_row, since_at, is_free}
 use Rattle.grace_core.specs.Steps.{next_tree, published, scanned}
 use Rattle.grace_core.proofs.Moves.{free_parts, free_from, publish_free, scan_free}
 use Rattle.grace_core.proofs.Leaving.{since_left, since_same}
@@ -29,11 +29,11 @@ left_last left one row =
     ap (times row) (map-append (λ (l : Left). l.row.0) left (one ∷ [])) ∙ times_last row one.row.0 (left_numbers left)
 
 -- the last free row is taken
-pub take_lists : (rows : ℕ) (row : Row) (free : List Row) (left : List Left) (firsts : List ℕ) (desk : Desk)
-    → RowsKept rows (free ++ row ∷ []) left firsts desk
-    → RowsKept rows free left (set firsts row.0 (desk.tree.number + 1)) desk
-take_lists rows row free left firsts desk kept =
-    let next : ℕ = desk.tree.number + 1 in
+pub take_lists : (rows : ℕ) (row : Row) (free : List Row) (left : List Left) (firsts : List ℕ) (writer_state : WriterState)
+    → RowsKept rows (free ++ row ∷ []) left firsts writer_state
+    → RowsKept rows free left (set firsts row.0 (writer_state.tree.number + 1)) writer_state
+take_lists rows row free left firsts writer_state kept =
+    let next : ℕ = writer_state.tree.number + 1 in
     let count = free_last free row in
     let one = one_if row.0 row.0 refl in
     let there : row.0 < length firsts = omega (arith, kept.sized, kept.inside row.0 (omega (arith, count row.0, one))) in
@@ -66,9 +66,9 @@ take_lists rows row free left firsts desk kept =
     }
 
 -- the free list in another order
-pub moved_lists : (rows : ℕ) (free moved : List Row) (left : List Left) (firsts : List ℕ) (desk : Desk) → IsPermutation free moved
-    → RowsKept rows free left firsts desk → RowsKept rows moved left firsts desk
-moved_lists rows free moved left firsts desk permuted kept =
+pub moved_lists : (rows : ℕ) (free moved : List Row) (left : List Left) (firsts : List ℕ) (writer_state : WriterState) → IsPermutation free moved
+    → RowsKept rows free left firsts writer_state → RowsKept rows moved left firsts writer_state
+moved_lists rows free moved left firsts writer_state permuted kept =
     let same : (row : ℕ) → times row (free_numbers moved) ≡ times row (free_numbers free) = λ row.
     sum_by-IsPermutation (λ n. cond (nat_eq n row) 1 0) (free_numbers free) (free_numbers moved) (IsPermutation-map (λ (r : Row). r.0) free moved permuted) in
     record {
@@ -93,9 +93,9 @@ last_moved xs ys rest row permuted last =
     IsPermutation-trans xs ys (row ∷ rest) permuted (subst (λ (l : List ℕ). IsPermutation l (row ∷ rest)) (sym last) (IsPermutation-to_front rest row))
 
 -- a row that was taken is free again
-pub free_lists : (rows : ℕ) (row : Row) (free : List Row) (left : List Left) (firsts : List ℕ) (desk : Desk) → RowsKept rows free left firsts desk
-    → row.0 < rows → times_gone free left row.0 ≡ 0 → desk.tree.number < first_at firsts row.0 → RowsKept rows (free ++ row ∷ []) left firsts desk
-free_lists rows row free left firsts desk kept within gone late =
+pub free_lists : (rows : ℕ) (row : Row) (free : List Row) (left : List Left) (firsts : List ℕ) (writer_state : WriterState) → RowsKept rows free left firsts writer_state
+    → row.0 < rows → times_gone free left row.0 ≡ 0 → writer_state.tree.number < first_at firsts row.0 → RowsKept rows (free ++ row ∷ []) left firsts writer_state
+free_lists rows row free left firsts writer_state kept within gone late =
     let count = free_last free row in
     record {
       sized = kept.sized;
@@ -110,7 +110,7 @@ free_lists rows row free left firsts desk kept within gone late =
         | inr differ ↦ kept.inside other (let none = none_if row.0 other differ.1 in omega (arith, count other, none, some))
       ];
       free_is = λ other some. elim (eqb_tells row.0 other) [
-        | inl same ↦ subst (λ r. is_free desk r ≡ true) same.1 (kept.taken row.0 within gone late)
+        | inl same ↦ subst (λ r. is_free writer_state r ≡ true) same.1 (kept.taken row.0 within gone late)
         | inr differ ↦ kept.free_is other (let none = none_if row.0 other differ.1 in omega (arith, count other, none, some))
       ];
       present = λ other inside none early. kept.present other inside (omega (arith, count other, none)) early;
@@ -120,21 +120,21 @@ free_lists rows row free left firsts desk kept within gone late =
     }
 
 -- a row of the present tree was left
-pub left_lists : (rows : ℕ) (one : Left) (free : List Row) (left : List Left) (firsts : List ℕ) (desk : Desk) → RowsKept rows free left firsts desk
-    → one.row.0 < rows → times_gone free left one.row.0 ≡ 0 → first_at firsts one.row.0 ≤ desk.tree.number → one.since ≡ desk.tree.number + 1
-    → RowsKept rows free (left ++ one ∷ []) firsts desk
-left_lists rows one free left firsts desk kept within gone early since =
+pub left_lists : (rows : ℕ) (one : Left) (free : List Row) (left : List Left) (firsts : List ℕ) (writer_state : WriterState) → RowsKept rows free left firsts writer_state
+    → one.row.0 < rows → times_gone free left one.row.0 ≡ 0 → first_at firsts one.row.0 ≤ writer_state.tree.number → one.since ≡ writer_state.tree.number + 1
+    → RowsKept rows free (left ++ one ∷ []) firsts writer_state
+left_lists rows one free left firsts writer_state kept within gone early since =
     let count = left_last left one in
     let long : length (left ++ one ∷ []) ≡ length left + 1 = length-append left (one ∷ []) in
     let before : (place : ℕ) → place < length left → left_at (left ++ one ∷ []) place ≡ left_at left place =
     λ place there. get_or_append_left left (one ∷ []) no_left place there in
     let last : (place : ℕ) → length left ≡ place → left_at (left ++ one ∷ []) place ≡ one = λ place there. get_or_push left one no_left place there in
-    let is : IsLeft desk one = record {
+    let is : IsLeft writer_state one = record {
       some = omega (arith, since);
       most = omega (arith, since);
       leaves = λ _. since;
-      waits = λ out. absurd (both_ways (has_row desk.tree one.row.0) out (kept.present one.row.0 within gone early));
-      past = λ out. absurd (both_ways (has_row desk.tree one.row.0) out (kept.present one.row.0 within gone early));
+      waits = λ out. absurd (both_ways (has_row writer_state.tree one.row.0) out (kept.present one.row.0 within gone early));
+      past = λ out. absurd (both_ways (has_row writer_state.tree one.row.0) out (kept.present one.row.0 within gone early));
     } in
     record {
       sized = kept.sized;
@@ -152,8 +152,8 @@ left_lists rows one free left firsts desk kept within gone early since =
       present = λ other inside none low. kept.present other inside (omega (arith, count other, none)) low;
       taken = λ other inside none later. kept.taken other inside (omega (arith, count other, none)) later;
       queue = λ place there. elim (cases_lt place (length left)) [
-        | inl old ↦ subst (IsLeft desk) (sym (before place old)) (kept.queue place old)
-        | inr new ↦ subst (IsLeft desk) (sym (last place (omega (arith, new, there, long)))) is
+        | inl old ↦ subst (IsLeft writer_state) (sym (before place old)) (kept.queue place old)
+        | inr new ↦ subst (IsLeft writer_state) (sym (last place (omega (arith, new, there, long)))) is
       ];
       order = λ place other le there. elim (cases_lt other (length left)) [
         | inl old ↦ omega (
@@ -172,26 +172,26 @@ left_lists rows one free left firsts desk kept within gone early since =
     }
 
 -- the row that was left first is free
-pub passed_lists : (rows : ℕ) (one : Left) (free : List Row) (left : List Left) (firsts : List ℕ) (desk : Desk)
-    → RowsKept rows free (one ∷ left) firsts desk
-    → one.since ≤ desk.tree.number → one.since ≤ desk.passed → RowsKept rows (free ++ one.row ∷ []) left firsts desk
-passed_lists rows one free left firsts desk kept present past =
+pub passed_lists : (rows : ℕ) (one : Left) (free : List Row) (left : List Left) (firsts : List ℕ) (writer_state : WriterState)
+    → RowsKept rows free (one ∷ left) firsts writer_state
+    → one.since ≤ writer_state.tree.number → one.since ≤ writer_state.passed → RowsKept rows (free ++ one.row ∷ []) left firsts writer_state
+passed_lists rows one free left firsts writer_state kept present past =
     let more = free_last free one.row in
     let less : (other : ℕ) → times other (left_numbers (one ∷ left)) ≡ cond (nat_eq one.row.0 other) 1 0 + times other (left_numbers left) =
     λ other. times_first other one.row.0 (left_numbers left) in
-    let is : IsLeft desk one = kept.queue 0 (omega arith) in
-    let out : has_row desk.tree one.row.0 ≡ false = elim (cases_Bool (has_row desk.tree one.row.0)) [
+    let is : IsLeft writer_state one = kept.queue 0 (omega arith) in
+    let out : has_row writer_state.tree one.row.0 ≡ false = elim (cases_Bool (has_row writer_state.tree one.row.0)) [
       | inl here ↦ absurd (omega (arith, is.leaves here, present))
       | inr out ↦ out
     ] in
-    let is_it : is_free desk one.row.0 ≡ true = free_from desk one.row.0 out (omega (arith, is.waits out, past)) in
+    let is_it : is_free writer_state one.row.0 ≡ true = free_from writer_state one.row.0 out (omega (arith, is.waits out, past)) in
     record {
       sized = kept.sized;
       first = kept.first;
       once = λ other. omega (arith, more other, less other, kept.once other);
       inside = λ other some. kept.inside other (omega (arith, more other, less other, some));
       free_is = λ other some. elim (eqb_tells one.row.0 other) [
-        | inl same ↦ subst (λ r. is_free desk r ≡ true) same.1 is_it
+        | inl same ↦ subst (λ r. is_free writer_state r ≡ true) same.1 is_it
         | inr differ ↦ kept.free_is other (let none = none_if one.row.0 other differ.1 in omega (arith, more other, none, some))
       ];
       present = λ other inside none low. kept.present other inside (omega (arith, more other, less other, none)) low;
@@ -201,27 +201,27 @@ passed_lists rows one free left firsts desk kept present past =
     }
 
 -- a scan of a pin
-scan_lists : (rows reader found : ℕ) (free : List Row) (left : List Left) (firsts : List ℕ) (desk : Desk) → RowsKept rows free left firsts desk
-    → RowsKept rows free left firsts (scanned desk reader found)
-scan_lists rows reader found free left firsts desk kept = record {
+scan_lists : (rows reader found : ℕ) (free : List Row) (left : List Left) (firsts : List ℕ) (writer_state : WriterState) → RowsKept rows free left firsts writer_state
+    → RowsKept rows free left firsts (scanned writer_state reader found)
+scan_lists rows reader found free left firsts writer_state kept = record {
   sized = kept.sized;
   first = kept.first;
   once = kept.once;
   inside = kept.inside;
-  free_is = λ row some. scan_free desk reader found row (kept.free_is row some);
+  free_is = λ row some. scan_free writer_state reader found row (kept.free_is row some);
   present = kept.present;
-  taken = λ row within gone late. scan_free desk reader found row (kept.taken row within gone late);
+  taken = λ row within gone late. scan_free writer_state reader found row (kept.taken row within gone late);
   queue = λ place there. let is = kept.queue place there in record { some = is.some; most = is.most; leaves = is.leaves; waits = is.waits; past = is.past };
   order = kept.order;
 }
 
 -- scans of pins
 pub scans_lists : (rows reader : ℕ) (pins : List ℕ) (free : List Row) (left : List Left) (firsts : List ℕ) (view : NodeView)
-    → RowsKept rows free left firsts view.known.desk → RowsKept rows free left firsts (scan_from reader pins view).known.desk
+    → RowsKept rows free left firsts view.known.writer_state → RowsKept rows free left firsts (scan_from reader pins view).known.writer_state
 scans_lists rows reader [] free left firsts view kept = kept
 scans_lists rows reader (found ∷ pins) free left firsts view kept =
     scans_lists rows (reader + 1) pins free left firsts (scan_at view reader found)
-    (scan_lists rows reader found free left firsts view.known.desk kept)
+    (scan_lists rows reader found free left firsts view.known.writer_state kept)
 
 -- a row in the queue was left
 left_counts : (left : List Left) (place : ℕ) → place < length left → 1 ≤ times (left_at left place).row.0 (left_numbers left)
@@ -232,38 +232,38 @@ left_counts (one ∷ left) (suc place) within =
     omega (arith, times_first (left_at left place).row.0 one.row.0 (left_numbers left), left_counts left place (omega arith))
 
 -- a publish of the rows that are neither free nor left
-pub publish_lists : (rows number : ℕ) (new : List ℕ) (free : List Row) (left : List Left) (firsts : List ℕ) (desk : Desk)
-    → RowsKept rows free left firsts desk
-    → number ≡ desk.tree.number + 1 → length desk.since ≡ rows
+pub publish_lists : (rows number : ℕ) (new : List ℕ) (free : List Row) (left : List Left) (firsts : List ℕ) (writer_state : WriterState)
+    → RowsKept rows free left firsts writer_state
+    → number ≡ writer_state.tree.number + 1 → length writer_state.since ≡ rows
     → ((row : ℕ) → 1 ≤ times_gone free left row → times row new ≡ 0)
     → ((row : ℕ) → row < rows → times_gone free left row ≡ 0 → 1 ≤ times row new)
-    → RowsKept rows free left firsts (published desk number new)
-publish_lists rows number new free left firsts desk kept next sized gone all =
-    let there : (row : ℕ) → row < rows → times_gone free left row ≡ 0 → has_row (next_tree desk number new) row ≡ true =
+    → RowsKept rows free left firsts (published writer_state number new)
+publish_lists rows number new free left firsts writer_state kept next sized gone all =
+    let there : (row : ℕ) → row < rows → times_gone free left row ≡ 0 → has_row (next_tree writer_state number new) row ≡ true =
     λ row within none. lt-ltb 0 (times row new) (all row within none) in
     record {
       sized = kept.sized;
       first = λ row. omega (arith, kept.first row, next);
       once = kept.once;
       inside = kept.inside;
-      free_is = λ row some. publish_free desk number new row (gone row (omega (arith, some))) (kept.free_is row some);
+      free_is = λ row some. publish_free writer_state number new row (gone row (omega (arith, some))) (kept.free_is row some);
       present = λ row within none _. there row within none;
       taken = λ row within none late. absurd (omega (arith, late, kept.first row, next));
       queue = λ place within.
           let one : Left = left_at left place in
-          let is : IsLeft desk one = kept.queue place within in
+          let is : IsLeft writer_state one = kept.queue place within in
           let row : ℕ = one.row.0 in
           let counted : 1 ≤ times row (left_numbers left) = left_counts left place within in
           let some : 1 ≤ times_gone free left row = omega (arith, counted) in
-          let out : has_row (next_tree desk number new) row ≡ false = le-ltb 0 (times row new) (omega (arith, gone row some)) in
-          let old : row < length desk.since = omega (arith, kept.inside row some, sized) in
+          let out : has_row (next_tree writer_state number new) row ≡ false = le-ltb 0 (times row new) (omega (arith, gone row some)) in
+          let old : row < length writer_state.since = omega (arith, kept.inside row some, sized) in
           record {
             some = is.some;
             most = omega (arith, is.most, next);
-            leaves = λ here. absurd (both_ways (has_row (next_tree desk number new) row) out here);
-            waits = λ _. elim (cases_Bool (has_row desk.tree row)) [
-              | inl here ↦ since_left desk.tree (next_tree desk number new) desk.since row old here out ∙ next ∙ sym (is.leaves here)
-              | inr was_out ↦ since_same desk.tree (next_tree desk number new) desk.since row was_out ∙ is.waits was_out
+            leaves = λ here. absurd (both_ways (has_row (next_tree writer_state number new) row) out here);
+            waits = λ _. elim (cases_Bool (has_row writer_state.tree row)) [
+              | inl here ↦ since_left writer_state.tree (next_tree writer_state number new) writer_state.since row old here out ∙ next ∙ sym (is.leaves here)
+              | inr was_out ↦ since_same writer_state.tree (next_tree writer_state number new) writer_state.since row was_out ∙ is.waits was_out
             ];
             past = λ _. omega (arith, is.most, next);
           };
@@ -358,17 +358,17 @@ gone_long free left = omega (
       (λ (l : Left). l.row.0),
 )
 
-pub gone_few : (rows : ℕ) (free : List Row) (left : List Left) (firsts : List ℕ) (desk : Desk) → RowsKept rows free left firsts desk
+pub gone_few : (rows : ℕ) (free : List Row) (left : List Left) (firsts : List ℕ) (writer_state : WriterState) → RowsKept rows free left firsts writer_state
     → length free + length left ≤ rows
-gone_few rows free left firsts desk kept =
+gone_few rows free left firsts writer_state kept =
     let all = few rows (free_numbers free ++ left_numbers left) (λ row. omega (arith, all_gone free left row, kept.once row))
     (λ row some. kept.inside row (omega (arith, all_gone free left row, some))) in
     omega (arith, all, gone_long free left)
 
 -- and fewer where one is neither
-pub gone_fewer : (rows row : ℕ) (free : List Row) (left : List Left) (firsts : List ℕ) (desk : Desk) → RowsKept rows free left firsts desk
+pub gone_fewer : (rows row : ℕ) (free : List Row) (left : List Left) (firsts : List ℕ) (writer_state : WriterState) → RowsKept rows free left firsts writer_state
     → row < rows → times_gone free left row ≡ 0 → length free + length left < rows
-gone_fewer rows row free left firsts desk kept within none =
+gone_fewer rows row free left firsts writer_state kept within none =
     let list : List ℕ = free_numbers free ++ left_numbers left in
     let count : (other : ℕ) → times other (row ∷ list) ≡ cond (nat_eq row other) 1 0 + times other list = λ other. times_first other row list in
     let all = few rows (row ∷ list)
@@ -402,42 +402,42 @@ taken_parts rows row gone present is =
     (kept.0, kept.1, not-true present parts.1)
 
 -- a row that is neither free nor left is of the present tree, or was taken
-pub early_present : (rows row : ℕ) (free : List Row) (left : List Left) (firsts : List ℕ) (desk : Desk) → RowsKept rows free left firsts desk
-    → row < rows → times_gone free left row ≡ 0 → has_row desk.tree row ≡ false → desk.tree.number < first_at firsts row
-early_present rows row free left firsts desk kept within gone out = elim (cases_lt desk.tree.number (first_at firsts row)) [
+pub early_present : (rows row : ℕ) (free : List Row) (left : List Left) (firsts : List ℕ) (writer_state : WriterState) → RowsKept rows free left firsts writer_state
+    → row < rows → times_gone free left row ≡ 0 → has_row writer_state.tree row ≡ false → writer_state.tree.number < first_at firsts row
+early_present rows row free left firsts writer_state kept within gone out = elim (cases_lt writer_state.tree.number (first_at firsts row)) [
   | inl late ↦ late
-  | inr early ↦ absurd (both_ways (has_row desk.tree row) out (kept.present row within gone early))
+  | inr early ↦ absurd (both_ways (has_row writer_state.tree row) out (kept.present row within gone early))
 ]
 
 -- a row that was taken is free by the grace protocol
-pub taken_free : (rows row : ℕ) (free : List Row) (left : List Left) (firsts : List ℕ) (desk : Desk) → RowsKept rows free left firsts desk
-    → row < rows → times_gone free left row ≡ 0 → has_row desk.tree row ≡ false → is_free desk row ≡ true
-taken_free rows row free left firsts desk kept within gone out = kept.taken row within gone
-    (early_present rows row free left firsts desk kept within gone out)
+pub taken_free : (rows row : ℕ) (free : List Row) (left : List Left) (firsts : List ℕ) (writer_state : WriterState) → RowsKept rows free left firsts writer_state
+    → row < rows → times_gone free left row ≡ 0 → has_row writer_state.tree row ≡ false → is_free writer_state row ≡ true
+taken_free rows row free left firsts writer_state kept within gone out = kept.taken row within gone
+    (early_present rows row free left firsts writer_state kept within gone out)
 
 -- the row that was taken just now
-pub take_within : (rows : ℕ) (row : Row) (free : List Row) (left : List Left) (firsts : List ℕ) (desk : Desk)
-    → RowsKept rows (free ++ row ∷ []) left firsts desk
+pub take_within : (rows : ℕ) (row : Row) (free : List Row) (left : List Left) (firsts : List ℕ) (writer_state : WriterState)
+    → RowsKept rows (free ++ row ∷ []) left firsts writer_state
     → row.0 < rows
-take_within rows row free left firsts desk kept =
+take_within rows row free left firsts writer_state kept =
     kept.inside row.0 (let one = one_if row.0 row.0 refl in omega (arith, free_last free row row.0, one))
 
-pub take_is_taken : (rows : ℕ) (row : Row) (free : List Row) (left : List Left) (firsts : List ℕ) (desk : Desk)
-    → RowsKept rows (free ++ row ∷ []) left firsts desk
-    → ((nat_lt row.0 rows && nat_eq (times_gone free left row.0) 0) && not (has_row desk.tree row.0)) ≡ true
-take_is_taken rows row free left firsts desk kept =
+pub take_is_taken : (rows : ℕ) (row : Row) (free : List Row) (left : List Left) (firsts : List ℕ) (writer_state : WriterState)
+    → RowsKept rows (free ++ row ∷ []) left firsts writer_state
+    → ((nat_lt row.0 rows && nat_eq (times_gone free left row.0) 0) && not (has_row writer_state.tree row.0)) ≡ true
+take_is_taken rows row free left firsts writer_state kept =
     let one = one_if row.0 row.0 refl in
     let count = free_last free row row.0 in
     let none : times_gone free left row.0 ≡ 0 = omega (arith, kept.once row.0, count, one) in
-    let free_now = free_parts desk row.0 (kept.free_is row.0 (omega (arith, count, one))) in
-    and_from (nat_lt row.0 rows && nat_eq (times_gone free left row.0) 0) (not (has_row desk.tree row.0))
-    (kept_from rows row.0 (times_gone free left row.0) (take_within rows row free left firsts desk kept) none)
-    (not_from_false (has_row desk.tree row.0) free_now.0)
+    let free_now = free_parts writer_state row.0 (kept.free_is row.0 (omega (arith, count, one))) in
+    and_from (nat_lt row.0 rows && nat_eq (times_gone free left row.0) 0) (not (has_row writer_state.tree row.0))
+    (kept_from rows row.0 (times_gone free left row.0) (take_within rows row free left firsts writer_state kept) none)
+    (not_from_false (has_row writer_state.tree row.0) free_now.0)
 
 -- a fill leaves what the lists keep
 pub fill_lists : (rows row : ℕ) (words : List ℕ) (free : List Row) (left : List Left) (firsts : List ℕ) (view : NodeView)
-    → RowsKept rows free left firsts view.known.desk
-    → RowsKept rows free left firsts (fill_at view row words).known.desk
+    → RowsKept rows free left firsts view.known.writer_state
+    → RowsKept rows free left firsts (fill_at view row words).known.writer_state
 fill_lists rows row words free left firsts view kept = record {
   sized = kept.sized;
   first = kept.first;
@@ -451,40 +451,40 @@ fill_lists rows row words free left firsts view kept = record {
 }
 
 -- a row that waits was left out after the first of the queue or with it
-pub waiting_after : (rows passed : ℕ) (free : List Row) (left : List Left) (firsts : List ℕ) (desk : Desk) → RowsKept rows free left firsts desk
+pub waiting_after : (rows passed : ℕ) (free : List Row) (left : List Left) (firsts : List ℕ) (writer_state : WriterState) → RowsKept rows free left firsts writer_state
     → (0 < length left → passed < (left_at left 0).since)
-    → (row : ℕ) → (nat_lt 0 (times row (left_numbers left)) && not (has_row desk.tree row)) ≡ true → passed < since_at desk.since row
-waiting_after rows passed free left firsts desk kept after row waits =
-    let parts = and_parts (nat_lt 0 (times row (left_numbers left))) (not (has_row desk.tree row)) waits in
+    → (row : ℕ) → (nat_lt 0 (times row (left_numbers left)) && not (has_row writer_state.tree row)) ≡ true → passed < since_at writer_state.since row
+waiting_after rows passed free left firsts writer_state kept after row waits =
+    let parts = and_parts (nat_lt 0 (times row (left_numbers left))) (not (has_row writer_state.tree row)) waits in
     let place = left_place left row (ltb-true 0 (times row (left_numbers left)) parts.0) in
-    let is : IsLeft desk (left_at left place.0) = kept.queue place.0 place.1 in
-    let out : has_row desk.tree (left_at left place.0).row.0 ≡ false = ap (has_row desk.tree) place.2 ∙ not-true (has_row desk.tree row) parts.1 in
-    omega (arith, after (omega (arith, place.1)), kept.order 0 place.0 (omega arith) place.1, is.waits out, ap (since_at desk.since) place.2)
+    let is : IsLeft writer_state (left_at left place.0) = kept.queue place.0 place.1 in
+    let out : has_row writer_state.tree (left_at left place.0).row.0 ≡ false = ap (has_row writer_state.tree) place.2 ∙ not-true (has_row writer_state.tree row) parts.1 in
+    omega (arith, after (omega (arith, place.1)), kept.order 0 place.0 (omega arith) place.1, is.waits out, ap (since_at writer_state.since) place.2)
 
 -- a row that waits was left out by the present tree or one before it
-pub waiting_past : (rows : ℕ) (free : List Row) (left : List Left) (firsts : List ℕ) (desk : Desk) → RowsKept rows free left firsts desk
-    → (row : ℕ) → (nat_lt 0 (times row (left_numbers left)) && not (has_row desk.tree row)) ≡ true → since_at desk.since row ≤ desk.tree.number
-waiting_past rows free left firsts desk kept row waits =
-    let parts = and_parts (nat_lt 0 (times row (left_numbers left))) (not (has_row desk.tree row)) waits in
+pub waiting_past : (rows : ℕ) (free : List Row) (left : List Left) (firsts : List ℕ) (writer_state : WriterState) → RowsKept rows free left firsts writer_state
+    → (row : ℕ) → (nat_lt 0 (times row (left_numbers left)) && not (has_row writer_state.tree row)) ≡ true → since_at writer_state.since row ≤ writer_state.tree.number
+waiting_past rows free left firsts writer_state kept row waits =
+    let parts = and_parts (nat_lt 0 (times row (left_numbers left))) (not (has_row writer_state.tree row)) waits in
     let place = left_place left row (ltb-true 0 (times row (left_numbers left)) parts.0) in
-    let is : IsLeft desk (left_at left place.0) = kept.queue place.0 place.1 in
-    let out : has_row desk.tree (left_at left place.0).row.0 ≡ false = ap (has_row desk.tree) place.2 ∙ not-true (has_row desk.tree row) parts.1 in
-    omega (arith, is.past out, is.waits out, ap (since_at desk.since) place.2)
+    let is : IsLeft writer_state (left_at left place.0) = kept.queue place.0 place.1 in
+    let out : has_row writer_state.tree (left_at left place.0).row.0 ≡ false = ap (has_row writer_state.tree) place.2 ∙ not-true (has_row writer_state.tree row) parts.1 in
+    omega (arith, is.past out, is.waits out, ap (since_at writer_state.since) place.2)
 
 -- a tree before which every row that waits was left out is before the tree that leaves the first of the queue out
-pub settled_greatest : (rows tree : ℕ) (free : List Row) (left : List Left) (firsts : List ℕ) (desk : Desk) → RowsKept rows free left firsts desk
-    → 0 < length left → tree ≤ desk.tree.number
-    → ((row : ℕ) → (nat_lt 0 (times row (left_numbers left)) && not (has_row desk.tree row)) ≡ true → tree < since_at desk.since row)
+pub elapsed_greatest : (rows tree : ℕ) (free : List Row) (left : List Left) (firsts : List ℕ) (writer_state : WriterState) → RowsKept rows free left firsts writer_state
+    → 0 < length left → tree ≤ writer_state.tree.number
+    → ((row : ℕ) → (nat_lt 0 (times row (left_numbers left)) && not (has_row writer_state.tree row)) ≡ true → tree < since_at writer_state.since row)
     → tree < (left_at left 0).since
-settled_greatest rows tree free left firsts desk kept some below each =
+elapsed_greatest rows tree free left firsts writer_state kept some below each =
     let one : Left = left_at left 0 in
-    let is : IsLeft desk one = kept.queue 0 some in
-    elim (cases_Bool (has_row desk.tree one.row.0)) [
+    let is : IsLeft writer_state one = kept.queue 0 some in
+    elim (cases_Bool (has_row writer_state.tree one.row.0)) [
       | inl here ↦ omega (arith, is.leaves here, below)
       | inr out ↦
           let counted : 0 < times one.row.0 (left_numbers left) = left_counts left 0 some in
-          let later = each one.row.0 (and_from (nat_lt 0 (times one.row.0 (left_numbers left))) (not (has_row desk.tree one.row.0))
-          (lt-ltb 0 (times one.row.0 (left_numbers left)) counted) (not_from_false (has_row desk.tree one.row.0) out)) in
+          let later = each one.row.0 (and_from (nat_lt 0 (times one.row.0 (left_numbers left))) (not (has_row writer_state.tree one.row.0))
+          (lt-ltb 0 (times one.row.0 (left_numbers left)) counted) (not_from_false (has_row writer_state.tree one.row.0) out)) in
           omega (arith, later, is.waits out)
     ]
 
@@ -501,18 +501,18 @@ and_right_false true b is = is
 and_right_false false b is = refl
 
 -- each row is free, was taken, is of the present tree, or waits
-pub counted_once : (rows row : ℕ) (free : List Row) (left : List Left) (firsts : List ℕ) (desk : Desk) → RowsKept rows free left firsts desk
+pub counted_once : (rows row : ℕ) (free : List Row) (left : List Left) (firsts : List ℕ) (writer_state : WriterState) → RowsKept rows free left firsts writer_state
     → row < rows
-    → times row (free_numbers free) + cond ((nat_lt row rows && nat_eq (times_gone free left row) 0) && not (has_row desk.tree row)) 1 0
-    + cond (has_row desk.tree row) 1 0 + cond (nat_lt 0 (times row (left_numbers left)) && not (has_row desk.tree row)) 1 0 ≡ 1
-counted_once rows row free left firsts desk kept within = go (has_row desk.tree row)
+    → times row (free_numbers free) + cond ((nat_lt row rows && nat_eq (times_gone free left row) 0) && not (has_row writer_state.tree row)) 1 0
+    + cond (has_row writer_state.tree row) 1 0 + cond (nat_lt 0 (times row (left_numbers left)) && not (has_row writer_state.tree row)) 1 0 ≡ 1
+counted_once rows row free left firsts writer_state kept within = go (has_row writer_state.tree row)
     refl where
-      go : (present : Bool) → has_row desk.tree row ≡ present
+      go : (present : Bool) → has_row writer_state.tree row ≡ present
           → times row (free_numbers free) + cond ((nat_lt row rows && nat_eq (times_gone free left row) 0) && not present) 1 0
           + cond present 1 0 + cond (nat_lt 0 (times row (left_numbers left)) && not present) 1 0 ≡ 1
       go true here =
           let none : times row (free_numbers free) ≡ 0 = elim (cases_lt 0 (times row (free_numbers free))) [
-            | inl some ↦ absurd (both_ways (has_row desk.tree row) (free_parts desk row (kept.free_is row some)).0 here)
+            | inl some ↦ absurd (both_ways (has_row writer_state.tree row) (free_parts writer_state row (kept.free_is row some)).0 here)
             | inr none ↦ omega (arith, none)
           ] in
           let first = no_count (nat_lt row rows && nat_eq (times_gone free left row) 0) in

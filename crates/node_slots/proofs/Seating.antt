@@ -131,8 +131,8 @@ publish_kept size root next words clearings me new kept fits is =
       rows = kept.rows;
       wide = kept.wide;
       readers = kept.readers;
-      since = length-since_from 0 me.0.known.desk.tree (next_tree me.0.known.desk next.tree (shown_rows (named_tree me.0.known next)))
-          me.0.known.desk.since ∙ kept.since;
+      since = length-since_from 0 me.0.known.writer_state.tree (next_tree me.0.known.writer_state next.tree (shown_rows (named_tree me.0.known next)))
+          me.0.known.writer_state.since ∙ kept.since;
       reached = omega (arith, ap (least next.tree) kept.clearings_are);
     })
 
@@ -144,9 +144,9 @@ pub scan_kept : (size : Size) (root : Root) (words : List (List ℕ)) (clearings
 scan_kept size root words clearings reader found old changed me new kept there was change is =
     let within : reader < length clearings = omega (arith, there, kept.readers) in
     let old_is : old ≡ clearing_at clearings reader = was ∙ read_any clearings reader old no_clearing within in
-    let same : set me.0.known.desk.clearings reader (looked me.0.known.desk.tree.number found (clearing_at me.0.known.desk.clearings reader)) ≡ set
+    let same : set me.0.known.writer_state.clearings reader (looked me.0.known.writer_state.tree.number found (clearing_at me.0.known.writer_state.clearings reader)) ≡ set
     clearings reader changed =
-    ap (λ (l : List Clearing). set l reader (looked me.0.known.desk.tree.number found (clearing_at l reader))) kept.clearings_are
+    ap (λ (l : List Clearing). set l reader (looked me.0.known.writer_state.tree.number found (clearing_at l reader))) kept.clearings_are
     ∙ ap (λ n. set clearings reader (looked n found (clearing_at clearings reader))) kept.number_is
     ∙ ap (λ (c : Clearing). set clearings reader (looked root.tree found c)) (sym old_is)
     ∙ ap (set clearings reader) (sym change) in
@@ -166,7 +166,7 @@ scan_kept size root words clearings reader found old changed me new kept there w
       reached = omega (
         arith,
         ap (least root.tree) same,
-        ap (λ n. least n (set me.0.known.desk.clearings reader
-            (looked me.0.known.desk.tree.number found (clearing_at me.0.known.desk.clearings reader)))) kept.number_is,
+        ap (λ n. least n (set me.0.known.writer_state.clearings reader
+            (looked me.0.known.writer_state.tree.number found (clearing_at me.0.known.writer_state.clearings reader)))) kept.number_is,
       );
     })

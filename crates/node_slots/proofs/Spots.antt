@@ -7,7 +7,7 @@ use Rattle.std.proofs.lemmas.List.Sorted.{IsPermutation-trans, IsPermutation-sym
 use Rattle.std.specs.List.Sorted.{IsPermutation}
 use Rattle.std.specs.List.{swap_remove}
 use Rattle.mm_types.specs.declared.slot.Row.{Row}
-use Rattle.grace_core.specs.Core.{Desk, times}
+use Rattle.grace_core.specs.Core.{WriterState, times}
 use Rattle.node_slots.specs.declared.left.Left.{Left}
 use Rattle.node_slots.specs.Kept.{number_at, free_numbers, RowsKept, PlacesKept, FallsFrom}
 use Rattle.node_slots.proofs.Counting.{times_first, one_if, none_if}
@@ -184,21 +184,21 @@ taken_last free place last =
     sym (take_all (place + 1) free (omega (arith, last))) ∙ whole ∙ ap (λ (l : List ℕ). l ++ number_at free place ∷ []) (sym kept)
 
 -- what the writer's lists keep where a row of any place was taken
-pub taken_rows : (rows : ℕ) (row : Row) (free rest : List Row) (left : List Left) (firsts : List ℕ) (desk : Desk) → IsPermutation free (row ∷ rest)
-    → RowsKept rows free left firsts desk → RowsKept rows (rest ++ row ∷ []) left firsts desk
-taken_rows rows row free rest left firsts desk permuted kept =
-    moved_lists rows free (rest ++ row ∷ []) left firsts desk
+pub taken_rows : (rows : ℕ) (row : Row) (free rest : List Row) (left : List Left) (firsts : List ℕ) (writer_state : WriterState) → IsPermutation free (row ∷ rest)
+    → RowsKept rows free left firsts writer_state → RowsKept rows (rest ++ row ∷ []) left firsts writer_state
+taken_rows rows row free rest left firsts writer_state permuted kept =
+    moved_lists rows free (rest ++ row ∷ []) left firsts writer_state
     (IsPermutation-trans free (row ∷ rest) (rest ++ row ∷ []) permuted (IsPermutation-sym (rest ++ row ∷ []) (row ∷ rest) (IsPermutation-to_front rest row))) kept
 
 -- each free row is listed once
-pub once_free : (rows : ℕ) (free : List Row) (left : List Left) (firsts : List ℕ) (desk : Desk) → RowsKept rows free left firsts desk
+pub once_free : (rows : ℕ) (free : List Row) (left : List Left) (firsts : List ℕ) (writer_state : WriterState) → RowsKept rows free left firsts writer_state
     → (row : ℕ) → times row (free_numbers free) ≤ 1
-once_free rows free left firsts desk kept row = omega (arith, kept.once row)
+once_free rows free left firsts writer_state kept row = omega (arith, kept.once row)
 
 -- and is one of the table
-pub free_within : (rows : ℕ) (free : List Row) (left : List Left) (firsts : List ℕ) (desk : Desk) → RowsKept rows free left firsts desk
+pub free_within : (rows : ℕ) (free : List Row) (left : List Left) (firsts : List ℕ) (writer_state : WriterState) → RowsKept rows free left firsts writer_state
     → (place : ℕ) → place < length free → number_at (free_numbers free) place < rows
-free_within rows free left firsts desk kept place within =
+free_within rows free left firsts writer_state kept place within =
     let number : Row → ℕ = λ r. r.0 in
     let same : length (free_numbers free) ≡ length free = length-map free number in
     let here = place_times (free_numbers free) place (number_at (free_numbers free) place) (omega (arith, within, same)) refl in

@@ -6,7 +6,7 @@ use Rattle.mm_types.specs.declared.slot.Row.{Row}
 use Rattle.grace_core.specs.declared.clearing.Clearing.{Clearing}
 use Rattle.grace_core.specs.Core.{times, has_row, since_at, clearing_at, no_clearing}
 use Rattle.grace_core.specs.Steps.{new_clearing, least}
-use Rattle.grace_core.specs.Facts.{Board}
+use Rattle.grace_core.specs.Facts.{WriterFacts}
 use Rattle.grace_core.proofs.Moves.{free_fact, free_from}
 use Rattle.maple_node.specs.Roots.{packed_root, unpacked_root}
 use Rattle.maple_node.specs.Levels.{at_of}
@@ -19,7 +19,7 @@ use Rattle.node_slots.specs.declared.view.NodeView.{NodeView}
 use Rattle.node_slots.specs.declared.left.Left.{Left}
 use Rattle.node_slots.specs.Trees.{shown_rows, grace_tree, IsShown, first_root, empty_row, first_tree}
 use Rattle.node_slots.specs.Places.{pin_place, word_place, word_count}
-use Rattle.node_slots.specs.Views.{first_desk, first_known, opened_view, view_at}
+use Rattle.node_slots.specs.Views.{first_writer_state, first_known, opened_view, view_at}
 use Rattle.node_slots.specs.Rule.{Fits, Shows}
 use Rattle.node_slots.specs.Opening.{IsFreeFrom}
 use Rattle.node_slots.specs.Kept.{IsSize, WriterKept, RowsKept, free_numbers, with_empty}
@@ -81,8 +81,8 @@ least_first : (readers : ℕ) → least 0 (replicate readers new_clearing) ≡ 0
 least_first zero = refl
 least_first (suc readers) = let rest = least_first readers in omega arith
 
-first_board : (size : Size) → IsSize size → Board (first_desk size)
-first_board size is = record {
+first_writer_facts : (size : Size) → IsSize size → WriterFacts (first_writer_state size)
+first_writer_facts size is = record {
   present = record {
     exist = λ row here. elim (cases_lt row 1) [
       | inl zeroth ↦ omega (arith, is.some_rows, zeroth, length-replicate size.rows empty_row)
@@ -97,7 +97,7 @@ first_board size is = record {
   before = λ reader. omega (arith, (clearing size.readers reader).0);
   passed = omega arith;
   reached = omega (arith, least_first size.readers);
-  free = free_fact (first_desk size) (λ reader. omega (arith, (clearing size.readers reader).0))
+  free = free_fact (first_writer_state size) (λ reader. omega (arith, (clearing size.readers reader).0))
       (λ reader. omega (arith, (clearing size.readers reader).1));
 }
 
@@ -117,7 +117,7 @@ opening_shows size words is are =
       known = first_known size 0;
       shows = record {
         stands = record {
-          board = first_board size is;
+          writer_facts = first_writer_facts size is;
           tree = refl;
           shown = first_shown size.rows size.slots is.some_rows;
           width = refl;
@@ -180,13 +180,13 @@ opening_kept size words clearings me is same none clearings_are =
 
 -- the lists of a new table's writer
 first_lists : (size : Size) (free : List Row) (firsts : List ℕ) → IsSize size → IsFreeFrom 1 size.rows (free_numbers free)
-    → firsts ≡ replicate {A = ℕ} size.rows 0 → RowsKept size.rows free [] firsts (first_desk size)
+    → firsts ≡ replicate {A = ℕ} size.rows 0 → RowsKept size.rows free [] firsts (first_writer_state size)
 first_lists size free firsts is from are = record {
   sized = ap (λ (l : List ℕ). length l) are ∙ length-replicate {A = ℕ} size.rows 0;
   first = λ row. omega (arith, ap (λ (l : List ℕ). get_or l row 0) are, since size.rows row);
   once = λ row. omega (arith, from.once row);
   inside = λ row some. from.below row (omega (arith, some));
-  free_is = λ row some. free_from (first_desk size) row (first_else size.rows row is.some_rows (from.inside row some))
+  free_is = λ row some. free_from (first_writer_state size) row (first_else size.rows row is.some_rows (from.inside row some))
       (omega (arith, since size.rows row));
   present = λ row there gone early. elim (cases_lt row 1) [
     | inl zeroth ↦ let e : row ≡ 0 = omega arith in subst (λ r. has_row (grace_tree (first_tree size.rows)) r ≡ true) (sym e)
@@ -201,8 +201,8 @@ first_lists size free firsts is from are = record {
 pub opening_rows : (size key : Size) (free : List Row) (left : List Left) (firsts : List ℕ) (view : NodeView) → IsSize size
     → IsFreeFrom 1 size.rows (free_numbers free)
     → firsts ≡ replicate {A = ℕ} size.rows 0 → left ≡ [] → key ≡ size → view ≡ opened_view size 0
-    → RowsKept key.rows free left firsts view.known.desk
+    → RowsKept key.rows free left firsts view.known.writer_state
 opening_rows size key free left firsts view is from are none same view_is =
-    subst (λ (k : Size). RowsKept k.rows free left firsts view.known.desk) (sym same)
-    (subst (λ (l : List Left). RowsKept size.rows free l firsts view.known.desk) (sym none)
-    (subst (λ (v : NodeView). RowsKept size.rows free [] firsts v.known.desk) (sym view_is) (first_lists size free firsts is from are)))
+    subst (λ (k : Size). RowsKept k.rows free left firsts view.known.writer_state) (sym same)
+    (subst (λ (l : List Left). RowsKept size.rows free l firsts view.known.writer_state) (sym none)
+    (subst (λ (v : NodeView). RowsKept size.rows free [] firsts v.known.writer_state) (sym view_is) (first_lists size free firsts is from are)))

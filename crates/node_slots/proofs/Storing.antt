@@ -7,7 +7,7 @@ use Rattle.std.proofs.lemmas.Bool.Decides.{eqb_tells}
 use Rattle.std.proofs.lemmas.List.{length-set, set-get_or, get_or-set_same, get_or-set_other}
 use Rattle.grace_core.specs.Core.{times, row_at, is_free}
 use Rattle.grace_core.specs.Steps.{filled}
-use Rattle.grace_core.proofs.Moves.{fill_board, fill_keeps, publish_board, publish_keeps, scan_board, scan_keeps, exists_looked}
+use Rattle.grace_core.proofs.Moves.{fill_writer_facts, fill_keeps, publish_writer_facts, publish_keeps, scan_writer_facts, scan_keeps, exists_looked}
 use Rattle.maple_node.specs.declared.root.Root.{Root}
 use Rattle.maple_node.specs.Roots.{packed_root, unpacked_root, FitsRoot}
 use Rattle.atomic_table.specs.Table.{State, Me, step, stepped, Allows, keeps}
@@ -61,12 +61,12 @@ writer_steps size state seat word n carried old new is writes kind reader sized 
 
 -- the words after a word of a row changed
 words_stored : (size : Size) (words : List ℕ) (known : Known) (row place word : ℕ) → HasWords size words known → known.made ≤ size.readers
-    → length known.desk.words ≡ size.rows → length (row_at known.desk.words row) ≡ 32 → row < size.rows → place < 32
-    → HasWords size (set words (word_place size.readers row place) word) (record known { desk = filled known.desk row place word })
+    → length known.writer_state.words ≡ size.rows → length (row_at known.writer_state.words row) ≡ 32 → row < size.rows → place < 32
+    → HasWords size (set words (word_place size.readers row place) word) (record known { writer_state = filled known.writer_state row place word })
 words_stored size words known row place word has few rows wide there inside =
     let at : ℕ = word_place size.readers row place in
-    let old : List ℕ = row_at known.desk.words row in
-    let changed : List (List ℕ) = set known.desk.words row (set old place word) in
+    let old : List ℕ = row_at known.writer_state.words row in
+    let changed : List (List ℕ) = set known.writer_state.words row (set old place word) in
     record {
       sized = length-set words at word ∙ has.sized;
       root = ap unpacked_root (get_or-set_other words at root_place word 0 (λ e. omega arith)) ∙ has.root;
@@ -74,7 +74,7 @@ words_stored size words known row place word has few rows wide there inside =
       rows = λ row' place' there' inside'. elim (eqb_tells row' row) [
         | inl same ↦
             let now : get_or changed row' [] ≡ set old place word =
-            ap (λ k. get_or changed k []) same.1 ∙ get_or-set_same known.desk.words row (set old place word) [] (omega (arith, there, rows)) in
+            ap (λ k. get_or changed k []) same.1 ∙ get_or-set_same known.writer_state.words row (set old place word) [] (omega (arith, there, rows)) in
             elim (eqb_tells place' place) [
               | inl here ↦
                   ap (λ w. get_or (set words at word) w 0) (ap (λ k. word_place size.readers k place') same.1
@@ -85,19 +85,19 @@ words_stored size words known row place word has few rows wide there inside =
               | inr differ ↦
                   get_or-set_other words at (word_place size.readers row' place') word 0 (λ e. differ.1 (let s = same.1 in omega arith))
                   ∙ has.rows row' place' there' inside'
-                  ∙ ap (λ k. get_or (row_at known.desk.words k) place' 0) same.1
+                  ∙ ap (λ k. get_or (row_at known.writer_state.words k) place' 0) same.1
                   ∙ sym (ap (λ (l : List ℕ). get_or l place' 0) now ∙ get_or-set_other old place place' word 0 differ.1)
             ]
         | inr differ ↦
             get_or-set_other words at (word_place size.readers row' place') word 0 (λ e. differ.1 (omega arith))
             ∙ has.rows row' place' there' inside'
-            ∙ sym (ap (λ (l : List ℕ). get_or l place' 0) (get_or-set_other known.desk.words row row' (set old place word) [] differ.1))
+            ∙ sym (ap (λ (l : List ℕ). get_or l place' 0) (get_or-set_other known.writer_state.words row row' (set old place word) [] differ.1))
       ];
     }
 
 -- a word of a free row is stored
 pub store_allows : (size : Size) (slots seat row place word : ℕ) (me : Me (Unit {0}) NodeView) → me.0.kind ≡ Writes → row < size.rows → place < 32
-    → is_free me.0.known.desk row ≡ true
+    → is_free me.0.known.writer_state row ≡ true
     → Allows (Shows size) slots seat me (word_place size.readers row place) (λ n. word)
     (λ n. stored (step slots (word_place size.readers row place) word 0 none) me word)
 store_allows size slots seat row place word me writes there inside free state shows homes found fits =
@@ -105,29 +105,29 @@ store_allows size slots seat row place word me writes there inside free state sh
     let known : Known = me.0.known in
     let stands = is.shows.stands in
     let at : ℕ = word_place size.readers row place in
-    let changed : List ℕ = set (row_at known.desk.words row) place word in
+    let changed : List ℕ = set (row_at known.writer_state.words row) place word in
     let new : NodeView = store_at me.0 row place word in (
       new,
       keeps,
       tt,
       writer_steps size state seat at word me.1 me.0 new is writes refl refl
           refl (record {
-            board = fill_board known.desk row place word stands.board free;
+            writer_facts = fill_writer_facts known.writer_state row place word stands.writer_facts free;
             tree = stands.tree;
             shown = stands.shown;
             width = stands.width;
-            rows = length-set known.desk.words row changed ∙ stands.rows;
+            rows = length-set known.writer_state.words row changed ∙ stands.rows;
             exist = stands.exist;
             made = stands.made;
           })
           (words_stored size state.words known row place word is.shows.words stands.made stands.rows
-          (stands.board.wide row (omega (arith, there, stands.rows)) ∙ stands.width) there inside)
+          (stands.writer_facts.wide row (omega (arith, there, stands.rows)) ∙ stands.width) there inside)
           (λ v fit. record {
             size_is = fit.size_is;
             made = fit.made;
             pin = get_or-set_other state.words at (pin_place v.reader) word 0 (λ e. let made = fit.made in let few = stands.made in omega arith)
                 ∙ fit.pin;
-            keeps = λ shown some. fill_keeps known.desk row place word v.reader v.pin (grace_tree shown) free (fit.keeps shown some);
+            keeps = λ shown some. fill_keeps known.writer_state row place word v.reader v.pin (grace_tree shown) free (fit.keeps shown some);
           }),
       λ row' place' inside' same.
           let placed : word_place size.readers row place ≡ word_place size.readers row' place' =
@@ -156,7 +156,7 @@ named root fits =
 -- a tree is published
 pub publish_allows : (size : Size) (slots seat : ℕ) (root : Root) (me : Me (Unit {0}) NodeView) → me.0.kind ≡ Writes → me.0.size ≡ size
     → FitsRoot root
-    → me.0.known.desk.tree.number < root.tree → IsShown me.0.size.slots (named_tree me.0.known root)
+    → me.0.known.writer_state.tree.number < root.tree → IsShown me.0.size.slots (named_tree me.0.known root)
     → RowsExist me.0.size.rows (named_tree me.0.known root)
     → Allows (Shows size) slots seat me root_place (λ n. packed_root root)
     (λ n. shown_now (step slots root_place (packed_root root) 0 none) me (packed_root root))
@@ -173,7 +173,7 @@ publish_allows size slots seat root me writes same fits later shown exist state 
       tt,
       writer_steps size state seat root_place word me.1 me.0 new is writes refl refl
           refl (record {
-            board = publish_board known.desk root.tree rows stands.board later
+            writer_facts = publish_writer_facts known.writer_state root.tree rows stands.writer_facts later
                 (λ row some. let within = exist row (lt-ltb 0 (times row rows) some) in
                 omega (arith, within, stands.rows, ap (λ (s : Size). s.rows) same));
             tree = refl;
@@ -195,7 +195,7 @@ publish_allows size slots seat root me writes same fits later shown exist state 
             size_is = fit.size_is;
             made = fit.made;
             pin = get_or-set_other state.words root_place (pin_place v.reader) word 0 (λ e. omega arith) ∙ fit.pin;
-            keeps = λ s some. publish_keeps known.desk root.tree rows v.reader v.pin (grace_tree s) stands.board later (fit.keeps s some);
+            keeps = λ s some. publish_keeps known.writer_state root.tree rows v.reader v.pin (grace_tree s) stands.writer_facts later (fit.keeps s some);
           }),
       λ root' fits' word_is.
           let roots : root ≡ root' = sym (named root fits) ∙ ap unpacked_root word_is ∙ named root' fits' in
@@ -218,12 +218,12 @@ scan_allows size slots seat reader me writes within state shows homes found boun
       tt,
       writer_steps size state seat (pin_place reader) n me.1 me.0 new is writes refl refl
           refl (record {
-            board = scan_board known.desk reader n stands.board;
+            writer_facts = scan_writer_facts known.writer_state reader n stands.writer_facts;
             tree = stands.tree;
             shown = stands.shown;
             width = stands.width;
             rows = stands.rows;
-            exist = λ other inside. exists_looked known.desk reader other n (stands.exist other inside);
+            exist = λ other inside. exists_looked known.writer_state reader other n (stands.exist other inside);
             made = stands.made;
           })
           (subst (λ (l : List ℕ). HasWords size l new.known) words_are
@@ -232,7 +232,7 @@ scan_allows size slots seat reader me writes within state shows homes found boun
             size_is = fit.size_is;
             made = fit.made;
             pin = fit.pin;
-            keeps = λ s some. scan_keeps known.desk reader n v.reader v.pin (grace_tree s)
+            keeps = λ s some. scan_keeps known.writer_state reader n v.reader v.pin (grace_tree s)
                 (λ same. ap (λ k. get_or state.words (pin_place k) 0) (sym same) ∙ fit.pin) (fit.keeps s some);
           })),
       λ reader' placed. let same : reader ≡ reader' = omega arith in ap (λ k. (scan_at me.0 k n, me.1)) same,
@@ -241,7 +241,7 @@ scan_allows size slots seat reader me writes within state shows homes found boun
 -- the same, at the size that the table's handle knows
 pub store_owes : (size key : Size) (slots seat row place word : ℕ) (me : Me (Unit {0}) NodeView) → size ≡ key → me.0.kind ≡ Writes → row < size.rows
     → place < 32
-    → is_free me.0.known.desk row ≡ true
+    → is_free me.0.known.writer_state row ≡ true
     → Allows (Shows key) slots seat me (word_place size.readers row place) (λ n. word)
     (λ n. stored (step slots (word_place size.readers row place) word 0 none) me word)
 store_owes size key slots seat row place word me same writes there inside free =
@@ -252,7 +252,7 @@ store_owes size key slots seat row place word me same writes there inside free =
 -- a root word is stored
 pub publish_owes : (size : Size) (slots seat word : ℕ) (root : Root) (me : Me (Unit {0}) NodeView) → word ≡ packed_root root → me.0.kind ≡ Writes
     → me.0.size ≡ size → FitsRoot root
-    → me.0.known.desk.tree.number < root.tree → IsShown me.0.size.slots (named_tree me.0.known root)
+    → me.0.known.writer_state.tree.number < root.tree → IsShown me.0.size.slots (named_tree me.0.known root)
     → RowsExist me.0.size.rows (named_tree me.0.known root)
     → Allows (Shows size) slots seat me root_place (λ n. word) (λ n. shown_now (step slots root_place word 0 none) me word)
 publish_owes size slots seat word root me is writes same fits later shown exist =

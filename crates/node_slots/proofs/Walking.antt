@@ -105,12 +105,12 @@ root_allows size slots seat me reads odd state shows homes found fits =
     let stands = shows.shows.stands in
     let at = seat_found size state known shows.shows seat me.0 found in
     let reader = at.fits.reader reads in
-    let shown : ShownTree = record { root = known.root; words = known.desk.tree.words } in
+    let shown : ShownTree = record { root = known.root; words = known.writer_state.tree.words } in
     let new : NodeView = root_at me.0 shown in
-    let same : known.desk.tree ≡ grace_tree shown = stands.tree in
-    let kept : Keeps known.desk me.0.reader me.0.pin (grace_tree shown) =
-    subst (Keeps known.desk me.0.reader me.0.pin) same
-    (loads known.desk me.0.reader me.0.pin stands.board (stands.exist me.0.reader (omega (arith, reader.made, stands.made))) odd) in (
+    let same : known.writer_state.tree ≡ grace_tree shown = stands.tree in
+    let kept : Keeps known.writer_state me.0.reader me.0.pin (grace_tree shown) =
+    subst (Keeps known.writer_state me.0.reader me.0.pin) same
+    (loads known.writer_state me.0.reader me.0.pin stands.writer_facts (stands.exist me.0.reader (omega (arith, reader.made, stands.made))) odd) in (
       new,
       keeps,
       tt,
@@ -119,14 +119,14 @@ root_allows size slots seat me reads odd state shows homes found fits =
             size_is = reader.size_is;
             made = reader.made;
             pin = reader.pin;
-            keeps = λ other is. subst (λ (s : ShownTree). Keeps known.desk me.0.reader me.0.pin (grace_tree s)) (let e : shown ≡ other = cc in e) kept;
+            keeps = λ other is. subst (λ (s : ShownTree). Keeps known.writer_state me.0.reader me.0.pin (grace_tree s)) (let e : shown ≡ other = cc in e) kept;
           })) refl refl,
       (
         shown,
         sym shows.shows.words.root,
         subst (λ (s : Size). IsShown s.slots shown) (sym reader.size_is) stands.shown,
         (λ row here. subst (λ (s : Size). row < s.rows) (sym reader.size_is)
-            (omega (arith, stands.rows, stands.board.present.exist row (subst (λ (t : grace.Tree). has_row t row ≡ true) (sym same) here)))),
+            (omega (arith, stands.rows, stands.writer_facts.present.exist row (subst (λ (t : grace.Tree). has_row t row ≡ true) (sym same) here)))),
         refl,
       ),
     )

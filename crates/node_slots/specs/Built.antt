@@ -6,11 +6,11 @@ use Rattle.maple_node.specs.Trees as maple
 use Rattle.maple_node.specs.Trees.{Pair, top_of, tree_rows, pairs_of, IsLayout}
 use Rattle.node_slots.specs.declared.tree.Tree.{Tree}
 use Rattle.node_slots.specs.declared.seats.NodeWriter.{NodeWriter}
-use Rattle.node_slots.specs.Seats.{sight, desk, row_count, is_kept, count_of}
+use Rattle.node_slots.specs.Seats.{sight, writer_state, row_count, is_kept, count_of}
 
 -- the words of each row of the writer's table
 abbrev pub words_at : NodeWriter → ℕ → List ℕ
-words_at writer = at_of (desk writer).words
+words_at writer = at_of (writer_state writer).words
 
 -- the tree that the writer's view names, with what the row of its root tells of it
 abbrev pub built : NodeWriter → Tree → maple.Tree
@@ -29,11 +29,11 @@ pub record IsBuilt (writer : NodeWriter) (tree : Tree) : Type 0 where
 
 -- Nothing was built yet: tree 0 is present, a leaf without entries in row 0, and each other row is free.
 pub record IsBlank (writer : NodeWriter) (tree : Tree) : Type 0 where
-  pub first : (desk writer).tree.number ≡ 0
+  pub first : (writer_state writer).tree.number ≡ 0
   pub root : tree.root.0 ≡ 0
   pub height : tree.height ≡ 1
   pub some : 0 < tree.limit.0
-  pub words : row_at (desk writer).words 0 ≡ replicate 32 0
+  pub words : row_at (writer_state writer).words 0 ≡ replicate 32 0
   pub rows : 1 ≤ row_count writer
   pub kept : (row : ℕ) → is_kept writer row ≡ nat_eq row 0
 

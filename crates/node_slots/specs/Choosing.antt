@@ -33,4 +33,4 @@ pub record IsNearest (writer : NodeWriter) (old row : ℕ) : Type 0 where
 
 -- how many rows the writer has touched the words of: those up to the highest that it filled
 abbrev pub touched : NodeWriter → ℕ
-touched writer = length writer.desk.words.items
+touched writer = length writer.writer_state.words.items

@@ -2,7 +2,7 @@
 use Rattle.std.specs.Prelude.{ℕ, ◌≡◌, ◌<◌, ◌≤◌, ◌+◌, ◌-◌, ◌*◌, ◌^◌, min, List, [], ◌++◌, length, map, replicate, slice_index_or, true, false, Some}
 use Rattle.mm_types.specs.declared.slot.Row.{Row}
 use Rattle.grace_core.specs.declared.clearing.Clearing.{Clearing}
-use Rattle.grace_core.specs.Core.{Desk, times, has_row, row_at, since_at, is_free}
+use Rattle.grace_core.specs.Core.{WriterState, times, has_row, row_at, since_at, is_free}
 use Rattle.grace_core.specs.Steps.{least}
 use Rattle.maple_node.specs.declared.root.Root.{Root}
 use Rattle.maple_node.specs.Roots.{FitsRoot}
@@ -12,7 +12,7 @@ use Rattle.node_slots.specs.declared.view.NodeSeatKind.TheVariants.{Reads, Write
 use Rattle.node_slots.specs.declared.view.ShownTree.{ShownTree}
 use Rattle.node_slots.specs.declared.view.NodeView.{NodeView}
 use Rattle.node_slots.specs.declared.left.Left.{Left}
-use Rattle.node_slots.specs.declared.note.Note.{Note}
+use Rattle.node_slots.specs.declared.note.RowNote.{RowNote}
 use Rattle.node_slots.specs.Trees.{empty_row}
 use Rattle.node_slots.specs.Places.{word_count}
 use Rattle.node_slots.specs.Plays.{RowsExist}
@@ -50,15 +50,15 @@ pub record WriterKept (size : Size) (root : Root) (words : List (List ℕ)) (cle
   pub empty : me.1 ≡ []
   pub size_is : me.0.size ≡ size
   pub root_is : me.0.known.root ≡ root
-  pub number_is : me.0.known.desk.tree.number ≡ root.tree
-  pub words_are : me.0.known.desk.words ≡ words
-  pub clearings_are : me.0.known.desk.clearings ≡ clearings
+  pub number_is : me.0.known.writer_state.tree.number ≡ root.tree
+  pub words_are : me.0.known.writer_state.words ≡ words
+  pub clearings_are : me.0.known.writer_state.clearings ≡ clearings
   pub fits : FitsRoot root
   pub rows : length words ≡ size.rows
   pub wide : (row : ℕ) → row < length words → length (row_at words row) ≡ 32
   pub readers : length clearings ≡ size.readers
-  pub since : length me.0.known.desk.since ≡ size.rows
-  pub reached : least root.tree clearings ≤ me.0.known.desk.passed
+  pub since : length me.0.known.writer_state.since ≡ size.rows
+  pub reached : least root.tree clearings ≤ me.0.known.writer_state.passed
 
 -- the numbers of free rows
 abbrev pub free_numbers : List Row → List ℕ
@@ -81,7 +81,7 @@ abbrev pub left_at : List Left → ℕ → Left
 left_at left place = slice_index_or left place no_left
 
 -- the first trees that may have the rows, as the writer remembers them
-abbrev pub firsts_of : List Note → List ℕ
+abbrev pub firsts_of : List RowNote → List ℕ
 firsts_of notes = map (λ note. note.first) notes
 
 -- the first tree that may have a row
@@ -89,11 +89,11 @@ abbrev pub first_at : List ℕ → ℕ → ℕ
 first_at firsts row = slice_index_or firsts row 0
 
 -- where the rows came to stand in the free list last, as the writer notes it
-abbrev pub spots_of : List Note → List ℕ
+abbrev pub spots_of : List RowNote → List ℕ
 spots_of notes = map (λ note. note.spot) notes
 
 -- the rows that the rows replaced, as the writer notes them
-abbrev pub replaced_of : List Note → List ℕ
+abbrev pub replaced_of : List RowNote → List ℕ
 replaced_of notes = map (λ note. note.replaced.0) notes
 
 -- the number at a place of a list
@@ -113,23 +113,23 @@ pub record PlacesKept (rows fresh : ℕ) (free spots : List ℕ) : Type 0 where
 
 -- what is so of a row that was left: it leaves at the next publish, or it waits since the tree that left it out, which is the
 -- present one or one before it
-pub record IsLeft (desk : Desk) (left : Left) : Type 0 where
+pub record IsLeft (writer_state : WriterState) (left : Left) : Type 0 where
   pub some : 1 ≤ left.since
-  pub most : left.since ≤ desk.tree.number + 1
-  pub leaves : has_row desk.tree left.row.0 ≡ true → left.since ≡ desk.tree.number + 1
-  pub waits : has_row desk.tree left.row.0 ≡ false → since_at desk.since left.row.0 ≡ left.since
-  pub past : has_row desk.tree left.row.0 ≡ false → left.since ≤ desk.tree.number
+  pub most : left.since ≤ writer_state.tree.number + 1
+  pub leaves : has_row writer_state.tree left.row.0 ≡ true → left.since ≡ writer_state.tree.number + 1
+  pub waits : has_row writer_state.tree left.row.0 ≡ false → since_at writer_state.since left.row.0 ≡ left.since
+  pub past : has_row writer_state.tree left.row.0 ≡ false → left.since ≤ writer_state.tree.number
 
 -- What the writer's lists keep. A row is at most once free or left. A free row is free by the grace protocol. Each other row is of
 -- the present tree, or it was taken since the last publish: then it is free by the protocol, and the next tree is the first that
 -- may have it. The rows that were left are in the order of the trees that leave them out.
-pub record RowsKept (rows : ℕ) (free : List Row) (left : List Left) (firsts : List ℕ) (desk : Desk) : Type 0 where
+pub record RowsKept (rows : ℕ) (free : List Row) (left : List Left) (firsts : List ℕ) (writer_state : WriterState) : Type 0 where
   pub sized : length firsts ≡ rows
-  pub first : (row : ℕ) → first_at firsts row ≤ desk.tree.number + 1
+  pub first : (row : ℕ) → first_at firsts row ≤ writer_state.tree.number + 1
   pub once : (row : ℕ) → times_gone free left row ≤ 1
   pub inside : (row : ℕ) → 1 ≤ times_gone free left row → row < rows
-  pub free_is : (row : ℕ) → 1 ≤ times row (free_numbers free) → is_free desk row ≡ true
-  pub present : (row : ℕ) → row < rows → times_gone free left row ≡ 0 → first_at firsts row ≤ desk.tree.number → has_row desk.tree row ≡ true
-  pub taken : (row : ℕ) → row < rows → times_gone free left row ≡ 0 → desk.tree.number < first_at firsts row → is_free desk row ≡ true
-  pub queue : (place : ℕ) → place < length left → IsLeft desk (left_at left place)
+  pub free_is : (row : ℕ) → 1 ≤ times row (free_numbers free) → is_free writer_state row ≡ true
+  pub present : (row : ℕ) → row < rows → times_gone free left row ≡ 0 → first_at firsts row ≤ writer_state.tree.number → has_row writer_state.tree row ≡ true
+  pub taken : (row : ℕ) → row < rows → times_gone free left row ≡ 0 → writer_state.tree.number < first_at firsts row → is_free writer_state row ≡ true
+  pub queue : (place : ℕ) → place < length left → IsLeft writer_state (left_at left place)
   pub order : (place other : ℕ) → place ≤ other → other < length left → (left_at left place).since ≤ (left_at left other).since

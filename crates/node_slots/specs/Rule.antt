@@ -1,7 +1,7 @@
 -- The rule of a table: its words and what its seats know show one state of the grace protocol, whose rows have 32 words.
 use Rattle.std.specs.Prelude.{ℕ, ◌≡◌, ◌<◌, ◌≤◌, List, length, slice_index, Some}
 use Rattle.grace_core.specs.Core.{Exists, row_at}
-use Rattle.grace_core.specs.Facts.{Board, Keeps}
+use Rattle.grace_core.specs.Facts.{WriterFacts, Keeps}
 use Rattle.maple_node.specs.Roots.{unpacked_root}
 use Rattle.atomic_table.specs.Table.{State}
 use Rattle.node_slots.specs.declared.view.Size.{Size}
@@ -18,7 +18,7 @@ pub record FitsReader (size : Size) (words : List ℕ) (known : Known) (view : N
   pub size_is : view.size ≡ size
   pub made : view.reader < known.made
   pub pin : slice_index words (pin_place view.reader) ≡ view.pin
-  pub keeps : (shown : ShownTree) → view.snapshot ≡ Some shown → Keeps known.desk view.reader view.pin (grace_tree shown)
+  pub keeps : (shown : ShownTree) → view.snapshot ≡ Some shown → Keeps known.writer_state view.reader view.pin (grace_tree shown)
 
 -- The writer is the first seat, and knows the table.
 pub record FitsWriter (size : Size) (known : Known) (seat : ℕ) (view : NodeView) : Type 0 where
@@ -36,14 +36,14 @@ abbrev pub AreApart : List NodeView → Type 0
 AreApart views = (seat other : ℕ) → (view_at views seat).kind ≡ Reads → (view_at views other).kind ≡ Reads
     → (view_at views seat).reader ≡ (view_at views other).reader → seat ≡ other
 
--- what the writer knows is a desk of the grace protocol whose present tree the root names, and this tree meets the layout
+-- what the writer knows is a writer's state of the grace protocol whose present tree the root names, and this tree meets the layout
 pub record Stands (size : Size) (known : Known) : Type 0 where
-  pub board : Board known.desk
-  pub tree : known.desk.tree ≡ grace_tree (record { root = known.root; words = known.desk.tree.words })
-  pub shown : IsShown size.slots (record { root = known.root; words = known.desk.tree.words })
-  pub width : known.desk.width ≡ 32
-  pub rows : length known.desk.words ≡ size.rows
-  pub exist : (reader : ℕ) → reader < size.readers → Exists known.desk.clearings reader
+  pub writer_facts : WriterFacts known.writer_state
+  pub tree : known.writer_state.tree ≡ grace_tree (record { root = known.root; words = known.writer_state.tree.words })
+  pub shown : IsShown size.slots (record { root = known.root; words = known.writer_state.tree.words })
+  pub width : known.writer_state.width ≡ 32
+  pub rows : length known.writer_state.words ≡ size.rows
+  pub exist : (reader : ℕ) → reader < size.readers → Exists known.writer_state.clearings reader
   pub made : known.made ≤ size.readers
 
 -- the words of the table are the root word, the pins and the words of the rows, each in its place
@@ -52,7 +52,7 @@ pub record HasWords (size : Size) (words : List ℕ) (known : Known) : Type 0 wh
   pub root : unpacked_root (slice_index words root_place) ≡ known.root
   pub new_pins : (reader : ℕ) → known.made ≤ reader → reader < size.readers → slice_index words (pin_place reader) ≡ 0
   pub rows : (row place : ℕ) → row < size.rows → place < 32
-      → slice_index words (word_place size.readers row place) ≡ slice_index (row_at known.desk.words row) place
+      → slice_index words (word_place size.readers row place) ≡ slice_index (row_at known.writer_state.words row) place
 
 -- The words and what the seats know show one state of the grace protocol, for all 32 places of the rows at once.
 pub record ShowsKnown (size : Size) (state : State (Unit {0}) NodeView) (known : Known) : Type 0 where

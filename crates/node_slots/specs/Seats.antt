@@ -36,7 +36,7 @@ pub record SitsAt (seat : NodeWriterSeat) (table : NodeTable) : Type 0 where
 
 -- the writer is of this table
 abbrev pub Writes : NodeWriter → NodeTable → Type 0
-Writes writer table = SitsAt writer.desk table
+Writes writer table = SitsAt writer.writer_state table
 
 -- a writer is still of the table that it was of
 abbrev pub StaysAt : NodeWriter → NodeWriter → Type 0
@@ -64,11 +64,11 @@ seat_sight seat = seat.seat.me.0
 
 -- what the writer knows
 abbrev pub sight : NodeWriter → NodeView
-sight writer = seat_sight writer.desk
+sight writer = seat_sight writer.writer_state
 
 -- what the writer knows of the grace protocol
-abbrev pub desk : NodeWriter → grace.Desk
-desk writer = (sight writer).known.desk
+abbrev pub writer_state : NodeWriter → grace.WriterState
+writer_state writer = (sight writer).known.writer_state
 
 -- how many rows a writer's table has
 abbrev pub row_count : NodeWriter → ℕ
@@ -84,7 +84,7 @@ left_of writer = left_numbers writer.left.items
 
 -- whether a row is of the present tree
 abbrev pub is_present : NodeWriter → ℕ → Bool
-is_present writer row = has_row (desk writer).tree row
+is_present writer row = has_row (writer_state writer).tree row
 
 -- whether a row waits: it was left, and is not of the present tree
 abbrev pub is_waiting : NodeWriter → ℕ → Bool
@@ -92,7 +92,7 @@ is_waiting writer row = nat_lt 0 (times row (left_of writer)) && not (is_present
 
 -- the pins that the scans of each reader found last
 abbrev pub pins_of : NodeWriter → List ℕ
-pins_of writer = map (λ clearing. clearing.pin) (desk writer).clearings
+pins_of writer = map (λ clearing. clearing.pin) (writer_state writer).clearings
 
 -- these pins are those of readers that are closed
 abbrev pub AreOut : List ℕ → Type 0
@@ -116,7 +116,7 @@ count_of is = if is then 1 else 0
 
 -- the tree that a root of this row and height names now, with the number after the present tree's
 abbrev pub next_root : NodeWriter → ℕ → ℕ → Root
-next_root writer row height = record { tree = (desk writer).tree.number + 1; height = height; row = record { 0 = row } }
+next_root writer row height = record { tree = (writer_state writer).tree.number + 1; height = height; row = record { 0 = row } }
 
 -- the tree that this root names among the words that the writer knows
 abbrev pub next_shown : NodeWriter → ℕ → ℕ → ShownTree

@@ -12,8 +12,8 @@ use Rattle.node_slots.specs.Trees.{shown_rows, grace_tree, first_root, empty_row
 
 -- What the writer of a new table knows: tree 0 is present, every word of a row is 0, no row was left out by a tree, and no reader
 -- was scanned.
-abbrev pub first_desk : Size → grace.Desk
-first_desk size = record {
+abbrev pub first_writer_state : Size → grace.WriterState
+first_writer_state size = record {
   width = 32;
   tree = grace_tree (first_tree size.rows);
   words = replicate size.rows empty_row;
@@ -24,7 +24,7 @@ first_desk size = record {
 
 -- the same, after so many readers were made
 abbrev pub first_known : Size → ℕ → Known
-first_known size made = record { root = first_root; desk = first_desk size; made = made }
+first_known size made = record { root = first_root; writer_state = first_writer_state size; made = made }
 
 -- a size of no table
 abbrev pub no_size : Size
@@ -104,31 +104,31 @@ joined_at view = record view { joins = view.joins + 1 }
 
 -- a word of a row becomes this one
 abbrev pub store_at : NodeView → ℕ → ℕ → ℕ → NodeView
-store_at view row place word = record view { known = record view.known { desk = filled view.known.desk row place word } }
+store_at view row place word = record view { known = record view.known { writer_state = filled view.known.writer_state row place word } }
 
 -- fill: the row has these words
 abbrev pub fill_at : NodeView → ℕ → List ℕ → NodeView
 fill_at view row words = record view {
-  known = record view.known { desk = record view.known.desk { words = slice_set view.known.desk.words row words } };
+  known = record view.known { writer_state = record view.known.writer_state { words = slice_set view.known.writer_state.words row words } };
 }
 
 -- the tree that a root names among the words that the writer knows
 abbrev pub named_tree : Known → Root → ShownTree
-named_tree known root = record { root = root; words = known.desk.words }
+named_tree known root = record { root = root; words = known.writer_state.words }
 
 -- publish: the tree of this root is present
 abbrev pub publish_at : NodeView → Root → NodeView
 publish_at view root = record view {
   known = record view.known {
     root = root;
-    desk = published view.known.desk root.tree (shown_rows (named_tree view.known root));
+    writer_state = published view.known.writer_state root.tree (shown_rows (named_tree view.known root));
   };
 }
 
 -- a scan of a reader found this pin
 abbrev pub scan_at : NodeView → ℕ → ℕ → NodeView
 scan_at view reader found = record view {
-  known = record view.known { desk = scanned view.known.desk reader found };
+  known = record view.known { writer_state = scanned view.known.writer_state reader found };
   scans = view.scans + 1;
 }
 

@@ -5,12 +5,12 @@ ghost use Rattle.node_slots.specs.Kept.{firsts_of, spots_of, replaced_of, number
 ghost use Rattle.node_slots.specs.Choosing.{is_free_again, replaced_by, wants_fresh};
 ghost use Rattle.node_slots.specs.Internal.Places.{StandsAt, IsChosen};
 
-use crate::note::Note;
+use crate::note::RowNote;
 use crate::seats::NodeWriter;
 use mm_types::Row;
 
 /// Notes where a row comes into the free list.
-pub(crate) fn note_spot(notes: &mut Vec<Note>, row: Row, spot: usize)
+pub(crate) fn note_spot(notes: &mut Vec<RowNote>, row: Row, spot: usize)
     requires { spot < 2 ^ 32 }
     ensures spots { spots_of notes.new.items ≡ slice_set (spots_of notes.old.items) row.0 spot }
     ensures firsts { firsts_of notes.new.items ≡ firsts_of notes.old.items }
@@ -22,7 +22,7 @@ pub(crate) fn note_spot(notes: &mut Vec<Note>, row: Row, spot: usize)
 }
 
 /// Notes which row a row replaces, if that is another one.
-pub(crate) fn note_replaced(notes: &mut Vec<Note>, row: Row, replaced: Row)
+pub(crate) fn note_replaced(notes: &mut Vec<RowNote>, row: Row, replaced: Row)
     ensures replaced { replaced_of notes.new.items
         ≡ (if nat_eq row.0 replaced.0 then replaced_of notes.old.items else slice_set (replaced_of notes.old.items) row.0 replaced.0) }
     ensures firsts { firsts_of notes.new.items ≡ firsts_of notes.old.items }
@@ -102,7 +102,7 @@ impl NodeWriter {
         requires some { 0 < length self.old.free.items }
         requires spare { wants_fresh self.old ≡ false }
         ensures place { (self.old.fresh ≤ result) × (result < length self.old.free.items) }
-        ensures same { (self.new.desk ≡ self.old.desk) × (self.new.free ≡ self.old.free) × (self.new.left ≡ self.old.left)
+        ensures same { (self.new.writer_state ≡ self.old.writer_state) × (self.new.free ≡ self.old.free) × (self.new.left ≡ self.old.left)
             × (self.new.notes ≡ self.old.notes) × (self.new.fresh ≡ self.old.fresh) }
     {
         self.spares = self.spares.wrapping_add(1);
@@ -115,7 +115,7 @@ impl NodeWriter {
     pub(crate) fn place_for(&mut self, row: Row) -> usize
         requires some { 0 < length self.old.free.items }
         ensures chosen { IsChosen self.old row.0 result }
-        ensures same { (self.new.desk ≡ self.old.desk) × (self.new.free ≡ self.old.free) × (self.new.left ≡ self.old.left)
+        ensures same { (self.new.writer_state ≡ self.old.writer_state) × (self.new.free ≡ self.old.free) × (self.new.left ≡ self.old.left)
             × (self.new.notes ≡ self.old.notes) × (self.new.fresh ≡ self.old.fresh) }
     {
         if let Some(place) = self.place_of(row) {

@@ -21,7 +21,7 @@ pub use first_words::FirstWords;
 pub use left::Left;
 pub use seats::{NodeSeat, NodeTable, NodeWriter, NodeWriterSeat};
 pub use tree::Tree;
-pub use view::{Known, NodeSeatKind, NodeView, SeenDesk, SeenTree, ShownTree, Size};
+pub use view::{Known, NodeSeatKind, NodeView, SeenTree, SeenWriterState, ShownTree, Size};
 
 #[cfg(test)]
 mod tests;

@@ -9,7 +9,7 @@ ghost use Rattle.node_slots.specs.Opening.{IsFreeFrom};
 ghost use Rattle.node_slots.specs.Seats.{size_of, IsOf, Writes, view, sight, free_of, left_of};
 
 use crate::first_words::FirstWords;
-use crate::note::Note;
+use crate::note::RowNote;
 use crate::places::word_count;
 use crate::rule::NewReader;
 use crate::seats::{NodeSeat, NodeTable, NodeWriter, NodeWriterSeat};
@@ -30,7 +30,7 @@ const FIRST_ROOT: Root = Root {
 };
 
 /// What is remembered of a row that was never taken.
-const NO_NOTE: Note = Note {
+const NO_NOTE: RowNote = RowNote {
     first: 0,
     replaced: Row(0),
     spot: 0,
@@ -104,7 +104,7 @@ impl NodeTable {
         let seat = self
             .table
             .shared
-            .split_seat::<NewReader>(&mut writer.desk.seat);
+            .split_seat::<NewReader>(&mut writer.writer_state.seat);
         NodeSeat {
             seat,
             reader,
@@ -122,9 +122,9 @@ fn open(alloc: Global, words: FirstWords, size: Size) -> Result<(NodeTable, Node
     ensures free { IfOk result (λ made. IsFreeFrom 1 size.rows (free_of made.1)) }
     ensures left { IfOk result (λ made. left_of made.1 ≡ []) }
 {
-    let (table, desk) = open_seat(alloc, words, size)?;
+    let (table, writer_state) = open_seat(alloc, words, size)?;
     let writer = NodeWriter {
-        desk,
+        writer_state,
         free: first_free(alloc, size.rows)?,
         left: VecDeque::with_capacity(alloc, size.rows as usize)?,
         notes: vec![in alloc; NO_NOTE; size.rows as usize]?,

@@ -9,7 +9,7 @@ ghost use Rattle.node_slots.specs.Views.{fill_at, publish_at, scan_from};
 ghost use Rattle.node_slots.specs.Kept.{left_at, number_at, replaced_of};
 ghost use Rattle.node_slots.specs.Built.{words_at};
 ghost use Rattle.node_slots.specs.Choosing.{IsNearest, takes_fresh, touched};
-ghost use Rattle.node_slots.specs.Seats.{size_of, Writes, StaysAt, sight, desk, row_count, free_of, left_of, is_present, is_waiting, is_kept, is_taken, count_of, next_root, next_shown, pins_of, AreOut, ReachesNewRows};
+ghost use Rattle.node_slots.specs.Seats.{size_of, Writes, StaysAt, sight, writer_state, row_count, free_of, left_of, is_present, is_waiting, is_kept, is_taken, count_of, next_root, next_shown, pins_of, AreOut, ReachesNewRows};
 
 use crate::choosing::{note_replaced, note_spot};
 use crate::left::Left;
@@ -66,20 +66,20 @@ impl NodeTable {
     pub fn publish(&self, writer: &mut NodeWriter, root: Row, height: u32)
         requires table { Writes writer.old self.now }
         requires height { height ≤ 9 }
-        requires number { (desk writer.old).tree.number < 2 ^ 40 - 1 }
-        requires layout { IsLayout (at_of (desk writer.old).words) (sight writer.old).size.slots (shown_rows (next_shown writer.old root.0 height))
-            (tree_of (at_of (desk writer.old).words) (next_root writer.old root.0 height)) }
+        requires number { (writer_state writer.old).tree.number < 2 ^ 40 - 1 }
+        requires layout { IsLayout (at_of (writer_state writer.old).words) (sight writer.old).size.slots (shown_rows (next_shown writer.old root.0 height))
+            (tree_of (at_of (writer_state writer.old).words) (next_root writer.old root.0 height)) }
         requires rows { ReachesNewRows writer.old (next_shown writer.old root.0 height) }
         ensures table { Writes writer.new self.now }
         ensures view { sight writer.new ≡ publish_at (sight writer.old) (next_root writer.old root.0 height) }
         ensures lists { (free_of writer.new ≡ free_of writer.old) × (left_of writer.new ≡ left_of writer.old) }
     {
         let root = Root {
-            tree: writer.desk.root.tree + 1,
+            tree: writer.writer_state.root.tree + 1,
             height,
             row: root,
         };
-        self.publish_root(&mut writer.desk, root);
+        self.publish_root(&mut writer.writer_state, root);
     }
 
     /// Loads every pin once, and answers how many rows came into the writer's free list: those that were left out by a tree up to
@@ -91,12 +91,15 @@ impl NodeTable {
         ensures freed { (rows : List ℕ) × (length rows ≡ result)
             × (free_of writer.new ≡ free_of writer.old ++ rows) × (left_of writer.old ≡ rows ++ left_of writer.new) }
         ensures rest { (row : ℕ) → is_waiting writer.new row ≡ true
-            → least (desk writer.new).tree.number (desk writer.new).clearings < since_at (desk writer.new).since row }
+            → least (writer_state writer.new).tree.number (writer_state writer.new).clearings < since_at (writer_state writer.new).since row }
         // once it finds every reader closed, no row waits
         ensures gone { AreOut (pins_of writer.new) → (row : ℕ) → is_waiting writer.new row ≡ false }
     {
-        self.scan_pins(&mut writer.desk);
-        let passed = least(writer.desk.root.tree, writer.desk.clearings.as_slice());
+        self.scan_pins(&mut writer.writer_state);
+        let passed = least(
+            writer.writer_state.root.tree,
+            writer.writer_state.clearings.as_slice(),
+        );
         writer.free_passed(passed)
     }
 
@@ -119,7 +122,7 @@ impl NodeTable {
     ) -> &'a [u64; 32]
         requires table { Writes writer.now self.now }
         requires row { row.0 < row_count writer.now }
-        ensures words { result.now ≡ row_at (desk writer.now).words row.0 }
+        ensures words { result.now ≡ row_at (writer_state writer.now).words row.0 }
         ensures steps { steps.new ≡ steps.old + 1 }
     {
         steps.tick();
@@ -127,16 +130,16 @@ impl NodeTable {
     }
 
     /// The greatest tree, at most the present one, such that no row waits that left at its publish or before.
-    pub fn settled(&self, writer: &NodeWriter) -> u64
+    pub fn elapsed(&self, writer: &NodeWriter) -> u64
         requires table { Writes writer.now self.now }
-        ensures most { result ≤ (desk writer.now).tree.number }
-        ensures none { (row : ℕ) → is_waiting writer.now row ≡ true → result < since_at (desk writer.now).since row }
-        ensures greatest { (tree : ℕ) → tree ≤ (desk writer.now).tree.number
-            → ((row : ℕ) → is_waiting writer.now row ≡ true → tree < since_at (desk writer.now).since row) → tree ≤ result }
+        ensures most { result ≤ (writer_state writer.now).tree.number }
+        ensures none { (row : ℕ) → is_waiting writer.now row ≡ true → result < since_at (writer_state writer.now).since row }
+        ensures greatest { (tree : ℕ) → tree ≤ (writer_state writer.now).tree.number
+            → ((row : ℕ) → is_waiting writer.now row ≡ true → tree < since_at (writer_state writer.now).since row) → tree ≤ result }
     {
         match writer.left.front() {
             Some(first) => first.since - 1,
-            None => writer.desk.root.tree,
+            None => writer.writer_state.root.tree,
         }
     }
 }
@@ -147,8 +150,8 @@ impl NodeWriter {
         ensures { IfOk result (λ table. Writes self.now table) }
     {
         Ok(NodeTable {
-            table: Arc::try_clone(&self.desk.table.table)?,
-            size: self.desk.table.size,
+            table: Arc::try_clone(&self.writer_state.table.table)?,
+            size: self.writer_state.table.size,
         })
     }
 
@@ -157,7 +160,7 @@ impl NodeWriter {
         requires row { row.0 < row_count self.now }
         ensures { result.now ≡ words_at self.now row.0 }
     {
-        match self.desk.words.get(row.0 as usize) {
+        match self.writer_state.words.get(row.0 as usize) {
             Some(words) => words,
             None => &EMPTY_ROW,
         }
@@ -180,7 +183,7 @@ impl NodeWriter {
     fn take_at(&mut self, place: usize) -> Row
         requires inside { place < length self.old.free.items }
         requires behind { self.old.fresh ≤ place + 1 }
-        ensures desk { self.new.desk ≡ self.old.desk }
+        ensures writer_state { self.new.writer_state ≡ self.old.writer_state }
         ensures row { result.0 ≡ number_at (free_of self.old) place }
         ensures free { IsPermutation (free_of self.old) (result.0 ∷ free_of self.new) }
         ensures last { place + 1 ≡ length self.old.free.items → free_of self.old ≡ free_of self.new ++ result.0 ∷ [] }
@@ -193,7 +196,7 @@ impl NodeWriter {
         note_spot(&mut self.notes, last, place);
         let row = self.free.swap_remove_back(place).unwrap();
         self.fresh = self.fresh.min(place);
-        self.notes[row.0 as usize].first = self.desk.root.tree + 1;
+        self.notes[row.0 as usize].first = self.writer_state.root.tree + 1;
         row
     }
 
@@ -229,7 +232,7 @@ impl NodeWriter {
         ensures lists { (free_of self.new ≡ free_of self.old) × (left_of self.new ≡ left_of self.old) }
         ensures touched { touched self.new ≡ max (touched self.old) (row.0 + 1) }
     {
-        self.desk.fill_row(row, words);
+        self.writer_state.fill_row(row, words);
     }
 
     /// Leaves a row of the present tree, or one that was taken and is not published, as `NodeTable::leave` does.
@@ -240,7 +243,7 @@ impl NodeWriter {
         ensures free { free_of self.new ≡ (if is_present self.old row.0 then free_of self.old else free_of self.old ++ row.0 ∷ []) }
         ensures left { left_of self.new ≡ (if is_present self.old row.0 then left_of self.old ++ row.0 ∷ [] else left_of self.old) }
     {
-        let next = self.desk.root.tree + 1;
+        let next = self.writer_state.root.tree + 1;
         if self.notes[row.0 as usize].first < next {
             self.left.push_back_reserved(Left { row, since: next });
         } else {
@@ -252,11 +255,11 @@ impl NodeWriter {
 
     /// Frees the rows that were left out by this tree or one before it, and answers how many.
     fn free_passed(&mut self, passed: u64) -> u32
-        requires passed { (passed ≤ (desk self.old).passed) × (passed ≤ (desk self.old).tree.number) }
-        ensures desk { self.new.desk ≡ self.old.desk }
+        requires passed { (passed ≤ (writer_state self.old).passed) × (passed ≤ (writer_state self.old).tree.number) }
+        ensures writer_state { self.new.writer_state ≡ self.old.writer_state }
         ensures freed { (rows : List ℕ) × (length rows ≡ result)
             × (free_of self.new ≡ free_of self.old ++ rows) × (left_of self.old ≡ rows ++ left_of self.new) }
-        ensures rest { (row : ℕ) → is_waiting self.new row ≡ true → passed < since_at (desk self.new).since row }
+        ensures rest { (row : ℕ) → is_waiting self.new row ≡ true → passed < since_at (writer_state self.new).since row }
     {
         let waiting = self.left.len() as u32;
         for count in 0..waiting {
@@ -269,11 +272,11 @@ impl NodeWriter {
 
     /// Frees the row that was left first, if it was left out by this tree or one before it. Answers whether it did.
     fn free_first(&mut self, passed: u64) -> bool
-        requires passed { (passed ≤ (desk self.old).passed) × (passed ≤ (desk self.old).tree.number) }
-        ensures desk { self.new.desk ≡ self.old.desk }
+        requires passed { (passed ≤ (writer_state self.old).passed) × (passed ≤ (writer_state self.old).tree.number) }
+        ensures writer_state { self.new.writer_state ≡ self.old.writer_state }
         ensures freed { result ≡ true → (row : ℕ) × (free_of self.new ≡ free_of self.old ++ row ∷ []) × (left_of self.old ≡ row ∷ left_of self.new) }
         ensures rest { result ≡ false → (free_of self.new ≡ free_of self.old) × (left_of self.new ≡ left_of self.old)
-            × ((row : ℕ) → is_waiting self.new row ≡ true → passed < since_at (desk self.new).since row) }
+            × ((row : ℕ) → is_waiting self.new row ≡ true → passed < since_at (writer_state self.new).since row) }
     {
         if !self.has_passed(passed) {
             return false;

@@ -4,7 +4,7 @@ ghost use Rattle.std.specs.VecDeque.{deque_capacity};
 ghost use Rattle.node_slots.specs.Kept.{IsSized, ReaderKept, WriterKept, RowsKept, PlacesKept, firsts_of, spots_of, free_numbers, with_empty};
 
 use crate::left::Left;
-use crate::note::Note;
+use crate::note::RowNote;
 use crate::rule::GraceRule;
 use crate::view::{NodeView, Size};
 use atomic_table::{Seat, Table};
@@ -53,20 +53,20 @@ pub struct NodeWriterSeat {
 /// The one writer of a table. It knows which rows are free, which were left, and which are of the present tree.
 #[derive(Drop)]
 pub struct NodeWriter {
-    pub(crate) desk: NodeWriterSeat,
+    pub(crate) writer_state: NodeWriterSeat,
     pub(crate) free: VecDeque<Row>,
     /// The rows that were left and are not free again, in the order of the trees that leave them out.
     pub(crate) left: VecDeque<Left>,
     /// For each row what is remembered of it, in one place, since each store touches all of it.
-    pub(crate) notes: Vec<Note>,
+    pub(crate) notes: Vec<RowNote>,
     /// How many rows at the front of the free list are fresh: they were not taken yet.
     pub(crate) fresh: usize,
     /// How often another row than a fresh one was taken for a node that had none.
     pub(crate) spares: usize,
-    pub ghost rows: { RowsKept desk.table.size.rows free.items left.items (firsts_of notes.items) desk.seat.me.0.known.desk },
-    pub ghost places: { PlacesKept desk.table.size.rows fresh (free_numbers free.items) (spots_of notes.items) },
+    pub ghost rows: { RowsKept writer_state.table.size.rows free.items left.items (firsts_of notes.items) writer_state.seat.me.0.known.writer_state },
+    pub ghost places: { PlacesKept writer_state.table.size.rows fresh (free_numbers free.items) (spots_of notes.items) },
     /// No word of a fresh row was touched.
-    pub ghost untouched: { length desk.words.items + fresh ≤ desk.table.size.rows },
-    pub ghost free_room: { desk.table.size.rows ≤ deque_capacity free },
-    pub ghost left_room: { desk.table.size.rows ≤ deque_capacity left },
+    pub ghost untouched: { length writer_state.words.items + fresh ≤ writer_state.table.size.rows },
+    pub ghost free_room: { writer_state.table.size.rows ≤ deque_capacity free },
+    pub ghost left_room: { writer_state.table.size.rows ≤ deque_capacity left },
 }

@@ -46,7 +46,7 @@ impl Model for SeenTree {
 }
 
 /// What the writer knows of the grace protocol.
-pub struct SeenDesk {
+pub struct SeenWriterState {
     width: u64,
     tree: SeenTree,
     words: LinkedList<LinkedList<u64>>,
@@ -55,18 +55,18 @@ pub struct SeenDesk {
     passed: u64,
 }
 
-impl Model for SeenDesk {
-    ghost use Rattle.grace_core.specs.Core.{Desk};
+impl Model for SeenWriterState {
+    ghost use Rattle.grace_core.specs.Core.{WriterState};
 
-    ghost Value = { Desk };
+    ghost Value = { WriterState };
 
-    ghost view = { λ desk. record {
-      width = desk.width;
-      tree = desk.tree;
-      words = desk.words;
-      since = desk.since;
-      clearings = desk.clearings;
-      passed = desk.passed;
+    ghost view = { λ writer_state. record {
+      width = writer_state.width;
+      tree = writer_state.tree;
+      words = writer_state.words;
+      since = writer_state.since;
+      clearings = writer_state.clearings;
+      passed = writer_state.passed;
     } };
 }
 
@@ -74,7 +74,7 @@ impl Model for SeenDesk {
 pub struct Known {
     /// The root of the present tree.
     pub root: Root,
-    pub desk: SeenDesk,
+    pub writer_state: SeenWriterState,
     /// How many readers were made.
     pub made: u32,
 }

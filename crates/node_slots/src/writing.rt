@@ -29,7 +29,7 @@ impl NodeWriterSeat {
     fn store_word(&mut self, row: Row, place: usize, word: u64)
         requires row { row.0 < length self.old.words.items }
         requires place { place < 32 }
-        requires free { is_free (seat_sight self.old).known.desk row.0 ≡ true }
+        requires free { is_free (seat_sight self.old).known.writer_state row.0 ≡ true }
         ensures view { seat_sight self.new ≡ store_at (seat_sight self.old) row.0 place word }
         ensures same { self.new.table ≡ self.old.table }
         ensures count { length self.new.words.items ≡ length self.old.words.items }
@@ -48,7 +48,7 @@ impl NodeWriterSeat {
     fn store_four(&mut self, row: Row, place: usize, words: &[u64; 32])
         requires row { row.0 < length self.old.words.items }
         requires place { place + 4 ≤ 32 }
-        requires free { is_free (seat_sight self.old).known.desk row.0 ≡ true }
+        requires free { is_free (seat_sight self.old).known.writer_state row.0 ≡ true }
         ensures view { seat_sight self.new ≡ store_four_at (seat_sight self.old) row.0 place words.now }
         ensures same { self.new.table ≡ self.old.table }
         ensures count { length self.new.words.items ≡ length self.old.words.items }
@@ -70,7 +70,7 @@ impl NodeWriterSeat {
     /// Stores the words of a free row.
     pub(crate) fn fill_row(&mut self, row: Row, words: &[u64; 32])
         requires row { row.0 < self.old.table.size.rows }
-        requires free { is_free (seat_sight self.old).known.desk row.0 ≡ true }
+        requires free { is_free (seat_sight self.old).known.writer_state row.0 ≡ true }
         ensures view { seat_sight self.new ≡ fill_at (seat_sight self.old) row.0 words.now }
         ensures same { self.new.table ≡ self.old.table }
         ensures touched { length self.new.words.items ≡ max (length self.old.words.items) (row.0 + 1) }
@@ -87,7 +87,7 @@ impl NodeTable {
     pub(crate) fn publish_root(&self, seat: &mut NodeWriterSeat, root: Root)
         requires table { SitsAt seat.old self.now }
         requires fits { FitsRoot root }
-        requires later { (seat_sight seat.old).known.desk.tree.number < root.tree }
+        requires later { (seat_sight seat.old).known.writer_state.tree.number < root.tree }
         requires shown { IsShown (seat_sight seat.old).size.slots (named_tree (seat_sight seat.old).known root) }
         requires exist { RowsExist (seat_sight seat.old).size.rows (named_tree (seat_sight seat.old).known root) }
         ensures table { SitsAt seat.new self.now }

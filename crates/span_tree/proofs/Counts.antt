@@ -17,7 +17,7 @@ use Rattle.span_tree.proofs.Sizes.{few_rows, few_levels}
 
 -- a row that is free or left is one of the table
 pub gone_within : (writer : NodeWriter) (row : ℕ) → 1 ≤ times row (free_of writer) + times row (left_of writer) → row < row_count writer
-gone_within writer row some = subst (λ s. row < s.rows) (sym writer.desk.kept.size_is) (writer.rows.inside row some)
+gone_within writer row some = subst (λ s. row < s.rows) (sym writer.writer_state.kept.size_is) (writer.rows.inside row some)
 
 -- a row that waits too
 pub waiting_within : (writer : NodeWriter) (row : ℕ) → is_waiting writer row ≡ true → row < row_count writer
@@ -32,7 +32,7 @@ counted writer row within =
     let P : ℕ → Type 0 = λ rows. row < rows → times row (free_of writer)
     + count_of ((nat_lt row rows && nat_eq (times row (free_of writer) + times row (left_of writer)) 0) && not (is_present writer row))
     + count_of (is_present writer row) + count_of (is_waiting writer row) ≡ 1 in
-    subst P (sym (ap (λ s. s.rows) writer.desk.kept.size_is)) (λ below. counted_once _ row _ _ _ _ writer.rows below) within
+    subst P (sym (ap (λ s. s.rows) writer.writer_state.kept.size_is)) (λ below. counted_once _ row _ _ _ _ writer.rows below) within
 
 -- the free rows
 free_count : (writer : NodeWriter) → sum_below (λ row. times row (free_of writer)) (row_count writer) ≡ length (free_of writer)

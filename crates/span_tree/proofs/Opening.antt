@@ -13,14 +13,14 @@ use Rattle.node_slots.specs.declared.seats.NodeTable.{NodeTable}
 use Rattle.node_slots.specs.declared.seats.NodeWriter.{NodeWriter}
 use Rattle.node_slots.specs.declared.tree.Tree.{Tree}
 use Rattle.node_slots.specs.Trees.{first_root, empty_row, first_tree, grace_tree}
-use Rattle.node_slots.specs.Seats.{Writes, desk, row_count, is_present, pins_of, free_of}
+use Rattle.node_slots.specs.Seats.{Writes, writer_state, row_count, is_present, pins_of, free_of}
 use Rattle.node_slots.specs.Built.{IsBlank, pairs_now}
 use Rattle.node_slots.proofs.Starting.{first_has, first_else}
 use Rattle.maple_write.proofs.Blanks.{blank_new}
 use Rattle.span_tree.specs.SpanTrees.{IsFreshWriter, size_for}
 use Rattle.span_tree.specs.Kept.{IsSpanTree, view_of}
-use Rattle.span_tree.specs.Rows.{settled_of, shown_pairs}
-use Rattle.span_tree.proofs.Writing.{pairs_in, settled_most}
+use Rattle.span_tree.specs.Rows.{elapsed_of, shown_pairs}
+use Rattle.span_tree.proofs.Writing.{pairs_in, elapsed_most}
 use Rattle.span_tree.proofs.Spans.{first_pairs}
 
 -- the table has this size
@@ -28,18 +28,18 @@ fresh_rows : (areas : ℕ) (writer : NodeWriter) → IsFreshWriter areas writer 
 fresh_rows areas writer fresh = ap (λ (v : NodeView). v.size.rows) fresh.view
 
 -- no tree was published
-fresh_number : (areas : ℕ) (writer : NodeWriter) → IsFreshWriter areas writer → (desk writer).tree.number ≡ 0
-fresh_number areas writer fresh = ap (λ (v : NodeView). v.known.desk.tree.number) fresh.view
+fresh_number : (areas : ℕ) (writer : NodeWriter) → IsFreshWriter areas writer → (writer_state writer).tree.number ≡ 0
+fresh_number areas writer fresh = ap (λ (v : NodeView). v.known.writer_state.tree.number) fresh.view
 
 -- the words of row 0 are zeros
-fresh_words : (areas : ℕ) (writer : NodeWriter) → IsFreshWriter areas writer → row_at (desk writer).words 0 ≡ empty_row
+fresh_words : (areas : ℕ) (writer : NodeWriter) → IsFreshWriter areas writer → row_at (writer_state writer).words 0 ≡ empty_row
 fresh_words areas writer fresh =
-    ap (λ (v : NodeView). row_at v.known.desk.words 0) fresh.view ∙ get_or-replicate (areas + 128) 0 empty_row [] (omega arith)
+    ap (λ (v : NodeView). row_at v.known.writer_state.words 0) fresh.view ∙ get_or-replicate (areas + 128) 0 empty_row [] (omega arith)
 
 -- row 0 is of tree 0, and no other row
 fresh_present : (areas : ℕ) (writer : NodeWriter) → IsFreshWriter areas writer → (row : ℕ) → is_present writer row ≡ nat_eq row 0
 fresh_present areas writer fresh row =
-    let same = ap (λ (v : NodeView). has_row v.known.desk.tree row) fresh.view in
+    let same = ap (λ (v : NodeView). has_row v.known.writer_state.tree row) fresh.view in
     elim (eqb_tells row 0) [
       | inl zeroth ↦ same ∙ ap (has_row (grace_tree (first_tree (areas + 128)))) zeroth.1 ∙ first_has (areas + 128) (omega arith) ∙ sym zeroth.0
       | inr differ ↦ same
@@ -66,12 +66,12 @@ fresh_shown areas writer fresh =
       words = get_or-replicate (areas + 128) 0 empty_row [] (omega arith);
       row = refl;
     } in
-    ap (λ (v : NodeView). pairs_in v.known.desk.tree v.known.root) fresh.view
+    ap (λ (v : NodeView). pairs_in v.known.writer_state.tree v.known.root) fresh.view
     ∙ first-pairs (at_of (replicate (areas + 128) empty_row)) (0 ∷ []) first_root is
 
--- no tree is settled but tree 0
-fresh_settled : (areas : ℕ) (writer : NodeWriter) → IsFreshWriter areas writer → settled_of writer ≡ 0
-fresh_settled areas writer fresh = omega (arith, settled_most writer, fresh_number areas writer fresh)
+-- no tree's grace period has elapsed but tree 0
+fresh_elapsed : (areas : ℕ) (writer : NodeWriter) → IsFreshWriter areas writer → elapsed_of writer ≡ 0
+fresh_elapsed areas writer fresh = omega (arith, elapsed_most writer, fresh_number areas writer fresh)
 
 -- what the fields of a new tree keep
 pub fresh_spans : (areas : ℕ) (writer : NodeWriter) (nodes : NodeTable) (tree : Tree) → 1 ≤ areas → areas ≤ 65530 → IsFreshWriter areas writer
@@ -103,11 +103,11 @@ pub fresh_view : (areas : ℕ) (writer : NodeWriter) (nodes : NodeTable) (tree :
     → Writes writer nodes → tree.root.0 ≡ 0 → tree.height ≡ 1 → tree.limit ≡ limit
     → view_of (record { nodes = nodes; writer = writer; tree = tree; areas = areas; number = 0; changed = false; roomy = false })
     ≡ record {
-      table = writer.desk.seat.table_id;
+      table = writer.writer_state.seat.table_id;
       areas = areas;
       limit = limit.0;
       number = 0;
-      settled = 0;
+      elapsed = 0;
       pairs = [];
       shown = [];
       changed = false;
@@ -119,7 +119,7 @@ pub fresh_view : (areas : ℕ) (writer : NodeWriter) (nodes : NodeTable) (tree :
 fresh_view areas writer nodes tree limit fresh writes root height same =
     let pairs = fresh_pairs areas writer tree fresh root height in
     let shown = fresh_shown areas writer fresh in
-    let settled = fresh_settled areas writer fresh in
+    let elapsed = fresh_elapsed areas writer fresh in
     let table = sym writes.same in
     let end = ap (λ (p : Page). p.0) same in
     let looks = ap (λ (v : NodeView). v.scans) fresh.view in

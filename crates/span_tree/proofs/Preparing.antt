@@ -4,7 +4,7 @@ use Rattle.maple_node.specs.Trees.{Pair}
 use Rattle.maple_items.specs.Pairs.{overwritten}
 use Rattle.node_slots.specs.declared.seats.NodeWriter.{NodeWriter}
 use Rattle.node_slots.specs.declared.tree.Tree.{Tree}
-use Rattle.node_slots.specs.Seats.{Writes, desk, free_of}
+use Rattle.node_slots.specs.Seats.{Writes, writer_state, free_of}
 use Rattle.node_slots.specs.Built.{IsBuilt, IsWriters, pairs_now}
 use Rattle.maple_write.specs.Tables.{FillsRows}
 use Rattle.span_tree.specs.declared.tree.SpanTree.TheInside.{Inside}
@@ -14,7 +14,7 @@ use Rattle.span_tree.proofs.Counts.{free_spare}
 use Rattle.span_tree.proofs.Storing.{stored_kept}
 
 -- a later tree is built
-later_built : (writer : NodeWriter) (tree : Tree) → ((desk writer).tree.number ≡ 0 → ⊥) → IsWriters writer tree → IsBuilt writer tree
+later_built : (writer : NodeWriter) (tree : Tree) → ((writer_state writer).tree.number ≡ 0 → ⊥) → IsWriters writer tree → IsBuilt writer tree
 later_built writer tree later (inl is) = is
 later_built writer tree later (inr is) = absurd (later is.first)
 

@@ -10,7 +10,7 @@ use Rattle.grace_core.specs.Core.{times, has_row}
 use Rattle.node_slots.specs.declared.view.NodeView.{NodeView}
 use Rattle.node_slots.specs.declared.seats.NodeWriter.{NodeWriter}
 use Rattle.node_slots.specs.Views.{scan_at, scan_from}
-use Rattle.node_slots.specs.Seats.{sight, desk, free_of, left_of, row_count, is_present, pins_of, AreOut, HasOpen}
+use Rattle.node_slots.specs.Seats.{sight, writer_state, free_of, left_of, row_count, is_present, pins_of, AreOut, HasOpen}
 use Rattle.span_tree.specs.Rows.{IsSameTree, Scans, IsScanned}
 
 -- scans of pins change what is known of readers alone
@@ -73,8 +73,8 @@ scan_scans old new pins rows view freed left =
 -- there is a pin for each reader
 pub pins_long : (writer : NodeWriter) → length (pins_of writer) ≡ (sight writer).size.readers
 pins_long writer =
-    length-map (desk writer).clearings (λ (found : Clearing). found.pin) ∙ ap (λ (l : List Clearing). length l) writer.desk.kept.clearings_are
-    ∙ writer.desk.kept.readers ∙ sym (ap (λ s. s.readers) writer.desk.kept.size_is)
+    length-map (writer_state writer).clearings (λ (found : Clearing). found.pin) ∙ ap (λ (l : List Clearing). length l) writer.writer_state.kept.clearings_are
+    ∙ writer.writer_state.kept.readers ∙ sym (ap (λ s. s.readers) writer.writer_state.kept.size_is)
 
 pub pins_same : (old new : NodeWriter) → Scans old new → length (pins_of new) ≡ length (pins_of old)
 pins_same old new scans = pins_long new ∙ ap (λ s. s.readers) scans.same.size ∙ sym (pins_long old)

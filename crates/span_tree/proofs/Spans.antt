@@ -6,16 +6,16 @@ use Rattle.maple_node.specs.Trees.{Pair, IsFirst}
 use Rattle.maple_node.proofs.Trees.{first-pairs}
 use Rattle.node_slots.specs.declared.seats.NodeWriter.{NodeWriter}
 use Rattle.node_slots.specs.declared.tree.Tree.{Tree}
-use Rattle.node_slots.specs.Seats.{Writes, sight, desk, is_waiting, row_count}
+use Rattle.node_slots.specs.Seats.{Writes, sight, writer_state, is_waiting, row_count}
 use Rattle.node_slots.specs.Built.{IsBuilt, IsWriters, words_at, built, built_rows, pairs_now}
 use Rattle.span_tree.specs.declared.tree.SpanTree.TheInside.{Inside}
 use Rattle.span_tree.specs.SpanTrees.{ArePairs, enough}
 use Rattle.span_tree.specs.Kept.{IsSpanTree}
-use Rattle.span_tree.specs.Rows.{Scans, Suffices, settled_of}
+use Rattle.span_tree.specs.Rows.{Scans, Suffices, elapsed_of}
 use Rattle.span_tree.proofs.Waits.{wait-most, wait-greatest}
 use Rattle.span_tree.proofs.Pairs.{layout-pairs}
 use Rattle.span_tree.proofs.Counts.{waiting_within, rest_free}
-use Rattle.span_tree.proofs.Writing.{shown_same, present_same, spare_more, settled_more, settled_below, pairs_same, scanned_built, scanned_writers}
+use Rattle.span_tree.proofs.Writing.{shown_same, present_same, spare_more, elapsed_more, elapsed_below, pairs_same, scanned_built, scanned_writers}
 
 -- scans keep what the fields keep
 pub scanned_kept : (fields : Inside) (new : NodeWriter) → Writes new fields.nodes → Scans fields.writer new → IsSpanTree fields
@@ -52,26 +52,26 @@ scanned_free fields kept still later scans none =
     (λ row. present_same old later scans.same.tree row ∙ kept.rest still row ∙ sym (scans.kept row)) none
 
 -- and settle more
-pub scanned_settled : (old new : NodeWriter) → Scans old new → settled_of old ≤ settled_of new
-scanned_settled old new scans =
-    settled_more old new (omega (arith, ap (λ t. t.number) scans.same.tree)) (ap (λ s. s.rows) scans.same.size)
+pub scanned_elapsed : (old new : NodeWriter) → Scans old new → elapsed_of old ≤ elapsed_of new
+scanned_elapsed old new scans =
+    elapsed_more old new (omega (arith, ap (λ t. t.number) scans.same.tree)) (ap (λ s. s.rows) scans.same.size)
     (λ row waits.
     let was = scans.waits row waits in
-    let below = settled_below old row (waiting_within old row was) was in
+    let below = elapsed_below old row (waiting_within old row was) was in
     omega (arith, below, ap (λ s. since_at s row) scans.same.since))
 
--- the tree that is settled is the greatest one
-pub settled_is : (writer : NodeWriter) (found : ℕ) → found ≤ (desk writer).tree.number
-    → ((row : ℕ) → is_waiting writer row ≡ true → found < since_at (desk writer).since row)
-    → ((tree : ℕ) → tree ≤ (desk writer).tree.number → ((row : ℕ) → is_waiting writer row ≡ true → tree < since_at (desk writer).since row)
+-- the tree whose grace period has elapsed is the greatest one
+pub elapsed_is : (writer : NodeWriter) (found : ℕ) → found ≤ (writer_state writer).tree.number
+    → ((row : ℕ) → is_waiting writer row ≡ true → found < since_at (writer_state writer).since row)
+    → ((tree : ℕ) → tree ≤ (writer_state writer).tree.number → ((row : ℕ) → is_waiting writer row ≡ true → tree < since_at (writer_state writer).since row)
     → tree ≤ found)
-    → found ≡ settled_of writer
-settled_is writer found most none greatest =
-    let up = wait-greatest (is_waiting writer) (since_at (desk writer).since) (desk writer).tree.number (row_count writer) found most
+    → found ≡ elapsed_of writer
+elapsed_is writer found most none greatest =
+    let up = wait-greatest (is_waiting writer) (since_at (writer_state writer).since) (writer_state writer).tree.number (row_count writer) found most
     (λ row _ waits. let later = none row waits in omega (arith, later)) in
-    let down = greatest (settled_of writer)
-    (wait-most (is_waiting writer) (since_at (desk writer).since) (desk writer).tree.number (row_count writer))
-    (λ row waits. let below = settled_below writer row (waiting_within writer row waits) waits in
+    let down = greatest (elapsed_of writer)
+    (wait-most (is_waiting writer) (since_at (writer_state writer).since) (writer_state writer).tree.number (row_count writer))
+    (λ row waits. let below = elapsed_below writer row (waiting_within writer row waits) waits in
     let later = none row waits in omega (arith, below, later)) in
     omega (arith, up, down)
 
@@ -85,7 +85,7 @@ built_pairs fields kept is =
     subst (at (2 * fields.areas + 2)) is.limit (subst (λ n. at n (built fields.writer fields.tree).top.end) kept.slots pairs)
 
 -- a root in row 0 whose words are zeros has no pairs
-pub first_pairs : (writer : NodeWriter) (tree : Tree) → row_at (desk writer).words 0 ≡ replicate 32 0 → tree.root.0 ≡ 0 → tree.height ≡ 1
+pub first_pairs : (writer : NodeWriter) (tree : Tree) → row_at (writer_state writer).words 0 ≡ replicate 32 0 → tree.root.0 ≡ 0 → tree.height ≡ 1
     → pairs_now writer tree ≡ []
 first_pairs writer tree words root height =
     let named : ℕ → ℕ → Root = λ levels row. record { tree = 0; height = levels; row = record { 0 = row } } in

@@ -7,19 +7,19 @@ use Rattle.maple_node.specs.Trees.{Pair}
 use Rattle.node_slots.specs.declared.view.NodeView.{NodeView}
 use Rattle.node_slots.specs.declared.seats.NodeWriter.{NodeWriter}
 use Rattle.node_slots.specs.declared.tree.Tree.{Tree}
-use Rattle.node_slots.specs.Seats.{Writes, desk, is_waiting, row_count, free_of}
+use Rattle.node_slots.specs.Seats.{Writes, writer_state, is_waiting, row_count, free_of}
 use Rattle.node_slots.specs.Built.{IsBuilt, pairs_now}
 use Rattle.maple_write.specs.Tables.{FillsRows}
 use Rattle.span_tree.specs.declared.tree.SpanTree.TheInside.{Inside}
 use Rattle.span_tree.specs.SpanTrees.{enough}
 use Rattle.span_tree.specs.Kept.{IsSpanTree, view_of}
-use Rattle.span_tree.specs.Rows.{settled_of, spare_rows, shown_pairs}
+use Rattle.span_tree.specs.Rows.{elapsed_of, spare_rows, shown_pairs}
 use Rattle.span_tree.proofs.Counts.{waiting_within}
-use Rattle.span_tree.proofs.Writing.{shown_same, spare_more, settled_more, settled_below}
+use Rattle.span_tree.proofs.Writing.{shown_same, spare_more, elapsed_more, elapsed_below}
 
 -- the present tree is the same
-stored_tree : (old new : NodeWriter) → FillsRows old new → (desk new).tree ≡ (desk old).tree
-stored_tree old new stores = ap (λ v. v.known.desk.tree) stores.seen
+stored_tree : (old new : NodeWriter) → FillsRows old new → (writer_state new).tree ≡ (writer_state old).tree
+stored_tree old new stores = ap (λ v. v.known.writer_state.tree) stores.seen
 
 stored_size : (old new : NodeWriter) → FillsRows old new → row_count new ≡ row_count old
 stored_size old new stores = ap (λ v. v.size.rows) stores.seen
@@ -27,24 +27,24 @@ stored_size old new stores = ap (λ v. v.size.rows) stores.seen
 pub stored_shown : (old new : NodeWriter) → FillsRows old new → shown_pairs new ≡ shown_pairs old
 stored_shown old new stores = shown_same old new (stored_tree old new stores) (ap (λ v. v.known.root) stores.seen)
 
--- no more is settled, and no less
-stored_settled_more : (old new : NodeWriter) → (desk new).tree ≡ (desk old).tree → row_count new ≡ row_count old
-    → (desk new).since ≡ (desk old).since → ((row : ℕ) → is_waiting new row ≡ true → is_waiting old row ≡ true)
-    → settled_of old ≤ settled_of new
-stored_settled_more old new tree sized since less =
-    settled_more old new (omega (arith, ap (λ t. t.number) tree)) sized
+-- no more has elapsed, and no less
+stored_elapsed_more : (old new : NodeWriter) → (writer_state new).tree ≡ (writer_state old).tree → row_count new ≡ row_count old
+    → (writer_state new).since ≡ (writer_state old).since → ((row : ℕ) → is_waiting new row ≡ true → is_waiting old row ≡ true)
+    → elapsed_of old ≤ elapsed_of new
+stored_elapsed_more old new tree sized since less =
+    elapsed_more old new (omega (arith, ap (λ t. t.number) tree)) sized
     (λ row waits.
     let was = less row waits in
-    let below = settled_below old row (waiting_within old row was) was in
+    let below = elapsed_below old row (waiting_within old row was) was in
     omega (arith, below, ap (λ s. since_at s row) since))
 
-pub stored_settled : (old new : NodeWriter) → FillsRows old new → settled_of new ≡ settled_of old
-stored_settled old new stores =
+pub stored_elapsed : (old new : NodeWriter) → FillsRows old new → elapsed_of new ≡ elapsed_of old
+stored_elapsed old new stores =
     let tree = stored_tree old new stores in
     let sized = stored_size old new stores in
-    let since = ap (λ (v : NodeView). v.known.desk.since) stores.seen in
-    let up = stored_settled_more old new tree sized since (λ row waits. sym (stores.waits row) ∙ waits) in
-    let down = stored_settled_more new old (sym tree) (sym sized) (sym since) (λ row waits. stores.waits row ∙ waits) in
+    let since = ap (λ (v : NodeView). v.known.writer_state.since) stores.seen in
+    let up = stored_elapsed_more old new tree sized since (λ row waits. sym (stores.waits row) ∙ waits) in
+    let down = stored_elapsed_more new old (sym tree) (sym sized) (sym since) (λ row waits. stores.waits row ∙ waits) in
     omega (arith, up, down)
 
 -- a store keeps what the fields keep
@@ -79,9 +79,9 @@ pub stored_view : (fields : Inside) (new : NodeWriter) (tree : Tree) (pairs : Li
     → pairs_now new tree ≡ pairs
     → view_of (record fields { writer = new; tree = tree; changed = true }) ≡ record (view_of fields) { pairs = pairs; changed = true; free = length (free_of new) }
 stored_view fields new tree pairs stores limit is =
-    let settled = stored_settled fields.writer new stores in
+    let elapsed = stored_elapsed fields.writer new stores in
     let shown = stored_shown fields.writer new stores in
     let number = ap (λ (p : Page). p.0) limit in
     let looks = ap (λ (v : NodeView). v.scans) stores.seen in
-    let pins = ap (λ (v : NodeView). map (λ (found : Clearing). found.pin) v.known.desk.clearings) stores.seen in
+    let pins = ap (λ (v : NodeView). map (λ (found : Clearing). found.pin) v.known.writer_state.clearings) stores.seen in
     cc

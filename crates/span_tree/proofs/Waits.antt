@@ -1,4 +1,4 @@
--- For `SpanTree::settled`, `SpanTree::scan` and others: the greatest tree that is settled.
+-- For `SpanTree::elapsed`, `SpanTree::scan` and others: the greatest tree whose grace period has elapsed.
 use Rattle.std.proofs.Common.{ℕ, zero, suc, ◌≡◌, ◌<◌, ◌≤◌, ◌-◌, Bool, true, false, min, arith, inl, inr, ◌∙◌, ap}
 use Rattle.std.proofs.lemmas.Bool.{cases_Bool, cond-true, cond-false, cases_lt, both_ways}
 use Rattle.span_tree.specs.Rows.{least_wait}

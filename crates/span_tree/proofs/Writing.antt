@@ -8,9 +8,9 @@ use Rattle.maple_node.specs.Trees as maple
 use Rattle.maple_node.specs.Trees.{Pair, tree_of, top_of, tree_rows, pairs_of, IsLayout}
 use Rattle.node_slots.specs.declared.seats.NodeWriter.{NodeWriter}
 use Rattle.node_slots.specs.declared.tree.Tree.{Tree}
-use Rattle.node_slots.specs.Seats.{sight, desk, row_count, is_present, is_waiting, is_kept, count_of}
+use Rattle.node_slots.specs.Seats.{sight, writer_state, row_count, is_present, is_waiting, is_kept, count_of}
 use Rattle.node_slots.specs.Built.{IsBuilt, IsBlank, IsWriters, built_rows, pairs_now}
-use Rattle.span_tree.specs.Rows.{sum_below, is_spare, spare_rows, settled_of, shown_pairs, Scans}
+use Rattle.span_tree.specs.Rows.{sum_below, is_spare, spare_rows, elapsed_of, shown_pairs, Scans}
 use Rattle.span_tree.proofs.Sums.{sum-le}
 use Rattle.span_tree.proofs.Waits.{wait-most, wait-below, wait-greatest}
 
@@ -19,13 +19,13 @@ unfoldable pub pairs_in : grace.Tree → Root → List Pair
 pairs_in tree root = let at = at_of tree.words in pairs_of at (tree_of at root)
 
 -- the same present tree has the same pairs
-pub shown_same : (old new : NodeWriter) → (desk new).tree ≡ (desk old).tree → (sight new).known.root ≡ (sight old).known.root
+pub shown_same : (old new : NodeWriter) → (writer_state new).tree ≡ (writer_state old).tree → (sight new).known.root ≡ (sight old).known.root
     → shown_pairs new ≡ shown_pairs old
 unfolding pairs_in
-shown_same old new tree root = ap (λ t. pairs_in t (sight new).known.root) tree ∙ ap (pairs_in (desk old).tree) root
+shown_same old new tree root = ap (λ t. pairs_in t (sight new).known.root) tree ∙ ap (pairs_in (writer_state old).tree) root
 
 -- a row of the present tree still is
-pub present_same : (old new : NodeWriter) → (desk new).tree ≡ (desk old).tree → (row : ℕ) → is_present new row ≡ is_present old row
+pub present_same : (old new : NodeWriter) → (writer_state new).tree ≡ (writer_state old).tree → (row : ℕ) → is_present new row ≡ is_present old row
 present_same old new tree row = ap (λ t. grace.has_row t row) tree
 
 -- where fewer rows wait, more are spare
@@ -36,7 +36,7 @@ spare_one false false true new same less = omega arith
 spare_one false false false true same less = absurd (let k = less refl in cc)
 spare_one false false false false same less = omega arith
 
-pub spare_more : (old new : NodeWriter) → (desk new).tree ≡ (desk old).tree → row_count new ≡ row_count old
+pub spare_more : (old new : NodeWriter) → (writer_state new).tree ≡ (writer_state old).tree → row_count new ≡ row_count old
     → ((row : ℕ) → is_waiting new row ≡ true → is_waiting old row ≡ true) → spare_rows old ≤ spare_rows new
 spare_more old new tree sized less =
     let more = sum-le (λ row. count_of (is_spare old row)) (λ row. count_of (is_spare new row)) (row_count old) (λ row _.
@@ -44,23 +44,23 @@ spare_more old new tree sized less =
     let same = ap (λ n. sum_below (λ row. count_of (is_spare new row)) n) sized in
     omega (arith, more, same)
 
--- where fewer rows wait, and as long as before, no tree is settled that was not, and more may be
-pub settled_more : (old new : NodeWriter) → (desk old).tree.number ≤ (desk new).tree.number → row_count new ≡ row_count old
-    → ((row : ℕ) → is_waiting new row ≡ true → settled_of old ≤ since_at (desk new).since row - 1)
-    → settled_of old ≤ settled_of new
-settled_more old new number sized each =
-    wait-greatest (is_waiting new) (since_at (desk new).since) (desk new).tree.number (row_count new) (settled_of old)
-    (omega (arith, number, wait-most (is_waiting old) (since_at (desk old).since) (desk old).tree.number (row_count old)))
+-- where fewer rows wait, and as long as before, no tree's grace period has elapsed that was not, and more may be
+pub elapsed_more : (old new : NodeWriter) → (writer_state old).tree.number ≤ (writer_state new).tree.number → row_count new ≡ row_count old
+    → ((row : ℕ) → is_waiting new row ≡ true → elapsed_of old ≤ since_at (writer_state new).since row - 1)
+    → elapsed_of old ≤ elapsed_of new
+elapsed_more old new number sized each =
+    wait-greatest (is_waiting new) (since_at (writer_state new).since) (writer_state new).tree.number (row_count new) (elapsed_of old)
+    (omega (arith, number, wait-most (is_waiting old) (since_at (writer_state old).since) (writer_state old).tree.number (row_count old)))
     (λ row _ waits. each row waits)
 
--- what is settled is at most the present tree, and below what each row waits for
-pub settled_most : (writer : NodeWriter) → settled_of writer ≤ (desk writer).tree.number
-settled_most writer = wait-most (is_waiting writer) (since_at (desk writer).since) (desk writer).tree.number (row_count writer)
+-- what has elapsed is at most the present tree, and below what each row waits for
+pub elapsed_most : (writer : NodeWriter) → elapsed_of writer ≤ (writer_state writer).tree.number
+elapsed_most writer = wait-most (is_waiting writer) (since_at (writer_state writer).since) (writer_state writer).tree.number (row_count writer)
 
-pub settled_below : (writer : NodeWriter) (row : ℕ) → row < row_count writer → is_waiting writer row ≡ true
-    → settled_of writer ≤ since_at (desk writer).since row - 1
-settled_below writer row within waits =
-    wait-below (is_waiting writer) (since_at (desk writer).since) (desk writer).tree.number (row_count writer) row within waits
+pub elapsed_below : (writer : NodeWriter) (row : ℕ) → row < row_count writer → is_waiting writer row ≡ true
+    → elapsed_of writer ≤ since_at (writer_state writer).since row - 1
+elapsed_below writer row within waits =
+    wait-below (is_waiting writer) (since_at (writer_state writer).since) (writer_state writer).tree.number (row_count writer) row within waits
 
 -- the tree of a root among rows of words
 tree_in : List (List ℕ) → Tree → maple.Tree
@@ -70,23 +70,23 @@ layout_in : List (List ℕ) → ℕ → Tree → Type 0
 layout_in words slots tree = IsLayout (at_of words) slots (tree_rows (at_of words) (tree_in words tree)) (tree_in words tree)
 
 -- the same words show the same pairs
-pub pairs_same : (old new : NodeWriter) (tree : Tree) → (desk new).words ≡ (desk old).words → pairs_now new tree ≡ pairs_now old tree
+pub pairs_same : (old new : NodeWriter) (tree : Tree) → (writer_state new).words ≡ (writer_state old).words → pairs_now new tree ≡ pairs_now old tree
 unfolding tree_in
 pairs_same old new tree words = ap (λ w. pairs_of (at_of w) (tree_in w tree)) words
 
 -- and reach the same rows
-pub built_rows_same : (old new : NodeWriter) (tree : Tree) → (desk new).words ≡ (desk old).words → built_rows new tree ≡ built_rows old tree
+pub built_rows_same : (old new : NodeWriter) (tree : Tree) → (writer_state new).words ≡ (writer_state old).words → built_rows new tree ≡ built_rows old tree
 unfolding tree_in
 built_rows_same old new tree words = ap (λ w. tree_rows (at_of w) (tree_in w tree)) words
 
 -- and the same tree
-pub built_same : (old new : NodeWriter) (tree : Tree) → (desk new).words ≡ (desk old).words → (sight new).size ≡ (sight old).size
+pub built_same : (old new : NodeWriter) (tree : Tree) → (writer_state new).words ≡ (writer_state old).words → (sight new).size ≡ (sight old).size
     → ((row : ℕ) → is_kept new row ≡ is_kept old row) → IsBuilt old tree → IsBuilt new tree
 unfolding tree_in layout_in
 built_same old new tree words size kept is =
     let before = sym words in
     record {
-      layout = subst (λ n. layout_in (desk new).words n tree) (ap (λ s. s.slots) (sym size))
+      layout = subst (λ n. layout_in (writer_state new).words n tree) (ap (λ s. s.slots) (sym size))
           (subst (λ w. layout_in w (sight old).size.slots tree) before is.layout);
       limit = subst (λ w. (tree_in w tree).top.end ≡ tree.limit.0) before is.limit;
       reached = λ row. subst (λ w. times row (tree_rows (at_of w) (tree_in w tree)) ≡ count_of (is_kept old row)) before (is.reached row)
@@ -94,7 +94,7 @@ built_same old new tree words size kept is =
     }
 
 -- or none yet
-blank_same : (old new : NodeWriter) (tree : Tree) → (desk new).words ≡ (desk old).words → (desk new).tree ≡ (desk old).tree
+blank_same : (old new : NodeWriter) (tree : Tree) → (writer_state new).words ≡ (writer_state old).words → (writer_state new).tree ≡ (writer_state old).tree
     → (sight new).size ≡ (sight old).size
     → ((row : ℕ) → is_kept new row ≡ is_kept old row) → IsBlank old tree → IsBlank new tree
 blank_same old new tree words present size kept is = record {

@@ -2,11 +2,11 @@
 use Rattle.std.specs.Prelude.{ℕ, ◌≡◌, ◌<◌, ◌≤◌, true, false, [], length}
 use Rattle.mm_types.specs.declared.config.TheConstants.{MOST_AREAS}
 use Rattle.mm_types.specs.Config.{rows_for, slots_for}
-use Rattle.node_slots.specs.Seats.{table_of, Writes, sight, desk, row_count, is_present, is_kept, pins_of, free_of}
+use Rattle.node_slots.specs.Seats.{table_of, Writes, sight, writer_state, row_count, is_present, is_kept, pins_of, free_of}
 use Rattle.node_slots.specs.Built.{IsBuilt, IsWriters, pairs_now}
 use Rattle.span_tree.specs.declared.tree.SpanTree.TheInside.{Inside}
 use Rattle.span_tree.specs.SpanTrees.{SpanView, enough}
-use Rattle.span_tree.specs.Rows.{spare_rows, settled_of, shown_pairs}
+use Rattle.span_tree.specs.Rows.{spare_rows, elapsed_of, shown_pairs}
 
 -- the tree that the fields are
 abbrev pub view_of : Inside → SpanView
@@ -15,7 +15,7 @@ view_of fields = record {
   areas = fields.areas;
   limit = fields.tree.limit.0;
   number = fields.number;
-  settled = settled_of fields.writer;
+  elapsed = elapsed_of fields.writer;
   pairs = pairs_now fields.writer fields.tree;
   shown = shown_pairs fields.writer;
   changed = fields.changed;
@@ -36,7 +36,7 @@ pub record IsSpanTree (fields : Inside) : Type 0 where
   pub some_pages : 0 < fields.tree.limit.0
   pub rows : row_count fields.writer ≡ rows_for fields.areas
   pub slots : (sight fields.writer).size.slots ≡ slots_for fields.areas
-  pub number : (desk fields.writer).tree.number ≡ fields.number
+  pub number : (writer_state fields.writer).tree.number ≡ fields.number
   pub few_pairs : length (pairs_now fields.writer fields.tree) ≤ fields.areas
   pub first : fields.number ≡ 0 → shown_pairs fields.writer ≡ []
   pub shown : fields.changed ≡ false → shown_pairs fields.writer ≡ pairs_now fields.writer fields.tree

@@ -6,7 +6,7 @@ use Rattle.maple_node.specs.Levels.{at_of}
 use Rattle.maple_node.specs.Trees.{Pair, pairs_of, tree_of}
 use Rattle.node_slots.specs.declared.view.NodeView.{NodeView}
 use Rattle.node_slots.specs.declared.seats.NodeWriter.{NodeWriter}
-use Rattle.node_slots.specs.Seats.{sight, desk, row_count, is_present, is_waiting, is_kept, count_of, free_of, pins_of}
+use Rattle.node_slots.specs.Seats.{sight, writer_state, row_count, is_present, is_waiting, is_kept, count_of, free_of, pins_of}
 
 -- the sum of what each number below a limit gives
 unfoldable pub sum_below : (ℕ → ℕ) → ℕ → ℕ
@@ -28,20 +28,20 @@ least_wait waits since number (suc row) =
     if waits row then min (since row - 1) (least_wait waits since number row) else least_wait waits since number row
 
 -- the greatest tree, at most the present one, such that no row waits that left at its publish or before
-abbrev pub settled_of : NodeWriter → ℕ
-settled_of writer = least_wait (is_waiting writer) (since_at (desk writer).since) (desk writer).tree.number (row_count writer)
+abbrev pub elapsed_of : NodeWriter → ℕ
+elapsed_of writer = least_wait (is_waiting writer) (since_at (writer_state writer).since) (writer_state writer).tree.number (row_count writer)
 
 -- the pairs of the present tree
 abbrev pub shown_pairs : NodeWriter → List Pair
-shown_pairs writer = let at = at_of (desk writer).tree.words in pairs_of at (tree_of at (sight writer).known.root)
+shown_pairs writer = let at = at_of (writer_state writer).tree.words in pairs_of at (tree_of at (sight writer).known.root)
 
 -- the same tree is present, in a table of the same size whose rows have the same words
 pub record IsSameTree (old new : NodeView) : Type 0 where
   pub size : new.size ≡ old.size
   pub root : new.known.root ≡ old.known.root
-  pub tree : new.known.desk.tree ≡ old.known.desk.tree
-  pub words : new.known.desk.words ≡ old.known.desk.words
-  pub since : new.known.desk.since ≡ old.known.desk.since
+  pub tree : new.known.writer_state.tree ≡ old.known.writer_state.tree
+  pub words : new.known.writer_state.words ≡ old.known.writer_state.words
+  pub since : new.known.writer_state.since ≡ old.known.writer_state.since
 
 -- a scan looked at the pin of each reader once
 abbrev pub IsScanned : NodeWriter → NodeWriter → Type 0
@@ -49,7 +49,7 @@ IsScanned old new = (sight new).scans ≡ (sight old).scans + length (pins_of ol
 
 -- each row that waits is held: some reader is not cleared up to the tree that left it out
 abbrev pub AreHeld : NodeWriter → Type 0
-AreHeld writer = (row : ℕ) → is_waiting writer row ≡ true → least (desk writer).tree.number (desk writer).clearings < since_at (desk writer).since row
+AreHeld writer = (row : ℕ) → is_waiting writer row ≡ true → least (writer_state writer).tree.number (writer_state writer).clearings < since_at (writer_state writer).since row
 
 -- no row waits
 abbrev pub NoneWaits : NodeWriter → Type 0

@@ -10,7 +10,7 @@ use Rattle.node_slots.specs.Opening.{IsFreeFrom}
 use Rattle.node_slots.specs.Seats.{sight, free_of, left_of}
 
 -- A tree of spans and slots as contracts see it: the table that it is published in, the most pairs that it may have, the page
--- where it ends, the number of the present tree, the greatest tree that is settled, the pairs of the tree that is built and
+-- where it ends, the number of the present tree, the greatest tree whose grace period has elapsed, the pairs of the tree that is built and
 -- those of the present tree, whether something was stored since the last publish, whether enough rows are free for all stores up
 -- to the next one, how many pins of readers were looked at, the pin of each reader that was found last, and how many rows are free.
 pub record SpanView : Type 0 where
@@ -18,7 +18,7 @@ pub record SpanView : Type 0 where
   pub areas : ℕ
   pub limit : ℕ
   pub number : ℕ
-  pub settled : ℕ
+  pub elapsed : ℕ
   pub pairs : List Pair
   pub shown : List Pair
   pub changed : Bool

@@ -54,11 +54,11 @@ impl SpanTree {
         requires limit { 0 < limit.0 }
         requires fresh { IsFreshWriter areas writer }
         ensures { IfOk result (λ tree. tree ≡ record {
-          table = writer.desk.seat.table_id;
+          table = writer.writer_state.seat.table_id;
           areas = areas;
           limit = limit.0;
           number = 0;
-          settled = 0;
+          elapsed = 0;
           pairs = [];
           shown = [];
           changed = false;
@@ -84,8 +84,8 @@ impl SpanTree {
     /// none is inside, enough are. Where tree 0 is present, which has no entries, a tree of one gap is built.
     pub fn prepare<R: Wait>(&mut self, rt: &R)
         requires { self.old.changed ≡ false }
-        ensures view { self.new ≡ record self.old { changed = nat_eq self.old.number 0; roomy = true; settled = self.new.settled; scans = self.new.scans; pins = self.new.pins; free = self.new.free } }
-        ensures settled { self.old.settled ≤ self.new.settled }
+        ensures view { self.new ≡ record self.old { changed = nat_eq self.old.number 0; roomy = true; elapsed = self.new.elapsed; scans = self.new.scans; pins = self.new.pins; free = self.new.free } }
+        ensures elapsed { self.old.elapsed ≤ self.new.elapsed }
         ensures shown { self.old.shown ≡ self.old.pairs }
         ensures readers { length self.new.pins ≡ length self.old.pins }
         // each pin is looked at once, and once more for each try after the first
@@ -128,9 +128,9 @@ impl SpanTree {
           shown = self.old.pairs;
           changed = false;
           roomy = false;
-          settled = self.new.settled;
+          elapsed = self.new.elapsed;
         } }
-        ensures settled { self.old.settled ≤ self.new.settled }
+        ensures elapsed { self.old.elapsed ≤ self.new.elapsed }
         ensures few { length self.new.shown ≤ self.new.areas }
         ensures pairs { ArePairs (slots_for self.new.areas) self.new.limit 0 self.new.shown }
     {
@@ -141,11 +141,11 @@ impl SpanTree {
     }
 
     /// The greatest tree, at most the present one, such that no row waits that left at its publish or before.
-    pub fn settled(&self) -> u64
-        ensures settled { result ≡ self.now.settled }
+    pub fn elapsed(&self) -> u64
+        ensures elapsed { result ≡ self.now.elapsed }
         ensures most { result ≤ self.now.number }
     {
-        self.nodes.settled(&self.writer)
+        self.nodes.elapsed(&self.writer)
     }
 
     /// What the type keeps: the pairs stand in order, with no page in common, up to the limit, and are no more than may be.
@@ -159,11 +159,11 @@ impl SpanTree {
 
     /// Looks at the pin of each reader once: rows that no reader may read any more are free again.
     pub fn scan(&mut self)
-        ensures view { self.new ≡ record self.old { settled = self.new.settled; scans = self.old.scans + length self.old.pins; pins = self.new.pins; free = self.new.free } }
-        ensures settled { self.old.settled ≤ self.new.settled }
+        ensures view { self.new ≡ record self.old { elapsed = self.new.elapsed; scans = self.old.scans + length self.old.pins; pins = self.new.pins; free = self.new.free } }
+        ensures elapsed { self.old.elapsed ≤ self.new.elapsed }
         ensures readers { length self.new.pins ≡ length self.old.pins }
-        // once it finds every reader closed, every tree is settled
-        ensures gone { AreOut self.new.pins → self.new.settled ≡ self.new.number }
+        // once it finds every reader closed, every tree's grace period has elapsed
+        ensures gone { AreOut self.new.pins → self.new.elapsed ≡ self.new.number }
     {
         scan_once(&self.nodes, &mut self.writer);
     }

@@ -21,13 +21,13 @@ kept_after readers rows core (Word reader row) fits kept = kept
 kept_after readers rows core (Close reader) fits kept =
     record { pins = length-set core.pins reader _ ∙ kept.pins; few = kept.few; exist = kept.exist; words = kept.words }
 kept_after readers rows core (Fill row word) fits kept =
-    record { pins = kept.pins; few = kept.few; exist = kept.exist; words = length-set core.desk.words row.0 _ ∙ kept.words }
+    record { pins = kept.pins; few = kept.few; exist = kept.exist; words = length-set core.writer_state.words row.0 _ ∙ kept.words }
 kept_after readers rows core (Publish number listed) fits kept =
     record { pins = kept.pins; few = kept.few; exist = kept.exist; words = kept.words }
 kept_after readers rows core (Scan reader) fits kept = record {
   pins = kept.pins;
   few = kept.few;
-  exist = λ other within. exists_looked core.desk reader other (pin_at core.pins reader) (kept.exist other within);
+  exist = λ other within. exists_looked core.writer_state reader other (pin_at core.pins reader) (kept.exist other within);
   words = kept.words;
 }
 kept_after readers rows core (Split reader) fits kept = absurd fits

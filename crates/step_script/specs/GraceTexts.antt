@@ -53,7 +53,7 @@ grace_outcome_text (Err reason) = refusal_text (grace_reason_name reason) (grace
 
 -- the present tree: ` | T <number> root <row>`
 unfoldable pub tree_text : Core → List ℕ
-tree_text core = codes " | T " ++ (decimal core.desk.tree.number ++ (codes " root " ++ decimal (root_of core.desk.tree)))
+tree_text core = codes " | T " ++ (decimal core.writer_state.tree.number ++ (codes " root " ++ decimal (root_of core.writer_state.tree)))
 
 -- a reader: ` <reader>:<pin>`
 unfoldable pub reader_text : Core → ℕ → List ℕ
@@ -65,8 +65,8 @@ pins_text core = codes " P" ++ texts_below (length core.pins) (reader_text core)
 
 -- the rows that are free, after ` free`, and those that wait, after ` wait`, both in ascending order
 unfoldable pub rows_text : Core → List ℕ
-rows_text core = codes " free" ++ numbers_text (length core.desk.words) (is_free core.desk)
-    ++ codes " wait" ++ numbers_text (length core.desk.words) (waits core.desk)
+rows_text core = codes " free" ++ numbers_text (length core.writer_state.words) (is_free core.writer_state)
+    ++ codes " wait" ++ numbers_text (length core.writer_state.words) (waits core.writer_state)
 
 -- a state: the present tree, the pins and the rows
 unfoldable pub grace_state_text : Core → List ℕ

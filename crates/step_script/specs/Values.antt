@@ -69,4 +69,4 @@ pub record IsGraceState (readers rows : ℕ) (core : Core) : Type 0 where
   pub pins : length core.pins ≡ readers
   pub few : readers ≤ MOST_PARTS
   pub exist : (reader : ℕ) → reader < readers → HasReader core reader
-  pub words : length core.desk.words ≡ rows
+  pub words : length core.writer_state.words ≡ rows

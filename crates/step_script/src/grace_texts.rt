@@ -129,7 +129,7 @@ fn push_rows(text: &mut Vec<u8>, state: &GraceState) -> Result<(), NoMemory>
 #[tactic(auto, unfolding(crate::specs::Texts::numbers_text))]
 fn push_free(text: &mut Vec<u8>, state: &GraceState) -> Result<(), NoMemory>
     ensures { OnOk result (text.new.items ≡ text.old.items
-        ++ numbers_text (length state.now.desk.words) (is_free state.now.desk)) }
+        ++ numbers_text (length state.now.writer_state.words) (is_free state.now.writer_state)) }
 {
     for row in 0..state.rows() {
         if state.is_free(Row(row)) {
@@ -143,7 +143,7 @@ fn push_free(text: &mut Vec<u8>, state: &GraceState) -> Result<(), NoMemory>
 #[tactic(auto, unfolding(crate::specs::Texts::numbers_text))]
 fn push_waiting(text: &mut Vec<u8>, state: &GraceState) -> Result<(), NoMemory>
     ensures { OnOk result (text.new.items ≡ text.old.items
-        ++ numbers_text (length state.now.desk.words) (waits state.now.desk)) }
+        ++ numbers_text (length state.now.writer_state.words) (waits state.now.writer_state)) }
 {
     for row in 0..state.rows() {
         if state.waits(Row(row)) {

@@ -60,14 +60,14 @@ others_fit config state shows seat view seq slots at writes other apart =
 -- the writer after a change of the sequence or of a slot that it knows
 writer_fits : (config : Config) (state : State Entry View) (shows : Shows config state) (seat : ℕ) (view new : View) (seq : ℕ) (slots : List SlotState)
     → IsSeat config state shows seat view → view.kind ≡ Writes
-    → new ≡ record view { desk = new.desk; trace = new.trace }
-    → new.desk.seq ≡ seq → new.desk.slots ≡ slots → new.desk.made ≡ shows.made
+    → new ≡ record view { writer_state = new.writer_state; trace = new.trace }
+    → new.writer_state.seq ≡ seq → new.writer_state.slots ≡ slots → new.writer_state.made ≡ shows.made
     → Fits config seq slots shows.core.journal shows.made seat new
 writer_fits config state shows seat view new seq slots at writes same seq_is slots_are made_is =
     let is = at.fits.writer writes in
-    let desk = new.desk in
+    let writer_state = new.writer_state in
     let trace = new.trace in
-    let fits : Fits config seq slots shows.core.journal shows.made seat (record view { desk = desk; trace = trace }) = record {
+    let fits : Fits config seq slots shows.core.journal shows.made seat (record view { writer_state = writer_state; trace = trace }) = record {
       settings = at.fits.settings;
       turn = at.fits.turn;
       before = at.fits.before;
@@ -79,8 +79,8 @@ writer_fits config state shows seat view new seq slots at writes same seq_is slo
     subst (Fits config seq slots shows.core.journal shows.made seat) (sym same) fits
 
 -- begin
-pub begin_allows : (config : Config) (slots seat : ℕ) (me : Me Entry View) → me.0.kind ≡ Writes → me.0.desk.seq % 2 ≡ 0 → me.0.desk.seq ≤ 2 ^ 32
-    → Allows (Shows config) slots seat me 0 (λ n. me.0.desk.seq + 1) (λ n. begun (step slots 0 (me.0.desk.seq + 1) 0 none) me (me.0.desk.seq + 1))
+pub begin_allows : (config : Config) (slots seat : ℕ) (me : Me Entry View) → me.0.kind ≡ Writes → me.0.writer_state.seq % 2 ≡ 0 → me.0.writer_state.seq ≤ 2 ^ 32
+    → Allows (Shows config) slots seat me 0 (λ n. me.0.writer_state.seq + 1) (λ n. begun (step slots 0 (me.0.writer_state.seq + 1) 0 none) me (me.0.writer_state.seq + 1))
 begin_allows config slots seat me writes even room state shows homes found fits =
     let core : Core = shows.core in
     let at = seat_found config state shows seat me.0 found in
@@ -88,13 +88,13 @@ begin_allows config slots seat me writes even room state shows homes found fits 
     let is = known.0 in
     let core_even : core.seq % 2 ≡ 0 = subst (λ n. n % 2 ≡ 0) is.seq_is even in
     let new : View = begin_at me.0 in
-    let words : set state.words 0 (me.0.desk.seq + 1) ≡ table_words (core.seq + 1) core.slots core.counts =
-    ap (λ (l : List ℕ). set l 0 (me.0.desk.seq + 1)) shows.words ∙ ap (λ n. set (table_words core.seq core.slots core.counts) 0 (n + 1)) is.seq_is
+    let words : set state.words 0 (me.0.writer_state.seq + 1) ≡ table_words (core.seq + 1) core.slots core.counts =
+    ap (λ (l : List ℕ). set l 0 (me.0.writer_state.seq + 1)) shows.words ∙ ap (λ n. set (table_words core.seq core.slots core.counts) 0 (n + 1)) is.seq_is
     ∙ words-sequence core.seq (core.seq + 1) core.slots core.counts in (
       new,
       keeps,
       tt,
-      stands config state shows seat 0 (me.0.desk.seq + 1) me.1 me.0 new (after_begin core) at (begin_keeps config core shows.facts core_even)
+      stands config state shows seat 0 (me.0.writer_state.seq + 1) me.1 me.0 new (after_begin core) at (begin_keeps config core shows.facts core_even)
           (readers_same config state shows seat me.0 new at refl) words refl
           (others_fit config state shows seat me.0 (core.seq + 1) core.slots at writes)
           (writer_fits config state shows seat me.0 new (core.seq + 1) core.slots at writes refl (ap (λ n. n + 1) is.seq_is) is.slots_are is.made_is)
@@ -102,8 +102,8 @@ begin_allows config slots seat me writes even room state shows homes found fits 
       (
         refl,
         subst (λ c. IsLegalJournal c me.0.seen) (sym known.1) (subst (IsLegalJournal config) (sym is.seen) shows.facts.rows.legal),
-        subst (λ c. Exactly me.0.desk.slots (list_after c me.0.seen)) (sym known.1)
-            (subst (λ (j : List Entry). Exactly me.0.desk.slots (list_after config j)) (sym is.seen)
+        subst (λ c. Exactly me.0.writer_state.slots (list_after c me.0.seen)) (sym known.1)
+            (subst (λ (j : List Entry). Exactly me.0.writer_state.slots (list_after config j)) (sym is.seen)
             (subst (λ (l : List SlotState). Exactly l (list_after config core.journal)) (sym is.slots_are) (shows.facts.rows.exact core_even))),
       ),
     )
@@ -115,13 +115,13 @@ slot_known slots known slot same = ap (λ (l : List SlotState). slot_at l slot) 
 -- what the mark word is, as the writer knows the slot
 mark_found : (config : Config) (state : State Entry View) (shows : Shows config state) (seat slot : ℕ) (view : View)
     → IsSeat config state shows seat view → view.kind ≡ Writes → slot < slot_count config
-    → get_or state.words (mark_place slot) 0 ≡ (slot_at view.desk.slots slot).lock_seq * 256 + count_at shows.core.counts slot
+    → get_or state.words (mark_place slot) 0 ≡ (slot_at view.writer_state.slots slot).lock_seq * 256 + count_at shows.core.counts slot
 mark_found config state shows seat slot view at writes there =
     let is = at.fits.writer writes in
     let within : slot < length shows.core.slots = omega (arith, there, shows.slots) in
     ap (λ (l : List ℕ). get_or l (mark_place slot) 0) shows.words
     ∙ word-mark shows.core.seq shows.core.slots shows.core.counts slot shows.facts.holders.each_slot shows.facts.rows.wide within
-    ∙ ap (λ (s : SlotState). s.lock_seq * 256 + count_at shows.core.counts slot) (sym (slot_known shows.core.slots view.desk.slots slot is.slots_are))
+    ∙ ap (λ (s : SlotState). s.lock_seq * 256 + count_at shows.core.counts slot) (sym (slot_known shows.core.slots view.writer_state.slots slot is.slots_are))
 
 -- what a try to mark a slot owes at a word: a view that keeps the rule, and what it tells
 abbrev Owes : Config → State Entry View → ℕ → ℕ → ℕ → ℕ → ℕ → Me Entry View → ℕ → Type 0
@@ -131,9 +131,9 @@ Owes config state seat slots slot first second me next =
 
 -- no reader holds the slot, and it is marked
 mark_owed : (config : Config) (state : State Entry View) (shows : Shows config state) (slots seat slot : ℕ) (me : Me Entry View)
-    → IsSeat config state shows seat me.0 → me.0.kind ≡ Writes → me.0.desk.seq % 2 ≡ 1 → slot < slot_count config
-    → get_or state.words (mark_place slot) 0 ≡ (slot_at me.0.desk.slots slot).lock_seq * 256
-    → Owes config state seat slots slot ((slot_at me.0.desk.slots slot).lock_seq * 256) (me.0.desk.seq * 256) me (me.0.desk.seq * 256)
+    → IsSeat config state shows seat me.0 → me.0.kind ≡ Writes → me.0.writer_state.seq % 2 ≡ 1 → slot < slot_count config
+    → get_or state.words (mark_place slot) 0 ≡ (slot_at me.0.writer_state.slots slot).lock_seq * 256
+    → Owes config state seat slots slot ((slot_at me.0.writer_state.slots slot).lock_seq * 256) (me.0.writer_state.seq * 256) me (me.0.writer_state.seq * 256)
 mark_owed config state shows slots seat slot me at writes is_open there hit =
     let core : Core = shows.core in
     let is = at.fits.writer writes in
@@ -144,15 +144,15 @@ mark_owed config state shows slots seat slot me at writes is_open there hit =
     let core_open : core.seq % 2 ≡ 1 = subst (λ n. n % 2 ≡ 1) is.seq_is is_open in
     let new : View = mark_at me.0 slot word in
     let marked : SlotState = record (slot_at core.slots slot) { lock_seq = core.seq } in
-    let slots_are : new.desk.slots ≡ set core.slots slot marked =
-    ap (λ (l : List SlotState). set l slot (record (slot_at l slot) { lock_seq = me.0.desk.seq })) is.slots_are
+    let slots_are : new.writer_state.slots ≡ set core.slots slot marked =
+    ap (λ (l : List SlotState). set l slot (record (slot_at l slot) { lock_seq = me.0.writer_state.seq })) is.slots_are
     ∙ ap (λ n. set core.slots slot (record (slot_at core.slots slot) { lock_seq = n })) is.seq_is in
-    let value : me.0.desk.seq * 256 ≡ mark_word core.seq (count_at core.counts slot) = omega (arith, is.seq_is, none_left) in
-    let words : set state.words (mark_place slot) (me.0.desk.seq * 256) ≡ table_words core.seq (set core.slots slot marked) core.counts =
+    let value : me.0.writer_state.seq * 256 ≡ mark_word core.seq (count_at core.counts slot) = omega (arith, is.seq_is, none_left) in
+    let words : set state.words (mark_place slot) (me.0.writer_state.seq * 256) ≡ table_words core.seq (set core.slots slot marked) core.counts =
     ap (λ n. set state.words (mark_place slot) n) value ∙ ap (λ (l : List ℕ). set l (mark_place slot) (mark_word core.seq (count_at core.counts slot))) shows.words
     ∙ words-mark core.seq core.slots core.counts slot core.seq shows.facts.holders.each_slot shows.facts.rows.wide within in (
       new,
-      stands config state shows seat (mark_place slot) (me.0.desk.seq * 256) me.1 me.0 new (after_mark core slot) at
+      stands config state shows seat (mark_place slot) (me.0.writer_state.seq * 256) me.1 me.0 new (after_mark core slot) at
           (mark_keeps config core slot shows.facts core_open none_left) (readers_same config state shows seat me.0 new at refl) words
           (length-set core.slots slot marked)
           (others_fit config state shows seat me.0 core.seq (set core.slots slot marked) at writes)
@@ -168,13 +168,13 @@ mark_owed config state shows slots seat slot me at writes is_open there hit =
 -- readers hold the slot, and nothing changes but what the writer knows of the try
 try_owed : (config : Config) (state : State Entry View) (shows : Shows config state) (slots seat slot : ℕ) (me : Me Entry View)
     → IsSeat config state shows seat me.0 → me.0.kind ≡ Writes → slot < slot_count config
-    → get_or state.words (mark_place slot) 0 ≢ (slot_at me.0.desk.slots slot).lock_seq * 256
-    → Owes config state seat slots slot ((slot_at me.0.desk.slots slot).lock_seq * 256) (me.0.desk.seq * 256) me (get_or state.words (mark_place slot) 0)
+    → get_or state.words (mark_place slot) 0 ≢ (slot_at me.0.writer_state.slots slot).lock_seq * 256
+    → Owes config state seat slots slot ((slot_at me.0.writer_state.slots slot).lock_seq * 256) (me.0.writer_state.seq * 256) me (get_or state.words (mark_place slot) 0)
 try_owed config state shows slots seat slot me at writes there miss =
     let core : Core = shows.core in
     let is = at.fits.writer writes in
     let word : ℕ = get_or state.words (mark_place slot) 0 in
-    let first : ℕ = (slot_at me.0.desk.slots slot).lock_seq * 256 in
+    let first : ℕ = (slot_at me.0.writer_state.slots slot).lock_seq * 256 in
     let count : ℕ = count_at core.counts slot in
     let found : word ≡ first + count = mark_found config state shows seat slot me.0 at writes there in
     let few : count ≤ 64 = count_few config state shows slot in
@@ -192,23 +192,23 @@ try_owed config state shows slots seat slot me at writes there miss =
     )
 
 -- mark
-pub mark_allows : (config : Config) (slots seat slot : ℕ) (me : Me Entry View) → me.0.kind ≡ Writes → me.0.desk.seq % 2 ≡ 1 → slot < slot_count config
+pub mark_allows : (config : Config) (slots seat slot : ℕ) (me : Me Entry View) → me.0.kind ≡ Writes → me.0.writer_state.seq % 2 ≡ 1 → slot < slot_count config
     → Allows (Shows config) slots seat me (mark_place slot)
-    (λ n. either (eqb n ((slot_at me.0.desk.slots slot).lock_seq * 256)) (me.0.desk.seq * 256) n)
-    (tried (step slots (mark_place slot) ((slot_at me.0.desk.slots slot).lock_seq * 256) (me.0.desk.seq * 256) none) me)
+    (λ n. either (eqb n ((slot_at me.0.writer_state.slots slot).lock_seq * 256)) (me.0.writer_state.seq * 256) n)
+    (tried (step slots (mark_place slot) ((slot_at me.0.writer_state.slots slot).lock_seq * 256) (me.0.writer_state.seq * 256) none) me)
 mark_allows config slots seat slot me writes is_open there state shows homes found fits =
     let at = seat_found config state shows seat me.0 found in
     let word : ℕ = get_or state.words (mark_place slot) 0 in
-    let first : ℕ = (slot_at me.0.desk.slots slot).lock_seq * 256 in
-    let second : ℕ = me.0.desk.seq * 256 in
+    let first : ℕ = (slot_at me.0.writer_state.slots slot).lock_seq * 256 in
+    let second : ℕ = me.0.writer_state.seq * 256 in
     let owed : Owes config state seat slots slot first second me (either (eqb word first) second word) =
     exchanged word first second (Owes config state seat slots slot first second me)
     (mark_owed config state shows slots seat slot me at writes is_open there)
     (try_owed config state shows slots seat slot me at writes there) in (owed.0, keeps, tt, owed.1, owed.2)
 
 -- store
-pub store_allows : (config : Config) (slots seat slot field word : ℕ) (me : Me Entry View) → me.0.kind ≡ Writes → me.0.desk.seq % 2 ≡ 1
-    → slot < slot_count config → field < 4 → (slot_at me.0.desk.slots slot).lock_seq ≡ me.0.desk.seq
+pub store_allows : (config : Config) (slots seat slot field word : ℕ) (me : Me Entry View) → me.0.kind ≡ Writes → me.0.writer_state.seq % 2 ≡ 1
+    → slot < slot_count config → field < 4 → (slot_at me.0.writer_state.slots slot).lock_seq ≡ me.0.writer_state.seq
     → Allows (Shows config) slots seat me (field_place slot field) (λ n. word) (λ n. stored (step slots (field_place slot field) word 0 none) me word)
 store_allows config slots seat slot field word me writes is_open there inside marked state shows homes found fits =
     let core : Core = shows.core in
@@ -220,8 +220,8 @@ store_allows config slots seat slot field word me writes is_open there inside ma
     let new : View = store_at me.0 slot field word in
     let core_open : core.seq % 2 ≡ 1 = subst (λ n. n % 2 ≡ 1) is.seq_is is_open in
     let core_marked : old.lock_seq ≡ core.seq =
-    ap (λ (s : SlotState). s.lock_seq) (sym (slot_known core.slots me.0.desk.slots slot is.slots_are)) ∙ marked ∙ is.seq_is in
-    let slots_are : new.desk.slots ≡ set core.slots slot changed =
+    ap (λ (s : SlotState). s.lock_seq) (sym (slot_known core.slots me.0.writer_state.slots slot is.slots_are)) ∙ marked ∙ is.seq_is in
+    let slots_are : new.writer_state.slots ≡ set core.slots slot changed =
     ap (λ (l : List SlotState). set l slot (record (slot_at l slot) { row = set (slot_at l slot).row field word })) is.slots_are in
     let words : set state.words (field_place slot field) word ≡ table_words core.seq (set core.slots slot changed) core.counts =
     ap (λ (l : List ℕ). set l (field_place slot field) word) shows.words
@@ -311,20 +311,20 @@ others_after_end config state shows seat view entry at writes may other apart =
     }
 
 -- end
-pub end_allows : (config : Config) (slots seat : ℕ) (me : Me Entry View) (entry : Entry) → me.0.kind ≡ Writes → me.0.desk.seq % 2 ≡ 1
+pub end_allows : (config : Config) (slots seat : ℕ) (me : Me Entry View) (entry : Entry) → me.0.kind ≡ Writes → me.0.writer_state.seq % 2 ≡ 1
     → entry.reply ≡ (call_step me.0.config (after me.0.config me.0.seen) entry.call).reply
-    → Exactly me.0.desk.slots (list_after me.0.config (me.0.seen ++ entry ∷ [])) → MayEnter entry me.0.turn
-    → Allows (Shows config) slots seat me 0 (λ n. either (eqb n me.0.desk.seq) (me.0.desk.seq + 1) n)
-    (ended (step slots 0 me.0.desk.seq (me.0.desk.seq + 1) (some entry)) me)
+    → Exactly me.0.writer_state.slots (list_after me.0.config (me.0.seen ++ entry ∷ [])) → MayEnter entry me.0.turn
+    → Allows (Shows config) slots seat me 0 (λ n. either (eqb n me.0.writer_state.seq) (me.0.writer_state.seq + 1) n)
+    (ended (step slots 0 me.0.writer_state.seq (me.0.writer_state.seq + 1) (some entry)) me)
 end_allows config slots seat me entry writes is_open replied exact may state shows homes found fits =
     let core : Core = shows.core in
     let at = seat_found config state shows seat me.0 found in
     let known = writer_is config state shows seat me.0 at writes in
     let is = known.0 in
     let word : ℕ = get_or state.words 0 0 in
-    let word_is : word ≡ me.0.desk.seq = ap (λ (l : List ℕ). get_or l 0 0) shows.words ∙ word-sequence core.seq core.slots core.counts ∙ sym is.seq_is in
-    let wins : either (eqb word me.0.desk.seq) (me.0.desk.seq + 1) word ≡ core.seq + 1 =
-    ap (λ b. either b (me.0.desk.seq + 1) word) (eq-eqb word me.0.desk.seq word_is) ∙ ap (λ n. n + 1) is.seq_is in
+    let word_is : word ≡ me.0.writer_state.seq = ap (λ (l : List ℕ). get_or l 0 0) shows.words ∙ word-sequence core.seq core.slots core.counts ∙ sym is.seq_is in
+    let wins : either (eqb word me.0.writer_state.seq) (me.0.writer_state.seq + 1) word ≡ core.seq + 1 =
+    ap (λ b. either b (me.0.writer_state.seq + 1) word) (eq-eqb word me.0.writer_state.seq word_is) ∙ ap (λ n. n + 1) is.seq_is in
     let core_open : core.seq % 2 ≡ 1 = subst (λ n. n % 2 ≡ 1) is.seq_is is_open in
     let room : core.seq + 1 ≤ 2 ^ 32 + 2 = omega (arith, shows.room, core_open) in
     let new : View = end_at me.0 entry in
@@ -335,8 +335,8 @@ end_allows config slots seat me entry writes is_open replied exact may state sho
     let legal : IsLegalJournal config all = (legal-push config core.journal entry).1 (shows.facts.rows.legal, replied_core) in
     let exact_core : Exactly core.slots (list_after config all) =
     subst (λ (l : List SlotState). Exactly l (list_after config all)) is.slots_are
-    (subst (λ (j : List Entry). Exactly me.0.desk.slots (list_after config (j ++ entry ∷ []))) is.seen
-    (subst (λ c. Exactly me.0.desk.slots (list_after c (me.0.seen ++ entry ∷ []))) known.1 exact)) in
+    (subst (λ (j : List Entry). Exactly me.0.writer_state.slots (list_after config (j ++ entry ∷ []))) is.seen
+    (subst (λ c. Exactly me.0.writer_state.slots (list_after c (me.0.seen ++ entry ∷ []))) known.1 exact)) in
     let facts : Facts config (after_look (after_end core entry) seat) =
     look_keeps config (after_end core entry) seat (end_keeps config core entry shows.facts core_open legal exact_core) in
     let reader_is : record { stage = stage_after (core.seq + 1) core.slots (reader_at core.readers seat).stage; seen = all } ≡ reader_of new =
@@ -346,13 +346,13 @@ end_allows config slots seat me entry writes is_open replied exact may state sho
     ∙ ap (λ (j : List Entry). record { stage = me.0.stage; seen = j ++ entry ∷ [] }) (sym is.seen) in
     let readers : (after_look (after_end core entry) seat).readers ≡ map reader_of (set state.views seat new) =
     ap (set core.readers seat) reader_is ∙ readers_after config state shows seat new in
-    let words : set state.words 0 (either (eqb word me.0.desk.seq) (me.0.desk.seq + 1) word) ≡ table_words (core.seq + 1) core.slots core.counts =
+    let words : set state.words 0 (either (eqb word me.0.writer_state.seq) (me.0.writer_state.seq + 1) word) ≡ table_words (core.seq + 1) core.slots core.counts =
     ap (set state.words 0) wins ∙ ap (λ (l : List ℕ). set l 0 (core.seq + 1)) shows.words
     ∙ words-sequence core.seq (core.seq + 1) core.slots core.counts in (
       new,
       keeps,
       tt,
-      stands config state shows seat 0 (either (eqb word me.0.desk.seq) (me.0.desk.seq + 1) word) me.1 me.0 new (after_look (after_end core entry) seat) at
+      stands config state shows seat 0 (either (eqb word me.0.writer_state.seq) (me.0.writer_state.seq + 1) word) me.1 me.0 new (after_look (after_end core entry) seat) at
           facts readers words refl (others_after_end config state shows seat me.0 entry at writes may) (end_fits config state shows seat me.0 entry at writes)
           refl refl room,
       λ other said. ap (λ e. (end_at me.0 e, me.1)) (some-injective entry other said),

@@ -77,26 +77,26 @@ sub_owes config slots seat caller slot words me kept some_held =
     sub_allows config slots seat (slot, at.0) me kept.kind at.1
 
 -- begin, at the sequence that the seat knows
-pub begin_owes : (config : Config) (slots seat seq : ℕ) (me : Me Entry View) → me.0.kind ≡ Writes → me.0.desk.seq ≡ seq → me.0.desk.seq % 2 ≡ 0 → seq ≤ 2 ^ 32
+pub begin_owes : (config : Config) (slots seat seq : ℕ) (me : Me Entry View) → me.0.kind ≡ Writes → me.0.writer_state.seq ≡ seq → me.0.writer_state.seq % 2 ≡ 0 → seq ≤ 2 ^ 32
     → Allows (Shows config) slots seat me 0 (λ n. seq + 1) (λ n. begun (step slots 0 (seq + 1) 0 none) me (seq + 1))
 begin_owes config slots seat seq me writes is even room =
     subst (λ m. Allows (Shows config) slots seat me 0 (λ n. m + 1) (λ n. begun (step slots 0 (m + 1) 0 none) me (m + 1))) is
     (begin_allows config slots seat me writes even (omega arith))
 
 -- mark, at the mark word and the sequence that the seat knows
-pub mark_owes : (config : Config) (slots seat slot first seq : ℕ) (me : Me Entry View) → me.0.kind ≡ Writes → me.0.desk.seq ≡ seq → me.0.desk.seq % 2 ≡ 1
-    → slot < slot_count config → first ≡ free_mark (slot_at me.0.desk.slots slot)
+pub mark_owes : (config : Config) (slots seat slot first seq : ℕ) (me : Me Entry View) → me.0.kind ≡ Writes → me.0.writer_state.seq ≡ seq → me.0.writer_state.seq % 2 ≡ 1
+    → slot < slot_count config → first ≡ free_mark (slot_at me.0.writer_state.slots slot)
     → Allows (Shows config) slots seat me (mark_place slot) (λ n. either (eqb n first) (seq * 256) n) (tried (step slots (mark_place slot) first (seq * 256) none) me)
 mark_owes config slots seat slot first seq me writes is is_open there first_is =
     subst (λ f. Allows (Shows config) slots seat me (mark_place slot) (λ n. either (eqb n f) (seq * 256) n) (tried (step slots (mark_place slot) f (seq * 256) none) me)) (sym first_is)
-    (subst (λ m. Allows (Shows config) slots seat me (mark_place slot) (λ n. either (eqb n (free_mark (slot_at me.0.desk.slots slot))) (m * 256) n)
-    (tried (step slots (mark_place slot) (free_mark (slot_at me.0.desk.slots slot)) (m * 256) none) me)) is
+    (subst (λ m. Allows (Shows config) slots seat me (mark_place slot) (λ n. either (eqb n (free_mark (slot_at me.0.writer_state.slots slot))) (m * 256) n)
+    (tried (step slots (mark_place slot) (free_mark (slot_at me.0.writer_state.slots slot)) (m * 256) none) me)) is
     (mark_allows config slots seat slot me writes is_open there))
 
 -- end, at the sequence that the seat knows
-pub end_owes : (config : Config) (slots seat seq : ℕ) (me : Me Entry View) (entry : Entry) → me.0.kind ≡ Writes → me.0.desk.seq ≡ seq → me.0.desk.seq % 2 ≡ 1
+pub end_owes : (config : Config) (slots seat seq : ℕ) (me : Me Entry View) (entry : Entry) → me.0.kind ≡ Writes → me.0.writer_state.seq ≡ seq → me.0.writer_state.seq % 2 ≡ 1
     → entry.reply ≡ (call_step me.0.config (after me.0.config me.0.seen) entry.call).reply
-    → Exactly me.0.desk.slots (list_after me.0.config (me.0.seen ++ entry ∷ [])) → MayEnter entry me.0.turn
+    → Exactly me.0.writer_state.slots (list_after me.0.config (me.0.seen ++ entry ∷ [])) → MayEnter entry me.0.turn
     → Allows (Shows config) slots seat me 0 (λ n. either (eqb n seq) (seq + 1) n) (ended (step slots 0 seq (seq + 1) (some entry)) me)
 end_owes config slots seat seq me entry writes is is_open replied exact may =
     subst (λ m. Allows (Shows config) slots seat me 0 (λ n. either (eqb n m) (m + 1) n) (ended (step slots 0 m (m + 1) (some entry)) me)) is
@@ -105,11 +105,11 @@ end_owes config slots seat seq me entry writes is is_open replied exact may =
 -- the mark word that the writer's seat knows
 pub mark_known : (config : Config) (seq : ℕ) (marks : List ℕ) (turn : Option ℕ) (words slot free : ℕ) (me : Me Entry View)
     → WriterKept config seq marks turn words me → slot < length marks → free ≡ get_or marks slot free
-    → free ≡ free_mark (slot_at me.0.desk.slots slot)
+    → free ≡ free_mark (slot_at me.0.writer_state.slots slot)
 mark_known config seq marks turn words slot free me kept within is =
     is ∙ ap (λ (l : List ℕ). get_or l slot free) kept.marks_are
-    ∙ get_or-map free_mark me.0.desk.slots slot free_slot free
-    (omega (arith, within, ap (λ (l : List ℕ). length l) kept.marks_are, length-map me.0.desk.slots free_mark))
+    ∙ get_or-map free_mark me.0.writer_state.slots slot free_slot free
+    (omega (arith, within, ap (λ (l : List ℕ). length l) kept.marks_are, length-map me.0.writer_state.slots free_mark))
 
 -- the writer's seat after it marked a slot
 pub mark_kept : (config : Config) (seq : ℕ) (marks : List ℕ) (turn : Option ℕ) (words more slot found : ℕ) (me new : Me Entry View)
@@ -122,8 +122,8 @@ mark_kept config seq marks turn words more slot found me new kept same is =
       empty = kept.empty;
       seq_is = kept.seq_is;
       marks_are = ap (λ (l : List ℕ). set l slot (seq * 256)) kept.marks_are
-          ∙ ap (λ n. set (map free_mark me.0.desk.slots) slot (n * 256)) (sym kept.seq_is)
-          ∙ sym (map-set free_mark me.0.desk.slots slot (record (slot_at me.0.desk.slots slot) { lock_seq = me.0.desk.seq }));
+          ∙ ap (λ n. set (map free_mark me.0.writer_state.slots) slot (n * 256)) (sym kept.seq_is)
+          ∙ sym (map-set free_mark me.0.writer_state.slots slot (record (slot_at me.0.writer_state.slots slot) { lock_seq = me.0.writer_state.seq }));
       turn_is = kept.turn_is;
       sized = omega (arith, same, kept.sized, length-set marks slot (seq * 256));
       counted = kept.counted;
@@ -158,7 +158,7 @@ store_kept config seq marks turn words more slot field word me new kept same is 
       empty = kept.empty;
       seq_is = kept.seq_is;
       marks_are = kept.marks_are
-          ∙ sym (map-set_same free_mark me.0.desk.slots slot (record (slot_at me.0.desk.slots slot) { row = set (slot_at me.0.desk.slots slot).row field word }) free_slot refl);
+          ∙ sym (map-set_same free_mark me.0.writer_state.slots slot (record (slot_at me.0.writer_state.slots slot) { row = set (slot_at me.0.writer_state.slots slot).row field word }) free_slot refl);
       turn_is = kept.turn_is;
       sized = same ∙ kept.sized;
       counted = kept.counted;
@@ -167,7 +167,7 @@ store_kept config seq marks turn words more slot field word me new kept same is 
 
 -- the writer's seat after an end
 pub end_kept : (config : Config) (seq : ℕ) (marks : List ℕ) (turn : Option ℕ) (words more : ℕ) (entry : Entry) (me new : Me Entry View)
-    → WriterKept config seq marks turn words me → more ≡ words → me.0.desk.seq % 2 ≡ 1 → new ≡ (end_at me.0 entry, me.1)
+    → WriterKept config seq marks turn words me → more ≡ words → me.0.writer_state.seq % 2 ≡ 1 → new ≡ (end_at me.0 entry, me.1)
     → WriterKept config (seq + 1) marks turn more new
 end_kept config seq marks turn words more entry me new kept same is_open is =
     subst (WriterKept config (seq + 1) marks turn more) (sym is) (record {
@@ -188,11 +188,11 @@ set_twice (z ∷ zs) zero x y = refl
 set_twice (z ∷ zs) (suc i) x y = ap (λ l. z ∷ l) (set_twice zs i x y)
 
 -- a store into a slot that was changed before
-store_more : (view : View) (slot field word : ℕ) (changed : SlotState) → slot < length view.desk.slots
+store_more : (view : View) (slot field word : ℕ) (changed : SlotState) → slot < length view.writer_state.slots
     → store_at (with_slot view slot changed) slot field word ≡ with_slot view slot (record changed { row = set changed.row field word })
 store_more view slot field word changed within =
-    ap (λ (s : SlotState). with_slot (with_slot view slot changed) slot (record s { row = set s.row field word })) (get_or-set_same view.desk.slots slot changed free_slot within)
-    ∙ ap (λ (l : List SlotState). record view { desk = record view.desk { slots = l } }) (set_twice view.desk.slots slot changed (record changed { row = set changed.row field word }))
+    ap (λ (s : SlotState). with_slot (with_slot view slot changed) slot (record s { row = set s.row field word })) (get_or-set_same view.writer_state.slots slot changed free_slot within)
+    ∙ ap (λ (l : List SlotState). record view { writer_state = record view.writer_state { slots = l } }) (set_twice view.writer_state.slots slot changed (record changed { row = set changed.row field word }))
 
 row_written : (row : List ℕ) (first second third fourth : ℕ) → length row ≡ 4 → set (set (set (set row 0 first) 1 second) 2 third) 3 fourth ≡ first ∷ second ∷ third ∷ fourth ∷ []
 row_written (a ∷ b ∷ c ∷ d ∷ []) first second third fourth wide = refl
@@ -203,11 +203,11 @@ row_written (a ∷ b ∷ c ∷ []) first second third fourth wide = absurd (omeg
 row_written (a ∷ b ∷ c ∷ d ∷ e ∷ rest) first second third fourth wide = absurd (omega arith)
 
 -- four stores write a row
-pub stores_row : (view : View) (slot first second third fourth : ℕ) → slot < length view.desk.slots → length (slot_at view.desk.slots slot).row ≡ 4
+pub stores_row : (view : View) (slot first second third fourth : ℕ) → slot < length view.writer_state.slots → length (slot_at view.writer_state.slots slot).row ≡ 4
     → store_at (store_at (store_at (store_at view slot 0 first) slot 1 second) slot 2 third) slot 3 fourth
     ≡ write_at view slot (first ∷ second ∷ third ∷ fourth ∷ [])
 stores_row view slot first second third fourth within wide =
-    let old : SlotState = slot_at view.desk.slots slot in
+    let old : SlotState = slot_at view.writer_state.slots slot in
     let one : SlotState = record old { row = set old.row 0 first } in
     let two : SlotState = record old { row = set one.row 1 second } in
     let three : SlotState = record old { row = set two.row 2 third } in
@@ -218,8 +218,8 @@ stores_row view slot first second third fourth within wide =
 
 -- how many slots the writer knows
 pub slots_known : (config : Config) (seq : ℕ) (marks : List ℕ) (turn : Option ℕ) (words : ℕ) (me : Me Entry View)
-    → WriterKept config seq marks turn words me → length marks ≡ length me.0.desk.slots
-slots_known config seq marks turn words me kept = ap (λ (l : List ℕ). length l) kept.marks_are ∙ length-map me.0.desk.slots free_mark
+    → WriterKept config seq marks turn words me → length marks ≡ length me.0.writer_state.slots
+slots_known config seq marks turn words me kept = ap (λ (l : List ℕ). length l) kept.marks_are ∙ length-map me.0.writer_state.slots free_mark
 
 -- the four words of a row
 pub four_words : (row : List ℕ) → length row ≡ 4 → get_or row 0 0 ∷ get_or row 1 0 ∷ get_or row 2 0 ∷ get_or row 3 0 ∷ [] ≡ row
@@ -234,7 +234,7 @@ four_words (a ∷ b ∷ c ∷ d ∷ e ∷ rest) wide = absurd (omega arith)
 pub row_stored : (before one two three four : View) (slot : ℕ) (row : List ℕ)
     → one ≡ store_at before slot 0 (get_or row 0 0) → two ≡ store_at one slot 1 (get_or row 1 0)
     → three ≡ store_at two slot 2 (get_or row 2 0) → four ≡ store_at three slot 3 (get_or row 3 0)
-    → slot < length before.desk.slots → length (slot_at before.desk.slots slot).row ≡ 4 → length row ≡ 4 → four ≡ write_at before slot row
+    → slot < length before.writer_state.slots → length (slot_at before.writer_state.slots slot).row ≡ 4 → length row ≡ 4 → four ≡ write_at before slot row
 row_stored before one two three four slot row first second third fourth within wide same =
     fourth
     ∙ ap (λ (v : View). store_at v slot 3 (get_or row 3 0)) third

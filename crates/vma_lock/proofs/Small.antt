@@ -19,7 +19,7 @@ use Rattle.lock_core.specs.declared.stage.SlotState.{SlotState}
 use Rattle.lock_core.specs.Facts.{list_after}
 use Rattle.lock_core.specs.Core.{slot_at, free_slot}
 use Rattle.lock_core.specs.Rows.{is_detached, attached_weight, Exactly}
-use Rattle.vma_lock.specs.declared.view.Desk.{Desk}
+use Rattle.vma_lock.specs.declared.view.LockWriterState.{LockWriterState}
 use Rattle.vma_lock.specs.declared.view.View.{View}
 use Rattle.vma_lock.specs.Views.{begin_at, mark_at, try_at, write_at, lent_at, opened_view, slot_count}
 use Rattle.vma_lock.specs.Internal.Small.{IsSmall, AreFree, ShowsOne, IsMarking}
@@ -59,7 +59,7 @@ still_free slots changed free slot apart =
     ap (λ (s : SlotState). is_detached s.row) (get_or-set_other slots 0 slot changed free_slot apart) ∙ free slot apart
 
 -- the rows after a whole call on the first slot
-pub enters_exactly : (slots : List SlotState) (list : List Record) (before marked written : Desk) (row : List ℕ) → AreFree slots → 0 < length slots → ShowsOne list row
+pub enters_exactly : (slots : List SlotState) (list : List Record) (before marked written : LockWriterState) (row : List ℕ) → AreFree slots → 0 < length slots → ShowsOne list row
     → before.slots ≡ slots
     → marked ≡ record before { slots = set before.slots 0 (record (slot_at before.slots 0) { lock_seq = before.seq }) }
     → written ≡ record marked { slots = set marked.slots 0 (record (slot_at marked.slots 0) { row = row }) }
@@ -67,11 +67,11 @@ pub enters_exactly : (slots : List SlotState) (list : List Record) (before marke
 enters_exactly slots list before marked written row free some_slot shows same mark write =
     let first : SlotState = record (slot_at before.slots 0) { lock_seq = before.seq } in
     let between : AreFree before.slots = subst AreFree (sym same) free in
-    let marked_slots : marked.slots ≡ set before.slots 0 first = ap (λ (d : Desk). d.slots) mark in
+    let marked_slots : marked.slots ≡ set before.slots 0 first = ap (λ (d : LockWriterState). d.slots) mark in
     let marked_free : AreFree marked.slots = subst AreFree (sym marked_slots) (still_free before.slots first between) in
     let many : 0 < length marked.slots =
     omega (arith, some_slot, ap (λ (l : List SlotState). length l) marked_slots, length-set before.slots 0 first, ap (λ (l : List SlotState). length l) same) in
-    subst (λ (l : List SlotState). Exactly l list) (sym (ap (λ (d : Desk). d.slots) write))
+    subst (λ (l : List SlotState). Exactly l list) (sym (ap (λ (d : LockWriterState). d.slots) write))
     (shows_exactly marked.slots list (record (slot_at marked.slots 0) { row = row }) marked_free many shows)
 
 -- the list after one more call
@@ -83,19 +83,19 @@ list_more config journal entry space list counters now stepped =
 
 -- what a whole call on the first slot owes at its end
 pub enter_owes : (first lent begun marked written seat : View) (entry : Entry) (row : List ℕ) → lent ≡ lent_at first seat → begun ≡ begin_at lent
-    → IsMarking (mark_at begun 0 0) marked → written ≡ write_at marked 0 row → AreFree first.desk.slots → 0 < length first.desk.slots
+    → IsMarking (mark_at begun 0 0) marked → written ≡ write_at marked 0 row → AreFree first.writer_state.slots → 0 < length first.writer_state.slots
     → ShowsOne (list_after first.config (first.seen ++ entry ∷ [])) row
-    → Exactly written.desk.slots (list_after written.config (written.seen ++ entry ∷ []))
+    → Exactly written.writer_state.slots (list_after written.config (written.seen ++ entry ∷ []))
 enter_owes first lent begun marked written seat entry row lend begin mark write free some_slot shows =
-    let slots : begun.desk.slots ≡ first.desk.slots = ap (λ (v : View). v.desk.slots) begin ∙ ap (λ (v : View). v.desk.slots) lend in
+    let slots : begun.writer_state.slots ≡ first.writer_state.slots = ap (λ (v : View). v.writer_state.slots) begin ∙ ap (λ (v : View). v.writer_state.slots) lend in
     let config : written.config ≡ first.config =
     ap (λ (v : View). v.config) write ∙ mark.config ∙ ap (λ (v : View). v.config) begin ∙ ap (λ (v : View). v.config) lend in
     let seen : written.seen ≡ first.seen =
     ap (λ (v : View). v.seen) write ∙ mark.seen ∙ ap (λ (v : View). v.seen) begin ∙ ap (λ (v : View). v.seen) lend in
-    subst (λ c. Exactly written.desk.slots (list_after c (written.seen ++ entry ∷ []))) (sym config)
-    (subst (λ (j : List Entry). Exactly written.desk.slots (list_after first.config (j ++ entry ∷ []))) (sym seen)
-    (enters_exactly first.desk.slots (list_after first.config (first.seen ++ entry ∷ [])) begun.desk marked.desk written.desk row
-    free some_slot shows slots mark.desk (ap (λ (v : View). v.desk) write)))
+    subst (λ c. Exactly written.writer_state.slots (list_after c (written.seen ++ entry ∷ []))) (sym config)
+    (subst (λ (j : List Entry). Exactly written.writer_state.slots (list_after first.config (j ++ entry ∷ []))) (sym seen)
+    (enters_exactly first.writer_state.slots (list_after first.config (first.seen ++ entry ∷ [])) begun.writer_state marked.writer_state written.writer_state row
+    free some_slot shows slots mark.writer_state (ap (λ (v : View). v.writer_state) write)))
 
 -- the space after a call that the model made
 pub small_after : (config : Config) (view : View) (entry : Entry) (list next : List Record) (counters more : Counters) (outcome : Outcome) → IsSmall view list counters
@@ -135,7 +135,7 @@ marking_from first tried marked slot found is marking = record {
   config = marking.config ∙ ap (λ (v : View). v.config) is;
   seen = marking.seen ∙ ap (λ (v : View). v.seen) is;
   turn = marking.turn ∙ ap (λ (v : View). v.turn) is;
-  desk = marking.desk ∙ ap (λ (v : View). (mark_at v 0 0).desk) is;
+  writer_state = marking.writer_state ∙ ap (λ (v : View). (mark_at v 0 0).writer_state) is;
 }
 
 -- the same, as the writer of a new table knows it

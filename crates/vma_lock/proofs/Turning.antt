@@ -148,13 +148,13 @@ no_turn_yet config state shows = elim (cases_lt 0 (sum_by (bears shows.made) sta
     ]
 
 -- the writer makes a reader
-pub reader_splits : (config : Config) (seat : ℕ) (view : View) → view.kind ≡ Writes → view.desk.made < 64
+pub reader_splits : (config : Config) (seat : ℕ) (view : View) → view.kind ≡ Writes → view.writer_state.made < 64
     → Splits (Shows config) seat view (after_reader view) (new_reader view)
 reader_splits config seat view writes few state shows found =
     let at = seat_found config state shows seat view found in
     let is = at.fits.writer writes in
     let made : ℕ = shows.made in
-    let made_is : view.desk.made ≡ made = is.made_is in
+    let made_is : view.writer_state.made ≡ made = is.made_is in
     split_shows config state shows seat (made + 1) view (after_reader view) (new_reader view) at refl refl
     (λ other apart. let fits = shows.seats other in record {
       settings = fits.settings;
@@ -184,7 +184,7 @@ reader_splits config seat view writes few state shows found =
     (record {
       settings = λ spent. at.fits.settings (λ other. let e = sym writes ∙ other in cc);
       turn = λ caller turn. record {
-        early = (let e : view.desk.made ≡ caller = cc in omega arith);
+        early = (let e : view.writer_state.made ≡ caller = cc in omega arith);
         all = ap (calls_by caller) (sym is.seen);
         from_own = refl;
       };
@@ -198,16 +198,16 @@ reader_splits config seat view writes few state shows found =
     (let e : can_hold view ≡ 0 = ap kind_weight writes in omega arith)
     (omega arith)
   where
-    new_turn : (caller : ℕ) → view.desk.made ≡ shows.made
-        → sum_by (bears caller) state.views + bears caller view + turn_weight caller (Some view.desk.made) ≤ 1 + bears caller view
-    new_turn caller same = elim (eqb_tells view.desk.made caller) [
+    new_turn : (caller : ℕ) → view.writer_state.made ≡ shows.made
+        → sum_by (bears caller) state.views + bears caller view + turn_weight caller (Some view.writer_state.made) ≤ 1 + bears caller view
+    new_turn caller same = elim (eqb_tells view.writer_state.made caller) [
       | inl here ↦
-          let one = cond-true {A = ℕ} (nat_eq view.desk.made caller) 1 0 here.0 in
+          let one = cond-true {A = ℕ} (nat_eq view.writer_state.made caller) 1 0 here.0 in
           let none_yet : sum_by (bears caller) state.views ≡ 0 =
           subst (λ c. sum_by (bears c) state.views ≡ 0) (sym same ∙ here.1) (no_turn_yet config state shows) in
           omega arith
       | inr apart ↦
-          let none_here = cond-false {A = ℕ} (nat_eq view.desk.made caller) 1 0 apart.0 in
+          let none_here = cond-false {A = ℕ} (nat_eq view.writer_state.made caller) 1 0 apart.0 in
           let once = shows.once caller in
           omega arith
     ]

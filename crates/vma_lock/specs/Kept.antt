@@ -44,8 +44,8 @@ pub record WriterKept (config : Config) (seq : ℕ) (marks : List ℕ) (turn : O
   pub kind : me.0.kind ≡ Writes
   pub settings : me.0.config ≡ config
   pub empty : me.1 ≡ []
-  pub seq_is : me.0.desk.seq ≡ seq
-  pub marks_are : marks ≡ map free_mark me.0.desk.slots
+  pub seq_is : me.0.writer_state.seq ≡ seq
+  pub marks_are : marks ≡ map free_mark me.0.writer_state.slots
   pub turn_is : me.0.turn ≡ turn
   pub sized : words ≡ (length marks + 1) * 8
   pub counted : seq / 2 ≡ length me.0.seen + 1

@@ -74,7 +74,7 @@ given_back step me found new = new ≡ (sub_at me.0, me.1)
 -- begin
 abbrev pub begun : Told
 begun step me found new = (new ≡ (begin_at me.0, me.1)) × IsLegalJournal me.0.config me.0.seen
-    × Exactly me.0.desk.slots (list_after me.0.config me.0.seen)
+    × Exactly me.0.writer_state.slots (list_after me.0.config me.0.seen)
 
 -- a mark, or a try that found readers
 abbrev pub tried : Told
@@ -85,7 +85,7 @@ tried step me found new = (slot : ℕ) → step.word ≡ mark_place slot
 -- store
 abbrev pub stored : Told
 stored step me found new = (slot field : ℕ) → field < 4 → step.word ≡ field_place slot field
-    → (new ≡ (store_at me.0 slot field step.first, me.1)) × (length (slot_at me.0.desk.slots slot).row ≡ 4)
+    → (new ≡ (store_at me.0 slot field step.first, me.1)) × (length (slot_at me.0.writer_state.slots slot).row ≡ 4)
 
 -- end
 abbrev pub ended : Told

@@ -57,9 +57,9 @@ pub record IsWriter (seq : ℕ) (slots : List SlotState) (journal : List Entry) 
   pub first : seat ≡ 0
   pub stage : view.stage ≡ Out
   pub seen : view.seen ≡ journal
-  pub seq_is : view.desk.seq ≡ seq
-  pub slots_are : view.desk.slots ≡ slots
-  pub made_is : view.desk.made ≡ made
+  pub seq_is : view.writer_state.seq ≡ seq
+  pub slots_are : view.writer_state.slots ≡ slots
+  pub made_is : view.writer_state.made ≡ made
 
 -- what is so of each seat
 pub record Fits (config : Config) (seq : ℕ) (slots : List SlotState) (journal : List Entry) (made seat : ℕ) (view : View) : Type 0 where

@@ -70,19 +70,19 @@ journal writer = (sight writer).seen
 
 -- the slots as the writer knows them
 abbrev pub slots : WriterSeat → List SlotState
-slots writer = (sight writer).desk.slots
+slots writer = (sight writer).writer_state.slots
 
 -- a call is open
 abbrev pub IsOpen : WriterSeat → Type 0
-IsOpen writer = (sight writer).desk.seq % 2 ≡ 1
+IsOpen writer = (sight writer).writer_state.seq % 2 ≡ 1
 
 -- no call is open
 abbrev pub IsClosed : WriterSeat → Type 0
-IsClosed writer = (sight writer).desk.seq % 2 ≡ 0
+IsClosed writer = (sight writer).writer_state.seq % 2 ≡ 0
 
 -- the slot is marked in the open call
 abbrev pub IsMarked : WriterSeat → ℕ → Type 0
-IsMarked writer slot = (slot_at (slots writer) slot).lock_seq ≡ (sight writer).desk.seq
+IsMarked writer slot = (slot_at (slots writer) slot).lock_seq ≡ (sight writer).writer_state.seq
 
 -- a reader holds a slot
 abbrev pub IsHeld : Stage → Type 0

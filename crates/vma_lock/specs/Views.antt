@@ -8,7 +8,7 @@ use Rattle.lock_core.specs.declared.stage.Stage.{Stage}
 use Rattle.lock_core.specs.declared.stage.Stage.TheVariants.{Out, Holds, Gone}
 use Rattle.lock_core.specs.Core.{Reader, slot_at, free_slot, held}
 use Rattle.lock_core.specs.Events.{longer}
-use Rattle.vma_lock.specs.declared.view.Desk.{Desk}
+use Rattle.vma_lock.specs.declared.view.LockWriterState.{LockWriterState}
 use Rattle.vma_lock.specs.declared.view.SeatKind.{SeatKind}
 use Rattle.vma_lock.specs.declared.view.SeatKind.TheVariants.{Reads, Writes, Note, Spent}
 use Rattle.vma_lock.specs.declared.view.SeenAt.{SeenAt}
@@ -38,8 +38,8 @@ new_trace = record {
 }
 
 -- what a seat knows of the table that is not the writer's
-abbrev pub no_desk : Desk
-no_desk = record { seq = 0; slots = []; made = 0 }
+abbrev pub no_writer_state : LockWriterState
+no_writer_state = record { seq = 0; slots = []; made = 0 }
 
 -- a configuration of no table
 abbrev pub no_config : Config
@@ -57,7 +57,7 @@ spent_view = record {
   before = [];
   joined = [];
   own = [];
-  desk = no_desk;
+  writer_state = no_writer_state;
   trace = new_trace;
 }
 
@@ -77,7 +77,7 @@ opened_view config made = record {
   before = [];
   joined = [];
   own = [];
-  desk = record { seq = 2; slots = replicate (slot_count config) free_slot; made = made };
+  writer_state = record { seq = 2; slots = replicate (slot_count config) free_slot; made = made };
   trace = new_trace;
 }
 
@@ -93,17 +93,17 @@ split_view view kind caller turn = record {
   before = view.seen;
   joined = view.seen;
   own = view.seen;
-  desk = no_desk;
+  writer_state = no_writer_state;
   trace = new_trace;
 }
 
 -- a new reader, which has its turn
 abbrev pub new_reader : View → View
-new_reader view = split_view view Reads view.desk.made (Some view.desk.made)
+new_reader view = split_view view Reads view.writer_state.made (Some view.writer_state.made)
 
 -- the writer after it made a reader
 abbrev pub after_reader : View → View
-after_reader view = record view { desk = record view.desk { made = view.desk.made + 1 } }
+after_reader view = record view { writer_state = record view.writer_state { made = view.writer_state.made + 1 } }
 
 -- a seat that gave its turn away
 abbrev pub without_turn : View → View
@@ -177,7 +177,7 @@ sub_at view = record view { stage = Out }
 
 -- begin
 abbrev pub begin_at : View → View
-begin_at view = record view { desk = record view.desk { seq = view.desk.seq + 1 } }
+begin_at view = record view { writer_state = record view.writer_state { seq = view.writer_state.seq + 1 } }
 
 -- a try to mark a slot that found this mark word
 abbrev pub try_at : View → ℕ → ℕ → View
@@ -185,20 +185,20 @@ try_at view slot found = record view { trace = record view.trace { tries = view.
 
 -- the writer with another slot of a number
 abbrev pub with_slot : View → ℕ → SlotState → View
-with_slot view slot changed = record view { desk = record view.desk { slots = slice_set view.desk.slots slot changed } }
+with_slot view slot changed = record view { writer_state = record view.writer_state { slots = slice_set view.writer_state.slots slot changed } }
 
 -- mark: the try succeeded
 abbrev pub mark_at : View → ℕ → ℕ → View
-mark_at view slot found = with_slot (try_at view slot found) slot (record (slot_at view.desk.slots slot) { lock_seq = view.desk.seq })
+mark_at view slot found = with_slot (try_at view slot found) slot (record (slot_at view.writer_state.slots slot) { lock_seq = view.writer_state.seq })
 
 -- store
 abbrev pub store_at : View → ℕ → ℕ → ℕ → View
 store_at view slot field word = with_slot view slot
-    (record (slot_at view.desk.slots slot) { row = slice_set (slot_at view.desk.slots slot).row field word })
+    (record (slot_at view.writer_state.slots slot) { row = slice_set (slot_at view.writer_state.slots slot).row field word })
 
 -- four stores: the row has these words
 abbrev pub write_at : View → ℕ → List ℕ → View
-write_at view slot row = with_slot view slot (record (slot_at view.desk.slots slot) { row = row })
+write_at view slot row = with_slot view slot (record (slot_at view.writer_state.slots slot) { row = row })
 
 -- end
 abbrev pub end_at : View → Entry → View
@@ -207,7 +207,7 @@ end_at view entry = record view {
   before = view.seen ++ entry ∷ [];
   joined = view.seen ++ entry ∷ [];
   own = view.seen ++ entry ∷ [];
-  desk = record view.desk { seq = view.desk.seq + 1 };
+  writer_state = record view.writer_state { seq = view.writer_state.seq + 1 };
 }
 
 -- the writer after a turn was lent to it, with a note

@@ -15,7 +15,7 @@ mod writing;
 
 pub use opening::FIRST_SEQ;
 pub use seats::{NoteSeat, ReaderSeat, VmaTable, WriterSeat};
-pub use view::{Desk, LastWords, SeatKind, SeenAt, Trace, View};
+pub use view::{LastWords, LockWriterState, SeatKind, SeenAt, Trace, View};
 pub use words::word_count;
 pub use writing::ReadersLeft;
 

@@ -62,7 +62,7 @@ impl VmaTable {
     /// The next reader.
     fn new_reader(&self, writer: &mut WriterSeat, caller: u32) -> ReaderSeat
         requires table { Writes writer.old self.now }
-        requires caller { (caller ≡ (sight writer.old).desk.made) × (caller < 64) }
+        requires caller { (caller ≡ (sight writer.old).writer_state.made) × (caller < 64) }
         ensures table { Writes writer.new self.now × IsOf result self.now }
         ensures writer { sight writer.new ≡ after_reader (sight writer.old) }
         ensures view { view result ≡ new_reader (sight writer.old) }

@@ -49,7 +49,7 @@ pub struct Trace {
 }
 
 /// What the writer knows of the table, which nobody else changes.
-pub struct Desk {
+pub struct LockWriterState {
     pub seq: u64,
     pub slots: LinkedList<SlotState>,
     /// How many readers were made.
@@ -77,6 +77,6 @@ pub struct View {
     /// A list that has every entry of the caller whose turn it has: what the seat that gave the turn had seen, what it had itself
     /// seen before a join since, or the journal at a look or an end since.
     pub own: LinkedList<Entry>,
-    pub desk: Desk,
+    pub writer_state: LockWriterState,
     pub trace: Trace,
 }

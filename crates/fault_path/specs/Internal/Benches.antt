@@ -6,8 +6,8 @@ use Rattle.vma_lock.specs.Internal.Small.{AreFree}
 
 -- The entry was made: no call is open, it is nobody's turn, and the slots but the first are detached.
 pub record IsEntered (old new : View) (entry : Entry) : Type 0 where
-  pub closed : new.desk.seq % 2 ≡ 0
+  pub closed : new.writer_state.seq % 2 ≡ 0
   pub turn : new.turn ≡ None
   pub config : new.config ≡ old.config
-  pub free : AreFree new.desk.slots
+  pub free : AreFree new.writer_state.slots
   pub journal : new.seen ≡ old.seen ++ entry ∷ []

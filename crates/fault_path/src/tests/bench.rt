@@ -129,7 +129,7 @@ fn make<R: Abort>(
 ) -> Result<(FaultView, Pass, WriterSeat, NodeWriter), NoMemory>
     requires config { IsValidConfig config.now }
     ensures pass { IfOk result (λ made. SitsAt made.0 made.1) }
-    ensures tables { IfOk result (λ made. (made.2.seat.table_id ≡ made.0.table) × (made.3.desk.seat.table_id ≡ made.0.nodes)
+    ensures tables { IfOk result (λ made. (made.2.seat.table_id ≡ made.0.table) × (made.3.writer_state.seat.table_id ≡ made.0.nodes)
         × (made.0.config ≡ config.now) × (made.0.callers ≡ 1)) }
     ensures writer { IfOk result (λ made. sight made.2 ≡ opened_view config.now 1) }
     ensures nodes { IfOk result (λ made. IsNewWriter config.now 1 made.3) }

@@ -1,6 +1,6 @@
 //! A tree that is one leaf.
 ghost use Rattle.std.specs.Prelude.{◌≡◌, ◌<◌};
-ghost use Rattle.node_slots.specs.Seats.{Writes, desk};
+ghost use Rattle.node_slots.specs.Seats.{Writes, writer_state};
 ghost use Rattle.node_slots.specs.Internal.Leaves.{IsOneLeaf};
 
 use maple_node::Layout;
@@ -11,7 +11,7 @@ use node_slots::{NodeTable, NodeWriter};
 pub(super) fn publish_leaf(table: &NodeTable, writer: &mut NodeWriter, end: Page) -> Option<Row>
     requires table { Writes writer.old table.now }
     requires alone { IsOneLeaf writer.old 0 }
-    requires number { (desk writer.old).tree.number ≡ 0 }
+    requires number { (writer_state writer.old).tree.number ≡ 0 }
     requires end { 0 < end.0 }
 {
     let row = table.take_row(writer)?;

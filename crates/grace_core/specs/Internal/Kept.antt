@@ -7,11 +7,11 @@ use Rattle.grace_core.specs.Facts.{Facts}
 
 -- the state that the fields are
 abbrev pub core_of : protocol.Inside → Core
-core_of fields = record { desk = fields.desk; pins = fields.pins.items; snapshots = fields.snapshots.items }
+core_of fields = record { writer_state = fields.writer_state; pins = fields.pins.items; snapshots = fields.snapshots.items }
 
 -- the facts hold, each reader has a pin, a snapshot or none, and a clearing, and there are few readers
 pub record IsKept (fields : state.Inside) : Type 0 where
   pub facts : Facts fields.protocol
-  pub pins : length fields.protocol.pins ≡ length fields.protocol.desk.clearings
-  pub snapshots : length fields.protocol.snapshots ≡ length fields.protocol.desk.clearings
+  pub pins : length fields.protocol.pins ≡ length fields.protocol.writer_state.clearings
+  pub snapshots : length fields.protocol.snapshots ≡ length fields.protocol.writer_state.clearings
   pub few : length fields.protocol.pins ≤ 2 ^ 31

@@ -2,8 +2,8 @@
 use Rattle.std.specs.Prelude.{ℕ, ◌≡◌, ◌<◌, ◌^◌, Bool, false, nat_lt, List, [], ◌∷◌, length, map, slice_index_or}
 use Rattle.mm_types.specs.declared.slot.Row.{Row}
 use Rattle.grace_core.specs.declared.tree.GraceTree.TheInside as tree
-use Rattle.grace_core.specs.declared.desk.GraceDesk.TheInside as desk
-use Rattle.grace_core.specs.Core.{Tree, Desk, numbers_of, times}
+use Rattle.grace_core.specs.declared.writer_state.GraceWriter.TheInside as writer_state
+use Rattle.grace_core.specs.Core.{Tree, WriterState, numbers_of, times}
 
 -- rows of one word each
 abbrev pub rows_of : List ℕ → List (List ℕ)
@@ -21,9 +21,9 @@ tree_of fields = record { number = fields.number; rows = numbers_of fields.rows.
 abbrev pub IsMarked : tree.Inside → Type 0
 IsMarked fields = AreMarks fields.marks.items fields.rows.items
 
--- the desk that the fields are
-abbrev pub desk_of : desk.Inside → Desk
-desk_of fields = record {
+-- the writer's state that the fields are
+abbrev pub writer_state_of : writer_state.Inside → WriterState
+writer_state_of fields = record {
   width = 1;
   tree = fields.tree;
   words = rows_of fields.words.items;
@@ -33,6 +33,6 @@ desk_of fields = record {
 }
 
 -- there are as many numbers as rows, and their numbers fit 32 bits
-pub record IsSized (fields : desk.Inside) : Type 0 where
+pub record IsSized (fields : writer_state.Inside) : Type 0 where
   pub same : length fields.since.items ≡ length fields.words.items
   pub few : length fields.words.items < 2 ^ 32

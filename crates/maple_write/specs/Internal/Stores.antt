@@ -5,7 +5,7 @@ use Rattle.maple_node.specs.declared.item.Item.{Item}
 use Rattle.maple_node.specs.Nodes.{words_of, items_of, most, least, end_of, Ascends, IsPlain}
 use Rattle.maple_node.specs.Levels.{is_leaf, at_of, read, below, item_at, level_of, IsTower, rows_of}
 use Rattle.maple_node.specs.Trees.{Tree, entries_of, tree_rows, pairs_of, ApartFrom}
-use Rattle.maple_items.specs.Splices.{upto, beyond, spliced}
+use Rattle.maple_items.specs.Splices.{ending_by, ending_after, spliced}
 use Rattle.maple_items.specs.declared.place.Place.{Place}
 use Rattle.maple_write.specs.declared.rows.Rooted.{Rooted}
 use Rattle.maple_write.specs.declared.path.Path.{Path}
@@ -41,9 +41,9 @@ pub record Partly (table : Table) (top : Item) (height level lo hi : ℕ) (new :
   pub tower : IsTower (at_of table.rows) top.end level (height - level) (top ∷ [])
   pub built : IsTower (at_of table.rows) top.end 0 level (new_level table top height level lo hi new)
   pub ascends : Ascends 0 (new_level table top height level lo hi new)
-  pub ending : end_of (end_of 0 (upto lo (old_level table top height level))) new ≡ hi
+  pub ending : end_of (end_of 0 (ending_by lo (old_level table top height level))) new ≡ hi
   -- the new items end where an old one did
-  pub edge : 1 ≤ level → end_of 0 (upto hi (old_level table top height level)) ≡ hi
+  pub edge : 1 ≤ level → end_of 0 (ending_by hi (old_level table top height level)) ≡ hi
   pub plain : IsPlain (is_leaf level) new
   pub stand : Stand table (partly_rows table top height level lo hi new)
   pub free : 3 * (height - level) + 3 ≤ length table.free
@@ -51,15 +51,15 @@ pub record Partly (table : Table) (top : Item) (height level lo hi : ℕ) (new :
 -- items from where a node of a level begins up to where one ends, that are to be its nodes anew
 pub record Cut (table : Table) (top : Item) (height level lo hi : ℕ) (new : List Item) (begin end : ℕ) (items : List Item) : Type 0 where
   pub split : new_level table top height level lo hi new
-      ≡ below (at_of table.rows) (is_leaf level) (upto lo (old_level table top height (level + 1)))
-      ++ (items ++ below (at_of table.rows) (is_leaf level) (beyond end (old_level table top height (level + 1))))
-  pub start : begin ≡ end_of 0 (upto lo (old_level table top height (level + 1)))
+      ≡ below (at_of table.rows) (is_leaf level) (ending_by lo (old_level table top height (level + 1)))
+      ++ (items ++ below (at_of table.rows) (is_leaf level) (ending_after end (old_level table top height (level + 1))))
+  pub start : begin ≡ end_of 0 (ending_by lo (old_level table top height (level + 1)))
   pub ending : end_of begin items ≡ end
   pub ascends : Ascends begin items
   pub plain : IsPlain (is_leaf level) items
   pub some : 1 ≤ length items
   pub few : length items ≤ 2 * most (is_leaf level) + 3
-  pub edge : end_of 0 (upto end (old_level table top height (level + 1))) ≡ end
+  pub edge : end_of 0 (ending_by end (old_level table top height (level + 1))) ≡ end
   pub above : lo < end
   pub limit : end ≤ top.end
 
@@ -106,7 +106,7 @@ Finds writer old limit = (IsWhole (table_at writer) (sight writer).size.slots (t
 -- an item of a level has a page and begins at another one, in the tree under these rows
 pub record Begins (at : ℕ → List ℕ) (top : Item) (height page level start : ℕ) (item : Item) : Type 0 where
   pub found : item_at page (level_of at level (height - level) (top ∷ [])) ≡ Some item
-  pub begins : start ≡ end_of 0 (upto page (level_of at level (height - level) (top ∷ [])))
+  pub begins : start ≡ end_of 0 (ending_by page (level_of at level (height - level) (top ∷ [])))
   pub above : start ≤ page
 
 -- a place of no level

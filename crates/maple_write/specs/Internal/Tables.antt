@@ -3,7 +3,7 @@ use Rattle.std.specs.Prelude.{ℕ, ◌≡◌, ◌+◌, List, map, length, if◌t
 use Rattle.maple_node.specs.declared.item.Item.{Item}
 use Rattle.maple_node.specs.Levels.{times}
 use Rattle.node_slots.specs.declared.seats.NodeWriter.{NodeWriter}
-use Rattle.node_slots.specs.Seats.{desk, free_of, left_of}
+use Rattle.node_slots.specs.Seats.{writer_state, free_of, left_of}
 
 -- the words of each row, the rows that are free, and those that were left
 pub record Table : Type 0 where
@@ -13,7 +13,7 @@ pub record Table : Type 0 where
 
 -- the table of a writer
 abbrev pub table_at : NodeWriter → Table
-table_at writer = record { rows = (desk writer).words; free = free_of writer; left = left_of writer }
+table_at writer = record { rows = (writer_state writer).words; free = free_of writer; left = left_of writer }
 
 -- the rows of items
 abbrev pub rows_in : List Item → List ℕ

@@ -4,7 +4,7 @@ use Rattle.node_slots.specs.declared.seats.NodeTable.{NodeTable}
 use Rattle.node_slots.specs.declared.seats.NodeSeat.{NodeSeat}
 use Rattle.node_slots.specs.declared.seats.NodeWriter.{NodeWriter}
 use Rattle.node_slots.specs.declared.tree.Tree.{Tree}
-use Rattle.node_slots.specs.Seats.{Writes, IsOf, IsClosed, sight, desk, row_count}
+use Rattle.node_slots.specs.Seats.{Writes, IsOf, IsClosed, sight, writer_state, row_count}
 use Rattle.node_slots.specs.Built.{IsWriters}
 
 -- The writer is of the table, which has 4,096 rows and as many slots, and shows this tree, or nothing was built yet. The reader
@@ -16,4 +16,4 @@ pub record IsBench (nodes : NodeTable) (writer : NodeWriter) (tree : Tree) (seat
   pub slots : (sight writer).size.slots ≡ 4096
   pub reader : IsOf seat nodes
   pub closed : IsClosed seat
-  pub number : (desk writer).tree.number ≡ published
+  pub number : (writer_state writer).tree.number ≡ published

@@ -4,8 +4,8 @@ use Rattle.lock_core.specs.Core.{detached_row}
 use Rattle.split_merge.specs.declared.plan.Change.{Change}
 use Rattle.split_merge.specs.declared.plan.Change.TheVariants.{Detach, Alter, Add}
 use Rattle.vma_lock.specs.Seats.{Writes, sight}
-use Rattle.mm_state.specs.declared.board.Board.{Board}
-use Rattle.mm_state.specs.Internal.Boards.{IsWritten, Carries, after_leaving}
+use Rattle.mm_state.specs.declared.store.AreaStore.{AreaStore}
+use Rattle.mm_state.specs.Internal.AreaStores.{IsWritten, Carries, after_leaving}
 
 -- all of the changes take areas away, each of which begins where the one before ends, from a page on up to another
 abbrev pub IsRun : ℕ → ℕ → List Change → Type 0
@@ -15,12 +15,12 @@ IsRun lo hi (Alter old new ∷ changes) = ⊥
 IsRun lo hi (Add new ∷ changes) = ⊥
 
 -- what changes of a plan leave, as if they were carried out one after the other, from the last on
-abbrev pub CarriesAll : Board → Board → List Change → ℕ → Type 0
+abbrev pub CarriesAll : AreaStore → AreaStore → List Change → ℕ → Type 0
 CarriesAll old new [] tree = new ≡ old
-CarriesAll old new (change ∷ changes) tree = (between : Board) × CarriesAll old between changes tree × Carries between new change tree
+CarriesAll old new (change ∷ changes) tree = (between : AreaStore) × CarriesAll old between changes tree × Carries between new change tree
 
 -- a slot was detached and left with a tree, and all but the writer and the slots is as it was
-pub record IsLetGo (old new : Board) (slot tree : ℕ) : Type 0 where
+pub record IsLetGo (old new : AreaStore) (slot tree : ℕ) : Type 0 where
   pub mine : Writes new.writer new.table
   pub written : IsWritten (sight old.writer) slot detached_row (sight new.writer)
   pub slots : new.slots ≡ after_leaving old.slots slot tree

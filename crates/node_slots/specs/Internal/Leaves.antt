@@ -28,8 +28,8 @@ pub record IsInside (seat : NodeSeat) (table : NodeTable) (row : ℕ) : Type 0 w
 
 -- the reader is of the writer's table, and closed
 pub record IsBeside (seat : NodeSeat) (writer : NodeWriter) : Type 0 where
-  pub same : seat.seat.table_id ≡ writer.desk.seat.table_id
-  pub size_is : seat.seat.me.0.size ≡ writer.desk.table.size
+  pub same : seat.seat.table_id ≡ writer.writer_state.seat.table_id
+  pub size_is : seat.seat.me.0.size ≡ writer.writer_state.table.size
   pub closed : IsClosed seat
 
 -- so is each of these readers

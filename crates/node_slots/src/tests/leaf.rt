@@ -50,7 +50,7 @@ impl OneLeaf {
 
     /// Publishes the next tree in a row of its own, and answers its number. None where no row is free.
     pub(super) fn publish(&mut self) -> Option<u64> {
-        let tree = self.writer.desk.root.tree + 1;
+        let tree = self.writer.writer_state.root.tree + 1;
         if tree >= END {
             return None;
         }

@@ -4,7 +4,7 @@ use Rattle.maple_node.specs.Trees.{Pair}
 use Rattle.node_slots.specs.declared.seats.NodeTable.{NodeTable}
 use Rattle.node_slots.specs.declared.seats.NodeWriter.{NodeWriter}
 use Rattle.node_slots.specs.declared.tree.Tree.{Tree}
-use Rattle.node_slots.specs.Seats.{Writes, sight, desk, row_count}
+use Rattle.node_slots.specs.Seats.{Writes, sight, writer_state, row_count}
 use Rattle.node_slots.specs.Built.{IsWriters}
 use Rattle.span_tree.specs.SpanTrees.{SpanView}
 
@@ -44,4 +44,4 @@ pub record IsBench (nodes : NodeTable) (writer : NodeWriter) (tree : Tree) (publ
   pub shows : IsWriters writer tree
   pub rows : row_count writer ≡ 1000
   pub slots : (sight writer).size.slots ≡ 1000
-  pub number : (desk writer).tree.number ≡ published
+  pub number : (writer_state writer).tree.number ≡ published

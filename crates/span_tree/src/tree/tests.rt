@@ -78,9 +78,9 @@ fn publish_gap<R: Wait>(rt: &R, tree: &mut SpanTree)
     tree.publish(&Call(1));
 }
 
-/// The trees list their spans, and a tree is settled once no reader can read a row that only trees before it had.
+/// The trees list their spans, and a tree's grace period has elapsed once no reader can read a row that only trees before it had.
 #[test]
-fn trees_are_settled_after_their_readers(rt: HostRuntime) -> Result<(), NoMemory> {
+fn trees_have_elapsed_after_their_readers(rt: HostRuntime) -> Result<(), NoMemory> {
     let Some((nodes, mut tree, mut seat)) = open(rt.alloc())? else {
         panic!(rt; "there is no reader")
     };
@@ -89,9 +89,9 @@ fn trees_are_settled_after_their_readers(rt: HostRuntime) -> Result<(), NoMemory
     assert_eq!(rt; entry(&tree, 1), Some((20, Some(Slot(3)))));
     assert_eq!(rt; entry(&tree, 3), Some((40, Some(Slot(4)))));
     assert_eq!(rt; entry(&tree, 4), Some((1000, None)));
-    assert_eq!(rt; tree.settled(), 0);
+    assert_eq!(rt; tree.elapsed(), 0);
     tree.scan();
-    assert_eq!(rt; tree.settled(), 1);
+    assert_eq!(rt; tree.elapsed(), 1);
     nodes.open(&mut seat);
     let root = nodes.root(&mut seat);
     assert_eq!(rt; (root.tree, root.height), (1, 1));
@@ -100,9 +100,9 @@ fn trees_are_settled_after_their_readers(rt: HostRuntime) -> Result<(), NoMemory
     assert_eq!(rt; entry(&tree, 2), Some((35, None)));
     assert_eq!(rt; entry(&tree, 4), Some((1000, None)));
     tree.scan();
-    assert_eq!(rt; tree.settled(), 1);
+    assert_eq!(rt; tree.elapsed(), 1);
     nodes.close(&mut seat);
     tree.scan();
-    assert_eq!(rt; tree.settled(), 2);
+    assert_eq!(rt; tree.elapsed(), 2);
     Ok(())
 }

@@ -21,10 +21,10 @@ AreFree slots = (slot : ℕ) → slot ≢ 0 → is_detached (slot_at slots slot)
 -- The writer between two calls: it has no turn, the list and the counters are those after the journal, and all
 -- slots but the first are detached.
 pub record IsSmall (view : View) (list : List Record) (counters : Counters) : Type 0 where
-  pub closed : view.desk.seq % 2 ≡ 0
+  pub closed : view.writer_state.seq % 2 ≡ 0
   pub turn : view.turn ≡ None
   pub space : after view.config view.seen ≡ space_of list counters
-  pub free : AreFree view.desk.slots
+  pub free : AreFree view.writer_state.slots
 
 -- a row shows a list of at most one area
 abbrev pub ShowsOne : List Record → List ℕ → Type 0
@@ -36,7 +36,7 @@ pub record IsMarking (old new : View) : Type 0 where
   pub config : new.config ≡ old.config
   pub seen : new.seen ≡ old.seen
   pub turn : new.turn ≡ old.turn
-  pub desk : new.desk ≡ old.desk
+  pub writer_state : new.writer_state ≡ old.writer_state
 
 -- the reader is of the writer's table, holds no slot, and has its turn
 pub record IsBeside (seat : ReaderSeat) (writer : WriterSeat) : Type 0 where

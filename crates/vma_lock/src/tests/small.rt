@@ -28,7 +28,7 @@ impl Small {
     /// The writer of a new table, whose list is empty.
     pub(super) fn new(alloc: Global, writer: WriterSeat, config: &Config) -> Small
         requires files { config.now.files ≡ [] }
-        requires opened { sight writer ≡ opened_view config.now (sight writer).desk.made }
+        requires opened { sight writer ≡ opened_view config.now (sight writer).writer_state.made }
         ensures { result.writer ≡ writer }
     {
         Small {

@@ -2,7 +2,7 @@
 use Rattle.std.proofs.Common.{arith, ap}
 use Rattle.std.proofs.lemmas.List.{drop_all}
 use Rattle.grace_core.proofs.Clearings.{least_number}
-use Rattle.grace_core.proofs.Desks.{least_gone, least_here}
+use Rattle.grace_core.proofs.WriterStates.{least_gone, least_here}
 use Rattle.grace_core.specs.Steps.{least, new_clearing}
 use Rattle.grace_core.proofs.clearing.least.Goals as goal
 use Rattle.grace_core.proofs.clearing.least.Goals.{then-not-clearing, else-not-clearing}

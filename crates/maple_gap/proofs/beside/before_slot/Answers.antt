@@ -3,8 +3,8 @@ use Rattle.std.proofs.Common.{ℕ, List, None, ◌≤◌, ◌+◌, ◌-◌, ◌�
 use Rattle.maple_node.specs.Nodes.{end_of}
 use Rattle.maple_node.specs.Levels.{item_at}
 use Rattle.maple_node.specs.Trees.{Pair}
-use Rattle.maple_items.specs.Splices.{upto}
-use Rattle.maple_items.proofs.Lists.{upto_below}
+use Rattle.maple_items.specs.Splices.{ending_by}
+use Rattle.maple_items.proofs.Lists.{ending_by_below}
 use Rattle.node_slots.specs.Built.{words_at}
 use Rattle.maple_gap.specs.Gaps.{last_before, slot_in}
 use Rattle.maple_gap.specs.Internal.Searches.{entries_under, with_gap}
@@ -58,7 +58,7 @@ returns-then-here-eq0 c =
     let all = entries_of_root c.args.writer.now c.args.tree.now root is in
     let edge : (page ≤ above - 1 + 1) ⊎ (end_of 0 entries ≤ above - 1 + 1) =
     subst (λ (e : ℕ). (page ≤ above - 1 + 1) ⊎ (e ≤ above - 1 + 1)) (is.limit ∙ sym all.ending) (edge_of page root.place.item.end above least test) in
-    let begins = c.entry_at-here.ensures.start ∙ ap (λ (p : ℕ). end_of p (upto (above - 1) entries)) is.begin in
+    let begins = c.entry_at-here.ensures.start ∙ ap (λ (p : ℕ). end_of p (ending_by (above - 1) entries)) is.begin in
     let first = c.if-here-eq0.true in
     sym (ap (λ (ps : List Pair). slot_in (last_before ps page)) (sym is.pairs)
     ∙ ap slot_in (before_first page (above - 1) 0 None entries c.entry_at-here.result.item all.ascends (omega arith) (omega arith) edge
@@ -72,8 +72,8 @@ entry_at-before-requires-clause-within c =
     let least = c.min-above.ensures in
     let test = c.if-above-eq0.false in
     let entries = entries_under (words_at c.args.writer.now) root in
-    let begins = c.entry_at-here.ensures.start ∙ ap (λ (p : ℕ). end_of p (upto (above - 1) entries)) is.begin in
-    let low = upto_below 0 (above - 1) entries (omega arith) in
+    let begins = c.entry_at-here.ensures.start ∙ ap (λ (p : ℕ). end_of p (ending_by (above - 1) entries)) is.begin in
+    let low = ending_by_below 0 (above - 1) entries (omega arith) in
     omega arith
 
 pub slot_of-requires-2 : goal.slot_of-requires-2
@@ -93,7 +93,7 @@ returns c =
     let all = entries_of_root c.args.writer.now c.args.tree.now root is in
     let edge : (page ≤ above - 1 + 1) ⊎ (end_of 0 entries ≤ above - 1 + 1) =
     subst (λ (e : ℕ). (page ≤ above - 1 + 1) ⊎ (e ≤ above - 1 + 1)) (is.limit ∙ sym all.ending) (edge_of page root.place.item.end above least test) in
-    let begins = c.entry_at-here.ensures.start ∙ ap (λ (p : ℕ). end_of p (upto (above - 1) entries)) is.begin in
+    let begins = c.entry_at-here.ensures.start ∙ ap (λ (p : ℕ). end_of p (ending_by (above - 1) entries)) is.begin in
     let later = c.if-here-eq0.false in
     c.slot_of-2.ensures
     ∙ before_gap page (above - 1) 1 0 None entries c.entry_at-here.result.item c.entry_at-before.result.item all.ascends is.apart (omega arith) (omega arith)

@@ -76,8 +76,8 @@ returns c =
     c.if-here-ne0.false c.entry_near-next.ensures.item
     ∙ ap (λ (ps : List Pair). slot_in (first_from ps page)) is.pairs
 
-pub entry_near-next-requires-clause-beyond : goal.entry_near-next-requires-clause-beyond
-entry_near-next-requires-clause-beyond c =
+pub entry_near-next-requires-clause-ending_after : goal.entry_near-next-requires-clause-ending_after
+entry_near-next-requires-clause-ending_after c =
     let leaf = c.leaf_at-leaf in
     let above = leaf.ensures.above in
     let past = item_above c.args.page.0 (entries_under (words_at c.args.writer.now) leaf.result) c.entry_at-here.result.item c.entry_at-here.ensures.item in

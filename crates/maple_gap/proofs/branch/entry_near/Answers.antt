@@ -20,7 +20,7 @@ returns g c =
       | then-page-part w ↦
           let within = w.if-page-part.true in
           let near = ap (λ (b : Branch). item_at page (entries_under at b)) (sym w.near-is) ∙ found in
-          whole_item at root part page item c.requires.same c.requires.beyond within near
+          whole_item at root part page item c.requires.same c.requires.ending_after within near
       | else-page-part w ↦ ap (λ (b : Branch). item_at page (entries_under at b)) (sym w.near-is) ∙ found
     ] in
     record { item = whole }

@@ -3,7 +3,7 @@ use Rattle.std.proofs.Common.{ℕ, ◌≡◌, refl, inl, inr, List, length, take
 use Rattle.std.proofs.lemmas.List.{length-take-le, length-drop}
 use Rattle.std.specs.List.{flat_map}
 use Rattle.maple_node.specs.Nodes.{item_words, items_of, most}
-use Rattle.maple_items.specs.Splices.{upto, spliced}
+use Rattle.maple_items.specs.Splices.{ending_by, spliced}
 use Rattle.maple_node.specs.Codec.{width_of}
 use Rattle.maple_node.specs.Padding.{padded}
 use Rattle.maple_node.proofs.Padded.{length-words}
@@ -45,7 +45,7 @@ returns-clause-words c done =
     ∙ ap (λ (ws : List ℕ). ws ++ mid) (c.push_items.ensures
     ∙ ap (λ (ws : List ℕ). ws ++ F new) (c.push_words.ensures
     ∙ ap (λ (ws : List ℕ). ws ++ take parts.before words) c.requires.none ∙ told.front))
-    ∙ ap (λ (ws : List ℕ). (F (upto c.args.lo items) ++ F new) ++ ws) told.back)
+    ∙ ap (λ (ws : List ℕ). (F (ending_by c.args.lo items) ++ F new) ++ ws) told.back)
     ∙ spliced_is leaf c.args.lo c.args.hi new items
 
 pub returns-clause-most : goal.returns-clause-most

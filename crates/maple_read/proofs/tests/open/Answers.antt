@@ -17,7 +17,7 @@ returns-clause-writer g c =
         alone = λ other low. first_alone 8 (free_of writer) (left_of writer) other made.free made.left (omega (arith, low, rows));
         slots = ap (λ (v : NodeView). v.size.slots) made.writer.1;
       },
-      ap (λ (v : NodeView). v.known.desk.tree.number) made.writer.1,
+      ap (λ (v : NodeView). v.known.writer_state.tree.number) made.writer.1,
     )
 
 pub returns-clause-seat : goal.returns-clause-seat

@@ -26,7 +26,7 @@ next_node c =
     let limit = c.requires.limit in
     let is = full (table_at writer) old.top old.height level c.requires.tower (omega arith) in
     let found : item_at c.loop-page.page items ≡ Some c.find-place.result.item =
-    sym (ap (λ (v : NodeView). item_at c.loop-page.page (old_level (record { rows = v.known.desk.words; free = []; left = [] }) old.top old.height level))
+    sym (ap (λ (v : NodeView). item_at c.loop-page.page (old_level (record { rows = v.known.writer_state.words; free = []; left = [] }) old.top old.height level))
     c.loop-page.invariant.view) ∙ c.find-place.ensures.item in
     leaves_next items c.loop-page.page c.args.lo c.args.hi c.find-place.result.item (gone (table_at writer)) (gone (table_at c.loop-page.writer))
     (row_count writer) is.ascends test c.requires.edge found c.loop-page.invariant.gone_are c.requires.apart

@@ -3,7 +3,7 @@ use Rattle.std.proofs.Common.{ℕ, ◌∙◌, ◌≤◌, ◌<◌, ◌+◌, List,
 use Rattle.maple_node.specs.declared.item.Item.{Item}
 use Rattle.maple_node.specs.Nodes.{least, end_of}
 use Rattle.maple_node.specs.Levels.{is_leaf, times}
-use Rattle.maple_items.specs.Splices.{upto, beyond}
+use Rattle.maple_items.specs.Splices.{ending_by, ending_after}
 use Rattle.node_slots.specs.declared.view.NodeView.{NodeView}
 use Rattle.node_slots.specs.Built.{words_at}
 use Rattle.maple_write.specs.Internal.Tables.{table_at, rows_in}
@@ -55,7 +55,7 @@ rebuilt c =
     rose (table_at old) (table_at mid) (table_at after) tree.top tree.height c.args.level c.args.lo new.end stretch.begin stretch.end new.items.items
     c.stretched-edges.new.items.items c.pack-items.result.items c.requires.partly c.requires.below cut (c.pack-items.ensures.nodes tree.top.end full)
     (c.pack-items.ensures.below ∙ same) c.pack-items.ensures.some c.pack-items.ensures.few
-    (ap (λ (v : NodeView). v.known.desk.words) c.leave_block.ensures.view) c.leave_block.ensures.free c.leave_block.ensures.gone
+    (ap (λ (v : NodeView). v.known.writer_state.words) c.leave_block.ensures.view) c.leave_block.ensures.free c.leave_block.ensures.gone
     c.pack-items.ensures.kept c.pack-items.ensures.same.long c.pack-items.ensures.taken c.pack-items.ensures.free c.pack-items.ensures.left
 
 pub returns-clause-partly : goal.returns-clause-partly
@@ -93,6 +93,6 @@ returns-clause-path c =
     path_rises old (words_at c.pack-items.new.writer) tree.top tree.height c.args.level c.args.lo new.end stretch.end new.items.items c.args.path.now
     c.requires.partly c.requires.below (omega arith)
     (kept_after old (table_at c.leave_block.new.writer) (table_at c.pack-items.new.writer)
-    (λ row. times row (rows_in (upto stretch.end (beyond c.args.lo (old_level old tree.top tree.height (c.args.level + 1))))))
-    (ap (λ (v : NodeView). v.known.desk.words) c.leave_block.ensures.view) c.leave_block.ensures.gone c.pack-items.ensures.kept)
+    (λ row. times row (rows_in (ending_by stretch.end (ending_after c.args.lo (old_level old tree.top tree.height (c.args.level + 1))))))
+    (ap (λ (v : NodeView). v.known.writer_state.words) c.leave_block.ensures.view) c.leave_block.ensures.gone c.pack-items.ensures.kept)
     c.requires.path

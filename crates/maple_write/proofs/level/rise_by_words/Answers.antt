@@ -2,7 +2,7 @@
 use Rattle.std.proofs.Common.{ℕ, ◌+◌, nat_lt, cond, ap, arith}
 use Rattle.maple_node.specs.Nodes.{items_of}
 use Rattle.maple_node.specs.Levels.{is_leaf, times}
-use Rattle.maple_items.specs.Splices.{upto, beyond}
+use Rattle.maple_items.specs.Splices.{ending_by, ending_after}
 use Rattle.node_slots.specs.declared.view.NodeView.{NodeView}
 use Rattle.node_slots.specs.Built.{words_at}
 use Rattle.maple_write.specs.Internal.Tables.{table_at, rows_in}
@@ -34,7 +34,7 @@ rebuilt : (c : After-pack_words-new) → Rose (table_at c.args.writer.now) (tabl
 rebuilt c =
     rose_anew (table_at c.args.writer.now) (table_at c.leave_one.new.writer) (table_at c.pack_words-new.new.writer) c.args.old.top c.args.old.height
     c.args.level c.args.lo c.args.new.now.end c.args.new.now.items.items c.pack_words-new.result.items c.args.left c.args.words.now c.requires.partly
-    c.requires.below c.requires.renewed (ap (λ (v : NodeView). v.known.desk.words) c.leave_one.ensures.view) c.leave_one.ensures.free
+    c.requires.below c.requires.renewed (ap (λ (v : NodeView). v.known.writer_state.words) c.leave_one.ensures.view) c.leave_one.ensures.free
     c.leave_one.ensures.gone c.pack_words-new.ensures.nodes c.pack_words-new.ensures.below c.pack_words-new.ensures.one
     c.pack_words-new.ensures.kept c.pack_words-new.ensures.same.long c.pack_words-new.ensures.taken c.pack_words-new.ensures.free
     c.pack_words-new.ensures.left
@@ -66,6 +66,6 @@ returns-clause-path c =
     path_rises old (words_at c.pack_words-new.new.writer) tree.top tree.height c.args.level c.args.lo c.args.new.now.end end c.args.new.now.items.items
     c.args.path.now c.requires.partly c.requires.below (omega arith)
     (kept_after old (table_at c.leave_one.new.writer) (table_at c.pack_words-new.new.writer)
-    (λ row. times row (rows_in (upto end (beyond c.args.lo (old_level old tree.top tree.height (c.args.level + 1))))))
-    (ap (λ (v : NodeView). v.known.desk.words) c.leave_one.ensures.view) c.leave_one.ensures.gone c.pack_words-new.ensures.kept)
+    (λ row. times row (rows_in (ending_by end (ending_after c.args.lo (old_level old tree.top tree.height (c.args.level + 1))))))
+    (ap (λ (v : NodeView). v.known.writer_state.words) c.leave_one.ensures.view) c.leave_one.ensures.gone c.pack_words-new.ensures.kept)
     c.requires.path

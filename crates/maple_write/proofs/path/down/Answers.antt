@@ -2,7 +2,7 @@
 use Rattle.std.proofs.Common.{◌-◌, ap, arith}
 use Rattle.maple_node.specs.Nodes.{items_of}
 use Rattle.maple_node.specs.Levels.{is_leaf}
-use Rattle.node_slots.specs.Seats.{desk}
+use Rattle.node_slots.specs.Seats.{writer_state}
 use Rattle.maple_write.proofs.Writers.{rows_counted}
 use Rattle.maple_write.proofs.Finding.{down_from, inside_at}
 use Rattle.maple_write.proofs.path.down.Goals as goal
@@ -13,7 +13,7 @@ words-words-requires c =
     let tree = c.args.tree in
     let begin = c.args.begin in
     let order = c.requires.order in
-    let there = down_from (desk writer).words tree.top.end tree.height c.args.low begin.level (begin.level - 1) c.args.page tree.top begin.place.item
+    let there = down_from (writer_state writer).words tree.top.end tree.height c.args.low begin.level (begin.level - 1) c.args.page tree.top begin.place.item
     c.requires.tower (omega arith) (omega arith) c.requires.high c.requires.begins.found in
     let long = rows_counted writer in
     omega arith
@@ -23,7 +23,7 @@ item_in-requires-clause-ascends c =
     let tree = c.args.tree in
     let begin = c.args.begin in
     let order = c.requires.order in
-    (inside_at (desk c.args.writer.now).words tree.top.end tree.height c.args.low begin.level (begin.level - 1) c.args.page begin.place.start tree.top
+    (inside_at (writer_state c.args.writer.now).words tree.top.end tree.height c.args.low begin.level (begin.level - 1) c.args.page begin.place.start tree.top
     begin.place.item (items_of (is_leaf (begin.level - 1)) c.words-words.result.now) c.requires.tower (omega arith) (omega arith) c.requires.high
     c.requires.begins.found c.requires.begins.begins (ap (items_of (is_leaf (begin.level - 1))) c.words-words.ensures)).ascends
 
@@ -32,7 +32,7 @@ item_in-requires-clause-within c =
     let tree = c.args.tree in
     let begin = c.args.begin in
     let order = c.requires.order in
-    (inside_at (desk c.args.writer.now).words tree.top.end tree.height c.args.low begin.level (begin.level - 1) c.args.page begin.place.start tree.top
+    (inside_at (writer_state c.args.writer.now).words tree.top.end tree.height c.args.low begin.level (begin.level - 1) c.args.page begin.place.start tree.top
     begin.place.item (items_of (is_leaf (begin.level - 1)) c.words-words.result.now) c.requires.tower (omega arith) (omega arith) c.requires.high
     c.requires.begins.found c.requires.begins.begins (ap (items_of (is_leaf (begin.level - 1))) c.words-words.ensures)).within
 
@@ -41,7 +41,7 @@ returns-clause-begins c =
     let tree = c.args.tree in
     let begin = c.args.begin in
     let order = c.requires.order in
-    let step = inside_at (desk c.args.writer.now).words tree.top.end tree.height c.args.low begin.level (begin.level - 1) c.args.page begin.place.start tree.top
+    let step = inside_at (writer_state c.args.writer.now).words tree.top.end tree.height c.args.low begin.level (begin.level - 1) c.args.page begin.place.start tree.top
     begin.place.item (items_of (is_leaf (begin.level - 1)) c.words-words.result.now) c.requires.tower (omega arith) (omega arith) c.requires.high
     c.requires.begins.found c.requires.begins.begins (ap (items_of (is_leaf (begin.level - 1))) c.words-words.ensures) in
     record {

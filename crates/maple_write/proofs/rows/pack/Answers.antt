@@ -3,7 +3,7 @@ use Rattle.std.proofs.Common.{◌∙◌, ◌+◌, refl, arith}
 use Rattle.maple_node.specs.Nodes.{words_of}
 use Rattle.maple_node.specs.declared.item.Item.{Item}
 use Rattle.std.proofs.Common.{List, take, drop, ◌-◌}
-use Rattle.node_slots.specs.Seats.{desk, free_of}
+use Rattle.node_slots.specs.Seats.{writer_state, free_of}
 use Rattle.maple_write.proofs.Writers.{fills_both, once_free}
 use Rattle.maple_write.proofs.Packing.{part_of, pack_more}
 use Rattle.maple_write.proofs.rows.pack.Goals as goal
@@ -38,7 +38,7 @@ loop-place-preserved c =
     let part : List Item = take (place + c.share.result - place) (drop place items) in
     record {
       same = fills_both old before after is.same c.put-node.ensures.same;
-      packs = pack_more (desk old).words (desk before).words (desk after).words (free_of old) (free_of before) (free_of after) leaf c.args.start
+      packs = pack_more (writer_state old).words (writer_state before).words (writer_state after).words (free_of old) (free_of before) (free_of after) leaf c.args.start
           c.loop-place.begin place (place + c.share.result) c.share.result items c.loop-place.packed.items c.push.new.self.items c.put-node.result (words_of leaf part)
           is.packs c.loop-place-test.true refl (record {
             some = c.share.ensures.some;

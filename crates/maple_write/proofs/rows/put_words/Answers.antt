@@ -3,7 +3,7 @@ use Rattle.std.proofs.Common.{◌∙◌, ◌∷◌, ◌<◌, length, set, sym, a
 use Rattle.maple_node.specs.declared.item.Item.{Item}
 use Rattle.maple_node.specs.Nodes.{items_of}
 use Rattle.maple_node.specs.Levels.{at_of, read, IsNode, times}
-use Rattle.node_slots.specs.Seats.{desk, free_of}
+use Rattle.node_slots.specs.Seats.{writer_state, free_of}
 use Rattle.maple_write.proofs.Writers.{filled_words, taken_row, taken_moved}
 use Rattle.maple_write.proofs.Waiting.{fills_one}
 use Rattle.maple_write.proofs.Packing.{made-items, made-node}
@@ -18,10 +18,10 @@ returns-clause-node c limit full =
     let words = filled_words old c.take_row_for.new.self c.fill.new.self c.unwrap-row.result.0 c.from.result c.args.words.now leaf items
     c.take_row_for.ensures.view c.fill.ensures.view c.requires.whole c.from.ensures in
     let there = taken_row old c.take_row_for.new.self c.take_row_for.result c.unwrap-row.result c.unwrap-row.ensures c.take_row_for.ensures.taken c.take_row_for.ensures.view in
-    let within = subst (λ (r : ℕ). r < length (desk old).words) (sym c.from.ensures) there in
+    let within = subst (λ (r : ℕ). r < length (writer_state old).words) (sym c.from.ensures) there in
     let until = c.args.end in
     let plain = items-plain leaf c.args.words.now in
-    let node = made-node (desk old).words c.from.result leaf limit c.args.start until c.args.gap items within c.requires.ascends plain
+    let node = made-node (writer_state old).words c.from.result leaf limit c.args.start until c.args.gap items within c.requires.ascends plain
     c.requires.some c.requires.most full c.requires.end c.requires.gap in
     let item : Item = record { end = until; word = c.from.result; gap = c.args.gap } in
     subst (λ (rs : List (List ℕ)). IsNode (at_of rs) leaf limit c.args.start item) (sym words) node
@@ -34,9 +34,9 @@ returns-clause-items c =
     let words = filled_words old c.take_row_for.new.self c.fill.new.self c.unwrap-row.result.0 c.from.result c.args.words.now leaf items
     c.take_row_for.ensures.view c.fill.ensures.view c.requires.whole c.from.ensures in
     let there = taken_row old c.take_row_for.new.self c.take_row_for.result c.unwrap-row.result c.unwrap-row.ensures c.take_row_for.ensures.taken c.take_row_for.ensures.view in
-    let within = subst (λ (r : ℕ). r < length (desk old).words) (sym c.from.ensures) there in
+    let within = subst (λ (r : ℕ). r < length (writer_state old).words) (sym c.from.ensures) there in
     ap (λ (rs : List (List ℕ)). read (at_of rs) leaf c.from.result) words
-    ∙ made-items (desk old).words c.from.result leaf c.args.start items within c.requires.ascends (items-plain leaf c.args.words.now)
+    ∙ made-items (writer_state old).words c.from.result leaf c.args.start items within c.requires.ascends (items-plain leaf c.args.words.now)
 
 pub returns-clause-words : goal.returns-clause-words
 returns-clause-words c =
@@ -44,7 +44,7 @@ returns-clause-words c =
     let leaf = c.args.leaf in
     filled_words old c.take_row_for.new.self c.fill.new.self c.unwrap-row.result.0 c.from.result c.args.words.now leaf (items_of leaf c.args.words.now)
     c.take_row_for.ensures.view c.fill.ensures.view c.requires.whole c.from.ensures
-    ∙ ap (λ (ws : List ℕ). set (desk old).words c.from.result ws) (sym c.requires.whole)
+    ∙ ap (λ (ws : List ℕ). set (writer_state old).words c.from.result ws) (sym c.requires.whole)
 
 pub returns-clause-same : goal.returns-clause-same
 returns-clause-same c =

@@ -8,8 +8,8 @@ use Rattle.maple_write.proofs.storing.first_entries.Goals as goal
 moved : (none list items given : List Item) → items ≡ given → none ≡ [] → list ≡ none ++ items → list ≡ given
 moved none list items given is empty all = all ∙ ap (λ (xs : List Item). none ++ xs) is ∙ ap (λ (xs : List Item). xs ++ given) empty
 
-pub push_beyond-requires : goal.push_beyond-requires
-push_beyond-requires c =
+pub push_ending_after-requires : goal.push_ending_after-requires
+push_ending_after-requires c =
     let gap : Item = record { end = c.args.limit; word = 0; gap = 0 } in
     let long = ap (λ (xs : List Item). length xs) (moved c.new-entries.result.items c.push_all.new.list.items c.as_slice.result.now _ (c.as_slice.ensures.value ∙ c.first-stretch.ensures.items) c.new-entries.ensures c.push_all.ensures) in
     let two = first_two 0 c.args.lo c.args.hi c.args.word gap in
@@ -17,15 +17,15 @@ push_beyond-requires c =
 
 pub returns-clause-entries : goal.returns-clause-entries
 returns-clause-entries c =
-    (gap_entries c.args.limit c.args.lo c.args.hi c.args.word c.push_all.new.list.items c.push_beyond.new.list.items c.requires.some c.requires.limit
-    (moved c.new-entries.result.items c.push_all.new.list.items c.as_slice.result.now _ (c.as_slice.ensures.value ∙ c.first-stretch.ensures.items) c.new-entries.ensures c.push_all.ensures) c.push_beyond.ensures).entries
+    (gap_entries c.args.limit c.args.lo c.args.hi c.args.word c.push_all.new.list.items c.push_ending_after.new.list.items c.requires.some c.requires.limit
+    (moved c.new-entries.result.items c.push_all.new.list.items c.as_slice.result.now _ (c.as_slice.ensures.value ∙ c.first-stretch.ensures.items) c.new-entries.ensures c.push_all.ensures) c.push_ending_after.ensures).entries
 
 pub returns-clause-some : goal.returns-clause-some
 returns-clause-some c =
-    (gap_entries c.args.limit c.args.lo c.args.hi c.args.word c.push_all.new.list.items c.push_beyond.new.list.items c.requires.some c.requires.limit
-    (moved c.new-entries.result.items c.push_all.new.list.items c.as_slice.result.now _ (c.as_slice.ensures.value ∙ c.first-stretch.ensures.items) c.new-entries.ensures c.push_all.ensures) c.push_beyond.ensures).some
+    (gap_entries c.args.limit c.args.lo c.args.hi c.args.word c.push_all.new.list.items c.push_ending_after.new.list.items c.requires.some c.requires.limit
+    (moved c.new-entries.result.items c.push_all.new.list.items c.as_slice.result.now _ (c.as_slice.ensures.value ∙ c.first-stretch.ensures.items) c.new-entries.ensures c.push_all.ensures) c.push_ending_after.ensures).some
 
 pub returns-clause-few : goal.returns-clause-few
 returns-clause-few c =
-    (gap_entries c.args.limit c.args.lo c.args.hi c.args.word c.push_all.new.list.items c.push_beyond.new.list.items c.requires.some c.requires.limit
-    (moved c.new-entries.result.items c.push_all.new.list.items c.as_slice.result.now _ (c.as_slice.ensures.value ∙ c.first-stretch.ensures.items) c.new-entries.ensures c.push_all.ensures) c.push_beyond.ensures).few
+    (gap_entries c.args.limit c.args.lo c.args.hi c.args.word c.push_all.new.list.items c.push_ending_after.new.list.items c.requires.some c.requires.limit
+    (moved c.new-entries.result.items c.push_all.new.list.items c.as_slice.result.now _ (c.as_slice.ensures.value ∙ c.first-stretch.ensures.items) c.new-entries.ensures c.push_all.ensures) c.push_ending_after.ensures).few

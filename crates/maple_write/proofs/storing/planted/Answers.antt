@@ -52,7 +52,7 @@ returns-clause-shaped c =
     let after = c.leave.new.self in
     let is = leaf_planted (table_at old) (table_at made) (table_at after) c.args.limit c.as_slice.result.now c.put-top.result (words_of true c.as_slice.result.now)
     (kept_zero old c.requires.kept) (omega arith) ends c.put-top.ensures.node c.put-top.ensures.items c.put-top.ensures.until c.put-top.ensures.words
-    c.put-top.ensures.taken c.put-top.ensures.left (ap (λ (v : NodeView). v.known.desk.words) c.leave.ensures.view)
+    c.put-top.ensures.taken c.put-top.ensures.left (ap (λ (v : NodeView). v.known.writer_state.words) c.leave.ensures.view)
     (λ row. left_more made after 0 row c.leave.ensures.free c.leave.ensures.left) in
     is.shaped
 
@@ -71,7 +71,7 @@ returns-clause-entries c =
     let after = c.leave.new.self in
     let is = leaf_planted (table_at old) (table_at made) (table_at after) c.args.limit c.as_slice.result.now c.put-top.result (words_of true c.as_slice.result.now)
     (kept_zero old c.requires.kept) (omega arith) ends c.put-top.ensures.node c.put-top.ensures.items c.put-top.ensures.until c.put-top.ensures.words
-    c.put-top.ensures.taken c.put-top.ensures.left (ap (λ (v : NodeView). v.known.desk.words) c.leave.ensures.view)
+    c.put-top.ensures.taken c.put-top.ensures.left (ap (λ (v : NodeView). v.known.writer_state.words) c.leave.ensures.view)
     (λ row. left_more made after 0 row c.leave.ensures.free c.leave.ensures.left) in
     is.entries ∙ are
 

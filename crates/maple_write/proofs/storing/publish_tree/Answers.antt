@@ -18,5 +18,5 @@ publish-requires-clause-rows c row =
 
 pub returns-clause-still : goal.returns-clause-still
 returns-clause-still c =
-    still_built c.args.writer.now c.publish.new.writer c.args.tree.now (ap (λ (v : NodeView). v.known.desk.words) c.publish.ensures.view)
+    still_built c.args.writer.now c.publish.new.writer c.args.tree.now (ap (λ (v : NodeView). v.known.writer_state.words) c.publish.ensures.view)
     (ap (λ (v : NodeView). v.size) c.publish.ensures.view) c.publish.ensures.lists.0 c.publish.ensures.lists.1 c.requires.built

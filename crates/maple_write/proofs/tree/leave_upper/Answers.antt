@@ -2,7 +2,7 @@
 use Rattle.std.proofs.Common.{ℕ, ◌≡◌, ◌∙◌, ◌+◌, ◌-◌, [], ◌∷◌, nat_lt, cond, ap, sym, subst, arith}
 use Rattle.maple_node.specs.Nodes.{end_of}
 use Rattle.maple_node.specs.Levels.{at_of, IsTower, times}
-use Rattle.maple_items.specs.Splices.{upto, beyond}
+use Rattle.maple_items.specs.Splices.{ending_by, ending_after}
 use Rattle.node_slots.specs.declared.view.NodeView.{NodeView}
 use Rattle.node_slots.specs.Built.{words_at}
 use Rattle.maple_write.specs.Internal.Tables.{Table, table_at, rows_in}
@@ -12,7 +12,7 @@ use Rattle.maple_write.proofs.tree.leave_upper.Goals as goal
 
 -- the words that a view tells
 abbrev told : NodeView → Table
-told view = record { rows = view.known.desk.words; free = []; left = [] }
+told view = record { rows = view.known.writer_state.words; free = []; left = [] }
 
 pub leave_block-requires-clause-tower : goal.leave_block-requires-clause-tower
 leave_block-requires-clause-tower c =
@@ -22,7 +22,7 @@ leave_block-requires-clause-tower c =
     let order = is.order in
     let test = c.loop-next-test.true in
     let upper = upper_at (table_at c.args.writer.now) old.top old.height c.args.level next c.requires.tower c.requires.limit order test in
-    subst (λ (v : NodeView). IsTower (at_of v.known.desk.words) old.top.end (next + 1) (old.height - (next + 1)) (old.top ∷ [])) (sym is.view) upper.tower
+    subst (λ (v : NodeView). IsTower (at_of v.known.writer_state.words) old.top.end (next + 1) (old.height - (next + 1)) (old.top ∷ [])) (sym is.view) upper.tower
 
 pub leave_block-requires-clause-edge : goal.leave_block-requires-clause-edge
 leave_block-requires-clause-edge c =
@@ -32,7 +32,7 @@ leave_block-requires-clause-edge c =
     let order = is.order in
     let test = c.loop-next-test.true in
     let upper = upper_at (table_at c.args.writer.now) old.top old.height c.args.level next c.requires.tower c.requires.limit order test in
-    subst (λ (v : NodeView). end_of 0 (upto old.top.end (old_level (told v) old.top old.height (next + 1))) ≡ old.top.end) (sym is.view) upper.edge
+    subst (λ (v : NodeView). end_of 0 (ending_by old.top.end (old_level (told v) old.top old.height (next + 1))) ≡ old.top.end) (sym is.view) upper.edge
 
 pub leave_block-requires-clause-apart : goal.leave_block-requires-clause-apart
 leave_block-requires-clause-apart c row =
@@ -42,7 +42,7 @@ leave_block-requires-clause-apart c row =
     let order = is.order in
     let test = c.loop-next-test.true in
     let upper = upper_at (table_at c.args.writer.now) old.top old.height c.args.level next c.requires.tower c.requires.limit order test in
-    let same = ap (λ (v : NodeView). times row (rows_in (upto old.top.end (beyond 0 (old_level (told v) old.top old.height (next + 1)))))) is.view in
+    let same = ap (λ (v : NodeView). times row (rows_in (ending_by old.top.end (ending_after 0 (old_level (told v) old.top old.height (next + 1)))))) is.view in
     let bound = ap (λ (v : NodeView). cond {A = ℕ} (nat_lt row v.size.rows) 1 0) is.view in
     let a = is.gone_are row in
     let b = upper.rows row in
@@ -67,7 +67,7 @@ loop-next-preserved c =
       free = omega arith;
       waits = λ row. c.leave_block.ensures.waits row ∙ is.waits row;
       gone_are = λ row.
-          let same = ap (λ (v : NodeView). times row (rows_in (upto old.top.end (beyond 0 (old_level (told v) old.top old.height (next + 1)))))) is.view in
+          let same = ap (λ (v : NodeView). times row (rows_in (ending_by old.top.end (ending_after 0 (old_level (told v) old.top old.height (next + 1)))))) is.view in
           let a = is.gone_are row in
           let b = upper.rows row in
           let d = c.leave_block.ensures.gone row in

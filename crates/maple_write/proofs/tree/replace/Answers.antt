@@ -4,7 +4,7 @@ use Rattle.std.proofs.lemmas.Bool.Decides.{nat_tests}
 use Rattle.maple_node.specs.declared.item.Item.{Item}
 use Rattle.maple_node.specs.Nodes.{end_of}
 use Rattle.maple_node.specs.Levels.{at_of, is_leaf, below, level_of, IsTower}
-use Rattle.maple_items.specs.Splices.{upto}
+use Rattle.maple_items.specs.Splices.{ending_by}
 use Rattle.node_slots.specs.declared.view.NodeView.{NodeView}
 use Rattle.node_slots.specs.Built.{words_at}
 use Rattle.maple_write.specs.Internal.Tables.{table_at}
@@ -23,7 +23,7 @@ all_pages c =
     let loop = c.loop-level in
     let is = loop.invariant in
     let table = table_at loop.writer in
-    let Ends : Type 0 = (end_of 0 (upto c.args.lo (old_level table old.top old.height loop.level)) ≡ 0) × (loop.new.end ≡ old.top.end) in
+    let Ends : Type 0 = (end_of 0 (ending_by c.args.lo (old_level table old.top old.height loop.level)) ≡ 0) × (loop.new.end ≡ old.top.end) in
     let ends : Ends = elim c.loop-level-test.branch as (λ _. Ends) [
       | then-loop-level-test+else-not-done w ↦ let whole = is.whole w.if-not-done.false in (whole.1.0, whole.1.1.0)
       | else-loop-level-test w ↦ at_top table old.top old.height loop.level c.args.lo loop.new.end loop.new.items.items is.partly w.loop-level-test.false c.requires.shaped.tall
@@ -86,7 +86,7 @@ pub crown-requires-clause-tower : goal.crown-requires-clause-tower
 crown-requires-clause-tower c =
     let loop = c.loop-level in
     let ready = all_pages (goal.at.crown-requires-clause-tower c).After-leave_upper in
-    subst (λ (v : NodeView). IsTower (at_of v.known.desk.words) (end_of 0 loop.new.items.items) 0 loop.level loop.new.items.items) (sym c.leave_upper.ensures.view)
+    subst (λ (v : NodeView). IsTower (at_of v.known.writer_state.words) (end_of 0 loop.new.items.items) 0 loop.level loop.new.items.items) (sym c.leave_upper.ensures.view)
     ready.tower
 
 pub crown-requires-clause-ascends : goal.crown-requires-clause-ascends
@@ -97,7 +97,7 @@ pub crown-requires-clause-wide : goal.crown-requires-clause-wide
 crown-requires-clause-wide c one high =
     let loop = c.loop-level in
     let ready = all_pages (goal.at.crown-requires-clause-wide c).After-leave_upper in
-    subst (λ (v : NodeView). 2 ≤ length (below (at_of v.known.desk.words) false loop.new.items.items)) (sym c.leave_upper.ensures.view)
+    subst (λ (v : NodeView). 2 ≤ length (below (at_of v.known.writer_state.words) false loop.new.items.items)) (sym c.leave_upper.ensures.view)
     (subst (λ (xs : List Item). 2 ≤ length (below (words_at loop.writer) false xs)) ready.alone (loop.invariant.under high))
 
 pub crown-requires-clause-stand : goal.crown-requires-clause-stand
@@ -106,13 +106,13 @@ crown-requires-clause-stand c =
     let loop = c.loop-level in
     let ready = all_pages (goal.at.crown-requires-clause-stand c).After-leave_upper in
     stands_then (table_at loop.writer) (table_at c.leave_upper.new.writer) old.top old.height loop.level c.args.lo loop.new.end loop.new.items.items
-    loop.invariant.partly ready.alone (ap (λ (v : NodeView). v.known.desk.words) c.leave_upper.ensures.view) c.leave_upper.ensures.gone
+    loop.invariant.partly ready.alone (ap (λ (v : NodeView). v.known.writer_state.words) c.leave_upper.ensures.view) c.leave_upper.ensures.gone
 
 pub returns-clause-entries : goal.returns-clause-entries
 returns-clause-entries c =
     let loop = c.loop-level in
     let ready = all_pages (goal.at.returns-clause-entries c).After-leave_upper in
-    c.crown.ensures.entries ∙ ap (λ (v : NodeView). level_of (at_of v.known.desk.words) 0 loop.level loop.new.items.items) c.leave_upper.ensures.view
+    c.crown.ensures.entries ∙ ap (λ (v : NodeView). level_of (at_of v.known.writer_state.words) 0 loop.level loop.new.items.items) c.leave_upper.ensures.view
     ∙ sym (ap (level_of (words_at loop.writer) 0 loop.level) ready.alone) ∙ loop.invariant.entries
 
 pub returns-clause-limit : goal.returns-clause-limit

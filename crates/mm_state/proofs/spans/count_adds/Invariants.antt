@@ -1,6 +1,6 @@
 -- For `count_adds`: the changes so far.
 use Rattle.std.proofs.Common.{◌≡◌, ◌≤◌, take}
-use Rattle.mm_state.specs.Internal.Boards.{adds_of}
+use Rattle.mm_state.specs.Internal.AreaStores.{adds_of}
 use Rattle.mm_state.proofs.spans.count_adds.Given as goal
 
 abbrev pub invariant-loop-change : goal.invariant-loop-change

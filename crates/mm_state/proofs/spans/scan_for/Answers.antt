@@ -10,17 +10,17 @@ pub returns-then-count_free-wanted-clause-areas : goal.returns-then-count_free-w
 returns-then-count_free-wanted-clause-areas c = scanned c.args.areas.now c.scan.new.self _ c.scan.ensures.same
 
 pub returns-then-count_free-wanted-clause-slots : goal.returns-then-count_free-wanted-clause-slots
-returns-then-count_free-wanted-clause-slots c = seen_freed c.args.slots.now c.free_settled.new.slots c.scan.new.self.tree.settled c.free_settled.ensures
+returns-then-count_free-wanted-clause-slots c = seen_freed c.args.slots.now c.free_elapsed.new.slots c.scan.new.self.tree.elapsed c.free_elapsed.ensures
 
 pub returns-clause-areas : goal.returns-clause-areas
 returns-clause-areas c = scanned c.args.areas.now c.scan.new.self _ c.scan.ensures.same
 
 pub returns-clause-slots : goal.returns-clause-slots
-returns-clause-slots c = seen_freed c.args.slots.now c.free_settled.new.slots c.scan.new.self.tree.settled c.free_settled.ensures
+returns-clause-slots c = seen_freed c.args.slots.now c.free_elapsed.new.slots c.scan.new.self.tree.elapsed c.free_elapsed.ensures
 
 pub returns-clause-inside : goal.returns-clause-inside
 returns-clause-inside c = λ no.
     let test = c.if-count_free-wanted.false in
-    some_inside c.args.areas.now c.scan.new.self c.args.slots.now c.free_settled.new.slots c.args.wanted c.requires.can
-    (ap (λ (t : AreaTreeView). t.tree.number) c.scan.ensures.same) c.scan.ensures.gone c.free_settled.ensures
+    some_inside c.args.areas.now c.scan.new.self c.args.slots.now c.free_elapsed.new.slots c.args.wanted c.requires.can
+    (ap (λ (t : AreaTreeView). t.tree.number) c.scan.ensures.same) c.scan.ensures.gone c.free_elapsed.ensures
     (let few : c.count_free.result < c.args.wanted = grind (arith, nat_tests, test) in omega (arith, few, c.count_free.ensures))

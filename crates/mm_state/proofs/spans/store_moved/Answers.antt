@@ -2,7 +2,7 @@
 use Rattle.std.proofs.Common.{◌++◌, ◌∙◌, ap, subst, sym, refl}
 use Rattle.std.proofs.lemmas.List.Sorted.{IsPermutation-refl, IsPermutation-trans}
 use Rattle.area_tree.specs.AreaTrees.{AreaTreeView, shown_of}
-use Rattle.mm_state.specs.Internal.Boards.{CanHold}
+use Rattle.mm_state.specs.Internal.AreaStores.{CanHold}
 use Rattle.mm_state.proofs.Changing.{tree_step}
 use Rattle.mm_state.proofs.Storing.{hold_permuted, moved_in, last_within, last_slot, last_free, last_few, last_pages}
 use Rattle.mm_state.proofs.spans.store_moved.Goals as goal

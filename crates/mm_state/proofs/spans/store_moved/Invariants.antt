@@ -2,7 +2,7 @@
 use Rattle.std.proofs.Common.{◌≡◌, ◌++◌, vec_len, vec_capacity}
 use Rattle.std.specs.List.Sorted.{IsPermutation}
 use Rattle.area_tree.specs.AreaTrees.{shown_of}
-use Rattle.mm_state.specs.Internal.Boards.{CanStore, IsSameTree}
+use Rattle.mm_state.specs.Internal.AreaStores.{CanStore, IsSameTree}
 use Rattle.mm_state.proofs.spans.store_moved.Given as goal
 
 abbrev pub invariant-loop-shown : goal.invariant-loop-shown

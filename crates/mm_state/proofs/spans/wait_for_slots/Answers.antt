@@ -1,4 +1,4 @@
--- For `wait_for_slots`: what is settled is freed once more, by one round of scans more.
+-- For `wait_for_slots`: what has elapsed is freed once more, by one round of scans more.
 use Rattle.std.proofs.Common.{◌<◌, ◌+◌, ◌∙◌, refl, length, ap, arith, length-append}
 use Rattle.std.proofs.lemmas.Bool.Decides.{nat_tests}
 use Rattle.std.proofs.lemmas.List.{length-map}
@@ -14,25 +14,25 @@ pub returns-then-count_free-wanted-clause-scans : goal.returns-then-count_free-w
 returns-then-count_free-wanted-clause-scans g c = (0, omega arith)
 
 pub returns-then-count_free-wanted-clause-slots : goal.returns-then-count_free-wanted-clause-slots
-returns-then-count_free-wanted-clause-slots g c = seen_freed c.args.slots.now c.free_settled.new.slots c.args.areas.now.tree.settled c.free_settled.ensures
+returns-then-count_free-wanted-clause-slots g c = seen_freed c.args.slots.now c.free_elapsed.new.slots c.args.areas.now.tree.elapsed c.free_elapsed.ensures
 
 pub loop-init : goal.loop-init
 loop-init g c =
-    let freed = seen_freed c.args.slots.now c.free_settled.new.slots c.args.areas.now.tree.settled c.free_settled.ensures in
+    let freed = seen_freed c.args.slots.now c.free_elapsed.new.slots c.args.areas.now.tree.elapsed c.free_elapsed.ensures in
     let test = c.if-count_free-wanted.false in
     let few : c.count_free.result < c.args.wanted = grind (arith, nat_tests, test) in
-    let gone = gone_by c.args.areas.now.tree.settled c.args.slots.now.left in
+    let gone = gone_by c.args.areas.now.tree.elapsed c.args.slots.now.left in
     record {
-      can = can_free c.args.areas.now c.args.areas.now c.args.slots.now c.free_settled.new.slots c.args.areas.now.tree.settled c.args.wanted c.requires refl freed;
+      can = can_free c.args.areas.now c.args.areas.now c.args.slots.now c.free_elapsed.new.slots c.args.areas.now.tree.elapsed c.args.wanted c.requires refl freed;
       areas = refl;
-      settled = omega arith;
+      elapsed = omega arith;
       slots = freed;
       few = omega (arith, few, c.count_free.ensures);
       short = omega (
         arith,
         few,
         c.count_free.ensures,
-        ap (λ (s : SlotSet). length s.free) c.free_settled.ensures,
+        ap (λ (s : SlotSet). length s.free) c.free_elapsed.ensures,
         length-append c.args.slots.now.free (slots_of gone),
         length-map gone (λ (l : Leaving). l.slot),
       );
@@ -45,12 +45,12 @@ loop-preserved g c =
     let tried = c.scan_for.ensures in
     let was = c.loop.invariant in
     record {
-      can = can_free c.loop.areas c.scan_for.new.areas c.loop.slots c.scan_for.new.slots c.scan_for.new.areas.tree.settled c.args.wanted was.can
+      can = can_free c.loop.areas c.scan_for.new.areas c.loop.slots c.scan_for.new.slots c.scan_for.new.areas.tree.elapsed c.args.wanted was.can
           (ap (λ (t : AreaTreeView). t.tree.number) tried.areas) tried.slots;
       areas = scanned_more c.args.areas.now c.loop.areas c.scan_for.new.areas was.areas tried.areas;
-      settled = omega (arith, was.settled, tried.settled);
-      slots = freed_freed c.args.slots.now c.loop.slots c.scan_for.new.slots c.loop.areas.tree.settled c.scan_for.new.areas.tree.settled
-          was.slots tried.slots tried.settled;
+      elapsed = omega (arith, was.elapsed, tried.elapsed);
+      slots = freed_freed c.args.slots.now c.loop.slots c.scan_for.new.slots c.loop.areas.tree.elapsed c.scan_for.new.areas.tree.elapsed
+          was.slots tried.slots tried.elapsed;
       few = tried.few c.if-scan_for.false;
       short = was.short;
       rounds = (was.rounds.0 + 1, omega (arith, was.rounds.1, tried.scans, was.readers));
@@ -59,8 +59,8 @@ loop-preserved g c =
 
 pub returns-then-scan_for-clause-slots : goal.returns-then-scan_for-clause-slots
 returns-then-scan_for-clause-slots g c =
-    freed_freed c.args.slots.now c.loop.slots c.scan_for.new.slots c.loop.areas.tree.settled c.scan_for.new.areas.tree.settled
-    c.loop.invariant.slots c.scan_for.ensures.slots c.scan_for.ensures.settled
+    freed_freed c.args.slots.now c.loop.slots c.scan_for.new.slots c.loop.areas.tree.elapsed c.scan_for.new.areas.tree.elapsed
+    c.loop.invariant.slots c.scan_for.ensures.slots c.scan_for.ensures.elapsed
 
 pub returns-then-scan_for-clause-scans : goal.returns-then-scan_for-clause-scans
 returns-then-scan_for-clause-scans g c =

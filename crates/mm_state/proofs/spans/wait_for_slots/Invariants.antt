@@ -1,17 +1,17 @@
--- For `wait_for_slots`: only what is settled rises, and slots are freed, of which there are too few, and were before any scan.
+-- For `wait_for_slots`: only what has elapsed rises, and slots are freed, of which there are too few, and were before any scan.
 use Rattle.std.proofs.Common.{ℕ, ◌≡◌, ◌≤◌, ◌<◌, ◌+◌, ◌*◌, length}
 use Rattle.area_slots.specs.Slots.{gone_by}
-use Rattle.mm_state.specs.Internal.Boards.{CanFree, IsFreed, IsScanned}
+use Rattle.mm_state.specs.Internal.AreaStores.{CanFree, IsFreed, IsScanned}
 use Rattle.mm_state.proofs.spans.wait_for_slots.Given as goal
 
 abbrev pub invariant-loop : goal.invariant-loop
 invariant-loop g l = record {
   can : CanFree l.areas l.slots l.wanted;
   areas : IsScanned l.fn.areas l.areas;
-  settled : l.fn.areas.tree.settled ≤ l.areas.tree.settled;
-  slots : IsFreed l.areas.tree.settled l.fn.slots l.slots;
+  elapsed : l.fn.areas.tree.elapsed ≤ l.areas.tree.elapsed;
+  slots : IsFreed l.areas.tree.elapsed l.fn.slots l.slots;
   few : length l.slots.free < l.wanted;
-  short : length l.fn.slots.free + length (gone_by l.fn.areas.tree.settled l.fn.slots.left) < l.wanted;
+  short : length l.fn.slots.free + length (gone_by l.fn.areas.tree.elapsed l.fn.slots.left) < l.wanted;
   rounds : (rounds : ℕ) × (l.areas.tree.scans ≡ l.fn.areas.tree.scans + rounds * length l.fn.areas.tree.pins);
   readers : length l.areas.tree.pins ≡ length l.fn.areas.tree.pins;
 }

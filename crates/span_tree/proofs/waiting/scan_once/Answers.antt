@@ -15,7 +15,7 @@ returns-clause-scanned c =
     let view = c.scan.ensures.view in
     let writer = c.args.writer.now in
     scan_looks writer c.scan.new.writer view.0 view.2
-    (view.1 ∙ sym (ap (λ s. s.readers) (writer.desk.kept.size_is ∙ c.requires.table.size_is)))
+    (view.1 ∙ sym (ap (λ s. s.readers) (writer.writer_state.kept.size_is ∙ c.requires.table.size_is)))
 
 pub returns-clause-more : goal.returns-clause-more
 returns-clause-more c = let freed = c.scan.ensures.freed in more_free (free_of c.args.writer.now) freed.0 (free_of c.scan.new.writer) freed.2

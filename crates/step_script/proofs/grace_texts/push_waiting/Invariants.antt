@@ -7,4 +7,4 @@ use Rattle.step_script.proofs.grace_texts.push_waiting.Given as goal
 
 abbrev pub invariant-loop-row : goal.invariant-loop-row
 invariant-loop-row l = l.text.items ≡ l.initial.text.items
-    ++ texts_below l.row (λ (n : ℕ). if waits l.state.desk n then spaced n else [])
+    ++ texts_below l.row (λ (n : ℕ). if waits l.state.writer_state n then spaced n else [])

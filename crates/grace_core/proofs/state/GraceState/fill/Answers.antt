@@ -7,4 +7,4 @@ use Rattle.grace_core.proofs.state.GraceState.fill.Goals as goal
 pub invariant_of-self : goal.invariant_of-self
 invariant_of-self c = rw c.fill.ensures
     (kept_fill c.self.inside c.args.row.0 c.args.word c.self.invariant
-    (ap (λ desk. is_free desk c.args.row.0) (sym c.desk.ensures) ∙ sym c.if-not-is_free.ensures))
+    (ap (λ writer_state. is_free writer_state c.args.row.0) (sym c.writer_state.ensures) ∙ sym c.if-not-is_free.ensures))

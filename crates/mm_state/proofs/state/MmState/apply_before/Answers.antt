@@ -4,7 +4,7 @@ use Rattle.mm_types.specs.declared.call.Entry.{Entry}
 use Rattle.split_merge.specs.declared.plan.Change.{Change}
 use Rattle.area_tree.specs.AreaTrees.{areas_of}
 use Rattle.mm_state.specs.declared.state.MmState.TheInside.{Inside}
-use Rattle.mm_state.specs.Internal.Boards.{IsEntered, IsCarriedOut}
+use Rattle.mm_state.specs.Internal.AreaStores.{IsEntered, IsCarriedOut}
 use Rattle.mm_state.specs.Kept.{state_of}
 use Rattle.mm_state.specs.States.{StateView, Enters}
 use Rattle.mm_state.proofs.Entering.{ready_now}
@@ -15,7 +15,7 @@ pub plan_call-called-requires-clause-ready : goal.plan_call-called-requires-clau
 plan_call-called-requires-clause-ready g c =
     let s = c.self.inside in
     let i = c.self.invariant in
-    ready_now s.config s.journal.items (areas_of s.board.areas) s.counters i.valid (omega (arith, i.room, i.entries)) i.space
+    ready_now s.config s.journal.items (areas_of s.store.areas) s.counters i.valid (omega (arith, i.room, i.entries)) i.space
 
 pub plan_call-called-requires-clause-prepared : goal.plan_call-called-requires-clause-prepared
 plan_call-called-requires-clause-prepared g c =
@@ -26,7 +26,7 @@ pub carry_out-requires-clause-plan : goal.carry_out-requires-clause-plan
 carry_out-requires-clause-plan g c =
     let s = c.self.inside in
     let entry : Entry = record { caller = c.args.caller; call = c.args.call.now; reply = c.plan_call-called.result.reply } in
-    subst (λ (changes : List Change). IsEntered s.board changes entry) (sym c.changes.ensures)
+    subst (λ (changes : List Change). IsEntered s.store changes entry) (sym c.changes.ensures)
     (may_enter s entry c.plan_call-called.result c.plan_call-called.new.plan record {
       state = c.self.invariant;
       spare = subst (λ (v : StateView). length v.journal < v.room) (sym c.self.view_is) c.requires.room;
@@ -41,7 +41,7 @@ pub invariant_of-self : goal.invariant_of-self
 invariant_of-self g c =
     let s = c.self.inside in
     let entry : Entry = record { caller = c.args.caller; call = c.args.call.now; reply = c.plan_call-called.result.reply } in
-    state_made s (record s { board = c.carry_out.new.self; counters = c.plan_call-called.result.counters; plan = c.clear.new.self; journal = c.push_reserved.new.self }) entry
+    state_made s (record s { store = c.carry_out.new.self; counters = c.plan_call-called.result.counters; plan = c.clear.new.self; journal = c.push_reserved.new.self }) entry
     c.plan_call-called.result c.plan_call-called.new.plan record {
       asked = record {
         state = c.self.invariant;
@@ -52,7 +52,7 @@ invariant_of-self g c =
       rest = c.carry_out.ensures.rest;
       turn = c.carry_out.ensures.turn ∙ c.self.invariant.turn;
       table = c.carry_out.ensures.table;
-      done = subst (λ (changes : List Change). IsCarriedOut s.board c.carry_out.new.self changes entry) c.changes.ensures c.carry_out.ensures.done;
+      done = subst (λ (changes : List Change). IsCarriedOut s.store c.carry_out.new.self changes entry) c.changes.ensures c.carry_out.ensures.done;
       counters = refl;
       pushed = c.push_reserved.ensures.items;
       capacity = omega (arith, c.push_reserved.ensures.capacity);
@@ -63,7 +63,7 @@ pub returns : goal.returns
 returns g c =
     let s = c.self.inside in
     let entry : Entry = record { caller = c.args.caller; call = c.args.call.now; reply = c.plan_call-called.result.reply } in
-    let new : Inside = record s { board = c.carry_out.new.self; counters = c.plan_call-called.result.counters; plan = c.clear.new.self; journal = c.push_reserved.new.self } in
+    let new : Inside = record s { store = c.carry_out.new.self; counters = c.plan_call-called.result.counters; plan = c.clear.new.self; journal = c.push_reserved.new.self } in
     let made : IsMade s new entry c.plan_call-called.result c.plan_call-called.new.plan = record {
       asked = record {
         state = c.self.invariant;
@@ -74,7 +74,7 @@ returns g c =
       rest = c.carry_out.ensures.rest;
       turn = c.carry_out.ensures.turn ∙ c.self.invariant.turn;
       table = c.carry_out.ensures.table;
-      done = subst (λ (changes : List Change). IsCarriedOut s.board c.carry_out.new.self changes entry) c.changes.ensures c.carry_out.ensures.done;
+      done = subst (λ (changes : List Change). IsCarriedOut s.store c.carry_out.new.self changes entry) c.changes.ensures c.carry_out.ensures.done;
       counters = refl;
       pushed = c.push_reserved.ensures.items;
       capacity = omega (arith, c.push_reserved.ensures.capacity);

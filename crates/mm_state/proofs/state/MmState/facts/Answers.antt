@@ -19,10 +19,10 @@ pub returns-clause-pairs : goal.returns-clause-pairs
 returns-clause-pairs c =
     let s = c.self.inside in
     let i = c.self.invariant in
-    let rows = rows_are (slots s.board.writer) s.board.areas.records s.board.areas.tree.pairs i.rest.hangs.rows in
+    let rows = rows_are (slots s.store.writer) s.store.areas.records s.store.areas.tree.pairs i.rest.hangs.rows in
     subst (λ (v : StateView). ArePairsOf v.slots (list_of v) v.pairs) c.self.view_is
-    (subst (λ (areas : List Record). ArePairsOf (slots s.board.writer) areas s.board.areas.tree.shown) (ap (λ (space : AddressSpace). space.areas) i.space)
-    (subst (λ (pairs : List Pair). ArePairsOf (slots s.board.writer) (areas_of s.board.areas) pairs) (sym i.rest.tree.shown)
+    (subst (λ (areas : List Record). ArePairsOf (slots s.store.writer) areas s.store.areas.tree.shown) (ap (λ (space : AddressSpace). space.areas) i.space)
+    (subst (λ (pairs : List Pair). ArePairsOf (slots s.store.writer) (areas_of s.store.areas) pairs) (sym i.rest.tree.shown)
     record { spans = c.facts.ensures.spans; rows = rows }))
 
 pub returns-clause-even : goal.returns-clause-even
@@ -36,7 +36,7 @@ returns-clause-rows c =
     let s = c.self.inside in
     let i = c.self.invariant in
     subst (λ (v : StateView). Exactly v.slots (list_of v)) c.self.view_is
-    (subst (Exactly (slots s.board.writer)) (ap (λ (space : AddressSpace). space.areas) i.space) i.rest.hangs.exactly)
+    (subst (Exactly (slots s.store.writer)) (ap (λ (space : AddressSpace). space.areas) i.space) i.rest.hangs.exactly)
 
 pub returns-clause-left : goal.returns-clause-left
 returns-clause-left c = subst (λ (v : StateView). All (λ leaving. leaving.tree ≤ v.number) v.left) c.self.view_is c.self.invariant.rest.tree.leaving

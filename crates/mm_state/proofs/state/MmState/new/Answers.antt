@@ -11,22 +11,22 @@ use Rattle.mm_state.proofs.state.MmState.new.Goals as goal
 
 pub invariant_of-result : goal.invariant_of-result
 invariant_of-result c =
-    let board = c.in_ok-board.ensures in
+    let store = c.in_ok-store.ensures in
     let opened = c.requires.fresh.1 in
     let none = c.in_ok-journal.ensures.items in
     let plan = c.in_ok-plan.ensures in
-    let areas = c.in_ok-board.board.areas in
+    let areas = c.in_ok-store.store.areas in
     record {
-      rest = board.rest;
-      turn = ap (λ w. (sight w).turn) board.writer.0 ∙ ap (λ (v : View). v.turn) opened;
-      settings = board.writer.1 ∙ ap (λ (v : View). v.config) opened;
+      rest = store.rest;
+      turn = ap (λ w. (sight w).turn) store.writer.0 ∙ ap (λ (v : View). v.turn) opened;
+      settings = store.writer.1 ∙ ap (λ (v : View). v.config) opened;
       valid = c.requires.config;
-      journal = ap journal board.writer.0 ∙ ap (λ (v : View). v.seen) opened ∙ sym none;
+      journal = ap journal store.writer.0 ∙ ap (λ (v : View). v.seen) opened ∙ sym none;
       legal = subst (IsLegalJournal c.args.config) (sym none) (legal_nil c.args.config);
-      space = opening_space c.args.config (areas_of areas) c.opening-counters.result c.in_ok-journal.journal.items board.none c.opening-counters.ensures none;
-      bounds = board.bounds.0;
-      most = board.bounds.1;
-      kept = subst (λ (list : List Record). IsKept areas.bounds areas.tree.areas list) (sym board.none) (kept_nil areas.bounds areas.tree.areas);
+      space = opening_space c.args.config (areas_of areas) c.opening-counters.result c.in_ok-journal.journal.items store.none c.opening-counters.ensures none;
+      bounds = store.bounds.0;
+      most = store.bounds.1;
+      kept = subst (λ (list : List Record). IsKept areas.bounds areas.tree.areas list) (sym store.none) (kept_nil areas.bounds areas.tree.areas);
       fresh = record { empty = ap (λ (p : PlanView). p.changes) plan; room = omega (arith, ap (λ (p : PlanView). p.room) plan) };
       room = omega (arith, ap length none);
       entries = c.requires.entries;

@@ -7,7 +7,7 @@ pub overflow_cast-result : goal.overflow_cast-result
 overflow_cast-result c =
     let writer = c.args.writer.now in
     let all = gone_few _ _ _ _ _ writer.rows in
-    omega (arith, all, c.len.ensures, writer.desk.table.sized.fits.few_rows)
+    omega (arith, all, c.len.ensures, writer.writer_state.table.sized.fits.few_rows)
 
 pub returns-clause-counted : goal.returns-clause-counted
-returns-clause-counted c = rw c.args.writer.now.desk.kept.size_is (λ row within. counted_once _ row _ _ _ _ c.args.writer.now.rows within)
+returns-clause-counted c = rw c.args.writer.now.writer_state.kept.size_is (λ row within. counted_once _ row _ _ _ _ c.args.writer.now.rows within)

@@ -10,5 +10,5 @@ split_seat-seat-requires c =
     rw c.deref.ensures (
       c.requires.table.same,
       omega (arith, sized.words_are),
-      reader_splits _ _ _ c.args.writer.now.desk.kept.kind (omega (arith, c.requires.reader.0, c.requires.reader.1, size)),
+      reader_splits _ _ _ c.args.writer.now.writer_state.kept.kind (omega (arith, c.requires.reader.0, c.requires.reader.1, size)),
     )

@@ -6,7 +6,7 @@ use Rattle.grace_core.specs.Core.{since_at}
 use Rattle.grace_core.specs.Steps.{least}
 use Rattle.grace_core.proofs.Clearings.{least_number}
 use Rattle.node_slots.specs.declared.seats.NodeWriterSeat.{NodeWriterSeat}
-use Rattle.node_slots.specs.Seats.{seat_sight, sight, desk}
+use Rattle.node_slots.specs.Seats.{seat_sight, sight, writer_state}
 use Rattle.node_slots.specs.Seats.{is_waiting, AreOut}
 use Rattle.node_slots.specs.Kept.{firsts_of}
 use Rattle.node_slots.proofs.Gone.{scanned_least}
@@ -20,7 +20,7 @@ invariant_of-writer c =
     let size = ap (λ t. t.size.rows) c.scan_pins.ensures.same in
     record {
       rows = rw c.scan_pins.ensures.same (rw told.2
-          (scans_lists writer.desk.table.size.rows 0 told.0 writer.free.items writer.left.items (firsts_of writer.notes.items) (sight writer) writer.rows));
+          (scans_lists writer.writer_state.table.size.rows 0 told.0 writer.free.items writer.left.items (firsts_of writer.notes.items) (sight writer) writer.rows));
       places = rw size writer.places;
       untouched = omega (arith, writer.untouched, size, c.scan_pins.ensures.words);
       free_room = omega (arith, writer.free_room, size);
@@ -39,7 +39,7 @@ free_passed-requires c =
 pub returns-clause-view : goal.returns-clause-view
 returns-clause-view c =
     let told = c.scan_pins.ensures.view in
-    (told.0, told.1, ap seat_sight c.free_passed.ensures.desk ∙ told.2)
+    (told.0, told.1, ap seat_sight c.free_passed.ensures.writer_state ∙ told.2)
 
 pub returns-clause-rest : goal.returns-clause-rest
 returns-clause-rest c =
@@ -47,12 +47,12 @@ returns-clause-rest c =
     let writer = c.free_passed.new.self in
     let is : c.least-passed.result ≡ least seat.root.tree seat.clearings.items = c.least-passed.ensures
     ∙ ap (least seat.root.tree) c.as_slice.ensures.value in
-    let same : least seat.root.tree seat.clearings.items ≡ least writer.desk.root.tree writer.desk.clearings.items =
-    ap (λ (s : NodeWriterSeat). least s.root.tree s.clearings.items) (sym c.free_passed.ensures.desk) in
-    let known : least writer.desk.root.tree writer.desk.clearings.items ≡ least (desk writer).tree.number (desk writer).clearings =
-    ap (λ n. least n writer.desk.clearings.items) (sym writer.desk.kept.number_is)
-    ∙ ap (least (desk writer).tree.number) (sym writer.desk.kept.clearings_are) in
-    λ row waits. subst (λ n. n < since_at (desk writer).since row) (is ∙ same ∙ known) (c.free_passed.ensures.rest row waits)
+    let same : least seat.root.tree seat.clearings.items ≡ least writer.writer_state.root.tree writer.writer_state.clearings.items =
+    ap (λ (s : NodeWriterSeat). least s.root.tree s.clearings.items) (sym c.free_passed.ensures.writer_state) in
+    let known : least writer.writer_state.root.tree writer.writer_state.clearings.items ≡ least (writer_state writer).tree.number (writer_state writer).clearings =
+    ap (λ n. least n writer.writer_state.clearings.items) (sym writer.writer_state.kept.number_is)
+    ∙ ap (least (writer_state writer).tree.number) (sym writer.writer_state.kept.clearings_are) in
+    λ row waits. subst (λ n. n < since_at (writer_state writer).since row) (is ∙ same ∙ known) (c.free_passed.ensures.rest row waits)
 
 pub returns-clause-gone : goal.returns-clause-gone
 returns-clause-gone c =
@@ -63,20 +63,20 @@ returns-clause-gone c =
     let size = ap (λ t. t.size.readers) c.scan_pins.ensures.same in
     let is : c.least-passed.result ≡ least seat.root.tree seat.clearings.items = c.least-passed.ensures
     ∙ ap (least seat.root.tree) c.as_slice.ensures.value in
-    let known : least (seat_sight seat).known.desk.tree.number (seat_sight seat).known.desk.clearings ≡ least seat.root.tree seat.clearings.items =
-    ap (λ n. least n (seat_sight seat).known.desk.clearings) seat.kept.number_is
+    let known : least (seat_sight seat).known.writer_state.tree.number (seat_sight seat).known.writer_state.clearings ≡ least seat.root.tree seat.clearings.items =
+    ap (λ n. least n (seat_sight seat).known.writer_state.clearings) seat.kept.number_is
     ∙ ap (least seat.root.tree) seat.kept.clearings_are in
     let same = ap (λ s. s.readers) c.requires.table.size_is in
-    let was = ap (λ (l : List Clearing). length l) old.desk.kept.clearings_are in
+    let was = ap (λ (l : List Clearing). length l) old.writer_state.kept.clearings_are in
     let after = ap (λ (l : List Clearing). length l) seat.kept.clearings_are in
-    let number = ap (λ (s : NodeWriterSeat). (seat_sight s).known.desk.tree.number) c.free_passed.ensures.desk in
+    let number = ap (λ (s : NodeWriterSeat). (seat_sight s).known.writer_state.tree.number) c.free_passed.ensures.writer_state in
     λ out row. elim (cases_Bool (is_waiting writer row)) [
       | inl waits ↦
-          let all = scanned_least told.0 (sight old) (seat_sight seat) told.2 (omega (arith, told.1, was, old.desk.kept.readers, same))
-          (omega (arith, told.1, after, seat.kept.readers, size, old.desk.kept.readers, same))
-          (subst (λ (s : NodeWriterSeat). AreOut (map (λ (found : Clearing). found.pin) (seat_sight s).known.desk.clearings)) c.free_passed.ensures.desk out) in
+          let all = scanned_least told.0 (sight old) (seat_sight seat) told.2 (omega (arith, told.1, was, old.writer_state.kept.readers, same))
+          (omega (arith, told.1, after, seat.kept.readers, size, old.writer_state.kept.readers, same))
+          (subst (λ (s : NodeWriterSeat). AreOut (map (λ (found : Clearing). found.pin) (seat_sight s).known.writer_state.clearings)) c.free_passed.ensures.writer_state out) in
           let later = c.free_passed.ensures.rest row waits in
-          let past = waiting_past writer.desk.table.size.rows writer.free.items writer.left.items (firsts_of writer.notes.items) (desk writer) writer.rows row waits in
+          let past = waiting_past writer.writer_state.table.size.rows writer.free.items writer.left.items (firsts_of writer.notes.items) (writer_state writer) writer.rows row waits in
           absurd (omega (arith, all, later, past, is, known, number))
       | inr free ↦ free
     ]

@@ -6,7 +6,7 @@ use Rattle.grace_core.specs.Core.{times}
 use Rattle.mm_types.specs.declared.slot.Row.{Row}
 use Rattle.node_slots.specs.declared.left.Left.{Left}
 use Rattle.node_slots.specs.Kept.{left_at, free_numbers, left_numbers, RowsKept, firsts_of}
-use Rattle.node_slots.specs.Seats.{desk}
+use Rattle.node_slots.specs.Seats.{writer_state}
 use Rattle.node_slots.proofs.Listing.{waiting_after, passed_lists, gone_few}
 use Rattle.node_slots.proofs.Counting.{first_gone}
 use Rattle.node_slots.proofs.Writers.{pushed_places}
@@ -18,7 +18,7 @@ returns-then-not-has_passed-clause-rest c =
     λ _. (
       refl,
       refl,
-      waiting_after writer.desk.table.size.rows c.args.passed writer.free.items writer.left.items (firsts_of writer.notes.items) (desk writer) writer.rows
+      waiting_after writer.writer_state.table.size.rows c.args.passed writer.free.items writer.left.items (firsts_of writer.notes.items) (writer_state writer) writer.rows
           (c.has_passed.ensures.none c.if-not-has_passed.true),
     )
 
@@ -30,13 +30,13 @@ pub note_spot-requires : goal.note_spot-requires
 note_spot-requires c =
     let writer = c.args.self.now in
     let all = gone_few _ _ _ _ _ writer.rows in
-    omega (arith, all, c.len-spot.ensures, writer.free.ok, writer.desk.table.sized.fits.few_rows)
+    omega (arith, all, c.len-spot.ensures, writer.free.ok, writer.writer_state.table.sized.fits.few_rows)
 
 pub push_back_reserved-requires : goal.push_back_reserved-requires
 push_back_reserved-requires c =
     let writer = c.args.self.now in
     let some = (c.has_passed.ensures.some c.if-not-has_passed.false).0 in
-    let all = gone_few writer.desk.table.size.rows writer.free.items writer.left.items (firsts_of writer.notes.items) (desk writer) writer.rows in
+    let all = gone_few writer.writer_state.table.size.rows writer.free.items writer.left.items (firsts_of writer.notes.items) (writer_state writer) writer.rows in
     omega (arith, all, some, writer.free_room, writer.free.ok)
 
 pub invariant_of-self : goal.invariant_of-self
@@ -49,8 +49,8 @@ invariant_of-self c =
     let first = ap (λ (l : List Left). (left_at l 0).since) items in
     record {
       rows = rw c.note_spot.ensures.firsts (rw c.push_back_reserved.ensures.items
-          (passed_lists writer.desk.table.size.rows one writer.free.items rest (firsts_of writer.notes.items) (desk writer)
-          (subst (λ (l : List Left). RowsKept writer.desk.table.size.rows writer.free.items l (firsts_of writer.notes.items) (desk writer)) items writer.rows)
+          (passed_lists writer.writer_state.table.size.rows one writer.free.items rest (firsts_of writer.notes.items) (writer_state writer)
+          (subst (λ (l : List Left). RowsKept writer.writer_state.table.size.rows writer.free.items l (firsts_of writer.notes.items) (writer_state writer)) items writer.rows)
           (omega (arith, some.1, first, c.requires.passed.1)) (omega (arith, some.1, first, c.requires.passed.0))));
       places = pushed_places writer one.row (omega (arith, first_gone one.row.0 one rest refl, ap (λ (l : List Left). times one.row.0 (left_numbers l)) items, writer.rows.once one.row.0))
           (writer.rows.inside one.row.0 (omega (arith, first_gone one.row.0 one rest refl, ap (λ (l : List Left). times one.row.0 (left_numbers l)) items)))

@@ -2,7 +2,7 @@
 use Rattle.std.proofs.Common.{ℕ, ◌≡◌, ◌+◌, ◌∙◌, List, [], ◌∷◌, ◌++◌, length, refl, sym, ap, arith}
 use Rattle.std.proofs.lemmas.List.{append_assoc, append-nil, length_push, length-append, length-map}
 use Rattle.node_slots.specs.declared.left.Left.{Left}
-use Rattle.node_slots.specs.Seats.{desk, free_of, left_of}
+use Rattle.node_slots.specs.Seats.{writer_state, free_of, left_of}
 use Rattle.node_slots.specs.Kept.{firsts_of}
 use Rattle.node_slots.proofs.Listing.{waiting_after, gone_few}
 use Rattle.node_slots.proofs.seats.NodeWriter.free_passed.Goals as goal
@@ -10,12 +10,12 @@ use Rattle.node_slots.proofs.seats.NodeWriter.free_passed.Goals as goal
 pub overflow_cast-waiting : goal.overflow_cast-waiting
 overflow_cast-waiting c =
     let writer = c.args.self.now in
-    let all = gone_few writer.desk.table.size.rows writer.free.items writer.left.items (firsts_of writer.notes.items) (desk writer) writer.rows in
-    omega (arith, all, c.len-waiting.ensures, writer.left.ok, writer.desk.table.sized.fits.few_rows)
+    let all = gone_few writer.writer_state.table.size.rows writer.free.items writer.left.items (firsts_of writer.notes.items) (writer_state writer) writer.rows in
+    omega (arith, all, c.len-waiting.ensures, writer.left.ok, writer.writer_state.table.sized.fits.few_rows)
 
 pub loop-count-init : goal.loop-count-init
 loop-count-init c = record {
-  desk = refl;
+  writer_state = refl;
   freed = ([], refl, sym (append-nil (free_of c.args.self.now)), refl);
 }
 
@@ -25,7 +25,7 @@ loop-count-preserved c =
     let rows : List ℕ = before.0 in
     let one = c.free_first.ensures.freed c.if-not-free_first.false in
     record {
-      desk = c.free_first.ensures.desk ∙ c.loop-count.invariant.desk;
+      writer_state = c.free_first.ensures.writer_state ∙ c.loop-count.invariant.writer_state;
       freed = (
         rows ++ one.0 ∷ [],
         omega (arith, length_push rows one.0, before.1),
@@ -56,7 +56,7 @@ returns-clause-rest c =
     ∙ length-append before.0 (left_of writer) in
     let old = length-map c.args.self.now.left.items (λ (l : Left). l.row.0) in
     let now = length-map writer.left.items (λ (l : Left). l.row.0) in
-    waiting_after writer.desk.table.size.rows c.args.passed writer.free.items writer.left.items (firsts_of writer.notes.items) (desk writer) writer.rows
+    waiting_after writer.writer_state.table.size.rows c.args.passed writer.free.items writer.left.items (firsts_of writer.notes.items) (writer_state writer) writer.rows
     (λ some. absurd (omega (
       arith,
       some,

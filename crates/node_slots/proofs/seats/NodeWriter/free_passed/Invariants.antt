@@ -5,6 +5,6 @@ use Rattle.node_slots.proofs.seats.NodeWriter.free_passed.Given as goal
 
 abbrev pub invariant-loop-count : goal.invariant-loop-count
 invariant-loop-count l = record {
-  desk : l.self.desk ≡ l.fn.self.desk;
+  writer_state : l.self.writer_state ≡ l.fn.self.writer_state;
   freed : (rows : List ℕ) × (length rows ≡ l.count) × (free_of l.self ≡ free_of l.fn.self ++ rows) × (left_of l.fn.self ≡ rows ++ left_of l.self);
 }

@@ -6,7 +6,7 @@ use Rattle.std.specs.List.Sorted.{IsPermutation}
 use Rattle.std.proofs.lemmas.List.{length-map, map-set, get_or-map}
 use Rattle.std.proofs.lemmas.List.Sorted.{IsPermutation-map}
 use Rattle.mm_types.specs.declared.slot.Row.{Row}
-use Rattle.node_slots.specs.declared.note.Note.{Note}
+use Rattle.node_slots.specs.declared.note.RowNote.{RowNote}
 use Rattle.node_slots.specs.Kept.{RowsKept, PlacesKept, firsts_of, spots_of, free_numbers}
 use Rattle.node_slots.proofs.Listing.{gone_few, take_lists, take_is_taken, take_within}
 use Rattle.node_slots.proofs.Notes.{spots_same, replaced_same}
@@ -18,7 +18,7 @@ pub note_spot-requires : goal.note_spot-requires
 note_spot-requires c =
     let writer = c.args.self.now in
     let all = gone_few _ _ _ _ _ writer.rows in
-    omega (arith, all, c.requires.inside, writer.desk.table.sized.fits.few_rows)
+    omega (arith, all, c.requires.inside, writer.writer_state.table.sized.fits.few_rows)
 
 pub index_mut-requires : goal.index_mut-requires
 index_mut-requires c =
@@ -27,10 +27,10 @@ index_mut-requires c =
     let rest : List Row = c.swap_remove_back.new.self.items in
     let moved : IsPermutation writer.free.items (row ∷ rest) =
     subst (λ o. IfSome o (λ y. IsPermutation writer.free.items (y ∷ rest))) c.unwrap-row.ensures c.swap_remove_back.ensures.permutation in
-    let kept = taken_rows writer.desk.table.size.rows row writer.free.items rest writer.left.items (firsts_of writer.notes.items) writer.desk.seat.me.0.known.desk
+    let kept = taken_rows writer.writer_state.table.size.rows row writer.free.items rest writer.left.items (firsts_of writer.notes.items) writer.writer_state.seat.me.0.known.writer_state
     moved writer.rows in
     let within = take_within _ _ _ _ _ _ kept in
-    omega (arith, within, kept.sized, ap (λ (l : List ℕ). length l) c.note_spot.ensures.firsts, length-map c.note_spot.new.notes.items (λ (n : Note). n.first))
+    omega (arith, within, kept.sized, ap (λ (l : List ℕ). length l) c.note_spot.ensures.firsts, length-map c.note_spot.new.notes.items (λ (n : RowNote). n.first))
 
 pub invariant_of-self : goal.invariant_of-self
 invariant_of-self c =
@@ -41,17 +41,17 @@ invariant_of-self c =
     subst (λ o. IfSome o (λ y. IsPermutation writer.free.items (y ∷ rest))) c.unwrap-row.ensures c.swap_remove_back.ensures.permutation in
     let rest_is : rest ≡ swap_remove writer.free.items c.args.place row =
     subst (λ o. IfSome o (λ y. rest ≡ swap_remove writer.free.items c.args.place y)) c.unwrap-row.ensures c.swap_remove_back.ensures.items in
-    let kept = taken_rows writer.desk.table.size.rows row writer.free.items rest writer.left.items (firsts_of writer.notes.items) writer.desk.seat.me.0.known.desk
+    let kept = taken_rows writer.writer_state.table.size.rows row writer.free.items rest writer.left.items (firsts_of writer.notes.items) writer.writer_state.seat.me.0.known.writer_state
     moved writer.rows in
-    let notes : List Note = c.note_spot.new.notes.items in
-    let noted : Note = record c.index_mut.result.now { first = writer.desk.root.tree + 1 } in
+    let notes : List RowNote = c.note_spot.new.notes.items in
+    let noted : RowNote = record c.index_mut.result.now { first = writer.writer_state.root.tree + 1 } in
     record {
-      rows = subst (λ (l : List ℕ). RowsKept writer.desk.table.size.rows rest writer.left.items l writer.desk.seat.me.0.known.desk)
-          (sym (map-set (λ (n : Note). n.first) notes row.0 _ ∙ ap (λ (l : List ℕ). set l row.0 (writer.desk.root.tree + 1)) c.note_spot.ensures.firsts))
-          (subst (λ n. RowsKept writer.desk.table.size.rows rest writer.left.items
-          (set (firsts_of writer.notes.items) row.0 (n + 1)) writer.desk.seat.me.0.known.desk)
-          writer.desk.kept.number_is (take_lists _ _ _ _ _ _ kept));
-      places = subst (λ n. PlacesKept writer.desk.table.size.rows n (free_numbers rest) (spots_of (set notes row.0 noted))) (sym c.min-self.ensures)
+      rows = subst (λ (l : List ℕ). RowsKept writer.writer_state.table.size.rows rest writer.left.items l writer.writer_state.seat.me.0.known.writer_state)
+          (sym (map-set (λ (n : RowNote). n.first) notes row.0 _ ∙ ap (λ (l : List ℕ). set l row.0 (writer.writer_state.root.tree + 1)) c.note_spot.ensures.firsts))
+          (subst (λ n. RowsKept writer.writer_state.table.size.rows rest writer.left.items
+          (set (firsts_of writer.notes.items) row.0 (n + 1)) writer.writer_state.seat.me.0.known.writer_state)
+          writer.writer_state.kept.number_is (take_lists _ _ _ _ _ _ kept));
+      places = subst (λ n. PlacesKept writer.writer_state.table.size.rows n (free_numbers rest) (spots_of (set notes row.0 noted))) (sym c.min-self.ensures)
           (taken_places writer c.args.place c.requires.inside c.requires.behind rest (spots_of (set notes row.0 noted)) row c.index-last.result.now (c.len.result - 1) rest_is
           (omega (arith, c.len.ensures, writer.free.ok)) c.index-last.ensures
           (spots_same notes row.0 c.index_mut.result.now noted c.index_mut.ensures.value refl ∙ c.note_spot.ensures.spots));
@@ -74,9 +74,9 @@ returns-clause-taken c =
     let rest : List Row = c.swap_remove_back.new.self.items in
     let moved : IsPermutation writer.free.items (row ∷ rest) =
     subst (λ o. IfSome o (λ y. IsPermutation writer.free.items (y ∷ rest))) c.unwrap-row.ensures c.swap_remove_back.ensures.permutation in
-    let kept = taken_rows writer.desk.table.size.rows row writer.free.items rest writer.left.items (firsts_of writer.notes.items) writer.desk.seat.me.0.known.desk
+    let kept = taken_rows writer.writer_state.table.size.rows row writer.free.items rest writer.left.items (firsts_of writer.notes.items) writer.writer_state.seat.me.0.known.writer_state
     moved writer.rows in
-    rw writer.desk.kept.size_is (take_is_taken _ _ _ _ _ _ kept)
+    rw writer.writer_state.kept.size_is (take_is_taken _ _ _ _ _ _ kept)
 
 pub returns-clause-replaced : goal.returns-clause-replaced
 returns-clause-replaced c =

@@ -17,5 +17,5 @@ invariant_of-result c =
           (omega (arith, c.requires, ap (λ (p : Page). p.0) tree.limit)));
       rows = ap (λ (v : NodeView). v.size.rows) made.writer.1;
       slots = ap (λ (v : NodeView). v.size.slots) made.writer.1;
-      number = ap (λ (v : NodeView). v.known.desk.tree.number) made.writer.1;
+      number = ap (λ (v : NodeView). v.known.writer_state.tree.number) made.writer.1;
     }

@@ -1,7 +1,7 @@
 -- For `Bench::step`: scans leave the writer's tree as it is.
 use Rattle.std.proofs.Common.{ℕ, ◌≡◌, ◌+◌, arith, inl, ap, ◌∙◌, rules}
 use Rattle.node_slots.specs.declared.view.NodeView.{NodeView}
-use Rattle.node_slots.specs.Seats.{sight, desk}
+use Rattle.node_slots.specs.Seats.{sight, writer_state}
 use Rattle.span_tree.proofs.Scanning.{scan_scans}
 use Rattle.span_tree.proofs.Writing.{scanned_writers}
 use Rattle.span_tree.proofs.tests.Bench.step.Goals as goal
@@ -15,8 +15,8 @@ invariant_of-self c =
     let scans = scan_scans mid after view.0 freed.0 view.2 freed.2 freed.3 in
     let slots_store = ap (λ (v : NodeView). v.size.slots) c.store.ensures.same.seen in
     let slots_publish = ap (λ (v : NodeView). v.size.slots) c.publish_tree.ensures.view in
-    let number_store = ap (λ (v : NodeView). v.known.desk.tree.number) c.store.ensures.same.seen in
-    let number_publish = ap (λ (v : NodeView). v.known.desk.tree.number) c.publish_tree.ensures.view in
+    let number_store = ap (λ (v : NodeView). v.known.writer_state.tree.number) c.store.ensures.same.seen in
+    let number_publish = ap (λ (v : NodeView). v.known.writer_state.tree.number) c.publish_tree.ensures.view in
     let rows_store = ap (λ (v : NodeView). v.size.rows) c.store.ensures.same.seen in
     let rows_publish = ap (λ (v : NodeView). v.size.rows) c.publish_tree.ensures.view in
     record {

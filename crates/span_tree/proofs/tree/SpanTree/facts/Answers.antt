@@ -13,6 +13,6 @@ returns-clause-pairs c =
 pub returns-clause-readers : goal.returns-clause-readers
 returns-clause-readers c =
     let fields = c.self.inside in
-    let size = ap (λ s. s.readers) (fields.writer.desk.kept.size_is ∙ c.self.invariant.table.size_is) in
+    let size = ap (λ s. s.readers) (fields.writer.writer_state.kept.size_is ∙ c.self.invariant.table.size_is) in
     let some = fields.nodes.sized.fits.some_readers in
     omega (arith, some, size, pins_long fields.writer, ap (λ (v : SpanView). length v.pins) c.self.view_is)

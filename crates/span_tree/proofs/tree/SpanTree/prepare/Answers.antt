@@ -6,11 +6,11 @@ use Rattle.node_slots.specs.declared.view.NodeView.{NodeView}
 use Rattle.node_slots.specs.Seats.{sight, pins_of}
 use Rattle.span_tree.specs.SpanTrees.{SpanView}
 use Rattle.span_tree.specs.Kept.{IsSpanTree}
-use Rattle.span_tree.specs.Rows.{settled_of}
+use Rattle.span_tree.specs.Rows.{elapsed_of}
 use Rattle.span_tree.proofs.Counts.{writers_low}
-use Rattle.span_tree.proofs.Storing.{stored_settled}
+use Rattle.span_tree.proofs.Storing.{stored_elapsed}
 use Rattle.span_tree.proofs.Scanning.{pins_same}
-use Rattle.span_tree.proofs.Spans.{scanned_kept, scanned_settled, scanned_free}
+use Rattle.span_tree.proofs.Spans.{scanned_kept, scanned_elapsed, scanned_free}
 use Rattle.span_tree.proofs.Preparing.{later_kept, first_kept}
 use Rattle.span_tree.proofs.tree.SpanTree.prepare.Goals as goal
 use Rattle.span_tree.proofs.tree.SpanTree.prepare.Goals.{then-self-eq0, else-self-eq0}
@@ -44,15 +44,15 @@ invariant_of-self g c =
           subst (λ (f : Inside). IsSpanTree (record f { roomy = true })) (sym w.self-inside-is) (later_kept fields kept w.if-self-eq0.false free)
     ]
 
-pub returns-clause-settled : goal.returns-clause-settled
-returns-clause-settled g c =
-    let more = scanned_settled c.self.inside.writer c.wait_for_rows.new.writer c.wait_for_rows.ensures.scans in
-    let was = ap (λ v. v.settled) c.self.view_is in
+pub returns-clause-elapsed : goal.returns-clause-elapsed
+returns-clause-elapsed g c =
+    let more = scanned_elapsed c.self.inside.writer c.wait_for_rows.new.writer c.wait_for_rows.ensures.scans in
+    let was = ap (λ v. v.elapsed) c.self.view_is in
     elim c.if-self-eq0.branch [
       | then-self-eq0 w ↦
-          let same = stored_settled c.wait_for_rows.new.writer w.store.new.writer w.store.ensures.same in
-          omega (arith, more, was, same, ap (λ (f : Inside). settled_of f.writer) w.self-inside-is)
-      | else-self-eq0 w ↦ omega (arith, more, was, ap (λ (f : Inside). settled_of f.writer) w.self-inside-is)
+          let same = stored_elapsed c.wait_for_rows.new.writer w.store.new.writer w.store.ensures.same in
+          omega (arith, more, was, same, ap (λ (f : Inside). elapsed_of f.writer) w.self-inside-is)
+      | else-self-eq0 w ↦ omega (arith, more, was, ap (λ (f : Inside). elapsed_of f.writer) w.self-inside-is)
     ]
 
 pub returns-clause-scans : goal.returns-clause-scans
@@ -89,7 +89,7 @@ returns-clause-readers g c =
     let same = pins_same c.self.inside.writer c.wait_for_rows.new.writer c.wait_for_rows.ensures.scans in
     elim c.if-self-eq0.branch [
       | then-self-eq0 w ↦
-          let looks = ap (λ (v : NodeView). length (map (λ (found : Clearing). found.pin) v.known.desk.clearings)) w.store.ensures.same.seen in
+          let looks = ap (λ (v : NodeView). length (map (λ (found : Clearing). found.pin) v.known.writer_state.clearings)) w.store.ensures.same.seen in
           omega (arith, was, same, looks, ap (λ (f : Inside). length (pins_of f.writer)) w.self-inside-is)
       | else-self-eq0 w ↦ omega (arith, was, same, ap (λ (f : Inside). length (pins_of f.writer)) w.self-inside-is)
     ]

@@ -4,7 +4,7 @@ use Rattle.maple_node.specs.Trees.{Pair}
 use Rattle.span_tree.specs.SpanTrees.{ArePairs}
 use Rattle.span_tree.proofs.Counts.{writers_low}
 use Rattle.span_tree.proofs.Spans.{built_pairs}
-use Rattle.span_tree.proofs.Publishing.{published_shown, published_kept, published_settled}
+use Rattle.span_tree.proofs.Publishing.{published_shown, published_kept, published_elapsed}
 use Rattle.span_tree.proofs.tree.SpanTree.publish.Goals as goal
 
 pub publish_tree-requires-clause-height : goal.publish_tree-requires-clause-height
@@ -19,12 +19,12 @@ invariant_of-self g c =
     published_kept c.self.inside c.publish_tree.new.writer told.table
     (record { view = told.view; free = told.lists.0; left = told.lists.1; built = told.still }) c.self.invariant
 
-pub returns-clause-settled : goal.returns-clause-settled
-returns-clause-settled g c =
+pub returns-clause-elapsed : goal.returns-clause-elapsed
+returns-clause-elapsed g c =
     let told = c.publish_tree.ensures in
-    let more = published_settled c.self.inside.writer c.publish_tree.new.writer c.self.inside.tree
+    let more = published_elapsed c.self.inside.writer c.publish_tree.new.writer c.self.inside.tree
     (record { view = told.view; free = told.lists.0; left = told.lists.1; built = told.still }) in
-    omega (arith, more, ap (λ v. v.settled) c.self.view_is)
+    omega (arith, more, ap (λ v. v.elapsed) c.self.view_is)
 
 pub returns-clause-few : goal.returns-clause-few
 returns-clause-few g c =

@@ -21,5 +21,5 @@ invariant_of-result c =
       slots = ap (λ (v : NodeView). v.size.slots) made.writer.1;
       reader = reader.0;
       closed = reader.1;
-      number = ap (λ (v : NodeView). v.known.desk.tree.number) made.writer.1;
+      number = ap (λ (v : NodeView). v.known.writer_state.tree.number) made.writer.1;
     }

@@ -4,7 +4,7 @@ use Rattle.grace_core.specs.Core.{times}
 use Rattle.maple_node.specs.Levels.{at_of}
 use Rattle.node_slots.specs.declared.view.NodeView.{NodeView}
 use Rattle.node_slots.specs.declared.view.Size.{Size}
-use Rattle.node_slots.specs.Seats.{sight, desk, free_of, left_of, row_count, is_present}
+use Rattle.node_slots.specs.Seats.{sight, writer_state, free_of, left_of, row_count, is_present}
 use Rattle.node_slots.proofs.Counting.{times_last, one_if}
 use Rattle.node_slots.proofs.Listing.{kept_from}
 use Rattle.node_slots.proofs.Leaves.{leaf_rows, leaf_layout, next_alone, alone_reached}
@@ -32,14 +32,14 @@ publish-requires-clause-layout c =
     let taken = c.take_row.new.writer in
     let filled = c.leave.ensures.view ∙ c.fill.ensures.view in
     let within = (writer_taken taken row c.in_ok-row.ensures.taken).0 in
-    let known = taken.desk.kept in
-    let low : row < length (sight taken).known.desk.words = omega (arith, within, known.rows, ap length known.words_are) in
-    let words = ap (λ (v : NodeView). at_of v.known.desk.words row) filled ∙ get_or-set_same _ _ _ _ low ∙ c.leaf_words-words.ensures in
+    let known = taken.writer_state.kept in
+    let low : row < length (sight taken).known.writer_state.words = omega (arith, within, known.rows, ap length known.words_are) in
+    let words = ap (λ (v : NodeView). at_of v.known.writer_state.words row) filled ∙ get_or-set_same _ _ _ _ low ∙ c.leaf_words-words.ensures in
     let slots = ap (λ (v : NodeView). v.size.slots) filled ∙ ap (λ (v : NodeView). v.size.slots) c.in_ok-row.ensures.view
     ∙ c.args.self.now.kept.1.slots in
-    leaf_layout (at_of (desk next).words) (sight next).size.slots ((desk next).tree.number + 1) row c.entry_of.result.0 _ _ words
+    leaf_layout (at_of (writer_state next).words) (sight next).size.slots ((writer_state next).tree.number + 1) row c.entry_of.result.0 _ _ words
     (omega (arith, c.entry_of.ensures.end)) (omega (arith, slots, c.entry_of.ensures.slot))
-    (leaf_rows (desk next).words ((desk next).tree.number + 1) row)
+    (leaf_rows (writer_state next).words ((writer_state next).tree.number + 1) row)
 
 pub publish-requires-clause-rows : goal.publish-requires-clause-rows
 publish-requires-clause-rows c = λ other.
@@ -51,9 +51,9 @@ publish-requires-clause-rows c = λ other.
     let size = ap (λ (v : NodeView). v.size) (c.leave.ensures.view ∙ c.fill.ensures.view) in
     let sizes = size ∙ ap (λ (v : NodeView). v.size) c.in_ok-row.ensures.view in
     let within = (writer_taken taken row c.in_ok-row.ensures.taken).0 in
-    let low : row < row_count next = subst (λ (s : Size). row < s.rows) (sym (size ∙ taken.desk.kept.size_is)) within in
+    let low : row < row_count next = subst (λ (s : Size). row < s.rows) (sym (size ∙ taken.writer_state.kept.size_is)) within in
     let left = ap (times other) (c.fill.ensures.lists.1 ∙ c.in_ok-row.ensures.left) in
-    ap (times other) (leaf_rows (desk next).words ((desk next).tree.number + 1) row)
+    ap (times other) (leaf_rows (writer_state next).words ((writer_state next).tree.number + 1) row)
     ∙ alone_reached (row_count next) row other (times other (free_of next) + times other (left_of next)) low
     (λ inside. next_alone other c.args.self.now.row.0 row (is_present filled c.args.self.now.row.0) (free_of old) (free_of filled) (left_of filled)
     (free_of next) (left_of next) (c.in_ok-row.ensures.free ∙ ap (λ (l : List ℕ). l ++ row ∷ []) (sym c.fill.ensures.lists.0)) c.leave.ensures.free
@@ -75,7 +75,7 @@ invariant_of-self-2 c =
       kept = (
         c.publish.ensures.table,
         record {
-          within = subst (λ (s : Size). row < s.rows) (sym (size ∙ taken.desk.kept.size_is)) within;
+          within = subst (λ (s : Size). row < s.rows) (sym (size ∙ taken.writer_state.kept.size_is)) within;
           alone = λ other low.
               let left = ap (times other) (c.fill.ensures.lists.1 ∙ c.in_ok-row.ensures.left) in
               let alone = next_alone other c.args.self.now.row.0 row (is_present filled c.args.self.now.row.0) (free_of old) (free_of filled)
