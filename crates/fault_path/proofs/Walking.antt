@@ -5,7 +5,7 @@ use Rattle.std.proofs.lemmas.Bool.{cases_lt}
 use Rattle.std.proofs.lemmas.Bool.Decides.{nat_tests}
 use Rattle.node_slots.specs.declared.view.Size.{Size}
 use Rattle.node_slots.specs.Plays.{RowsExist}
-use Rattle.maple_node.specs.declared.item.Item.{Item}
+use Rattle.maple_node.specs.declared.item.NodeItem.{NodeItem}
 use Rattle.maple_node.specs.declared.root.Root.{Root}
 use Rattle.maple_node.specs.Levels.{item_at}
 use Rattle.node_slots.specs.declared.view.ShownTree.{ShownTree}
@@ -31,8 +31,8 @@ slot_below slots slot word few is = elim (cases_lt 0 word) [
       absurd (cc)
 ]
 
-entry_below : (slots slot : ℕ) (page : ℕ) (entries : List Item) (found : Option Item) → item_at page entries ≡ found
-    → ((item : Item) → item_at page entries ≡ Some item → item.word ≤ slots)
+entry_below : (slots slot : ℕ) (page : ℕ) (entries : List NodeItem) (found : Option NodeItem) → item_at page entries ≡ found
+    → ((item : NodeItem) → item_at page entries ≡ Some item → item.word ≤ slots)
     → option_and_then (λ item. slot_in item.word) found ≡ Some slot → slot < slots
 entry_below slots slot page entries None at few is = absurd (cc)
 entry_below slots slot page entries (Some item) at few is = slot_below slots slot item.word (few item at) is
@@ -44,7 +44,7 @@ slot_within view root page slot loaded is =
     let shown = loaded.shown in
     let numbered = (is_loaded view.size.slots shown loaded.layout).numbered in
     entry_below view.size.slots slot page (entries_in shown) (item_at page (entries_in shown)) refl
-    (λ item at. find_keeps (λ (i : Item). i.word ≤ view.size.slots) (λ (i : Item). nat_lt page i.end) (entries_in shown) item numbered at)
+    (λ item at. find_keeps (λ (i : NodeItem). i.word ≤ view.size.slots) (λ (i : NodeItem). nat_lt page i.end) (entries_in shown) item numbered at)
     (sym (slot-entry view root page loaded shown loaded.snapshot) ∙ is)
 
 -- the reader of a loaded root has loaded it

@@ -4,7 +4,7 @@ use Rattle.std.specs.Prelude.{nat_le, if◌then◌else◌}
 use Rattle.std.specs.Option.{option_or}
 use Rattle.std.proofs.lemmas.Bool.{cases_Bool}
 use Rattle.std.proofs.lemmas.Bool.Decides.{nat_tests}
-use Rattle.maple_node.specs.declared.item.Item.{Item}
+use Rattle.maple_node.specs.declared.item.NodeItem.{NodeItem}
 use Rattle.maple_node.specs.Nodes.{end_of, item_gap}
 use Rattle.maple_gap.specs.declared.window.Side.{Side}
 use Rattle.maple_gap.specs.declared.window.Side.TheVariants.{Low, High}
@@ -54,7 +54,7 @@ pick_both Low o p is = or_both o p is
 pick_both High o p is = let both = or_both p o is in (both.1, both.0)
 
 -- entries after others
-pub best-append : (side : Side) (window : Window) (start : ℕ) (xs ys : List Item)
+pub best-append : (side : Side) (window : Window) (start : ℕ) (xs ys : List NodeItem)
     → best side window start (xs ++ ys) ≡ pick side (best side window start xs) (best side window (end_of start xs) ys)
 unfolding best
 best-append side window start [] ys = sym (pick_none side (best side window start ys))
@@ -63,12 +63,12 @@ best-append side window start (x ∷ xs) ys =
     ∙ sym (pick_assoc side (spot side window start x) (best side window x.end xs) (best side window (end_of x.end xs) ys))
 
 -- in one entry
-pub best-one : (side : Side) (window : Window) (start : ℕ) (x : Item) → best side window start (x ∷ []) ≡ spot side window start x
+pub best-one : (side : Side) (window : Window) (start : ℕ) (x : NodeItem) → best side window start (x ∷ []) ≡ spot side window start x
 unfolding best
 best-one side window start x = pick_one side (spot side window start x)
 
 -- an item that may have room has a gap that is long enough, and a part in the window that is
-pub record Room (window : Window) (leaf : Bool) (start : ℕ) (item : Item) : Type 0 where
+pub record Room (window : Window) (leaf : Bool) (start : ℕ) (item : NodeItem) : Type 0 where
   pub gap : window.len ≤ item_gap leaf start item
   pub part : window.len ≤ min item.end window.hi - max start window.lo
 
@@ -82,7 +82,7 @@ le_of a b is = grind (arith, nat_tests)
 of_le : (a b : ℕ) → a ≤ b → nat_le a b ≡ true
 of_le a b is = grind (arith, nat_tests)
 
-pub room_of : (window : Window) (leaf : Bool) (start : ℕ) (item : Item) → may_have window leaf start item ≡ true → Room window leaf start item
+pub room_of : (window : Window) (leaf : Bool) (start : ℕ) (item : NodeItem) → may_have window leaf start item ≡ true → Room window leaf start item
 unfolding may_have
 room_of window leaf start item is =
     let long = item_gap leaf start item in
@@ -90,7 +90,7 @@ room_of window leaf start item is =
     let both = and_both (nat_le window.len long) (nat_le window.len part) is in
     record { gap = le_of window.len long both.0; part = le_of window.len part both.1 }
 
-pub of_room : (window : Window) (leaf : Bool) (start : ℕ) (item : Item) → Room window leaf start item → may_have window leaf start item ≡ true
+pub of_room : (window : Window) (leaf : Bool) (start : ℕ) (item : NodeItem) → Room window leaf start item → may_have window leaf start item ≡ true
 unfolding may_have
 of_room window leaf start item room =
     let long = item_gap leaf start item in
@@ -98,12 +98,12 @@ of_room window leaf start item room =
     ap (λ b. b && nat_le window.len part) (of_le window.len long room.gap) ∙ of_le window.len part room.part
 
 -- it begins and ends where the window has pages
-pub record Touches (window : Window) (start : ℕ) (item : Item) : Type 0 where
+pub record Touches (window : Window) (start : ℕ) (item : NodeItem) : Type 0 where
   pub low : window.lo < item.end
   pub high : start < window.hi
   pub long : start + window.len ≤ item.end
 
-pub touches : (window : Window) (leaf : Bool) (start : ℕ) (item : Item) → 1 ≤ window.len → may_have window leaf start item ≡ true → Touches window start item
+pub touches : (window : Window) (leaf : Bool) (start : ℕ) (item : NodeItem) → 1 ≤ window.len → may_have window leaf start item ≡ true → Touches window start item
 touches window leaf start item some is =
     let room = room_of window leaf start item is in
     let part = room.part in
@@ -116,28 +116,28 @@ pub record Placed (window : Window) (start end s : ℕ) : Type 0 where
   pub low : window.lo ≤ s
   pub high : s + window.len ≤ window.hi
 
-edge_placed : (side : Side) (window : Window) (start : ℕ) (item : Item) → 1 ≤ window.len → window.len ≤ min item.end window.hi - max start window.lo
+edge_placed : (side : Side) (window : Window) (start : ℕ) (item : NodeItem) → 1 ≤ window.len → window.len ≤ min item.end window.hi - max start window.lo
     → Placed window start item.end (edge side window start item)
 edge_placed Low window start item some part = record { above = omega arith; within = omega arith; low = omega arith; high = omega arith }
 edge_placed High window start item some part = record { above = omega arith; within = omega arith; low = omega arith; high = omega arith }
 
 -- one entry: either it has room, or not
-pub spot_some : (side : Side) (window : Window) (start : ℕ) (item : Item) → may_have window true start item ≡ true
+pub spot_some : (side : Side) (window : Window) (start : ℕ) (item : NodeItem) → may_have window true start item ≡ true
     → spot side window start item ≡ Some (edge side window start item)
 unfolding spot
 spot_some side window start item is = ap (λ b. if b then Some (edge side window start item) else None) is
 
-pub spot_none : (side : Side) (window : Window) (start : ℕ) (item : Item) → may_have window true start item ≡ false
+pub spot_none : (side : Side) (window : Window) (start : ℕ) (item : NodeItem) → may_have window true start item ≡ false
     → spot side window start item ≡ None
 unfolding spot
 spot_none side window start item is = ap (λ b. if b then Some (edge side window start item) else None) is
 
-pub record Spot (side : Side) (window : Window) (start : ℕ) (item : Item) (s : ℕ) : Type 0 where
+pub record Spot (side : Side) (window : Window) (start : ℕ) (item : NodeItem) (s : ℕ) : Type 0 where
   pub may : may_have window true start item ≡ true
   pub is : s ≡ edge side window start item
   pub placed : Placed window start item.end s
 
-pub spot_from : (side : Side) (window : Window) (start : ℕ) (item : Item) (s : ℕ) → 1 ≤ window.len → spot side window start item ≡ Some s
+pub spot_from : (side : Side) (window : Window) (start : ℕ) (item : NodeItem) (s : ℕ) → 1 ≤ window.len → spot side window start item ≡ Some s
     → Spot side window start item s
 spot_from side window start item s some is = elim (cases_Bool (may_have window true start item)) as (λ _. Spot side window start item s) [
   | inl may ↦

@@ -3,7 +3,7 @@ use Rattle.std.proofs.Common.{ℕ, ◌≡◌, ◌≢◌, ◌≤◌, ◌+◌, Boo
 use Rattle.std.specs.Prelude.{if◌then◌else◌}
 use Rattle.std.specs.Option.{option_or}
 use Rattle.std.proofs.lemmas.Bool.{cases_Bool}
-use Rattle.maple_node.specs.declared.item.Item.{Item}
+use Rattle.maple_node.specs.declared.item.NodeItem.{NodeItem}
 use Rattle.maple_node.specs.Nodes.{items_of, end_of}
 use Rattle.maple_node.specs.Levels.{AllFrom}
 use Rattle.maple_items.specs.declared.place.Place.{Place}
@@ -29,7 +29,7 @@ far_after Low window a b p q some may after = let is = (touches window a p.start
 far_after High window a b p q some may after = let is = (touches window a p.start p.item some may).high in omega arith
 
 -- what comes before a place with room, and does not go beyond that edge, has room
-pub found_before : (side : Side) (window : Window) (leaf other : Bool) (found : ℕ → Item → Option ℕ) (q r : Place) → 1 ≤ window.len
+pub found_before : (side : Side) (window : Window) (leaf other : Bool) (found : ℕ → NodeItem → Option ℕ) (q r : Place) → 1 ≤ window.len
     → Known window leaf found q.start q.item → may_have window leaf q.start q.item ≡ true → IsFar side window q
     → may_have window other r.start r.item ≡ true → After side q r → found q.start q.item ≡ None → ⊥
 found_before Low window leaf other found q r some known may far room after none =
@@ -40,34 +40,34 @@ found_before High window leaf other found q r some known may far room after none
     known.some may (omega arith) far none
 
 -- a place among items from one page up to another, that may have room
-pub record IsIn (window : Window) (leaf : Bool) (P : ℕ → Item → Type 0) (begin page : ℕ) (place : Place) : Type 0 where
+pub record IsIn (window : Window) (leaf : Bool) (P : ℕ → NodeItem → Type 0) (begin page : ℕ) (place : Place) : Type 0 where
   pub known : P place.start place.item
   pub may : may_have window leaf place.start place.item ≡ true
   pub above : begin ≤ place.start
   pub within : place.item.end ≤ page
 
 -- two places, the second after the first
-abbrev pub AreChosen : Side → Window → Bool → (ℕ → Item → Type 0) → ℕ → ℕ → Option Place → Option Place → Type 0
+abbrev pub AreChosen : Side → Window → Bool → (ℕ → NodeItem → Type 0) → ℕ → ℕ → Option Place → Option Place → Type 0
 AreChosen side window leaf P begin page None None = Unit {0}
 AreChosen side window leaf P begin page None (Some q) = ⊥
 AreChosen side window leaf P begin page (Some p) None = IsIn window leaf P begin page p
 AreChosen side window leaf P begin page (Some p) (Some q) = IsIn window leaf P begin page p × IsIn window leaf P begin page q × After side p q
 
 -- what is found in a place, and in the first of two or else in the second
-abbrev pub told_in : (ℕ → Item → Option ℕ) → Option Place → Option ℕ
+abbrev pub told_in : (ℕ → NodeItem → Option ℕ) → Option Place → Option ℕ
 told_in found None = None
 told_in found (Some p) = found p.start p.item
 
-abbrev pub told : (ℕ → Item → Option ℕ) → Option Place → Option Place → Option ℕ
+abbrev pub told : (ℕ → NodeItem → Option ℕ) → Option Place → Option Place → Option ℕ
 told found first second = option_or (told_in found first) (told_in found second)
 
 -- the same up to a page above
-in_more : (window : Window) (leaf : Bool) (P : ℕ → Item → Type 0) (begin page next : ℕ) (p : Place) → page ≤ next
+in_more : (window : Window) (leaf : Bool) (P : ℕ → NodeItem → Type 0) (begin page next : ℕ) (p : Place) → page ≤ next
     → IsIn window leaf P begin page p → IsIn window leaf P begin next p
 in_more window leaf P begin page next p more is = let within = is.within in
     record { known = is.known; may = is.may; above = is.above; within = omega arith }
 
-chosen_more : (side : Side) (window : Window) (leaf : Bool) (P : ℕ → Item → Type 0) (begin page next : ℕ) (first second : Option Place) → page ≤ next
+chosen_more : (side : Side) (window : Window) (leaf : Bool) (P : ℕ → NodeItem → Type 0) (begin page next : ℕ) (first second : Option Place) → page ≤ next
     → AreChosen side window leaf P begin page first second → AreChosen side window leaf P begin next first second
 chosen_more side window leaf P begin page next None None more is = tt
 chosen_more side window leaf P begin page next None (Some q) more is = absurd is
@@ -76,13 +76,13 @@ chosen_more side window leaf P begin page next (Some p) (Some q) more is =
     (in_more window leaf P begin page next p more is.0, in_more window leaf P begin page next q more is.1, is.2)
 
 -- one item more
-record Taken (side : Side) (window : Window) (leaf : Bool) (P : ℕ → Item → Type 0) (found : ℕ → Item → Option ℕ) (begin page : ℕ) (first second : Option Place) (x : Place) : Type 0 where
+record Taken (side : Side) (window : Window) (leaf : Bool) (P : ℕ → NodeItem → Type 0) (found : ℕ → NodeItem → Option ℕ) (begin page : ℕ) (first second : Option Place) (x : Place) : Type 0 where
   pub are : AreChosen side window leaf P begin x.item.end (chosen side (record { first = first; second = second }) x).first (chosen side (record { first = first; second = second }) x).second
   pub same : pick side (told found first second) (found x.start x.item)
       ≡ told found (chosen side (record { first = first; second = second }) x).first (chosen side (record { first = first; second = second }) x).second
 
-taken : (side : Side) (window : Window) (leaf : Bool) (P : ℕ → Item → Type 0) (found : ℕ → Item → Option ℕ) (begin page : ℕ) (first second : Option Place)
-    (x : Place) → 1 ≤ window.len → ((start : ℕ) (item : Item) → P start item → Known window leaf found start item)
+taken : (side : Side) (window : Window) (leaf : Bool) (P : ℕ → NodeItem → Type 0) (found : ℕ → NodeItem → Option ℕ) (begin page : ℕ) (first second : Option Place)
+    (x : Place) → 1 ≤ window.len → ((start : ℕ) (item : NodeItem) → P start item → Known window leaf found start item)
     → AreChosen side window leaf P begin page first second → x.start ≡ page → begin ≤ page → P x.start x.item → may_have window leaf x.start x.item ≡ true
     → Taken side window leaf P found begin page first second x
 taken side window leaf P found begin page None (Some q) x some all are at above known may = absurd are
@@ -145,12 +145,12 @@ taken High window leaf P found begin page (Some p) (Some q) x some all are at ab
     }
 
 -- all items of a node
-pub record Chosen (side : Side) (window : Window) (leaf : Bool) (P : ℕ → Item → Type 0) (found : ℕ → Item → Option ℕ) (begin end : ℕ) (before : Option ℕ) (rest : Option ℕ) (choice : Choice) : Type 0 where
+pub record Chosen (side : Side) (window : Window) (leaf : Bool) (P : ℕ → NodeItem → Type 0) (found : ℕ → NodeItem → Option ℕ) (begin end : ℕ) (before : Option ℕ) (rest : Option ℕ) (choice : Choice) : Type 0 where
   pub are : AreChosen side window leaf P begin end choice.first choice.second
   pub same : pick side before rest ≡ told found choice.first choice.second
 
-pub chosen_all : (side : Side) (window : Window) (leaf : Bool) (P : ℕ → Item → Type 0) (found : ℕ → Item → Option ℕ) (begin page : ℕ) (choice : Choice)
-    (items : List Item) → 1 ≤ window.len → ((start : ℕ) (item : Item) → P start item → Known window leaf found start item)
+pub chosen_all : (side : Side) (window : Window) (leaf : Bool) (P : ℕ → NodeItem → Type 0) (found : ℕ → NodeItem → Option ℕ) (begin page : ℕ) (choice : Choice)
+    (items : List NodeItem) → 1 ≤ window.len → ((start : ℕ) (item : NodeItem) → P start item → Known window leaf found start item)
     → AreChosen side window leaf P begin page choice.first choice.second → begin ≤ page → AllFrom P page items
     → Chosen side window leaf P found begin (end_of page items) (told found choice.first choice.second) (over side found page items)
     (chosen_from side window leaf choice page items)

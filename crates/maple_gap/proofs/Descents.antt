@@ -2,7 +2,7 @@
 use Rattle.std.proofs.Common.{ℕ, suc, ◌≡◌, ◌≤◌, Bool, true, List, Option, Some, None, refl, sym, ap, subst, ◌∙◌, arith}
 use Rattle.std.specs.Prelude.{IfSome}
 use Rattle.std.specs.Option.{option_or}
-use Rattle.maple_node.specs.declared.item.Item.{Item}
+use Rattle.maple_node.specs.declared.item.NodeItem.{NodeItem}
 use Rattle.maple_node.specs.Levels.{is_leaf, read, level_of}
 use Rattle.maple_items.specs.declared.place.Place.{Place}
 use Rattle.maple_gap.specs.declared.window.Side.{Side}
@@ -16,11 +16,11 @@ use Rattle.maple_gap.proofs.Under.{found_in, over, found-down, known_under}
 use Rattle.maple_gap.proofs.Choices.{After, IsIn, AreChosen, told, far_after, found_before, chosen_all}
 
 -- what was chosen of the items of a node, and what is found there
-pub record Seen (side : Side) (window : Window) (at : ℕ → List ℕ) (limit level start : ℕ) (item : Item) (first second : Option Place) : Type 0 where
+pub record Seen (side : Side) (window : Window) (at : ℕ → List ℕ) (limit level start : ℕ) (item : NodeItem) (first second : Option Place) : Type 0 where
   pub are : AreChosen side window (is_leaf level) (IsUnder at limit level) start item.end first second
   pub same : found_in side window at (suc level) start item ≡ told (found_in side window at level) first second
 
-pub seen : (side : Side) (window : Window) (at : ℕ → List ℕ) (limit up level start : ℕ) (item : Item) (leaf : Bool) (items : List Item) (choice : Choice)
+pub seen : (side : Side) (window : Window) (at : ℕ → List ℕ) (limit up level start : ℕ) (item : NodeItem) (leaf : Bool) (items : List NodeItem) (choice : Choice)
     → 1 ≤ window.len → up ≡ suc level → IsUnder at limit up start item → leaf ≡ is_leaf level → items ≡ read at leaf item.word
     → choice ≡ chosen_from side window leaf nothing_chosen start items → Seen side window at limit level start item choice.first choice.second
 unfolding IsUnder

@@ -4,7 +4,7 @@ use Rattle.std.specs.Prelude.{nat_eq, nat_le, if◌then◌else◌}
 use Rattle.std.proofs.lemmas.Bool.{cases_lt, cases_eq, cases_Bool}
 use Rattle.std.proofs.lemmas.Bool.Decides.{nat_tests}
 use Rattle.mm_types.specs.Searches.{is_clear_of}
-use Rattle.maple_node.specs.declared.item.Item.{Item}
+use Rattle.maple_node.specs.declared.item.NodeItem.{NodeItem}
 use Rattle.maple_node.specs.Nodes.{end_of, Ascends, item_gap}
 use Rattle.maple_node.specs.Trees.{Pair, pairs_from, ApartFrom}
 use Rattle.maple_gap.specs.declared.window.Side.{Side}
@@ -15,7 +15,7 @@ use Rattle.maple_gap.specs.Internal.Searches.{may_have, edge, spot, pick, best, 
 use Rattle.maple_gap.proofs.Best.{room_of, of_room, Placed, spot_from, spot_some, spot_none}
 
 -- so many pages from a start on lie in a gap of entries that begin at a page, and in the window
-abbrev pub FitsIn : Window → ℕ → List Item → ℕ → Type 0
+abbrev pub FitsIn : Window → ℕ → List NodeItem → ℕ → Type 0
 FitsIn window start [] s = ⊥
 FitsIn window start (x ∷ xs) s = ((x.word ≡ 0) × Placed window start x.end s) ⊎ FitsIn window x.end xs s
 
@@ -26,21 +26,21 @@ IsSought Low F (Some b) = F b × ((s : ℕ) → F s → b ≤ s)
 IsSought High F (Some b) = F b × ((s : ℕ) → F s → s ≤ b)
 
 -- in one entry
-gap_of_entry : (start : ℕ) (x : Item) → x.word ≡ 0 → item_gap true start x ≡ x.end - start
+gap_of_entry : (start : ℕ) (x : NodeItem) → x.word ≡ 0 → item_gap true start x ≡ x.end - start
 gap_of_entry start x gap =
     let test : nat_eq x.word 0 ≡ true = grind (arith, nat_tests) in ap (λ b. if b then x.end - start else 0) test
 
-no_gap : (start : ℕ) (x : Item) → x.word ≢ 0 → item_gap true start x ≡ 0
+no_gap : (start : ℕ) (x : NodeItem) → x.word ≢ 0 → item_gap true start x ≡ 0
 no_gap start x slot =
     let test : nat_eq x.word 0 ≡ false = grind (arith, nat_tests) in ap (λ b. if b then x.end - start else 0) test
 
-is_gap : (window : Window) (start : ℕ) (x : Item) → 1 ≤ window.len → may_have window true start x ≡ true → x.word ≡ 0
+is_gap : (window : Window) (start : ℕ) (x : NodeItem) → 1 ≤ window.len → may_have window true start x ≡ true → x.word ≡ 0
 is_gap window start x some may = elim (cases_eq x.word 0) as (λ _. x.word ≡ 0) [
   | inl gap ↦ gap
   | inr slot ↦ let long = (room_of window true start x may).gap in let none = no_gap start x slot in absurd (omega arith)
 ]
 
-has_room : (window : Window) (start : ℕ) (x : Item) (s : ℕ) → x.word ≡ 0 → Placed window start x.end s → may_have window true start x ≡ true
+has_room : (window : Window) (start : ℕ) (x : NodeItem) (s : ℕ) → x.word ≡ 0 → Placed window start x.end s → may_have window true start x ≡ true
 has_room window start x s gap is =
     let long = gap_of_entry start x gap in
     let a = is.above in
@@ -49,12 +49,12 @@ has_room window start x s gap is =
     let e = is.high in
     of_room window true start x (record { gap = omega arith; part = omega arith })
 
-extreme : (side : Side) (window : Window) (start : ℕ) (x : Item) → x.word ≡ 0 → Placed window start x.end (edge side window start x)
+extreme : (side : Side) (window : Window) (start : ℕ) (x : NodeItem) → x.word ≡ 0 → Placed window start x.end (edge side window start x)
     → IsSought side (λ s. (x.word ≡ 0) × Placed window start x.end s) (Some (edge side window start x))
 extreme Low window start x gap here = ((gap, here), λ s is. let a = is.1.above in let b = is.1.low in omega arith)
 extreme High window start x gap here = ((gap, here), λ s is. let a = is.1.within in let b = is.1.high in omega arith)
 
-sought_entry : (side : Side) (window : Window) (start : ℕ) (x : Item) → 1 ≤ window.len
+sought_entry : (side : Side) (window : Window) (start : ℕ) (x : NodeItem) → 1 ≤ window.len
     → IsSought side (λ s. (x.word ≡ 0) × Placed window start x.end s) (spot side window start x)
 sought_entry side window start x some =
     let F : ℕ → Type 0 = λ s. (x.word ≡ 0) × Placed window start x.end s in
@@ -80,7 +80,7 @@ sought_both High F G (Some b) None order f g = (inl f.0, λ s is. elim is as (λ
 sought_both Low F G (Some b) (Some d) order f g = (inl f.0, λ s is. elim is as (λ _. b ≤ s) [ inl a ↦ f.1 s a | inr e ↦ order b s f.0 e ])
 sought_both High F G (Some b) (Some d) order f g = (inr g.0, λ s is. elim is as (λ _. s ≤ d) [ inl a ↦ order s d a g.0 | inr e ↦ g.1 s e ])
 
-fits_above : (window : Window) (start : ℕ) (xs : List Item) (s : ℕ) → Ascends start xs → FitsIn window start xs s → start ≤ s
+fits_above : (window : Window) (start : ℕ) (xs : List NodeItem) (s : ℕ) → Ascends start xs → FitsIn window start xs s → start ≤ s
 fits_above window start [] s ascends is = absurd is
 fits_above window start (x ∷ xs) s ascends is =
     let past = ascends.0 in
@@ -89,7 +89,7 @@ fits_above window start (x ∷ xs) s ascends is =
       | inr there ↦ let later = fits_above window x.end xs s ascends.1 there in omega arith
     ]
 
-fits_window : (window : Window) (start : ℕ) (xs : List Item) (s : ℕ) → FitsIn window start xs s → (window.lo ≤ s) × (s + window.len ≤ window.hi)
+fits_window : (window : Window) (start : ℕ) (xs : List NodeItem) (s : ℕ) → FitsIn window start xs s → (window.lo ≤ s) × (s + window.len ≤ window.hi)
 fits_window window start [] s is = absurd is
 fits_window window start (x ∷ xs) s is = elim is as (λ _. (window.lo ≤ s) × (s + window.len ≤ window.hi)) [
   | inl here ↦ (here.1.low, here.1.high)
@@ -97,7 +97,7 @@ fits_window window start (x ∷ xs) s is = elim is as (λ _. (window.lo ≤ s) �
 ]
 
 -- what is sought among entries
-pub best_sought : (side : Side) (window : Window) (start : ℕ) (xs : List Item) → 1 ≤ window.len → Ascends start xs
+pub best_sought : (side : Side) (window : Window) (start : ℕ) (xs : List NodeItem) → 1 ≤ window.len → Ascends start xs
     → IsSought side (FitsIn window start xs) (best side window start xs)
 unfolding best
 best_sought side window start [] some ascends = λ s is. is
@@ -128,7 +128,7 @@ or_right : (a b : Bool) → b ≡ true → (a || b) ≡ true
 or_right true b is = refl
 or_right false b is = is
 
-free_cons : (start len s : ℕ) (x : Item) (xs : List Item) → is_clear_of (map span_of (pairs_from start (x ∷ xs))) len s
+free_cons : (start len s : ℕ) (x : NodeItem) (xs : List NodeItem) → is_clear_of (map span_of (pairs_from start (x ∷ xs))) len s
     ≡ ((if nat_eq x.word 0 then true else (nat_le (s + len) start || nat_le x.end s)) && is_clear_of (map span_of (pairs_from x.end xs)) len s)
 free_cons start len s x xs =
     let pair : Pair = record { lo = start; hi = x.end; slot = x.word - 1 } in
@@ -136,11 +136,11 @@ free_cons start len s x xs =
     elim (nat_eq x.word 0) as (λ b. is_clear_of (map span_of ((if b then [] else (pair ∷ [])) ++ rest)) len s
     ≡ ((if b then true else (nat_le (s + len) start || nat_le x.end s)) && is_clear_of (map span_of rest) len s)) [ true ↦ refl | false ↦ refl ]
 
-record Free (start len s : ℕ) (x : Item) (xs : List Item) : Type 0 where
+record Free (start len s : ℕ) (x : NodeItem) (xs : List NodeItem) : Type 0 where
   pub here : x.word ≢ 0 → (s + len ≤ start) ⊎ (x.end ≤ s)
   pub rest : is_clear_of (map span_of (pairs_from x.end xs)) len s ≡ true
 
-free_of : (start len s : ℕ) (x : Item) (xs : List Item) → is_clear_of (map span_of (pairs_from start (x ∷ xs))) len s ≡ true → Free start len s x xs
+free_of : (start len s : ℕ) (x : NodeItem) (xs : List NodeItem) → is_clear_of (map span_of (pairs_from start (x ∷ xs))) len s ≡ true → Free start len s x xs
 free_of start len s x xs is =
     let test = (if nat_eq x.word 0 then true else (nat_le (s + len) start || nat_le x.end s)) in
     let both = and_both test (is_clear_of (map span_of (pairs_from x.end xs)) len s) (sym (free_cons start len s x xs) ∙ is) in
@@ -156,7 +156,7 @@ free_of start len s x xs is =
       rest = both.1;
     }
 
-of_free : (start len s : ℕ) (x : Item) (xs : List Item) → (x.word ≢ 0 → (s + len ≤ start) ⊎ (x.end ≤ s)) → is_clear_of (map span_of (pairs_from x.end xs)) len s ≡ true
+of_free : (start len s : ℕ) (x : NodeItem) (xs : List NodeItem) → (x.word ≢ 0 → (s + len ≤ start) ⊎ (x.end ≤ s)) → is_clear_of (map span_of (pairs_from x.end xs)) len s ≡ true
     → is_clear_of (map span_of (pairs_from start (x ∷ xs))) len s ≡ true
 of_free start len s x xs here rest =
     let other = is_clear_of (map span_of (pairs_from x.end xs)) len s in
@@ -175,14 +175,14 @@ of_free start len s x xs here rest =
     ]
 
 -- pages below all entries are free
-free_below : (start len s : ℕ) (xs : List Item) → Ascends start xs → s + len ≤ start → is_clear_of (map span_of (pairs_from start xs)) len s ≡ true
+free_below : (start len s : ℕ) (xs : List NodeItem) → Ascends start xs → s + len ≤ start → is_clear_of (map span_of (pairs_from start xs)) len s ≡ true
 free_below start len s [] ascends below = refl
 free_below start len s (x ∷ xs) ascends below =
     let past = ascends.0 in
     of_free start len s x xs (λ slot. inl below) (free_below x.end len s xs ascends.1 (omega arith))
 
 -- pages in a gap are free
-fits_free : (window : Window) (start : ℕ) (xs : List Item) (s : ℕ) → Ascends start xs → FitsIn window start xs s
+fits_free : (window : Window) (start : ℕ) (xs : List NodeItem) (s : ℕ) → Ascends start xs → FitsIn window start xs s
     → is_clear_of (map span_of (pairs_from start xs)) window.len s ≡ true
 fits_free window start [] s ascends is = absurd is
 fits_free window start (x ∷ xs) s ascends is = elim is as (λ _. is_clear_of (map span_of (pairs_from start (x ∷ xs))) window.len s ≡ true) [
@@ -193,7 +193,7 @@ fits_free window start (x ∷ xs) s ascends is = elim is as (λ _. is_clear_of (
 ]
 
 -- and free pages lie in one gap, since two gaps never follow each other
-free_fits : (window : Window) (before start : ℕ) (xs : List Item) (s : ℕ) → 1 ≤ window.len → Ascends start xs → ApartFrom before xs → start ≤ s
+free_fits : (window : Window) (before start : ℕ) (xs : List NodeItem) (s : ℕ) → 1 ≤ window.len → Ascends start xs → ApartFrom before xs → start ≤ s
     → window.lo ≤ s → s + window.len ≤ window.hi → window.hi ≤ end_of start xs → is_clear_of (map span_of (pairs_from start xs)) window.len s ≡ true
     → FitsIn window start xs s
 free_fits window before start [] s some ascends apart above low high limit free = absurd (omega arith)
@@ -216,7 +216,7 @@ free_fits window before start (x ∷ xs) s some ascends apart above low high lim
             },
           )
     ] where
-      whole : (xs : List Item) → Ascends x.end xs → ApartFrom x.word xs → window.hi ≤ end_of x.end xs → x.word ≡ 0 → s < x.end
+      whole : (xs : List NodeItem) → Ascends x.end xs → ApartFrom x.word xs → window.hi ≤ end_of x.end xs → x.word ≡ 0 → s < x.end
           → is_clear_of (map span_of (pairs_from x.end xs)) window.len s ≡ true → s + window.len ≤ x.end
       whole [] ascends apart limit gap within free = omega arith
       whole (y ∷ ys) ascends apart limit gap within free =
@@ -241,11 +241,11 @@ fits_of pairs len lo hi s low high free =
     ∙ ap (λ b. b && is_clear_of (map span_of pairs) len s) (of_le (s + len) hi high) ∙ free
 
 -- what is sought among entries is sought among free pages
-pub record Same (window : Window) (entries : List Item) : Type 0 where
+pub record Same (window : Window) (entries : List NodeItem) : Type 0 where
   pub free : (s : ℕ) → FitsIn window 0 entries s → fits (pairs_from 0 entries) window.len window.lo window.hi s ≡ true
   pub lies : (s : ℕ) → fits (pairs_from 0 entries) window.len window.lo window.hi s ≡ true → FitsIn window 0 entries s
 
-same_fits : (window : Window) (entries : List Item) → 1 ≤ window.len → Ascends 0 entries → ApartFrom 1 entries → window.hi ≤ end_of 0 entries
+same_fits : (window : Window) (entries : List NodeItem) → 1 ≤ window.len → Ascends 0 entries → ApartFrom 1 entries → window.hi ≤ end_of 0 entries
     → Same window entries
 same_fits window entries some ascends apart limit = record {
   free = λ s is.
@@ -273,7 +273,7 @@ to_answer High F passes (Some b) to from is = record {
   none_greater = λ m more. not_true (passes m) (λ pass. let order = is.1 m (from m pass) in omega arith);
 }
 
-pub answer_of : (side : Side) (window : Window) (entries : List Item) → 1 ≤ window.len → Ascends 0 entries → ApartFrom 1 entries
+pub answer_of : (side : Side) (window : Window) (entries : List NodeItem) → 1 ≤ window.len → Ascends 0 entries → ApartFrom 1 entries
     → window.hi ≤ end_of 0 entries → IsAnswer side (fits (pairs_from 0 entries) window.len window.lo window.hi) (best side window 0 entries)
 answer_of side window entries some ascends apart limit =
     let same = same_fits window entries some ascends apart limit in

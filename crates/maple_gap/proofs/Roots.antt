@@ -4,7 +4,7 @@ use Rattle.std.specs.Prelude.{nat_eq}
 use Rattle.std.proofs.lemmas.Bool.{cases_lt}
 use Rattle.std.proofs.lemmas.Bool.Decides.{nat_tests}
 use Rattle.std.proofs.lemmas.List.Elements.{All-weaker, All-cons, All-nil}
-use Rattle.maple_node.specs.declared.item.Item.{Item}
+use Rattle.maple_node.specs.declared.item.NodeItem.{NodeItem}
 use Rattle.maple_node.specs.Nodes.{leaf_items, Ascends, gap_of}
 use Rattle.maple_node.specs.Levels.{is_leaf, read, below, AllFrom, IsNode, level_of, IsTower}
 use Rattle.maple_node.specs.Trees.{pairs_from, entries_of, ApartFrom}
@@ -21,7 +21,7 @@ use Rattle.maple_gap.proofs.Rows.{node_there, node_under}
 use Rattle.maple_gap.proofs.Under.{entries_any}
 
 -- nodes, under each of which all is so
-split : (at : ℕ → List ℕ) (leaf : Bool) (limit : ℕ) (P : ℕ → Item → Type 0) (start : ℕ) (items : List Item) → AllFrom (IsNode at leaf limit) start items
+split : (at : ℕ → List ℕ) (leaf : Bool) (limit : ℕ) (P : ℕ → NodeItem → Type 0) (start : ℕ) (items : List NodeItem) → AllFrom (IsNode at leaf limit) start items
     → AllFrom P start (below at leaf items) → AllFrom (λ s item. IsNode at leaf limit s item × AllFrom P s (read at leaf item.word)) start items
 split at leaf limit P start [] nodes all = tt
 split at leaf limit P start (x ∷ xs) nodes all =
@@ -30,12 +30,12 @@ split at leaf limit P start (x ∷ xs) nodes all =
     let later : AllFrom P x.end others = subst (λ (p : ℕ). AllFrom P p others) nodes.0.until (AllFrom-right P start here others all) in
     ((nodes.0, AllFrom-left P start here others all), split at leaf limit P x.end xs nodes.1 later)
 
-past_all : (start : ℕ) (items : List Item) → Ascends start items → AllFrom (λ s item. s < item.end) start items
+past_all : (start : ℕ) (items : List NodeItem) → Ascends start items → AllFrom (λ s item. s < item.end) start items
 past_all start [] ascends = tt
 past_all start (x ∷ xs) ascends = (ascends.0, past_all x.end xs ascends.1)
 
 -- a tower, seen from above
-tower_under : (at : ℕ → List ℕ) (limit level : ℕ) (items : List Item) → Ascends 0 items → IsTower at limit 0 level items
+tower_under : (at : ℕ → List ℕ) (limit level : ℕ) (items : List NodeItem) → Ascends 0 items → IsTower at limit 0 level items
     → AllFrom (IsUnder at limit level) 0 items
 unfolding IsUnder IsTower
 tower_under at limit zero items ascends tower = past_all 0 items ascends
@@ -47,12 +47,12 @@ tower_under at limit (suc level) items ascends tower =
     (tower_under at limit level (below at (is_leaf level) items) (below-ascends at (is_leaf level) limit 0 items nodes) rest)
 
 -- words of entries have at most 33 bits
-few_words : (writer : NodeWriter) (entries : List Item) → All (λ entry. entry.word ≤ (sight writer).size.slots) entries
+few_words : (writer : NodeWriter) (entries : List NodeItem) → All (λ entry. entry.word ≤ (sight writer).size.slots) entries
     → All (λ entry. entry.word ≤ 2 ^ 32) entries
 few_words writer entries few =
     let size = ap (λ s. s.slots) writer.writer_state.kept.size_is in
     let bound = writer.writer_state.table.sized.few_slots in
-    All-weaker (λ (entry : Item). entry.word ≤ (sight writer).size.slots) (λ (entry : Item). entry.word ≤ 2 ^ 32) (λ entry is. omega arith) entries few
+    All-weaker (λ (entry : NodeItem). entry.word ≤ (sight writer).size.slots) (λ (entry : NodeItem). entry.word ≤ 2 ^ 32) (λ entry is. omega arith) entries few
 
 -- the whole of a tree that was built is under its root
 top_under : (writer : NodeWriter) (tree : View) → IsBuilt writer tree
@@ -78,13 +78,13 @@ blank_tree at height root one none zeros =
     subst (λ (h : ℕ). read at (is_leaf (h - 1)) root ≡ []) (sym one)
     (subst (λ (r : ℕ). read at true r ≡ []) (sym none) (blank_at at zeros))
 
-blank_entries : (at : ℕ → List ℕ) (height : ℕ) (top : Item) → height ≡ 1 → top.word ≡ 0 → at 0 ≡ replicate 32 0
+blank_entries : (at : ℕ → List ℕ) (height : ℕ) (top : NodeItem) → height ≡ 1 → top.word ≡ 0 → at 0 ≡ replicate 32 0
     → entries_of at (record { top = top; height = height }) ≡ []
 unfolding level_of
 blank_entries at height top one none zeros =
     ap (λ (h : ℕ). level_of at 0 h (top ∷ [])) one
     ∙ ap (λ (r : ℕ). read at true r ++ []) none
-    ∙ ap (λ (xs : List Item). xs ++ []) (blank_at at zeros)
+    ∙ ap (λ (xs : List NodeItem). xs ++ []) (blank_at at zeros)
 
 -- the root lies in a row of the table
 pub root_there : (writer : NodeWriter) (tree : View) → IsWriters writer tree → tree.root.0 < row_count writer
@@ -97,7 +97,7 @@ root_there writer tree is = elim is as (λ _. tree.root.0 < row_count writer) [
 ]
 
 -- a tree without entries is one gap
-pub gap_root : (writer : NodeWriter) (tree : View) (items : List Item) → IsWriters writer tree
+pub gap_root : (writer : NodeWriter) (tree : View) (items : List NodeItem) → IsWriters writer tree
     → items ≡ read (words_at writer) (is_leaf (tree.height - 1)) tree.root.0 → length items ≡ 0
     → IsRootOf writer tree (record { place = record { start = 0; item = record { end = tree.limit.0; word = 0; gap = 0 } }; level = 0 })
 unfolding IsUnder level_of
@@ -106,7 +106,7 @@ gap_root writer tree items is are none =
     elim is as (λ _. Goal) [
       | inl made ↦
           let some = (top_node writer tree made).some in
-          let same = ap (λ (xs : List Item). length xs) are in
+          let same = ap (λ (xs : List NodeItem). length xs) are in
           absurd (omega arith)
       | inr blank ↦ record {
         branch = record { limit = 0; gap = 0; under = blank.some };
@@ -114,37 +114,37 @@ gap_root writer tree items is are none =
         limit = refl;
         low = omega arith;
         apart = (λ one gap. absurd (omega arith), tt);
-        numbered = All-cons (λ (entry : Item). entry.word ≤ 2 ^ 32) (record { end = tree.limit.0; word = 0; gap = 0 }) [] (omega arith) (All-nil (λ (entry : Item). entry.word ≤ 2 ^ 32));
+        numbered = All-cons (λ (entry : NodeItem). entry.word ≤ 2 ^ 32) (record { end = tree.limit.0; word = 0; gap = 0 }) [] (omega arith) (All-nil (λ (entry : NodeItem). entry.word ≤ 2 ^ 32));
         pairs = sym (ap (pairs_from 0) (blank_entries (words_at writer) tree.height (built writer tree).top blank.height blank.root blank.words));
       }
     ]
 
 -- and another one is what its root lists
-pub whole_root : (writer : NodeWriter) (tree : View) (items : List Item) (row : ℕ) → IsWriters writer tree
+pub whole_root : (writer : NodeWriter) (tree : View) (items : List NodeItem) (row : ℕ) → IsWriters writer tree
     → items ≡ read (words_at writer) (is_leaf (tree.height - 1)) tree.root.0 → (length items ≡ 0 → ⊥) → row ≡ tree.root.0
     → IsRootOf writer tree (record { place = record { start = 0; item = record { end = tree.limit.0; word = row; gap = 0 } }; level = tree.height })
 whole_root writer tree items row is are some here =
-    let At : Item → Type 0 = λ x. IsRootOf writer tree (record { place = record { start = 0; item = x }; level = tree.height }) in
+    let At : NodeItem → Type 0 = λ x. IsRootOf writer tree (record { place = record { start = 0; item = x }; level = tree.height }) in
     elim is as (λ _. At (record { end = tree.limit.0; word = row; gap = 0 })) [
       | inl made ↦
           let at = words_at writer in
           let top = (built writer tree).top in
           let same = entries_any at tree.height 0 top made.layout.tall in
-          let From : ℕ → Item = λ e. record { end = e; word = top.word; gap = 0 } in
-          let Told : ℕ → Item = λ w. record { end = tree.limit.0; word = w; gap = 0 } in
+          let From : ℕ → NodeItem = λ e. record { end = e; word = top.word; gap = 0 } in
+          let Told : ℕ → NodeItem = λ w. record { end = tree.limit.0; word = w; gap = 0 } in
           subst At (ap From made.limit ∙ ap Told (sym here)) (record {
             branch = record { limit = top.end; gap = top.gap; under = top_under writer tree made };
             begin = refl;
             limit = made.limit;
             low = omega arith;
-            apart = subst (λ (es : List Item). ApartFrom 1 es) (sym same) made.layout.apart;
-            numbered = subst (λ (es : List Item). All (λ entry. entry.word ≤ 2 ^ 32) es) (sym same)
+            apart = subst (λ (es : List NodeItem). ApartFrom 1 es) (sym same) made.layout.apart;
+            numbered = subst (λ (es : List NodeItem). All (λ entry. entry.word ≤ 2 ^ 32) es) (sym same)
                 (few_words writer (entries_of at (built writer tree)) made.layout.numbered);
             pairs = ap (pairs_from 0) same;
           })
       | inr blank ↦
           let none = blank_tree (words_at writer) tree.height tree.root.0 blank.height blank.root blank.words in
-          absurd (some (ap (λ (xs : List Item). length xs) (are ∙ none)))
+          absurd (some (ap (λ (xs : List NodeItem). length xs) (are ∙ none)))
     ]
 
 -- a branch that is an entry may tell any gap
@@ -178,7 +178,7 @@ pub record Gapped (writer : NodeWriter) (tree : View) (branch : Branch) : Type 0
   pub root : IsRootOf writer tree branch
   pub right : IsBranch (words_at writer) branch
 
-pub gapped : (writer : NodeWriter) (tree : View) (root : Branch) (leaf : Bool) (items : List Item) (gap : ℕ) → IsRootOf writer tree root → 1 ≤ root.level
+pub gapped : (writer : NodeWriter) (tree : View) (root : Branch) (leaf : Bool) (items : List NodeItem) (gap : ℕ) → IsRootOf writer tree root → 1 ≤ root.level
     → leaf ≡ is_leaf (root.level - 1) → items ≡ read (words_at writer) leaf root.place.item.word → gap ≡ gap_of leaf root.place.start items
     → Gapped writer tree (record { place = record { start = root.place.start; item = with_gap gap root.place.item }; level = root.level })
 gapped writer tree root leaf items gap is above below are largest =
@@ -195,8 +195,8 @@ gapped writer tree root leaf items gap is above below are largest =
         begin = is.begin;
         limit = is.limit;
         low = is.low;
-        apart = subst (λ (es : List Item). ApartFrom 1 es) (sym same) is.apart;
-        numbered = subst (λ (es : List Item). All (λ entry. entry.word ≤ 2 ^ 32) es) (sym same) is.numbered;
+        apart = subst (λ (es : List NodeItem). ApartFrom 1 es) (sym same) is.apart;
+        numbered = subst (λ (es : List NodeItem). All (λ entry. entry.word ≤ 2 ^ 32) es) (sym same) is.numbered;
         pairs = ap (pairs_from 0) same ∙ is.pairs;
       };
       right = record { limit = is.branch.limit; under = under };

@@ -2,7 +2,7 @@
 use Rattle.std.proofs.Common.{ℕ, suc, ◌≡◌, ◌<◌, Bool, true, false, List, [], length, refl, sym, ap, subst, ◌∙◌, arith, inl, inr}
 use Rattle.std.proofs.lemmas.Bool.{cases_lt}
 use Rattle.std.proofs.lemmas.List.{get_or_past}
-use Rattle.maple_node.specs.declared.item.Item.{Item}
+use Rattle.maple_node.specs.declared.item.NodeItem.{NodeItem}
 use Rattle.maple_node.specs.Nodes.{items_of, leaf_items, inner_items}
 use Rattle.maple_node.specs.Levels.{is_leaf, at_of, read, IsNode}
 use Rattle.node_slots.specs.declared.seats.NodeWriter.{NodeWriter}
@@ -17,12 +17,12 @@ no_items true = refl
 no_items false = refl
 
 -- a node lies in a row of the table
-row_there : (rows : List (List ℕ)) (leaf : Bool) (limit start : ℕ) (item : Item) → IsNode (at_of rows) leaf limit start item → item.word < length rows
+row_there : (rows : List (List ℕ)) (leaf : Bool) (limit start : ℕ) (item : NodeItem) → IsNode (at_of rows) leaf limit start item → item.word < length rows
 row_there rows leaf limit start item node = elim (cases_lt item.word (length rows)) as (λ _. item.word < length rows) [
   | inl within ↦ within
   | inr past ↦
       let none : read (at_of rows) leaf item.word ≡ [] = ap (items_of leaf) (get_or_past rows item.word [] past) ∙ no_items leaf in
-      let long = ap (λ (xs : List Item). length xs) none in
+      let long = ap (λ (xs : List NodeItem). length xs) none in
       let some = node.some in
       absurd (omega arith)
 ]
@@ -32,14 +32,14 @@ rows_counted writer =
     let kept = writer.writer_state.kept in
     ap (λ (ws : List (List ℕ)). length ws) kept.words_are ∙ kept.rows ∙ sym (ap (λ s. s.rows) kept.size_is)
 
-pub node_there : (writer : NodeWriter) (leaf : Bool) (limit start : ℕ) (item : Item) → IsNode (words_at writer) leaf limit start item → item.word < row_count writer
+pub node_there : (writer : NodeWriter) (leaf : Bool) (limit start : ℕ) (item : NodeItem) → IsNode (words_at writer) leaf limit start item → item.word < row_count writer
 node_there writer leaf limit start item node =
     let there = row_there (writer_state writer).words leaf limit start item node in
     let long = rows_counted writer in
     omega arith
 
 -- an item above the entries is a node
-pub node_under : (at : ℕ → List ℕ) (limit up level start : ℕ) (item : Item) → up ≡ suc level → IsUnder at limit up start item
+pub node_under : (at : ℕ → List ℕ) (limit up level start : ℕ) (item : NodeItem) → up ≡ suc level → IsUnder at limit up start item
     → IsNode at (is_leaf level) limit start item
 unfolding IsUnder
 node_under at limit up level start item e under = (opened e under).0 where

@@ -2,7 +2,7 @@
 use Rattle.std.proofs.Common.{ℕ, ◌≡◌, ◌≤◌, true, false, List, Option, Some, None, refl, sym, ap, subst, ◌∙◌, arith}
 use Rattle.std.specs.Prelude.{is_some, IfSome}
 use Rattle.std.specs.Option.{option_or}
-use Rattle.maple_node.specs.declared.item.Item.{Item}
+use Rattle.maple_node.specs.declared.item.NodeItem.{NodeItem}
 use Rattle.maple_node.specs.Nodes.{end_of, Ascends}
 use Rattle.maple_node.specs.Levels.{is_leaf}
 use Rattle.maple_node.specs.Trees.{Pair, pairs_from}
@@ -18,7 +18,7 @@ use Rattle.maple_gap.proofs.Under.{spread_any, found_in, Known, known_under}
 use Rattle.maple_gap.proofs.Free.{answer_of}
 
 -- the entries of the whole tree
-pub record Entries (limit : ℕ) (entries : List Item) : Type 0 where
+pub record Entries (limit : ℕ) (entries : List NodeItem) : Type 0 where
   pub ascends : Ascends 0 entries
   pub ending : end_of 0 entries ≡ limit
 

@@ -11,7 +11,7 @@ ghost use Rattle.maple_gap.specs.Internal.Searches.{may_have, entries_under, bes
 
 use crate::window::{Side, Window, choose};
 use maple_items::{Place, gap_in, item_in, lists_nothing};
-use maple_node::Item;
+use maple_node::NodeItem;
 use mm_types::{Row, Steps};
 use node_slots::{NodeWriter, Tree};
 
@@ -52,7 +52,7 @@ pub(crate) fn root_of<L>(writer: &NodeWriter, tree: &Tree, steps: &mut Steps<L>)
         return Branch {
             place: Place {
                 start: 0,
-                item: Item {
+                item: NodeItem {
                     end,
                     word: 0,
                     gap: 0,
@@ -64,7 +64,7 @@ pub(crate) fn root_of<L>(writer: &NodeWriter, tree: &Tree, steps: &mut Steps<L>)
     Branch {
         place: Place {
             start: 0,
-            item: Item {
+            item: NodeItem {
                 end,
                 word: row,
                 gap: 0,
@@ -92,7 +92,7 @@ pub(crate) fn root_with_gap<L>(writer: &NodeWriter, tree: &Tree, steps: &mut Ste
     Branch {
         place: Place {
             start,
-            item: Item { gap, ..item },
+            item: NodeItem { gap, ..item },
         },
         level: root.level,
     }

@@ -2,7 +2,7 @@
 use Rattle.std.proofs.Common.{ℕ, ◌≡◌, ◌<◌, ◌≤◌, ◌+◌, Bool, true, false, List, [], ◌∷◌, length, drop, Some, refl, sym, ap, subst, ◌∙◌, arith, inl, inr, ◌⊎◌}
 use Rattle.std.proofs.lemmas.List.{length-drop}
 use Rattle.std.proofs.lemmas.Bool.{cases_lt}
-use Rattle.maple_node.specs.declared.item.Item.{Item}
+use Rattle.maple_node.specs.declared.item.NodeItem.{NodeItem}
 use Rattle.maple_node.specs.Nodes.{leaf_items, inner_items, items_of, end_of, Ascends}
 use Rattle.maple_node.specs.Levels.{item_at}
 use Rattle.maple_items.specs.Splices.{ending_by}
@@ -29,7 +29,7 @@ pub record Listed (leaf : Bool) (words : List ℕ) (place : ℕ) : Type 0 where
   pub room : place + width_of leaf ≤ length words
   pub is : items_of leaf (drop place words) ≡ listed_at leaf words place ∷ items_of leaf (drop (place + width_of leaf) words)
 
-no_items : (items : List Item) (begin page : ℕ) → items ≡ [] → begin ≤ page → page < end_of begin items → ⊥
+no_items : (items : List NodeItem) (begin page : ℕ) → items ≡ [] → begin ≤ page → page < end_of begin items → ⊥
 no_items items begin page none above within =
     let end = ap (end_of begin) none in
     omega (arith, end, within, above)
@@ -69,14 +69,14 @@ comes_more leaf start page place begin words comes ends =
     let more = (listed leaf words place begin page comes.above comes.within).is in
     record {
       found = comes.found ∙ ap (item_at page) more ∙ item_at-later page item rest ends;
-      front = comes.front ∙ ap (λ (xs : List Item). end_of begin (ending_by page xs)) more ∙ ap (end_of begin) (ending_by-first page item rest ends);
+      front = comes.front ∙ ap (λ (xs : List NodeItem). end_of begin (ending_by page xs)) more ∙ ap (end_of begin) (ending_by-first page item rest ends);
       above = ends;
-      within = subst (λ (xs : List Item). page < end_of begin xs) more comes.within;
+      within = subst (λ (xs : List NodeItem). page < end_of begin xs) more comes.within;
       ascends = (subst (Ascends begin) more comes.ascends).1;
     }
 
 -- it ends above the page
-pub record Found (leaf : Bool) (start page begin : ℕ) (words : List ℕ) (item : Item) : Type 0 where
+pub record Found (leaf : Bool) (start page begin : ℕ) (words : List ℕ) (item : NodeItem) : Type 0 where
   pub found : item_at page (items_of leaf words) ≡ Some item
   pub front : begin ≡ end_of start (ending_by page (items_of leaf words))
 
@@ -88,6 +88,6 @@ comes_there leaf start page place begin words comes past =
     let more = (listed leaf words place begin page comes.above comes.within).is in
     record {
       found = comes.found ∙ ap (item_at page) more ∙ item_at-first page item rest past;
-      front = sym (comes.front ∙ ap (λ (xs : List Item). end_of begin (ending_by page xs)) more
+      front = sym (comes.front ∙ ap (λ (xs : List NodeItem). end_of begin (ending_by page xs)) more
           ∙ ap (end_of begin) (ending_by_first begin page item rest (subst (Ascends begin) more comes.ascends) past));
     }

@@ -3,7 +3,7 @@ use Rattle.std.proofs.Common.{ℕ, suc, ◌≡◌, ◌≢◌, ◌<◌, ◌≤◌
 use Rattle.std.proofs.lemmas.List.{length-drop}
 use Rattle.std.proofs.lemmas.Bool.{cases_lt}
 use Rattle.std.proofs.lemmas.Bool.Decides.{nat_tests}
-use Rattle.maple_node.specs.declared.item.Item.{Item}
+use Rattle.maple_node.specs.declared.item.NodeItem.{NodeItem}
 use Rattle.maple_node.specs.Nodes.{leaf_items, inner_items, items_of, most}
 use Rattle.maple_items.specs.declared.part.Part.{Part}
 use Rattle.maple_items.specs.declared.part.Part.TheVariants.{Whole, EndingBy, EndingAfter}
@@ -28,12 +28,12 @@ listed_past true words place past = short_leaf (drop place words) (omega (arith,
 listed_past false words place past = short_inner (drop place words) (omega (arith, length-drop place words))
 
 -- the part of an item before others
-pub part_more : (part : Part) (item : Item) (items : List Item) → keeps part item.end ≡ true → part_of part (item ∷ items) ≡ item ∷ part_of part items
+pub part_more : (part : Part) (item : NodeItem) (items : List NodeItem) → keeps part item.end ≡ true → part_of part (item ∷ items) ≡ item ∷ part_of part items
 part_more Whole item items kept = refl
 part_more (EndingBy page) item items kept = rw kept refl
 part_more (EndingAfter page) item items kept = rw kept refl
 
-pub part_less : (part : Part) (item : Item) (items : List Item) → keeps part item.end ≡ false → part_of part (item ∷ items) ≡ part_of part items
+pub part_less : (part : Part) (item : NodeItem) (items : List NodeItem) → keeps part item.end ≡ false → part_of part (item ∷ items) ≡ part_of part items
 part_less Whole item items out = absurd (cc)
 part_less (EndingBy page) item items out = rw out refl
 part_less (EndingAfter page) item items out = rw out refl
@@ -73,46 +73,46 @@ few_items true words sized = let count = leaf_count words in omega arith
 few_items false words sized = let count = inner_count words in omega arith
 
 -- the list with a part of what is listed from a place on, as the loop goes on
-pub record Lists (part : Part) (leaf : Bool) (words : List ℕ) (place : ℕ) (before list : List Item) : Type 0 where
+pub record Lists (part : Part) (leaf : Bool) (words : List ℕ) (place : ℕ) (before list : List NodeItem) : Type 0 where
   pub whole : list ++ part_of part (items_of leaf (drop place words)) ≡ before ++ part_of part (items_of leaf words)
   pub room : length list + length (items_of leaf (drop place words)) ≤ length before + most leaf
 
 -- there is room for one more
-pub room_there : (part : Part) (leaf : Bool) (words : List ℕ) (place : ℕ) (before list : List Item) → Lists part leaf words place before list
+pub room_there : (part : Part) (leaf : Bool) (words : List ℕ) (place : ℕ) (before list : List NodeItem) → Lists part leaf words place before list
     → place + width_of leaf ≤ length words → get_or words place 0 ≢ 0 → length before + most leaf ≤ 40 → length list < 40
 room_there part leaf words place before list is room some fits =
-    omega (arith, is.room, fits, ap (λ (xs : List Item). length xs) (listed_there leaf words place room some))
+    omega (arith, is.room, fits, ap (λ (xs : List NodeItem). length xs) (listed_there leaf words place room some))
 
 -- an item is added, or is not of the part
-pub lists_more : (part : Part) (leaf : Bool) (words : List ℕ) (place : ℕ) (before list next : List Item) → Lists part leaf words place before list
+pub lists_more : (part : Part) (leaf : Bool) (words : List ℕ) (place : ℕ) (before list next : List NodeItem) → Lists part leaf words place before list
     → place + width_of leaf ≤ length words → get_or words place 0 ≢ 0 → keeps part (listed_at leaf words place).end ≡ true
     → next ≡ list ++ listed_at leaf words place ∷ [] → Lists part leaf words (place + width_of leaf) before next
 lists_more part leaf words place before list next is room some kept added =
     let item = listed_at leaf words place in
     let rest = items_of leaf (drop (place + width_of leaf) words) in
     let there = listed_there leaf words place room some in
-    let long = ap (λ (xs : List Item). length xs) there in
+    let long = ap (λ (xs : List NodeItem). length xs) there in
     record {
-      whole = ap (λ (xs : List Item). xs ++ part_of part rest) added ∙ append_assoc list (item ∷ []) (part_of part rest)
-          ∙ ap (λ (xs : List Item). list ++ xs) (sym (ap (part_of part) there ∙ part_more part item rest kept)) ∙ is.whole;
+      whole = ap (λ (xs : List NodeItem). xs ++ part_of part rest) added ∙ append_assoc list (item ∷ []) (part_of part rest)
+          ∙ ap (λ (xs : List NodeItem). list ++ xs) (sym (ap (part_of part) there ∙ part_more part item rest kept)) ∙ is.whole;
       room = omega (arith, is.room, long, ap length added, length-append list (item ∷ []));
     }
 
-pub lists_less : (part : Part) (leaf : Bool) (words : List ℕ) (place : ℕ) (before list : List Item) → Lists part leaf words place before list
+pub lists_less : (part : Part) (leaf : Bool) (words : List ℕ) (place : ℕ) (before list : List NodeItem) → Lists part leaf words place before list
     → place + width_of leaf ≤ length words → get_or words place 0 ≢ 0 → keeps part (listed_at leaf words place).end ≡ false
     → Lists part leaf words (place + width_of leaf) before list
 lists_less part leaf words place before list is room some out =
     let item = listed_at leaf words place in
     let rest = items_of leaf (drop (place + width_of leaf) words) in
     let there = listed_there leaf words place room some in
-    let long = ap (λ (xs : List Item). length xs) there in
+    let long = ap (λ (xs : List NodeItem). length xs) there in
     record {
-      whole = ap (λ (xs : List Item). list ++ xs) (sym (ap (part_of part) there ∙ part_less part item rest out)) ∙ is.whole;
+      whole = ap (λ (xs : List NodeItem). list ++ xs) (sym (ap (part_of part) there ∙ part_less part item rest out)) ∙ is.whole;
       room = omega (arith, is.room, long);
     }
 
 -- nothing is listed from the place on
-pub lists_all : (part : Part) (leaf : Bool) (words : List ℕ) (place : ℕ) (before list : List Item) → Lists part leaf words place before list
+pub lists_all : (part : Part) (leaf : Bool) (words : List ℕ) (place : ℕ) (before list : List NodeItem) → Lists part leaf words place before list
     → items_of leaf (drop place words) ≡ [] → list ≡ before ++ part_of part (items_of leaf words)
 lists_all part leaf words place before list is none =
-    sym (append-nil list) ∙ ap (λ (xs : List Item). list ++ xs) (sym (ap (part_of part) none ∙ part_none part)) ∙ is.whole
+    sym (append-nil list) ∙ ap (λ (xs : List NodeItem). list ++ xs) (sym (ap (part_of part) none ∙ part_none part)) ∙ is.whole

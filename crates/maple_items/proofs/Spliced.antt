@@ -3,7 +3,7 @@ use Rattle.std.proofs.Common.{ℕ, suc, ◌≡◌, ◌≢◌, ◌<◌, ◌≤◌
 use Rattle.std.proofs.lemmas.List.{take_at, drop_at, length-take-le, length-drop}
 use Rattle.std.proofs.lemmas.Grind.{flat_map-append}
 use Rattle.std.specs.List.{flat_map}
-use Rattle.maple_node.specs.declared.item.Item.{Item}
+use Rattle.maple_node.specs.declared.item.NodeItem.{NodeItem}
 use Rattle.maple_node.specs.Nodes.{item_words, words_of, items_of, most, end_of, Ascends, item_gap, gap_of}
 use Rattle.maple_items.specs.Splices.{ending_by, ending_after, spliced}
 use Rattle.maple_node.specs.Codec.{width_of, listed_at}
@@ -19,7 +19,7 @@ ends_at true words place = refl
 ends_at false words place = refl
 
 -- items that ascend from a page do from each one below
-pub ascends_from : (start low : ℕ) (items : List Item) → low ≤ start → Ascends start items → Ascends low items
+pub ascends_from : (start low : ℕ) (items : List NodeItem) → low ≤ start → Ascends start items → Ascends low items
 ascends_from start low [] below ascends = tt
 ascends_from start low (item ∷ items) below ascends = let first = ascends.0 in (omega arith, ascends.1)
 
@@ -31,7 +31,7 @@ ending_by_more leaf page place words is room some ends =
     let rest = items_of leaf (drop (place + width_of leaf) words) in
     let there = listed_there leaf words place room some in
     let end = ends_at leaf words place in
-    let more = ap (λ (xs : List Item). length (ending_by page xs)) there ∙ ap (λ (xs : List Item). length xs) (ending_by-first page item rest (omega arith)) in
+    let more = ap (λ (xs : List NodeItem). length (ending_by page xs)) there ∙ ap (λ (xs : List NodeItem). length xs) (ending_by-first page item rest (omega arith)) in
     let ascends = subst (Ascends 0) there is.ascends in
     record {
       count = counted leaf (length (ending_by page (items_of leaf words))) (length (ending_by page (items_of leaf (drop place words)))) (length (ending_by page rest))
@@ -47,7 +47,7 @@ ending_by_more leaf page place words is room some ends =
 pub ending_by_done : (leaf : Bool) (page place : ℕ) (words : List ℕ) → IsCounted leaf page place words → ending_by page (items_of leaf (drop place words)) ≡ []
     → place ≡ width_of leaf * length (ending_by page (items_of leaf words))
 ending_by_done leaf page place words is none =
-    let long = ap (λ (xs : List Item). width_of leaf * length xs) none in
+    let long = ap (λ (xs : List NodeItem). width_of leaf * length xs) none in
     let zero : width_of leaf * 0 ≡ 0 = omega arith in
     let count = is.count in
     omega arith
@@ -76,13 +76,13 @@ gapped_more leaf start place begin largest gap words is room some told =
     let there = listed_there leaf words place room some in
     let one = item_gap leaf begin item in
     let others = gap_of leaf item.end rest in
-    let all : gap_of leaf start (items_of leaf words) ≡ max largest (max one others) = is.gap ∙ ap (λ (xs : List Item). max largest (gap_of leaf begin xs)) there in
+    let all : gap_of leaf start (items_of leaf words) ≡ max largest (max one others) = is.gap ∙ ap (λ (xs : List NodeItem). max largest (gap_of leaf begin xs)) there in
     record { gap = omega arith; ascends = (subst (Ascends begin) there is.ascends).1 }
 
 pub gapped_all : (leaf : Bool) (start place begin largest : ℕ) (words : List ℕ) → Gapped leaf start place begin largest words
     → items_of leaf (drop place words) ≡ [] → largest ≡ gap_of leaf start (items_of leaf words)
 gapped_all leaf start place begin largest words is none =
-    let all : gap_of leaf start (items_of leaf words) ≡ max largest 0 = is.gap ∙ ap (λ (xs : List Item). max largest (gap_of leaf begin xs)) none in
+    let all : gap_of leaf start (items_of leaf words) ≡ max largest 0 = is.gap ∙ ap (λ (xs : List NodeItem). max largest (gap_of leaf begin xs)) none in
     omega arith
 
 -- the words of the items up to a page, and of those above another one
@@ -110,16 +110,16 @@ pub parted : (leaf : Bool) (lo hi end before past used : ℕ) (words : List ℕ)
 unfolding words_of
 parted leaf lo hi end before past used words ascends whole ends at_lo at_hi at_end =
     let items = items_of leaf words in
-    let F : List Item → List ℕ = flat_map (item_words leaf) in
+    let F : List NodeItem → List ℕ = flat_map (item_words leaf) in
     let zeros : List ℕ = replicate (32 - length (F items)) 0 in
     let all : ending_by end items ≡ items = ending_by_all 0 end items ascends ends in
     let parts : (page : ℕ) → words ≡ F (ending_by page items) ++ (F (ending_after page items) ++ zeros) = λ page.
-    whole ∙ ap (λ (xs : List Item). F xs ++ zeros) (sym (ending_by-ending_after 0 page items ascends))
+    whole ∙ ap (λ (xs : List NodeItem). F xs ++ zeros) (sym (ending_by-ending_after 0 page items ascends))
     ∙ ap (λ (ws : List ℕ). ws ++ zeros) (flat_map-append (item_words leaf) (ending_by page items) (ending_after page items))
     ∙ append_assoc (F (ending_by page items)) (F (ending_after page items)) zeros in
-    let at_used : used ≡ width_of leaf * length items = at_end ∙ ap (λ (xs : List Item). width_of leaf * length xs) all in
+    let at_used : used ≡ width_of leaf * length items = at_end ∙ ap (λ (xs : List NodeItem). width_of leaf * length xs) all in
     let split : length items ≡ length (ending_by hi items) + length (ending_after hi items) =
-    ap (λ (xs : List Item). length xs) (sym (ending_by-ending_after 0 hi items ascends)) ∙ length-append (ending_by hi items) (ending_after hi items) in
+    ap (λ (xs : List NodeItem). length xs) (sym (ending_by-ending_after 0 hi items ascends)) ∙ length-append (ending_by hi items) (ending_after hi items) in
     let sized = ap (λ (ws : List ℕ). length ws) whole ∙ length-append (F items) zeros in
     let long = length-words leaf items in
     let back_long : length (F (ending_after hi items)) ≡ used - past =
@@ -140,7 +140,7 @@ joined_words : (leaf : Bool) (before back a b new some whole : ℕ) → before �
 joined_words true before back a b new some whole p q r s = omega arith
 joined_words false before back a b new some whole p q r s = omega arith
 
-pub count_is : (leaf : Bool) (lo hi before past used : ℕ) (words : List ℕ) (new : List Item) → before ≤ length words → used ≤ length words
+pub count_is : (leaf : Bool) (lo hi before past used : ℕ) (words : List ℕ) (new : List NodeItem) → before ≤ length words → used ≤ length words
     → past ≤ used → take before words ≡ flat_map (item_words leaf) (ending_by lo (items_of leaf words))
     → take (used - past) (drop past words) ≡ flat_map (item_words leaf) (ending_after hi (items_of leaf words))
     → before + width_of leaf * length new + (used - past) ≡ width_of leaf * length (spliced lo hi new (items_of leaf words))
@@ -155,12 +155,12 @@ count_is leaf lo hi before past used words new low within order front back =
     (length (spliced lo hi new items)) first last (length-append new (ending_after hi items)) (length-append (ending_by lo items) (new ++ ending_after hi items))
 
 -- they are the words of a node
-pub spliced_is : (leaf : Bool) (lo hi : ℕ) (new items : List Item)
+pub spliced_is : (leaf : Bool) (lo hi : ℕ) (new items : List NodeItem)
     → padded ((flat_map (item_words leaf) (ending_by lo items) ++ flat_map (item_words leaf) new) ++ flat_map (item_words leaf) (ending_after hi items))
     ≡ words_of leaf (spliced lo hi new items)
 unfolding words_of
 spliced_is leaf lo hi new items =
-    let F : List Item → List ℕ = flat_map (item_words leaf) in
+    let F : List NodeItem → List ℕ = flat_map (item_words leaf) in
     ap padded (append_assoc (F (ending_by lo items)) (F new) (F (ending_after hi items))
     ∙ ap (λ (ws : List ℕ). F (ending_by lo items) ++ ws) (sym (flat_map-append (item_words leaf) new (ending_after hi items)))
     ∙ sym (flat_map-append (item_words leaf) (ending_by lo items) (new ++ ending_after hi items)))

@@ -3,7 +3,7 @@ use Rattle.std.proofs.Common.{ℕ, zero, suc, ◌≡◌, ◌≢◌, ◌<◌, ◌
 use Rattle.std.proofs.lemmas.List.{drop_more}
 use Rattle.std.proofs.lemmas.Bool.Decides.{nat_tests}
 use Rattle.std.specs.List.{flat_map}
-use Rattle.maple_node.specs.declared.item.Item.{Item}
+use Rattle.maple_node.specs.declared.item.NodeItem.{NodeItem}
 use Rattle.maple_node.specs.Nodes.{item_words, words_of, leaf_items, inner_items, items_of, IsPlain}
 
 -- an entry that the words of a leaf begin with
@@ -57,14 +57,14 @@ inner_items-zero words place room none =
     rw (first, none) (inner_zero (drop (place + 1) words))
 
 -- what holds of each of items holds of the first, and of each other
-all_first : (x : Item) (xs : List Item) → All (λ (item : Item). 0 < item.end) (x ∷ xs) → 0 < x.end
+all_first : (x : NodeItem) (xs : List NodeItem) → All (λ (item : NodeItem). 0 < item.end) (x ∷ xs) → 0 < x.end
 all_first x xs all = all 0 x (omega arith)
 
-all_rest : (x : Item) (xs : List Item) → All (λ (item : Item). 0 < item.end) (x ∷ xs) → All (λ (item : Item). 0 < item.end) xs
+all_rest : (x : NodeItem) (xs : List NodeItem) → All (λ (item : NodeItem). 0 < item.end) (x ∷ xs) → All (λ (item : NodeItem). 0 < item.end) xs
 all_rest x xs all = λ k d within. all (suc k) d (omega arith)
 
 -- the items of the words of a leaf, and of an inner node
-leaf_read : (n : ℕ) (items : List Item) → All (λ (item : Item). 0 < item.end) items → IsPlain true items
+leaf_read : (n : ℕ) (items : List NodeItem) → All (λ (item : NodeItem). 0 < item.end) items → IsPlain true items
     → leaf_items (flat_map (item_words true) items ++ replicate n 0) ≡ items
 unfolding leaf_items
 leaf_read zero [] ends plain = refl
@@ -73,10 +73,10 @@ leaf_read (suc (suc n)) [] ends plain = refl
 leaf_read n (item ∷ items) ends plain =
     let some : nat_eq item.end 0 ≡ false = grind (arith, nat_tests, all_first item items ends) in
     let same : record { end = item.end; word = item.word; gap = 0 } ≡ item =
-    ap (λ (gap : ℕ). let it : Item = record { end = item.end; word = item.word; gap = gap } in it) (sym plain.0) in
+    ap (λ (gap : ℕ). let it : NodeItem = record { end = item.end; word = item.word; gap = gap } in it) (sym plain.0) in
     rw (some, leaf_read n items (all_rest item items ends) plain.1, same)
 
-inner_read : (n : ℕ) (items : List Item) → All (λ (item : Item). 0 < item.end) items
+inner_read : (n : ℕ) (items : List NodeItem) → All (λ (item : NodeItem). 0 < item.end) items
     → inner_items (flat_map (item_words false) items ++ replicate n 0) ≡ items
 unfolding inner_items
 inner_read zero [] ends = refl
@@ -88,7 +88,7 @@ inner_read n (item ∷ items) ends =
     rw (some, inner_read n items (all_rest item items ends))
 
 -- what is written is read
-pub items_read : (leaf : Bool) (items : List Item) → All (λ (item : Item). 0 < item.end) items → IsPlain leaf items
+pub items_read : (leaf : Bool) (items : List NodeItem) → All (λ (item : NodeItem). 0 < item.end) items → IsPlain leaf items
     → items_of leaf (words_of leaf items) ≡ items
 unfolding words_of
 items_read true items ends plain = leaf_read (32 - length (flat_map (item_words true) items)) items ends plain

@@ -4,16 +4,16 @@ ghost use Rattle.std.specs.Prelude.{◌≡◌, ◌≤◌, ◌+◌, ◌++◌, len
 ghost use Rattle.maple_items.specs.Splices.{ending_after};
 
 use arrayvec::ArrayVec;
-use maple_node::Item;
+use maple_node::NodeItem;
 
 /// How many items a list has room for: those of two nodes, and some new ones between.
 const ROOM: usize = 40;
 
 /// A list of at most 40 items, in an array of its own, so that no memory is asked for.
-pub type ItemList = ArrayVec<Item, ROOM>;
+pub type ItemList = ArrayVec<NodeItem, ROOM>;
 
 /// Adds those of the items that end above a page.
-pub fn push_ending_after(list: &mut ItemList, page: u64, items: &[Item])
+pub fn push_ending_after(list: &mut ItemList, page: u64, items: &[NodeItem])
     requires { length list.old.items + length items.now ≤ 40 }
     ensures { list.new.items ≡ list.old.items ++ ending_after page items.now }
 {
@@ -25,7 +25,7 @@ pub fn push_ending_after(list: &mut ItemList, page: u64, items: &[Item])
 }
 
 /// Adds all of the items.
-pub fn push_all(list: &mut ItemList, items: &[Item])
+pub fn push_all(list: &mut ItemList, items: &[NodeItem])
     requires { length list.old.items + length items.now ≤ 40 }
     ensures { list.new.items ≡ list.old.items ++ items.now }
 {

@@ -3,7 +3,7 @@
 ghost use Rattle.std.specs.Prelude.{◌≡◌, ◌<◌, ◌≤◌, ◌-◌, ◌*◌, Bool, true, false, [], length};
 ghost use Rattle.maple_node.specs.Nodes.{items_of, most, least, item_gap};
 
-use maple_node::{Item, least, most};
+use maple_node::{NodeItem, least, most};
 
 /// Whether the words of a node, of either kind, list no item.
 pub fn lists_nothing(words: &[u64; 32]) -> bool
@@ -15,7 +15,7 @@ pub fn lists_nothing(words: &[u64; 32]) -> bool
 
 /// The largest gap in an item that begins at the page `start`: the whole of an entry that is a gap, 0 in another entry, and what
 /// the item of a child says.
-pub fn item_gap(leaf: bool, start: u64, item: Item) -> u64
+pub fn item_gap(leaf: bool, start: u64, item: NodeItem) -> u64
     ensures { result ≡ item_gap leaf start item }
 {
     if !leaf {

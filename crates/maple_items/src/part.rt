@@ -52,20 +52,20 @@ pub fn push_part(list: &mut ItemList, part: Part, leaf: bool, words: &[u64; 32])
 mod tests {
     use super::{Part, push_part};
     use crate::list::ItemList;
-    use maple_node::{Item, node_words};
+    use maple_node::{NodeItem, node_words};
 
-    const ITEMS: [Item; 3] = [
-        Item {
+    const ITEMS: [NodeItem; 3] = [
+        NodeItem {
             end: 0x12,
             word: 0,
             gap: 0,
         },
-        Item {
+        NodeItem {
             end: 0x13,
             word: 5,
             gap: 0,
         },
-        Item {
+        NodeItem {
             end: 0x20,
             word: 6,
             gap: 0,

@@ -5,7 +5,7 @@ ghost use Rattle.maple_node.specs.Nodes.{items_of, Ascends, end_of};
 ghost use Rattle.maple_node.specs.Levels.{item_at};
 ghost use Rattle.maple_items.specs.Splices.{ending_by};
 
-use maple_node::{Item, listed_at, width_of};
+use maple_node::{NodeItem, listed_at, width_of};
 
 /// An item, and the page where it begins.
 #[derive(Clone, Copy, Debug, PartialEq, Eq)]
@@ -13,7 +13,7 @@ pub struct Place {
     /// The first page of the item.
     pub start: u64,
     /// The item, which ends above that page.
-    pub item: Item,
+    pub item: NodeItem,
 }
 
 /// The item of a node that has `page`, as the words of the node tell, where its first item begins at `start`. No list of the

@@ -3,7 +3,7 @@
 ghost use Rattle.std.specs.Prelude.{◌≡◌, ◌≢◌, ◌<◌, ◌≤◌, ◌+◌, ◌*◌, ◌⊎◌, ℕ, max, true, false, [], ◌∷◌, length, take, slice_range, Some, IfSome, IfNone};
 ghost use Rattle.std.specs.List.{flat_map};
 ghost use Rattle.maple_node.specs.Nodes.{items_of, words_of, item_words, most, end_of, Ascends, gap_of};
-ghost use Rattle.maple_node.specs.declared.item.Item.{Item};
+ghost use Rattle.maple_node.specs.declared.item.NodeItem.{NodeItem};
 ghost use Rattle.maple_node.specs.Levels.{item_at};
 ghost use Rattle.maple_items.specs.Splices.{ending_by, ending_after, spliced};
 ghost use Rattle.maple_node.specs.Codec.{width_of, listed_at};
@@ -11,7 +11,7 @@ ghost use Rattle.maple_node.specs.Padding.{padded};
 ghost use Rattle.maple_items.specs.Internal.Counts.{IsCounted};
 
 use crate::node::item_gap;
-use maple_node::{Item, NODE_WORDS, NodeWords, listed_at, most, width_of};
+use maple_node::{NODE_WORDS, NodeItem, NodeWords, listed_at, most, width_of};
 
 /// How many words the items of a node have that end up to a page, counted from a place up to which they do.
 fn words_ending_by(leaf: bool, words: &[u64; 32], from: usize, page: u64) -> usize
@@ -66,7 +66,7 @@ pub fn spliced_words(
     fewest: usize,
     lo: u64,
     hi: u64,
-    new: &[Item],
+    new: &[NodeItem],
     made: &mut NodeWords,
 ) -> bool
     requires ascends { Ascends 0 (items_of leaf words.now) }
@@ -125,7 +125,7 @@ fn gap_by(leaf: bool, width: usize, start: u64, words: &[u64; 32]) -> u64
 
 /// Puts a child of an inner node in the place of the one that has a page, if that one ends where it does, and answers the largest
 /// gap of the node then, where it was `gap`. None where it ends elsewhere: the words are then as they were.
-pub fn swap_child(words: &mut [u64; 32], page: u64, child: Item, gap: u64) -> Option<u64>
+pub fn swap_child(words: &mut [u64; 32], page: u64, child: NodeItem, gap: u64) -> Option<u64>
     requires ascends { Ascends 0 (items_of false words.old) }
     requires within { page < end_of 0 (items_of false words.old) }
     requires whole { words.old ≡ words_of false (items_of false words.old) }
@@ -134,7 +134,7 @@ pub fn swap_child(words: &mut [u64; 32], page: u64, child: Item, gap: u64) -> Op
     ensures count { IfSome result (λ gap. length (spliced page child.end (child ∷ []) (items_of false words.old)) ≡ length (items_of false words.old)) }
     ensures gap { IfSome result (λ gap. gap ≡ gap_of false 0 (spliced page child.end (child ∷ []) (items_of false words.old))) }
     ensures none { IfNone result (words.new ≡ words.old) }
-    ensures elsewhere { IfNone result ((item : Item) → item_at page (items_of false words.old) ≡ Some item → item.end ≢ child.end) }
+    ensures elsewhere { IfNone result ((item : NodeItem) → item_at page (items_of false words.old) ≡ Some item → item.end ≢ child.end) }
 {
     let place = child_place(words, page);
     if words[place] != child.end {

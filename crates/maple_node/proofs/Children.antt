@@ -6,7 +6,7 @@ use Rattle.std.proofs.lemmas.Bool.{cases_lt}
 use Rattle.std.proofs.lemmas.Bool.Decides.{nat_tests}
 use Rattle.std.specs.List.{slice_get}
 use Rattle.mm_types.specs.declared.slot.Row.{Row}
-use Rattle.maple_node.specs.declared.item.Item.{Item}
+use Rattle.maple_node.specs.declared.item.NodeItem.{NodeItem}
 use Rattle.maple_node.specs.Nodes.{words_of, IsPlain}
 use Rattle.maple_node.specs.Words.{Child, child_item, inner_child, FitsInner, IsInnerOf}
 use Rattle.maple_node.proofs.Packing.{length-inner_words}
@@ -97,14 +97,14 @@ inner_read_back children place fits =
       | inl within ↦
           let child = get_or children place d in
           let at = child_at children place d within in
-          let end : get_or words (3 * place) 0 ≡ child.0 = inner-ends items place ∙ ap (λ (item : Item). item.end) at in
-          let word : get_or words (3 * place + 1) 0 ≡ child.1.0 = inner-words items place ∙ ap (λ (item : Item). item.word) at in
-          let gap : get_or words (3 * place + 2) 0 ≡ child.2 = inner-gaps items place ∙ ap (λ (item : Item). item.gap) at in
+          let end : get_or words (3 * place) 0 ≡ child.0 = inner-ends items place ∙ ap (λ (item : NodeItem). item.end) at in
+          let word : get_or words (3 * place + 1) 0 ≡ child.1.0 = inner-words items place ∙ ap (λ (item : NodeItem). item.word) at in
+          let gap : get_or words (3 * place + 2) 0 ≡ child.2 = inner-gaps items place ∙ ap (λ (item : NodeItem). item.gap) at in
           let past = ends_past 0 items place unused fits.ascends (omega (arith, length-map children child_item)) in
-          let some : 0 < child.0 = subst (λ (item : Item). 0 < item.end) at past in
+          let some : 0 < child.0 = subst (λ (item : NodeItem). 0 < item.end) at past in
           inner_reads words place child (omega (arith, fits.few)) end word gap some (fits.rows place d within)
           ∙ sym (slice_get-get_or children place d within)
-      | inr past ↦ inner_unused words place (inner-ends items place ∙ ap (λ (item : Item). item.end) (none_past children place past))
+      | inr past ↦ inner_unused words place (inner-ends items place ∙ ap (λ (item : NodeItem). item.end) (none_past children place past))
           ∙ sym (slice_get-past children place past)
     ]
 
@@ -124,9 +124,9 @@ behind children index past =
     let items = map child_item children in
     let none : get_or items (index / 3) unused ≡ unused = none_past children (index / 3) (omega arith) in
     each_word (λ j. get_or (words_of false items) j 0 ≡ 0) index
-    (inner-ends items (index / 3) ∙ ap (λ (item : Item). item.end) none)
-    (inner-words items (index / 3) ∙ ap (λ (item : Item). item.word) none)
-    (inner-gaps items (index / 3) ∙ ap (λ (item : Item). item.gap) none)
+    (inner-ends items (index / 3) ∙ ap (λ (item : NodeItem). item.end) none)
+    (inner-words items (index / 3) ∙ ap (λ (item : NodeItem). item.word) none)
+    (inner-gaps items (index / 3) ∙ ap (λ (item : NodeItem). item.gap) none)
 
 -- they read as the children in the first places, and are 0 after them
 pub inner_shown : (children : List Child) → FitsInner children → IsInnerOf (words_of false (map child_item children)) children
@@ -147,9 +147,9 @@ word_there words children inner k there =
     let at = child_at children i d there in
     let told = inner_told words i (get_or children i d) (inner.used i there ∙ slice_get-get_or children i d there) in
     each_word (λ j. get_or (words_of false items) j 0 ≡ get_or words j 0) k
-    (inner-ends items i ∙ ap (λ (item : Item). item.end) at ∙ sym told.end)
-    (inner-words items i ∙ ap (λ (item : Item). item.word) at ∙ sym told.word)
-    (inner-gaps items i ∙ ap (λ (item : Item). item.gap) at ∙ sym told.gap)
+    (inner-ends items i ∙ ap (λ (item : NodeItem). item.end) at ∙ sym told.end)
+    (inner-words items i ∙ ap (λ (item : NodeItem). item.word) at ∙ sym told.word)
+    (inner-gaps items i ∙ ap (λ (item : NodeItem). item.gap) at ∙ sym told.gap)
 
 -- there are at most 10 of them
 few_children : (words : List ℕ) (children : List Child) → IsInnerOf words children → length children ≤ 10

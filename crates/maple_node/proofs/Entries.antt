@@ -6,7 +6,7 @@ use Rattle.std.proofs.lemmas.Bool.{cases_lt}
 use Rattle.std.proofs.lemmas.Bool.Decides.{nat_tests}
 use Rattle.std.specs.List.{slice_get}
 use Rattle.mm_types.specs.declared.slot.Slot.{Slot}
-use Rattle.maple_node.specs.declared.item.Item.{Item}
+use Rattle.maple_node.specs.declared.item.NodeItem.{NodeItem}
 use Rattle.maple_node.specs.Nodes.{words_of, IsPlain}
 use Rattle.maple_node.specs.Words.{Entry, slot_word, slot_of, entry_item, leaf_entry, FitsLeaf, IsLeafOf}
 use Rattle.maple_node.proofs.Packing.{length-leaf_words}
@@ -103,13 +103,13 @@ leaf_read_back entries place fits =
       | inl within ↦
           let entry = get_or entries place d in
           let at = entry_at entries place d within in
-          let end : get_or words (2 * place) 0 ≡ entry.0 = leaf-ends items place ∙ ap (λ (item : Item). item.end) at in
-          let word : get_or words (2 * place + 1) 0 ≡ slot_word entry.1 = leaf-words items place ∙ ap (λ (item : Item). item.word) at in
+          let end : get_or words (2 * place) 0 ≡ entry.0 = leaf-ends items place ∙ ap (λ (item : NodeItem). item.end) at in
+          let word : get_or words (2 * place + 1) 0 ≡ slot_word entry.1 = leaf-words items place ∙ ap (λ (item : NodeItem). item.word) at in
           let past = ends_past 0 items place unused fits.ascends (omega (arith, length-map entries entry_item)) in
-          let some : 0 < entry.0 = subst (λ (item : Item). 0 < item.end) at past in
+          let some : 0 < entry.0 = subst (λ (item : NodeItem). 0 < item.end) at past in
           leaf_reads words place entry (omega (arith, fits.few)) end word some (fits.slots place d within)
           ∙ sym (slice_get-get_or entries place d within)
-      | inr past ↦ leaf_unused words place (leaf-ends items place ∙ ap (λ (item : Item). item.end) (none_past entries place past))
+      | inr past ↦ leaf_unused words place (leaf-ends items place ∙ ap (λ (item : NodeItem). item.end) (none_past entries place past))
           ∙ sym (slice_get-past entries place past)
     ]
 
@@ -126,8 +126,8 @@ behind entries index past =
     let items = map entry_item entries in
     let none : get_or items (index / 2) unused ≡ unused = none_past entries (index / 2) (omega arith) in
     each_word (λ j. get_or (words_of true items) j 0 ≡ 0) index
-    (leaf-ends items (index / 2) ∙ ap (λ (item : Item). item.end) none)
-    (leaf-words items (index / 2) ∙ ap (λ (item : Item). item.word) none)
+    (leaf-ends items (index / 2) ∙ ap (λ (item : NodeItem). item.end) none)
+    (leaf-words items (index / 2) ∙ ap (λ (item : NodeItem). item.word) none)
 
 -- they read as the entries in the first places, and are 0 after them
 pub leaf_shown : (entries : List Entry) → FitsLeaf entries → IsLeafOf (words_of true (map entry_item entries)) entries
@@ -148,8 +148,8 @@ word_there words entries leaf k there =
     let at = entry_at entries i d there in
     let told = leaf_told words i (get_or entries i d) (leaf.used i there ∙ slice_get-get_or entries i d there) in
     each_word (λ j. get_or (words_of true items) j 0 ≡ get_or words j 0) k
-    (leaf-ends items i ∙ ap (λ (item : Item). item.end) at ∙ sym told.end)
-    (leaf-words items i ∙ ap (λ (item : Item). item.word) at ∙ sym told.word)
+    (leaf-ends items i ∙ ap (λ (item : NodeItem). item.end) at ∙ sym told.end)
+    (leaf-words items i ∙ ap (λ (item : NodeItem). item.word) at ∙ sym told.word)
 
 -- there are at most 16 of them
 few_entries : (words : List ℕ) (entries : List Entry) → IsLeafOf words entries → length entries ≤ 16

@@ -1,7 +1,7 @@
 -- For the law `depends_on_its_rows`: a tree depends only on its own rows.
 use Rattle.std.proofs.Common.{ℕ, zero, suc, ◌≡◌, ◌≤◌, ◌+◌, Bool, true, List, [], ◌∷◌, ◌++◌, length, map, refl, ap, sym, subst, ◌∙◌, arith, nat_eq}
 use Rattle.std.proofs.lemmas.Bool.Decides.{nat_tests}
-use Rattle.maple_node.specs.declared.item.Item.{Item}
+use Rattle.maple_node.specs.declared.item.NodeItem.{NodeItem}
 use Rattle.maple_node.specs.Nodes.{items_of, words_of, most, least, end_of, Ascends, gap_of}
 use Rattle.maple_node.specs.Levels.{is_leaf, read, below, AllFrom, IsNode, level_of, IsTower, rows_of, times, Agree}
 
@@ -26,40 +26,40 @@ pub Agree-sym : (at other : ℕ → List ℕ) (rows rows' : List ℕ) → rows �
 Agree-sym at other rows rows' same agree = λ row some. sym (agree row (subst (λ (xs : List ℕ). 1 ≤ times row xs) (sym same) some))
 
 -- the level below is the same
-pub below-agree : (at other : ℕ → List ℕ) (leaf : Bool) (items : List Item) → Agree at other (map (λ item. item.word) items)
+pub below-agree : (at other : ℕ → List ℕ) (leaf : Bool) (items : List NodeItem) → Agree at other (map (λ item. item.word) items)
     → below at leaf items ≡ below other leaf items
 below-agree at other leaf [] agree = refl
 below-agree at other leaf (item ∷ items) agree =
     let here : at item.word ≡ other item.word = agree item.word (times-first item.word (map (λ item. item.word) items)) in
     ap (λ (words : List ℕ). items_of leaf words ++ below at leaf items) here
-    ∙ ap (λ (xs : List Item). read other leaf item.word ++ xs) (below-agree at other leaf items (λ row some. agree row (omega arith)))
+    ∙ ap (λ (xs : List NodeItem). read other leaf item.word ++ xs) (below-agree at other leaf items (λ row some. agree row (omega arith)))
 
 -- the rows, the items of each level and the nodes are the same
-pub rows_of-agree : (at other : ℕ → List ℕ) (low up : ℕ) (items : List Item) → Agree at other (rows_of at low up items)
+pub rows_of-agree : (at other : ℕ → List ℕ) (low up : ℕ) (items : List NodeItem) → Agree at other (rows_of at low up items)
     → rows_of at low up items ≡ rows_of other low up items
 unfolding rows_of
 rows_of-agree at other low zero items agree = refl
 rows_of-agree at other low (suc up) items agree =
-    let here = map (λ (item : Item). item.word) items in
+    let here = map (λ (item : NodeItem). item.word) items in
     let leaf = is_leaf (low + up) in
     let deep = rows_of at low up (below at leaf items) in
     let next = below-agree at other leaf items (Agree-left at other here deep agree) in
     ap (λ (rows : List ℕ). here ++ rows) (rows_of-agree at other low up (below at leaf items) (Agree-right at other here deep agree)
-    ∙ ap (λ (xs : List Item). rows_of other low up xs) next)
+    ∙ ap (λ (xs : List NodeItem). rows_of other low up xs) next)
 
-pub level_of-agree : (at other : ℕ → List ℕ) (low up : ℕ) (items : List Item) → Agree at other (rows_of at low up items)
+pub level_of-agree : (at other : ℕ → List ℕ) (low up : ℕ) (items : List NodeItem) → Agree at other (rows_of at low up items)
     → level_of at low up items ≡ level_of other low up items
 unfolding rows_of level_of
 level_of-agree at other low zero items agree = refl
 level_of-agree at other low (suc up) items agree =
-    let here = map (λ (item : Item). item.word) items in
+    let here = map (λ (item : NodeItem). item.word) items in
     let leaf = is_leaf (low + up) in
     let deep = rows_of at low up (below at leaf items) in
     let next = below-agree at other leaf items (Agree-left at other here deep agree) in
     level_of-agree at other low up (below at leaf items) (Agree-right at other here deep agree)
-    ∙ ap (λ (xs : List Item). level_of other low up xs) next
+    ∙ ap (λ (xs : List NodeItem). level_of other low up xs) next
 
-node-agree : (at other : ℕ → List ℕ) (leaf : Bool) (limit start : ℕ) (item : Item) → at item.word ≡ other item.word
+node-agree : (at other : ℕ → List ℕ) (leaf : Bool) (limit start : ℕ) (item : NodeItem) → at item.word ≡ other item.word
     → IsNode at leaf limit start item → IsNode other leaf limit start item
 node-agree at other leaf limit start item same node = record {
   some = subst (λ (words : List ℕ). 1 ≤ length (items_of leaf words)) same node.some;
@@ -71,7 +71,7 @@ node-agree at other leaf limit start item same node = record {
   words = subst (λ (words : List ℕ). words ≡ words_of leaf (items_of leaf words)) same node.words;
 }
 
-nodes-agree : (at other : ℕ → List ℕ) (leaf : Bool) (limit start : ℕ) (items : List Item) → Agree at other (map (λ item. item.word) items)
+nodes-agree : (at other : ℕ → List ℕ) (leaf : Bool) (limit start : ℕ) (items : List NodeItem) → Agree at other (map (λ item. item.word) items)
     → AllFrom (IsNode at leaf limit) start items → AllFrom (IsNode other leaf limit) start items
 nodes-agree at other leaf limit start [] agree nodes = tt
 nodes-agree at other leaf limit start (item ∷ items) agree nodes = (
@@ -79,16 +79,16 @@ nodes-agree at other leaf limit start (item ∷ items) agree nodes = (
   nodes-agree at other leaf limit item.end items (λ row some. agree row (omega arith)) nodes.1,
 )
 
-pub tower-agree : (at other : ℕ → List ℕ) (limit low up : ℕ) (items : List Item) → Agree at other (rows_of at low up items)
+pub tower-agree : (at other : ℕ → List ℕ) (limit low up : ℕ) (items : List NodeItem) → Agree at other (rows_of at low up items)
     → IsTower at limit low up items → IsTower other limit low up items
 unfolding rows_of IsTower
 tower-agree at other limit low zero items agree tower = tt
 tower-agree at other limit low (suc up) items agree tower =
-    let here = map (λ (item : Item). item.word) items in
+    let here = map (λ (item : NodeItem). item.word) items in
     let leaf = is_leaf (low + up) in
     let deep = rows_of at low up (below at leaf items) in
     let left = Agree-left at other here deep agree in (
       nodes-agree at other leaf limit 0 items left tower.0,
-      subst (λ (xs : List Item). IsTower other limit low up xs) (below-agree at other leaf items left)
+      subst (λ (xs : List NodeItem). IsTower other limit low up xs) (below-agree at other leaf items left)
           (tower-agree at other limit low up (below at leaf items) (Agree-right at other here deep agree) tower.1),
     )

@@ -4,35 +4,35 @@ use Rattle.std.proofs.lemmas.List.{length-take-le, drop_at, drop-replicate, take
 use Rattle.std.proofs.lemmas.Slice.{take-put_mid}
 use borrow.Rule.Slice.PartMut.{put_mid}
 use Rattle.std.specs.List.{flat_map}
-use Rattle.maple_node.specs.declared.item.Item.{Item}
+use Rattle.maple_node.specs.declared.item.NodeItem.{NodeItem}
 use Rattle.maple_node.specs.Nodes.{item_words, words_of, most}
 use Rattle.maple_node.proofs.Packing.{length-leaf_words, length-inner_words}
 use Rattle.maple_node.specs.Codec.{width_of}
 use Rattle.maple_node.specs.Padding.{padded, IsPadded}
 
 -- items have two words each in a leaf, and three in an inner node
-pub length-words : (leaf : Bool) (items : List Item) → length (flat_map (item_words leaf) items) ≡ width_of leaf * length items
+pub length-words : (leaf : Bool) (items : List NodeItem) → length (flat_map (item_words leaf) items) ≡ width_of leaf * length items
 length-words true items = length-leaf_words items
 length-words false items = length-inner_words items
 
 -- there is room for one item more of those that are left
-pub room_more : (leaf : Bool) (used place : ℕ) (items : List Item) → used + width_of leaf * length items ≤ 32 → place + 1 ≤ length items
+pub room_more : (leaf : Bool) (used place : ℕ) (items : List NodeItem) → used + width_of leaf * length items ≤ 32 → place + 1 ≤ length items
     → used + width_of leaf * place + width_of leaf ≤ 32
 room_more true used place items room there = omega arith
 room_more false used place items room there = omega arith
 
 -- all words of items are those of their node
-pub padded-words : (leaf : Bool) (items : List Item) → padded (flat_map (item_words leaf) items) ≡ words_of leaf items
+pub padded-words : (leaf : Bool) (items : List NodeItem) → padded (flat_map (item_words leaf) items) ≡ words_of leaf items
 unfolding words_of
 padded-words leaf items = refl
 
 -- a node has room for the most items that it may have
-pub room_of : (leaf : Bool) (items : List Item) → length items ≤ most leaf → width_of leaf * length items ≤ 32
+pub room_of : (leaf : Bool) (items : List NodeItem) → length items ≤ most leaf → width_of leaf * length items ≤ 32
 room_of true items few = omega arith
 room_of false items few = omega arith
 
 -- of items that are made of others, there is room for the words of one more, and the last is followed by zeros
-pub made_room : {A : Type 0} → (leaf : Bool) (made : A → Item) (xs : List A) (words : List ℕ) (i : ℕ) → length xs ≤ most leaf → i < length xs
+pub made_room : {A : Type 0} → (leaf : Bool) (made : A → NodeItem) (xs : List A) (words : List ℕ) (i : ℕ) → length xs ≤ most leaf → i < length xs
     → words ≡ flat_map (item_words leaf) (take i (map made xs)) → length words + width_of leaf ≤ 32
 made_room leaf made xs words i few within is =
     let items = map made xs in
@@ -44,7 +44,7 @@ made_room leaf made xs words i few within is =
       fits true used at count long few within = omega arith
       fits false used at count long few within = omega arith
 
-pub made_words : {A : Type 0} → (leaf : Bool) (made : A → Item) (xs : List A) (words : List ℕ) (i : ℕ) → i ≡ length xs
+pub made_words : {A : Type 0} → (leaf : Bool) (made : A → NodeItem) (xs : List A) (words : List ℕ) (i : ℕ) → i ≡ length xs
     → words ≡ flat_map (item_words leaf) (take i (map made xs)) → padded words ≡ words_of leaf (map made xs)
 made_words leaf made xs words i all is =
     let items = map made xs in

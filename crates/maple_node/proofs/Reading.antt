@@ -6,7 +6,7 @@ use Rattle.std.proofs.lemmas.Bool.{cases_lt}
 use Rattle.std.specs.List.{slice_get}
 use Rattle.std.specs.Option.{option_map}
 use Rattle.mm_types.specs.declared.slot.Row.{Row}
-use Rattle.maple_node.specs.declared.item.Item.{Item}
+use Rattle.maple_node.specs.declared.item.NodeItem.{NodeItem}
 use Rattle.maple_node.specs.Nodes.{leaf_items, IsPlain}
 use Rattle.maple_node.specs.Levels.{read, IsNode}
 use Rattle.maple_node.specs.Words.{Entry, Child, slot_of, entry_item, child_item, leaf_entry, inner_child}
@@ -20,23 +20,23 @@ unfolding leaf_items
 leaf_items-plain [] = tt
 leaf_items-plain (end ∷ []) = tt
 leaf_items-plain (end ∷ word ∷ rest) =
-    let item : Item = record { end = end; word = word; gap = 0 } in
+    let item : NodeItem = record { end = end; word = word; gap = 0 } in
     elim (nat_eq end 0) as (λ b. IsPlain true (if b then [] else (item ∷ leaf_items rest))) [ true ↦ tt | false ↦ (refl, leaf_items-plain rest) ]
 
 -- each of plain items keeps no gap
-plain_at : (items : List Item) (i : ℕ) → IsPlain true items → (get_or items i unused).gap ≡ 0
+plain_at : (items : List NodeItem) (i : ℕ) → IsPlain true items → (get_or items i unused).gap ≡ 0
 plain_at [] i plain = refl
 plain_at (item ∷ items) zero plain = plain.0
 plain_at (item ∷ items) (suc i) plain = plain_at items i plain.1
 
 -- no item past the last
-slice_get-past : (items : List Item) (i : ℕ) → length items ≤ i → slice_get items i ≡ None
+slice_get-past : (items : List NodeItem) (i : ℕ) → length items ≤ i → slice_get items i ≡ None
 slice_get-past [] i past = refl
 slice_get-past (item ∷ items) zero past = absurd (omega arith)
 slice_get-past (item ∷ items) (suc i) past = slice_get-past items i (omega arith)
 
 -- a leaf by its places
-pub leaf_places : (at : ℕ → List ℕ) (limit start : ℕ) (item : Item) (place : ℕ) → IsNode at true limit start item
+pub leaf_places : (at : ℕ → List ℕ) (limit start : ℕ) (item : NodeItem) (place : ℕ) → IsNode at true limit start item
     → All (λ entry. entry.word ≤ 2 ^ 32) (read at true item.word)
     → option_map entry_item (leaf_entry (at item.word) place) ≡ slice_get (read at true item.word) place
 leaf_places at limit start item place node small =
@@ -52,17 +52,17 @@ leaf_places at limit start item place node small =
           let above = ends_past start items place unused node.ascends within in
           let fits : here.word ≤ 2 ^ 32 = small place unused within in
           let read_here = leaf_reads words place entry (omega (arith, node.most)) end (word ∙ sym back) (omega arith) (omega (arith, back, fits)) in
-          let told : ℕ → ℕ → Option Item = λ n gap. Some (record { end = here.end; word = n; gap = gap }) in
+          let told : ℕ → ℕ → Option NodeItem = λ n gap. Some (record { end = here.end; word = n; gap = gap }) in
           ap (option_map entry_item) read_here ∙ ap (λ (n : ℕ). told n 0) back
           ∙ ap (λ (gap : ℕ). told here.word gap) (sym (plain_at items place (leaf_items-plain words)))
           ∙ sym (slice_get-get_or items place unused within)
       | inr past ↦
           let none : here ≡ unused = get_or_past items place unused past in
-          ap (option_map entry_item) (leaf_unused words place (end ∙ ap (λ (i : Item). i.end) none)) ∙ sym (slice_get-past items place past)
+          ap (option_map entry_item) (leaf_unused words place (end ∙ ap (λ (i : NodeItem). i.end) none)) ∙ sym (slice_get-past items place past)
     ]
 
 -- an inner node by its places
-pub inner_places : (at : ℕ → List ℕ) (limit start : ℕ) (item : Item) (place : ℕ) → IsNode at false limit start item
+pub inner_places : (at : ℕ → List ℕ) (limit start : ℕ) (item : NodeItem) (place : ℕ) → IsNode at false limit start item
     → All (λ child. child.word < 2 ^ 32) (read at false item.word)
     → option_map child_item (inner_child (at item.word) place) ≡ slice_get (read at false item.word) place
 inner_places at limit start item place node small =
@@ -82,5 +82,5 @@ inner_places at limit start item place node small =
           ∙ sym (slice_get-get_or items place unused within)
       | inr past ↦
           let none : here ≡ unused = get_or_past items place unused past in
-          ap (option_map child_item) (inner_unused words place (end ∙ ap (λ (i : Item). i.end) none)) ∙ sym (slice_get-past items place past)
+          ap (option_map child_item) (inner_unused words place (end ∙ ap (λ (i : NodeItem). i.end) none)) ∙ sym (slice_get-past items place past)
     ]

@@ -2,7 +2,7 @@
 use Rattle.std.proofs.Common.{ℕ, zero, suc, ◌≡◌, ◌<◌, ◌≤◌, ◌+◌, ◌-◌, true, false, List, [], ◌∷◌, ◌++◌, length, All, replicate, refl, ap, sym, subst, ◌∙◌, arith, inl, inr, if◌then◌else◌, nat_eq}
 use Rattle.std.proofs.lemmas.Bool.{cases_lt}
 use Rattle.std.specs.Prelude.{IsSome, ◌↔◌}
-use Rattle.maple_node.specs.declared.item.Item.{Item}
+use Rattle.maple_node.specs.declared.item.NodeItem.{NodeItem}
 use Rattle.maple_node.specs.declared.root.Root.{Root}
 use Rattle.maple_node.specs.Nodes.{items_of, leaf_items, end_of, Ascends, gap_of}
 use Rattle.maple_node.specs.Levels.{is_leaf, read, level_of, IsTower, rows_of, times, Agree, item_at, IsNode}
@@ -12,7 +12,7 @@ use Rattle.maple_node.proofs.Levels.{level-ascends, level-ends, node_past}
 use Rattle.maple_node.proofs.Frames.{times-first, Agree-sym, rows_of-agree, level_of-agree, tower-agree}
 
 -- the root is among the rows
-root_there : (at : ℕ → List ℕ) (height : ℕ) (top : Item) → 1 ≤ height → 1 ≤ times top.word (rows_of at 0 height (top ∷ []))
+root_there : (at : ℕ → List ℕ) (height : ℕ) (top : NodeItem) → 1 ≤ height → 1 ≤ times top.word (rows_of at 0 height (top ∷ []))
 unfolding rows_of
 root_there at zero top tall = absurd (omega arith)
 root_there at (suc height) top tall = times-first top.word (rows_of at 0 height (read at (is_leaf (0 + height)) top.word ++ []))
@@ -28,8 +28,8 @@ layout-agree at other slots rows tree agree layout =
       tall = layout.tall;
       tower = tower-agree at other tree.top.end 0 tree.height (tree.top ∷ []) agree layout.tower;
       wide = λ inner. subst (λ (words : List ℕ). 2 ≤ length (items_of false words)) root (layout.wide inner);
-      apart = subst (λ (xs : List Item). ApartFrom 1 xs) entries layout.apart;
-      numbered = subst (λ (xs : List Item). All (λ (entry : Item). entry.word ≤ slots) xs) entries layout.numbered;
+      apart = subst (λ (xs : List NodeItem). ApartFrom 1 xs) entries layout.apart;
+      numbered = subst (λ (xs : List NodeItem). All (λ (entry : NodeItem). entry.word ≤ slots) xs) entries layout.numbered;
       each = λ row. subst (λ (xs : List ℕ). times row xs ≡ times row rows) same (layout.each row);
       once = λ row. subst (λ (xs : List ℕ). times row xs ≤ 1) same (layout.once row);
     }
@@ -44,7 +44,7 @@ layout-same at other slots rows tree agree =
 
 -- the same pairs
 pub pairs-same : (at other : ℕ → List ℕ) (tree : Tree) → Agree at other (tree_rows at tree) → pairs_of at tree ≡ pairs_of other tree
-pairs-same at other tree agree = ap (λ (xs : List Item). pairs_from 0 xs) (level_of-agree at other 0 tree.height (tree.top ∷ []) agree)
+pairs-same at other tree agree = ap (λ (xs : List NodeItem). pairs_from 0 xs) (level_of-agree at other 0 tree.height (tree.top ∷ []) agree)
 
 -- the row of the root names the same tree
 tree_of-same : (at other : ℕ → List ℕ) (root : Root) → at root.row.0 ≡ other root.row.0 → tree_of at root ≡ tree_of other root
@@ -76,7 +76,7 @@ unfolding first
 first-entries at rows root is = subst (λ (r : Root). entries_of at (tree_of at r) ≡ []) (sym is.named) (first_entries at is.words)
 
 pub first-pairs : (at : ℕ → List ℕ) (rows : List ℕ) (root : Root) → IsFirst at rows root → pairs_of at (tree_of at root) ≡ []
-first-pairs at rows root is = ap (λ (xs : List Item). pairs_from 0 xs) (first-entries at rows root is)
+first-pairs at rows root is = ap (λ (xs : List NodeItem). pairs_from 0 xs) (first-entries at rows root is)
 
 -- what a root shows in a table, in another that agrees on its rows
 tree-agree : (at other : ℕ → List ℕ) (slots : ℕ) (rows : List ℕ) (root : Root) → Agree at other (tree_rows at (tree_of at root))
@@ -95,7 +95,7 @@ tree-agree at other slots rows root agree tree = record {
 }
 
 -- the rows depend on the row of the root
-rows_of-top : (at : ℕ → List ℕ) (height : ℕ) (x y : Item) → x.word ≡ y.word → rows_of at 0 height (x ∷ []) ≡ rows_of at 0 height (y ∷ [])
+rows_of-top : (at : ℕ → List ℕ) (height : ℕ) (x y : NodeItem) → x.word ≡ y.word → rows_of at 0 height (x ∷ []) ≡ rows_of at 0 height (y ∷ [])
 unfolding rows_of
 rows_of-top at zero x y same = refl
 rows_of-top at (suc height) x y same =
@@ -113,7 +113,7 @@ tree-same at other slots rows root agree =
     )
 
 -- the root is a node from page 0 up to the limit
-top_node : (at : ℕ → List ℕ) (limit height : ℕ) (top : Item) → 1 ≤ height → IsTower at limit 0 height (top ∷ [])
+top_node : (at : ℕ → List ℕ) (limit height : ℕ) (top : NodeItem) → 1 ≤ height → IsTower at limit 0 height (top ∷ [])
     → IsNode at (is_leaf (height - 1)) limit 0 top
 unfolding IsTower
 top_node at limit zero top tall tower = absurd (omega arith)
@@ -137,7 +137,7 @@ pub root-named : (at : ℕ → List ℕ) (slots : ℕ) (rows : List ℕ) (tree :
 root-named at slots rows tree layout =
     let top = tree.top in
     let node = top_node at top.end tree.height top layout.tall layout.tower in
-    let told : ℕ → ℕ → Item = λ end gap. record { end = end; word = top.word; gap = gap } in
+    let told : ℕ → ℕ → NodeItem = λ end gap. record { end = end; word = top.word; gap = gap } in
     ap (λ (end : ℕ). told end top.gap) (sym node.until)
     ∙ ap (λ (gap : ℕ). told (end_of 0 (read at (is_leaf (tree.height - 1)) top.word)) gap) (sym node.gap)
 
@@ -205,11 +205,11 @@ rows-own at slots rows root tree = record {
 pub root-shown : (at : ℕ → List ℕ) (slots : ℕ) (rows : List ℕ) (tree : Tree) (root : Root) → IsLayout at slots rows tree
     → 1 ≤ root.tree → root.height ≡ tree.height → root.row.0 ≡ tree.top.word → IsTree at slots rows root
 root-shown at slots rows tree root layout later tall here =
-    let made : Item → ℕ → Tree = λ top height. record { top = top; height = height } in
+    let made : NodeItem → ℕ → Tree = λ top height. record { top = top; height = height } in
     let top : tree.top ≡ top_of at root.height root.row.0 =
     root-named at slots rows tree layout ∙ ap (λ (n : ℕ). top_of at n tree.top.word) (sym tall)
     ∙ ap (λ (n : ℕ). top_of at root.height n) (sym here) in
-    let same : tree ≡ tree_of at root = ap (λ (item : Item). made item tree.height) top
+    let same : tree ≡ tree_of at root = ap (λ (item : NodeItem). made item tree.height) top
     ∙ ap (λ (n : ℕ). made (top_of at root.height root.row.0) n) (sym tall) in
     record {
       first = λ zeroth. absurd (omega arith);

@@ -2,7 +2,7 @@
 -- the nodes of the level below.
 use Rattle.std.specs.Prelude.{ℕ, zero, suc, ◌≡◌, ◌<◌, ◌≤◌, ◌+◌, Bool, List, [], ◌∷◌, ◌++◌, map, length, get_or, Option, if◌then◌else◌, nat_eq, nat_lt}
 use Rattle.std.specs.List.{flat_map, find}
-use Rattle.maple_node.specs.declared.item.Item.{Item}
+use Rattle.maple_node.specs.declared.item.NodeItem.{NodeItem}
 use Rattle.maple_node.specs.Nodes.{words_of, items_of, most, least, end_of, Ascends, gap_of}
 
 -- whether a level is that of the entries, whose nodes are leaves
@@ -14,24 +14,24 @@ abbrev pub at_of : List (List ℕ) → ℕ → List ℕ
 at_of rows row = get_or rows row []
 
 -- the items of the node in a row
-abbrev pub read : (ℕ → List ℕ) → Bool → ℕ → List Item
+abbrev pub read : (ℕ → List ℕ) → Bool → ℕ → List NodeItem
 read at leaf row = items_of leaf (at row)
 
 -- the items of the nodes that items point to, which are those of the level below
-abbrev pub below : (ℕ → List ℕ) → Bool → List Item → List Item
+abbrev pub below : (ℕ → List ℕ) → Bool → List NodeItem → List NodeItem
 below at leaf items = flat_map (λ item. read at leaf item.word) items
 
 -- the item that has a page: the first that ends above it
-abbrev pub item_at : ℕ → List Item → Option Item
+abbrev pub item_at : ℕ → List NodeItem → Option NodeItem
 item_at page items = find (λ item. nat_lt page item.end) items
 
 -- what holds of each item and the page where it begins
-abbrev pub AllFrom : (ℕ → Item → Type 0) → ℕ → List Item → Type 0
+abbrev pub AllFrom : (ℕ → NodeItem → Type 0) → ℕ → List NodeItem → Type 0
 AllFrom P start [] = Unit {0}
 AllFrom P start (item ∷ items) = P start item × AllFrom P item.end items
 
 -- the row of an item that begins at a page is a node
-pub record IsNode (at : ℕ → List ℕ) (leaf : Bool) (limit start : ℕ) (item : Item) : Type 0 where
+pub record IsNode (at : ℕ → List ℕ) (leaf : Bool) (limit start : ℕ) (item : NodeItem) : Type 0 where
   -- it has an item
   pub some : 1 ≤ length (read at leaf item.word)
   -- it has at most 16 or 10
@@ -48,18 +48,18 @@ pub record IsNode (at : ℕ → List ℕ) (leaf : Bool) (limit start : ℕ) (ite
   pub words : at item.word ≡ words_of leaf (read at leaf item.word)
 
 -- the items of level `low`, which lies so many levels below these items
-unfoldable pub level_of : (ℕ → List ℕ) → ℕ → ℕ → List Item → List Item
+unfoldable pub level_of : (ℕ → List ℕ) → ℕ → ℕ → List NodeItem → List NodeItem
 level_of at low zero items = items
 level_of at low (suc up) items = level_of at low up (below at (is_leaf (low + up)) items)
 
 -- from these items, so many levels above level `low`, down to that level, each item above it is a node
-unfoldable pub IsTower : (ℕ → List ℕ) → ℕ → ℕ → ℕ → List Item → Type 0
+unfoldable pub IsTower : (ℕ → List ℕ) → ℕ → ℕ → ℕ → List NodeItem → Type 0
 IsTower at limit low zero items = Unit {0}
 IsTower at limit low (suc up) items = AllFrom (IsNode at (is_leaf (low + up)) limit) 0 items
     × IsTower at limit low up (below at (is_leaf (low + up)) items)
 
 -- the rows of those nodes, each as often as it is pointed to
-unfoldable pub rows_of : (ℕ → List ℕ) → ℕ → ℕ → List Item → List ℕ
+unfoldable pub rows_of : (ℕ → List ℕ) → ℕ → ℕ → List NodeItem → List ℕ
 rows_of at low zero items = []
 rows_of at low (suc up) items = map (λ item. item.word) items ++ rows_of at low up (below at (is_leaf (low + up)) items)
 

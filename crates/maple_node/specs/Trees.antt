@@ -1,17 +1,17 @@
 -- The layout of a tree over rows.
 use Rattle.std.specs.Prelude.{ℕ, ◌≡◌, ◌≤◌, ◌-◌, false, List, [], ◌∷◌, ◌++◌, length, All, replicate, if◌then◌else◌, nat_eq}
-use Rattle.maple_node.specs.declared.item.Item.{Item}
+use Rattle.maple_node.specs.declared.item.NodeItem.{NodeItem}
 use Rattle.maple_node.specs.declared.root.Root.{Root}
 use Rattle.maple_node.specs.Nodes.{end_of, gap_of}
 use Rattle.maple_node.specs.Levels.{is_leaf, read, IsTower, level_of, rows_of, times}
 
 -- a tree as seen from above: the item of its root, which ends at the limit, and its height
 pub record Tree : Type 0 where
-  pub top : Item
+  pub top : NodeItem
   pub height : ℕ
 
 -- the item of a node from page 0 on, as its row tells
-abbrev pub top_of : (ℕ → List ℕ) → ℕ → ℕ → Item
+abbrev pub top_of : (ℕ → List ℕ) → ℕ → ℕ → NodeItem
 top_of at height row = let leaf = is_leaf (height - 1) in let items = read at leaf row in
     record { end = end_of 0 items; word = row; gap = gap_of leaf 0 items }
 
@@ -20,7 +20,7 @@ abbrev pub tree_of : (ℕ → List ℕ) → Root → Tree
 tree_of at root = record { top = top_of at root.height root.row.0; height = root.height }
 
 -- the entries of the leaves, in order
-abbrev pub entries_of : (ℕ → List ℕ) → Tree → List Item
+abbrev pub entries_of : (ℕ → List ℕ) → Tree → List NodeItem
 entries_of at tree = level_of at 0 tree.height (tree.top ∷ [])
 
 -- the rows of the nodes: the root, and each row as often as it is a child
@@ -34,11 +34,11 @@ pub record Pair : Type 0 where
   pub slot : ℕ
 
 -- the pair of an entry that begins at a page, and nothing for a gap
-abbrev pub pair_of : ℕ → Item → List Pair
+abbrev pub pair_of : ℕ → NodeItem → List Pair
 pair_of start item = if nat_eq item.word 0 then [] else (record { lo = start; hi = item.end; slot = item.word - 1 } ∷ [])
 
 -- the pairs of entries that begin at a page
-abbrev pub pairs_from : ℕ → List Item → List Pair
+abbrev pub pairs_from : ℕ → List NodeItem → List Pair
 pairs_from start [] = []
 pairs_from start (item ∷ items) = pair_of start item ++ pairs_from item.end items
 
@@ -47,7 +47,7 @@ abbrev pub pairs_of : (ℕ → List ℕ) → Tree → List Pair
 pairs_of at tree = pairs_from 0 (entries_of at tree)
 
 -- two gaps never follow each other, where an entry with this word stands before the first
-abbrev pub ApartFrom : ℕ → List Item → Type 0
+abbrev pub ApartFrom : ℕ → List NodeItem → Type 0
 ApartFrom before [] = Unit {0}
 ApartFrom before (item ∷ items) = (before ≡ 0 → item.word ≡ 0 → ⊥) × ApartFrom item.word items
 

@@ -2,7 +2,7 @@
 use Rattle.std.specs.Prelude.{ℕ, ◌≡◌, ◌<◌, ◌≤◌, ◌+◌, ◌-◌, ◌*◌, ◌^◌, ◌&&◌, List, All, map, length, slice_get, Option, Some, None, if◌then◌else◌, nat_eq, nat_lt, nat_le, slice_index}
 use Rattle.mm_types.specs.declared.slot.Slot.{Slot}
 use Rattle.mm_types.specs.declared.slot.Row.{Row}
-use Rattle.maple_node.specs.declared.item.Item.{Item}
+use Rattle.maple_node.specs.declared.item.NodeItem.{NodeItem}
 use Rattle.maple_node.specs.Nodes.{Ascends}
 
 -- an entry of a leaf: the first page after it, and its slot, or none for a gap
@@ -23,11 +23,11 @@ abbrev pub slot_of : ℕ → Option Slot
 slot_of word = if nat_eq word 0 then None else Some (record { 0 = word - 1 })
 
 -- an entry as an item
-abbrev pub entry_item : Entry → Item
+abbrev pub entry_item : Entry → NodeItem
 entry_item entry = record { end = entry.0; word = slot_word entry.1; gap = 0 }
 
 -- a child as an item
-abbrev pub child_item : Child → Item
+abbrev pub child_item : Child → NodeItem
 child_item child = record { end = child.0; word = child.1.0; gap = child.2 }
 
 -- the entry at a place of a leaf: none from place 16 on, where the first word is 0, and where the second is above 2^32

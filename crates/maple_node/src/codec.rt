@@ -5,7 +5,7 @@ ghost use Rattle.maple_node.specs.Nodes.{most, least};
 ghost use Rattle.maple_node.specs.Codec.{width_of, listed_at};
 ghost use Rattle.maple_node.specs.Words.{slot_word, slot_of};
 
-use crate::item::Item;
+use crate::item::NodeItem;
 use mm_types::Slot;
 
 /// How many words a node has.
@@ -33,11 +33,11 @@ pub fn width_of(leaf: bool) -> usize
 }
 
 /// The item that the words of a node list at a place.
-pub fn listed_at(leaf: bool, words: &[u64; 32], place: usize) -> Item
+pub fn listed_at(leaf: bool, words: &[u64; 32], place: usize) -> NodeItem
     requires { place + width_of leaf ≤ 32 }
     ensures { result ≡ listed_at leaf words.now place }
 {
-    Item {
+    NodeItem {
         end: words[place],
         word: words[place + 1],
         gap: if leaf { 0 } else { words[place + 2] },

@@ -2,7 +2,7 @@
 
 ghost use Rattle.std.specs.Prelude.{◌≡◌, ◌<◌, ◌≤◌, ◌^◌, ◌↔◌, ℕ, true, false, List, [], ◌∷◌, All, slice_get, IsSome};
 ghost use Rattle.std.specs.Option.{option_map};
-ghost use Rattle.maple_node.specs.declared.item.Item.{Item};
+ghost use Rattle.maple_node.specs.declared.item.NodeItem.{NodeItem};
 ghost use Rattle.maple_node.specs.declared.root.Root.{Root};
 ghost use Rattle.maple_node.specs.Nodes.{end_of, Ascends};
 ghost use Rattle.maple_node.specs.Levels.{IsNode, read, Agree, times, item_at};
@@ -11,10 +11,10 @@ ghost use Rattle.maple_node.specs.Trees.{Tree, IsLayout, IsFirst, IsTree, tree_o
 
 /// Reading a node place by place gives its items in order, and nothing past the last, where slots and rows have 32 bits.
 pub fn nodes_are_read_by_place()
-    ensures leaf { (at : ℕ → List ℕ) (limit start : ℕ) (item : Item) (place : ℕ) → IsNode at true limit start item
+    ensures leaf { (at : ℕ → List ℕ) (limit start : ℕ) (item : NodeItem) (place : ℕ) → IsNode at true limit start item
         → All (λ entry. entry.word ≤ 2 ^ 32) (read at true item.word)
         → option_map entry_item (leaf_entry (at item.word) place) ≡ slice_get (read at true item.word) place }
-    ensures inner { (at : ℕ → List ℕ) (limit start : ℕ) (item : Item) (place : ℕ) → IsNode at false limit start item
+    ensures inner { (at : ℕ → List ℕ) (limit start : ℕ) (item : NodeItem) (place : ℕ) → IsNode at false limit start item
         → All (λ child. child.word < 2 ^ 32) (read at false item.word)
         → option_map child_item (inner_child (at item.word) place) ≡ slice_get (read at false item.word) place }
 {}

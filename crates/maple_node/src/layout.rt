@@ -16,7 +16,7 @@ ghost use Rattle.maple_node.specs.Words.{
 };
 
 use crate::codec::{listed_at, slot_of, slot_word};
-use crate::item::Item;
+use crate::item::NodeItem;
 use crate::packed::NodeWords;
 use mm_types::{Row, Slot};
 
@@ -33,7 +33,7 @@ impl Layout<16> {
         if place >= 16 {
             return None;
         }
-        let Item { end, word, .. } = listed_at(true, words, 2 * place);
+        let NodeItem { end, word, .. } = listed_at(true, words, 2 * place);
         if end == 0 || word > 1 << 32 {
             return None;
         }
@@ -48,7 +48,7 @@ impl Layout<16> {
     {
         let mut words = NodeWords::new();
         for entry in entries {
-            let item = Item {
+            let item = NodeItem {
                 end: entry.0,
                 word: slot_word(entry.1),
                 gap: 0,
@@ -69,7 +69,7 @@ impl Layout<10> {
         if place >= 10 {
             return None;
         }
-        let Item { end, word, gap } = listed_at(false, words, 3 * place);
+        let NodeItem { end, word, gap } = listed_at(false, words, 3 * place);
         let row = u32::try_from(word).ok()?;
         (end > 0).then_some((end, Row(row), gap))
     }
@@ -82,7 +82,7 @@ impl Layout<10> {
     {
         let mut words = NodeWords::new();
         for child in children {
-            let item = Item {
+            let item = NodeItem {
                 end: child.0,
                 word: u64::from(child.1.0),
                 gap: child.2,

@@ -9,7 +9,7 @@ mod packed;
 mod root;
 
 pub use codec::{NODE_WORDS, least, listed_at, most, slot_of, slot_word, width_of};
-pub use item::Item;
+pub use item::NodeItem;
 pub use laws::{
     depends_on_its_rows, entries_cover_pages, first_tree_is_empty, nodes_are_read_by_place,
     root_stands_once, rows_are_those_of_its_nodes,

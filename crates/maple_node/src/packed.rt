@@ -7,7 +7,7 @@ ghost use Rattle.maple_node.specs.Codec.{width_of};
 ghost use Rattle.maple_node.specs.Padding.{padded};
 
 use crate::codec::NODE_WORDS;
-use crate::item::Item;
+use crate::item::NodeItem;
 use std::marker::Model;
 
 /// The words of a node as far as they were added, with zeros after them. They are added where they stand, since they are many.
@@ -63,7 +63,7 @@ impl NodeWords {
     }
 
     /// Adds the words of an item: of an entry its end and its word, of a child also its largest gap.
-    pub(crate) fn push_item(&mut self, leaf: bool, item: Item)
+    pub(crate) fn push_item(&mut self, leaf: bool, item: NodeItem)
         requires { length self.old + width_of leaf ≤ 32 }
         ensures { self.new ≡ self.old ++ item_words leaf item }
     {
@@ -75,7 +75,7 @@ impl NodeWords {
     }
 
     /// Adds the words of items.
-    pub fn push_items(&mut self, leaf: bool, items: &[Item])
+    pub fn push_items(&mut self, leaf: bool, items: &[NodeItem])
         requires { length self.old + width_of leaf * length items.now ≤ 32 }
         ensures { self.new ≡ self.old ++ flat_map (item_words leaf) items.now }
     {
@@ -96,7 +96,7 @@ impl NodeWords {
 }
 
 /// The words of a node with these items: of an entry its end and its word, of a child also its largest gap; then zeros.
-pub fn node_words(leaf: bool, items: &[Item]) -> [u64; 32]
+pub fn node_words(leaf: bool, items: &[NodeItem]) -> [u64; 32]
     requires { length items.now ≤ most leaf }
     ensures { result ≡ words_of leaf items.now }
 {
@@ -108,21 +108,21 @@ pub fn node_words(leaf: bool, items: &[Item]) -> [u64; 32]
 #[cfg(test)]
 mod tests {
     use super::node_words;
-    use crate::item::Item;
+    use crate::item::NodeItem;
 
     /// Two pages of a gap, one with slot 0, and five of a gap.
-    const ENTRIES: [Item; 3] = [
-        Item {
+    const ENTRIES: [NodeItem; 3] = [
+        NodeItem {
             end: 2,
             word: 0,
             gap: 0,
         },
-        Item {
+        NodeItem {
             end: 3,
             word: 1,
             gap: 0,
         },
-        Item {
+        NodeItem {
             end: 8,
             word: 0,
             gap: 0,
@@ -130,13 +130,13 @@ mod tests {
     ];
 
     /// Row 7 up to page 0x20, and row 9 up to page 0x30 with a gap of 4 pages.
-    const CHILDREN: [Item; 2] = [
-        Item {
+    const CHILDREN: [NodeItem; 2] = [
+        NodeItem {
             end: 0x20,
             word: 7,
             gap: 0,
         },
-        Item {
+        NodeItem {
             end: 0x30,
             word: 9,
             gap: 4,

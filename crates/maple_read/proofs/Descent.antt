@@ -2,7 +2,7 @@
 use Rattle.std.proofs.Common.{ℕ, zero, suc, ◌≡◌, ◌≤◌, ◌+◌, ◌-◌, Bool, true, false, List, [], ◌∷◌, ◌++◌, length, map, Some, None, refl, sym, ap, subst, ◌∙◌, arith, append-nil}
 use Rattle.std.proofs.lemmas.Bool.Decides.{nat_tests}
 use Rattle.std.specs.Option.{option_and_then}
-use Rattle.maple_node.specs.declared.item.Item.{Item}
+use Rattle.maple_node.specs.declared.item.NodeItem.{NodeItem}
 use Rattle.maple_node.specs.Nodes.{words_of, most}
 use Rattle.maple_node.specs.Levels.{is_leaf, read, below, item_at, IsNode, level_of, IsTower, rows_of, times}
 use Rattle.maple_node.proofs.Frames.{times-first, times-append}
@@ -17,18 +17,18 @@ room true at row few words =
 room false at row few words =
     ap length words ∙ length-words_of false (read at false row) (omega (arith, few, length-inner_words (read at false row)))
 
-pub node-long : (at : ℕ → List ℕ) (leaf : Bool) (limit start : ℕ) (item : Item) → IsNode at leaf limit start item → length (at item.word) ≡ 32
+pub node-long : (at : ℕ → List ℕ) (leaf : Bool) (limit start : ℕ) (item : NodeItem) → IsNode at leaf limit start item → length (at item.word) ≡ 32
 node-long at leaf limit start item node = room leaf at item.word node.most node.words
 
 -- and so has that of the root
-pub top-long : (at : ℕ → List ℕ) (limit height : ℕ) (top : Item) → 1 ≤ height → IsTower at limit 0 height (top ∷ []) → length (at top.word) ≡ 32
+pub top-long : (at : ℕ → List ℕ) (limit height : ℕ) (top : NodeItem) → 1 ≤ height → IsTower at limit 0 height (top ∷ []) → length (at top.word) ≡ 32
 unfolding IsTower
 top-long at limit zero top tall tower = absurd (omega arith)
 top-long at limit (suc up) top tall tower = node-long at (is_leaf (0 + up)) limit 0 top tower.0.0
 
 -- A node with so many levels below it has a page where any node of its level has it.
-pub record Reached (at : ℕ → List ℕ) (limit : ℕ) (entries : List Item) (rows : List ℕ) (page up row : ℕ) : Type 0 where
-  pub items : List Item
+pub record Reached (at : ℕ → List ℕ) (limit : ℕ) (entries : List NodeItem) (rows : List ℕ) (page up row : ℕ) : Type 0 where
+  pub items : List NodeItem
   pub tower : 1 ≤ up → IsTower at limit 0 (suc up) items
   pub down : level_of at 0 (suc up) items ≡ entries
   pub found : item_at page (read at (is_leaf (0 + up)) row) ≡ item_at page (below at (is_leaf (0 + up)) items)
@@ -37,7 +37,7 @@ pub record Reached (at : ℕ → List ℕ) (limit : ℕ) (entries : List Item) (
   pub long : length (at row) ≡ 32
 
 -- the root
-pub at_root : (at : ℕ → List ℕ) (limit height page : ℕ) (top : Item) → 1 ≤ height → (2 ≤ height → IsTower at limit 0 height (top ∷ []))
+pub at_root : (at : ℕ → List ℕ) (limit height page : ℕ) (top : NodeItem) → 1 ≤ height → (2 ≤ height → IsTower at limit 0 height (top ∷ []))
     → length (at top.word) ≡ 32
     → Reached at limit (level_of at 0 height (top ∷ [])) (rows_of at 0 height (top ∷ [])) page (height - 1) top.word
 unfolding rows_of
@@ -59,7 +59,7 @@ inner : (up : ℕ) → is_leaf (0 + suc up) ≡ false
 inner up = grind (arith, nat_tests)
 
 -- the child that has the page
-pub to_child : (at : ℕ → List ℕ) (limit : ℕ) (entries : List Item) (rows : List ℕ) (page up row : ℕ) (child : Item)
+pub to_child : (at : ℕ → List ℕ) (limit : ℕ) (entries : List NodeItem) (rows : List ℕ) (page up row : ℕ) (child : NodeItem)
     → Reached at limit entries rows page (suc up) row → item_at page (read at false row) ≡ Some child
     → Reached at limit entries rows page up child.word
 unfolding IsTower level_of rows_of
@@ -71,13 +71,13 @@ to_child at limit entries rows page up row child from is =
     sym from.found ∙ ap (λ (b : Bool). item_at page (read at b row)) (inner up) ∙ is in
     let node = item_at-node at leaf limit 0 page next child tower.1.0 there in
     let deep = rows_of at 0 up (below at leaf next) in
-    let words = map (λ (item : Item). item.word) in
+    let words = map (λ (item : NodeItem). item.word) in
     record {
       items = next;
       tower = λ some. tower.1;
       down = from.down;
       found = sym (item_at-below at leaf limit 0 page next tower.1.0
-          ∙ ap (option_and_then (λ (item : Item). item_at page (read at leaf item.word))) there);
+          ∙ ap (option_and_then (λ (item : NodeItem). item_at page (read at leaf item.word))) there);
       here = from.among child.word (let some = item_at-among page next child there in
           omega (
             arith,
@@ -90,7 +90,7 @@ to_child at limit entries rows page up row child from is =
     }
 
 -- no entry has the page where no child has it
-pub no_child : (at : ℕ → List ℕ) (limit : ℕ) (entries : List Item) (rows : List ℕ) (page up row : ℕ)
+pub no_child : (at : ℕ → List ℕ) (limit : ℕ) (entries : List NodeItem) (rows : List ℕ) (page up row : ℕ)
     → Reached at limit entries rows page (suc up) row → item_at page (read at false row) ≡ None → item_at page entries ≡ None
 unfolding IsTower level_of
 no_child at limit entries rows page up row from is =
@@ -100,7 +100,7 @@ no_child at limit entries rows page up row from is =
     sym (ap (item_at page) from.down) ∙ item_at-none at limit (suc up) page next tower.1 none
 
 -- the entry of the leaf that has the page is the one of the tree
-pub at_leaf : (at : ℕ → List ℕ) (limit : ℕ) (entries : List Item) (rows : List ℕ) (page row : ℕ)
+pub at_leaf : (at : ℕ → List ℕ) (limit : ℕ) (entries : List NodeItem) (rows : List ℕ) (page row : ℕ)
     → Reached at limit entries rows page 0 row → item_at page (read at true row) ≡ item_at page entries
 unfolding level_of
 at_leaf at limit entries rows page row from = from.found ∙ ap (item_at page) from.down

@@ -5,7 +5,7 @@ use Rattle.std.proofs.lemmas.List.{length-replicate}
 use Rattle.std.specs.Option.{option_map, option_and_then}
 use Rattle.grace_core.specs.Core as grace
 use Rattle.grace_core.specs.Core.{has_row}
-use Rattle.maple_node.specs.declared.item.Item.{Item}
+use Rattle.maple_node.specs.declared.item.NodeItem.{NodeItem}
 use Rattle.maple_node.specs.declared.root.Root.{Root}
 use Rattle.maple_node.specs.Nodes.{Ascends}
 use Rattle.maple_node.specs.Levels.{at_of, read, item_at, IsTower}
@@ -22,7 +22,7 @@ use Rattle.maple_read.proofs.Pairs.{slot_in, slot_from-entry}
 use Rattle.maple_read.proofs.Reading.{read_at, read-none, read-more, one_shown}
 
 -- the entries of a shown tree
-abbrev pub entries_in : ShownTree → List Item
+abbrev pub entries_in : ShownTree → List NodeItem
 entries_in shown = entries_of (at_of shown.words) (tree_of (at_of shown.words) shown.root)
 
 -- a row is that of the node that has a page, where some node so many levels above the leaves has it
@@ -63,8 +63,8 @@ first_loaded shown slots first =
       tall = omega arith;
       tower = λ inner. absurd (omega (arith, tall));
       long = ap (λ (r : Root). length (at r.row.0)) first.named ∙ ap length first.words ∙ length-replicate {A = ℕ} 32 0;
-      ascends = subst (λ (xs : List Item). Ascends 0 xs) (sym none) tt;
-      numbered = subst (λ (xs : List Item). All (λ (entry : Item). entry.word ≤ slots) xs) (sym none) (λ k d low. absurd (omega arith));
+      ascends = subst (λ (xs : List NodeItem). Ascends 0 xs) (sym none) tt;
+      numbered = subst (λ (xs : List NodeItem). All (λ (entry : NodeItem). entry.word ≤ slots) xs) (sym none) (λ k d low. absurd (omega arith));
     }
 
 later_loaded : (shown : ShownTree) (slots : ℕ) → IsLayout (at_of shown.words) slots (shown_rows shown) (tree_of (at_of shown.words) shown.root)
@@ -119,7 +119,7 @@ pub goes_on : (shown : ShownTree) (page up next row word row' : ℕ) → IsAt sh
 goes_on shown page up next row word row' at level found same =
     let words = at_of shown.words in
     let tree = tree_of words shown.root in
-    let child = made (λ (item : Item). item.word) (item_at page (read words false row)) word found in
+    let child = made (λ (item : NodeItem). item.word) (item_at page (read words false row)) word found in
     let levels : up ≡ suc next = omega arith in
     let from : IsAt shown page (suc next) row = subst (λ n. IsAt shown page n row) levels at in
     let down : IsAt shown page next child.one.word = to_child words tree.top.end (entries_in shown) (tree_rows words tree) page next row child.one from child.is in
@@ -131,7 +131,7 @@ pub slot-entry : (view : NodeView) (root : Root) (page : ℕ) → HasLoaded view
 slot-entry view root page loaded shown shows =
     let one : loaded.shown ≡ shown = one_shown view loaded.shown shown loaded.snapshot shows in
     let is = is_loaded view.size.slots loaded.shown loaded.layout in
-    subst (λ (s : ShownTree). slot_at page s ≡ option_and_then (λ (item : Item). slot_in item.word) (item_at page (entries_in s))) one
+    subst (λ (s : ShownTree). slot_at page s ≡ option_and_then (λ (item : NodeItem). slot_in item.word) (item_at page (entries_in s))) one
     (slot_from-entry page 0 (entries_in loaded.shown) is.ascends (omega arith))
 
 -- no pair has the page where no child has it
@@ -141,11 +141,11 @@ pub none_inner : (view : NodeView) (root : Root) (page up next row : ℕ) → Ha
 none_inner view root page up next row loaded shown shows at level found =
     let words = at_of shown.words in
     let tree = tree_of words shown.root in
-    let none = made-none (λ (item : Item). item.word) (item_at page (read words false row)) found in
+    let none = made-none (λ (item : NodeItem). item.word) (item_at page (read words false row)) found in
     let levels : up ≡ suc next = omega arith in
     let from : IsAt shown page (suc next) row = subst (λ n. IsAt shown page n row) levels at in
     let past : item_at page (entries_in shown) ≡ None = no_child words tree.top.end (entries_in shown) (tree_rows words tree) page next row from none in
-    slot-entry view root page loaded shown shows ∙ ap (option_and_then (λ (item : Item). slot_in item.word)) past
+    slot-entry view root page loaded shown shows ∙ ap (option_and_then (λ (item : NodeItem). slot_in item.word)) past
 
 -- the word of the entry that has the page
 pub entry_word : (shown : ShownTree) (page up row : ℕ) (word : Option ℕ) → IsAt shown page up row → up ≡ 0
@@ -155,10 +155,10 @@ entry_word shown page up row word at level found =
     let words = at_of shown.words in
     let tree = tree_of words shown.root in
     let from : IsAt shown page 0 row = subst (λ n. IsAt shown page n row) level at in
-    ap (option_map (λ (item : Item). item.word)) (sym (at_leaf words tree.top.end (entries_in shown) (tree_rows words tree) page row from)) ∙ found
+    ap (option_map (λ (item : NodeItem). item.word)) (sym (at_leaf words tree.top.end (entries_in shown) (tree_rows words tree) page row from)) ∙ found
 
 -- a value by the word of an item
-by_word : (o : Option Item) → option_and_then (λ item. slot_in item.word) o ≡ option_and_then slot_in (option_map (λ item. item.word) o)
+by_word : (o : Option NodeItem) → option_and_then (λ item. slot_in item.word) o ≡ option_and_then slot_in (option_map (λ item. item.word) o)
 by_word None = refl
 by_word (Some item) = refl
 
@@ -172,7 +172,7 @@ slot_told view root page up row word loaded shown shows at level found =
     ∙ ap (option_and_then slot_in) (entry_word shown page up row word at level found)
 
 -- what holds of each item holds of the one that has a page
-of_found : (P : Item → Type 0) (page : ℕ) (xs : List Item) (item : Item) → All P xs → item_at page xs ≡ Some item → P item
+of_found : (P : NodeItem → Type 0) (page : ℕ) (xs : List NodeItem) (item : NodeItem) → All P xs → item_at page xs ≡ Some item → P item
 of_found P page [] item all is = absurd (cc)
 of_found P page (x ∷ xs) item all is = elim (cases_lt page x.end) as (λ _. P item) [
   | inl within ↦ let same = sym (item_at-first page x xs within) ∙ is in
@@ -190,10 +190,10 @@ pub slot_fits : (view : NodeView) (root : Root) (page up row word : ℕ) → Has
 slot_fits view root page up row word loaded at level found =
     let shown = loaded.shown in
     let is = is_loaded view.size.slots shown loaded.layout in
-    let entry = made (λ (item : Item). item.word) (item_at page (entries_in shown)) word
+    let entry = made (λ (item : NodeItem). item.word) (item_at page (entries_in shown)) word
     (entry_word shown page up row (Some word) (at shown loaded.snapshot) level (found shown loaded.snapshot)) in
     subst (λ n. n ≤ view.size.slots) entry.gives
-    (of_found (λ (item : Item). item.word ≤ view.size.slots) page (entries_in shown) entry.one is.numbered entry.is)
+    (of_found (λ (item : NodeItem). item.word ≤ view.size.slots) page (entries_in shown) entry.one is.numbered entry.is)
 
 -- a child's row is one that exists
 pub row_fits : (view : NodeView) (root : Root) (page up next row word : ℕ) → HasLoaded view root

@@ -5,7 +5,7 @@ use Rattle.std.proofs.lemmas.Bool.Decides.{nat_tests}
 use Rattle.std.specs.Prelude.{nat_eq, nat_lt, nat_le}
 use Rattle.std.specs.Option.{option_map, option_and_then}
 use Rattle.std.specs.List.{find}
-use Rattle.maple_node.specs.declared.item.Item.{Item}
+use Rattle.maple_node.specs.declared.item.NodeItem.{NodeItem}
 use Rattle.maple_node.specs.Nodes.{Ascends}
 use Rattle.maple_node.specs.Levels.{item_at}
 use Rattle.maple_node.specs.Trees.{Pair, pairs_from}
@@ -38,11 +38,11 @@ pub slot_in-slot : (word number : ℕ) → 1 ≤ word → number ≡ word - 1 �
 slot_in-slot word number some is = let test : nat_eq word 0 ≡ false = grind (arith, nat_tests) in rw (test, is) refl
 
 -- the slot of the pair that has a page
-abbrev slot_from : ℕ → ℕ → List Item → Option ℕ
+abbrev slot_from : ℕ → ℕ → List NodeItem → Option ℕ
 slot_from page start items = option_map (λ (pair : Pair). pair.slot) (find (has_page page) (pairs_from start items))
 
 -- the first entry's pair is passed over where it does not have the page
-passed : (page start : ℕ) (x : Item) (xs : List Item)
+passed : (page start : ℕ) (x : NodeItem) (xs : List NodeItem)
     → ((pair : Pair) → pair ≡ record { lo = start; hi = x.end; slot = x.word - 1 } → has_page page pair ≡ false)
     → find (has_page page) (pairs_from start (x ∷ xs)) ≡ find (has_page page) (pairs_from x.end xs)
 passed page start x xs lacks =
@@ -55,20 +55,20 @@ passed page start x xs lacks =
     ]
 
 -- entries that begin above a page have no pair that has it
-none_before : (page start : ℕ) (xs : List Item) → Ascends start xs → page < start → find (has_page page) (pairs_from start xs) ≡ None
+none_before : (page start : ℕ) (xs : List NodeItem) → Ascends start xs → page < start → find (has_page page) (pairs_from start xs) ≡ None
 none_before page start [] ascends below = refl
 none_before page start (x ∷ xs) ascends below =
     passed page start x xs (λ pair is. lacks_below page pair (subst (λ (p : Pair). page < p.lo) (sym is) below))
     ∙ none_before page x.end xs ascends.1 (omega (arith, ascends.0))
 
 -- the slot of the pair that has a page is the one that the entry's word tells
-pub slot_from-entry : (page start : ℕ) (xs : List Item) → Ascends start xs → start ≤ page
+pub slot_from-entry : (page start : ℕ) (xs : List NodeItem) → Ascends start xs → start ≤ page
     → slot_from page start xs ≡ option_and_then (λ item. slot_in item.word) (item_at page xs)
 slot_from-entry page start [] ascends above = refl
 slot_from-entry page start (x ∷ xs) ascends above =
     let pair : Pair = record { lo = start; hi = x.end; slot = x.word - 1 } in
     let rest = pairs_from x.end xs in
-    let told : Option Item → Option ℕ = option_and_then (λ (item : Item). slot_in item.word) in
+    let told : Option NodeItem → Option ℕ = option_and_then (λ (item : NodeItem). slot_in item.word) in
     let slot : Option Pair → Option ℕ = option_map (λ (pair : Pair). pair.slot) in
     elim (cases_lt page x.end) as (λ _. slot_from page start (x ∷ xs) ≡ told (item_at page (x ∷ xs))) [
       | inl within ↦

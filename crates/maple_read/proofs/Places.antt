@@ -3,7 +3,7 @@ use Rattle.std.proofs.Common.{ℕ, ◌≡◌, ◌<◌, ◌≤◌, Bool, true, fa
 use Rattle.std.proofs.lemmas.Bool.Decides.{nat_tests}
 use Rattle.std.specs.Prelude.{nat_eq}
 use Rattle.std.specs.Option.{option_map}
-use Rattle.maple_node.specs.declared.item.Item.{Item}
+use Rattle.maple_node.specs.declared.item.NodeItem.{NodeItem}
 use Rattle.maple_node.specs.Nodes.{items_of, leaf_items, inner_items}
 use Rattle.maple_node.specs.Levels.{item_at}
 use Rattle.maple_node.specs.Codec.{width_of}
@@ -11,7 +11,7 @@ use Rattle.maple_read.proofs.Items.{item_at-first, item_at-later}
 
 -- the word of the item that has a page
 abbrev pub word_in : Bool → ℕ → List ℕ → Option ℕ
-word_in leaf page words = option_map (λ (item : Item). item.word) (item_at page (items_of leaf words))
+word_in leaf page words = option_map (λ (item : NodeItem). item.word) (item_at page (items_of leaf words))
 
 -- no item where too few words are left
 pub short : (leaf : Bool) (page : ℕ) (words : List ℕ) → length words < width_of leaf → word_in leaf page words ≡ None
@@ -43,15 +43,15 @@ found true page [] long within = absurd (omega arith)
 found true page (a ∷ []) long within = absurd (omega arith)
 found true page (a ∷ b ∷ rest) long within =
     let test : nat_eq a 0 ≡ false = grind (arith, nat_tests) in
-    let item : Item = record { end = a; word = b; gap = 0 } in
-    rw test (ap (option_map (λ (item : Item). item.word)) (item_at-first page item (leaf_items rest) within))
+    let item : NodeItem = record { end = a; word = b; gap = 0 } in
+    rw test (ap (option_map (λ (item : NodeItem). item.word)) (item_at-first page item (leaf_items rest) within))
 found false page [] long within = absurd (omega arith)
 found false page (a ∷ []) long within = absurd (omega arith)
 found false page (a ∷ b ∷ []) long within = absurd (omega arith)
 found false page (a ∷ b ∷ d ∷ rest) long within =
     let test : nat_eq a 0 ≡ false = grind (arith, nat_tests) in
-    let item : Item = record { end = a; word = b; gap = d } in
-    rw test (ap (option_map (λ (item : Item). item.word)) (item_at-first page item (inner_items rest) within))
+    let item : NodeItem = record { end = a; word = b; gap = d } in
+    rw test (ap (option_map (λ (item : NodeItem). item.word)) (item_at-first page item (inner_items rest) within))
 
 -- a place that ends at the page or below, and not at 0, does not have it
 pub later : (leaf : Bool) (page : ℕ) (words : List ℕ) → width_of leaf ≤ length words → (get_or words 0 0 ≡ 0 → ⊥) → get_or words 0 0 ≤ page
@@ -61,12 +61,12 @@ later true page [] long some past = absurd (omega arith)
 later true page (a ∷ []) long some past = absurd (omega arith)
 later true page (a ∷ b ∷ rest) long some past =
     let test : nat_eq a 0 ≡ false = grind (arith, nat_tests) in
-    let item : Item = record { end = a; word = b; gap = 0 } in
-    rw test (ap (option_map (λ (item : Item). item.word)) (item_at-later page item (leaf_items rest) past))
+    let item : NodeItem = record { end = a; word = b; gap = 0 } in
+    rw test (ap (option_map (λ (item : NodeItem). item.word)) (item_at-later page item (leaf_items rest) past))
 later false page [] long some past = absurd (omega arith)
 later false page (a ∷ []) long some past = absurd (omega arith)
 later false page (a ∷ b ∷ []) long some past = absurd (omega arith)
 later false page (a ∷ b ∷ d ∷ rest) long some past =
     let test : nat_eq a 0 ≡ false = grind (arith, nat_tests) in
-    let item : Item = record { end = a; word = b; gap = d } in
-    rw test (ap (option_map (λ (item : Item). item.word)) (item_at-later page item (inner_items rest) past))
+    let item : NodeItem = record { end = a; word = b; gap = d } in
+    rw test (ap (option_map (λ (item : NodeItem). item.word)) (item_at-later page item (inner_items rest) past))

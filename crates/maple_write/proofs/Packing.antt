@@ -2,7 +2,7 @@
 use Rattle.std.proofs.Common.{ℕ, zero, suc, ◌≡◌, ◌≢◌, ◌<◌, ◌≤◌, ◌+◌, ◌-◌, ◌*◌, Bool, true, false, List, [], ◌∷◌, ◌++◌, length, get_or, set, take, drop, refl, sym, ap, subst, ◌∙◌, arith, inl, inr, length-append}
 use Rattle.std.proofs.lemmas.Bool.{cases_lt}
 use Rattle.std.proofs.lemmas.List.{take-append-drop, length-take-le, length-drop, take_all}
-use Rattle.maple_node.specs.declared.item.Item.{Item}
+use Rattle.maple_node.specs.declared.item.NodeItem.{NodeItem}
 use Rattle.maple_node.specs.Nodes.{items_of, words_of, most, least, end_of, Ascends, gap_of, IsPlain}
 use Rattle.maple_node.specs.Levels.{at_of, read, below, IsNode, times, Agree}
 use Rattle.maple_node.proofs.Lists.{end_of-append}
@@ -13,7 +13,7 @@ use Rattle.maple_write.proofs.Levels.{AreNodes}
 use Rattle.maple_write.proofs.Times.{times-rows_in, times_same, apart, kept_other, written_row, below_pushed, pushed}
 
 -- where items end
-pub last_end : (start : ℕ) (items : List Item) (d : Item) → 1 ≤ length items → (get_or items (length items - 1) d).end ≡ end_of start items
+pub last_end : (start : ℕ) (items : List NodeItem) (d : NodeItem) → 1 ≤ length items → (get_or items (length items - 1) d).end ≡ end_of start items
 last_end start [] d some = absurd (omega arith)
 last_end start (x ∷ []) d some = let e : length (x ∷ []) - 1 ≡ 0 = omega arith in ap (λ (i : ℕ). (get_or (x ∷ []) i d).end) e
 last_end start (x ∷ y ∷ ys) d some =
@@ -21,46 +21,46 @@ last_end start (x ∷ y ∷ ys) d some =
     ap (λ (i : ℕ). (get_or (x ∷ y ∷ ys) i d).end) e ∙ last_end x.end (y ∷ ys) d (omega arith)
 
 -- the node that was written
-pub made-items : (rows : List (List ℕ)) (row : ℕ) (leaf : Bool) (start : ℕ) (items : List Item) → row < length rows → Ascends start items
+pub made-items : (rows : List (List ℕ)) (row : ℕ) (leaf : Bool) (start : ℕ) (items : List NodeItem) → row < length rows → Ascends start items
     → IsPlain leaf items → read (at_of (set rows row (words_of leaf items))) leaf row ≡ items
 made-items rows row leaf start items within ascends plain =
     ap (items_of leaf) (written_row rows row (words_of leaf items) within) ∙ items_of_words leaf start items ascends plain
 
-pub made-node : (rows : List (List ℕ)) (row : ℕ) (leaf : Bool) (limit start until gap : ℕ) (items : List Item) → row < length rows
+pub made-node : (rows : List (List ℕ)) (row : ℕ) (leaf : Bool) (limit start until gap : ℕ) (items : List NodeItem) → row < length rows
     → Ascends start items → IsPlain leaf items → 1 ≤ length items → length items ≤ most leaf
     → (end_of start items < limit → least leaf ≤ length items) → until ≡ end_of start items → gap ≡ gap_of leaf start items
     → IsNode (at_of (set rows row (words_of leaf items))) leaf limit start (record { end = until; word = row; gap = gap })
 made-node rows row leaf limit start until gap items within ascends plain some fits full ends gaps =
     let back = sym (made-items rows row leaf start items within ascends plain) in
     record {
-      some = subst (λ (xs : List Item). 1 ≤ length xs) back some;
-      most = subst (λ (xs : List Item). length xs ≤ most leaf) back fits;
-      least = λ inner. subst (λ (xs : List Item). least leaf ≤ length xs) back (full (omega arith));
-      ascends = subst (λ (xs : List Item). Ascends start xs) back ascends;
-      until = subst (λ (xs : List Item). end_of start xs ≡ until) back (sym ends);
-      gap = subst (λ (xs : List Item). gap_of leaf start xs ≡ gap) back (sym gaps);
+      some = subst (λ (xs : List NodeItem). 1 ≤ length xs) back some;
+      most = subst (λ (xs : List NodeItem). length xs ≤ most leaf) back fits;
+      least = λ inner. subst (λ (xs : List NodeItem). least leaf ≤ length xs) back (full (omega arith));
+      ascends = subst (λ (xs : List NodeItem). Ascends start xs) back ascends;
+      until = subst (λ (xs : List NodeItem). end_of start xs ≡ until) back (sym ends);
+      gap = subst (λ (xs : List NodeItem). gap_of leaf start xs ≡ gap) back (sym gaps);
       words = written_row rows row (words_of leaf items) within ∙ ap (words_of leaf) back;
     }
 
 -- the items from one place up to another
-take_split : (place count : ℕ) (xs : List Item) → take (place + count) xs ≡ take place xs ++ take count (drop place xs)
+take_split : (place count : ℕ) (xs : List NodeItem) → take (place + count) xs ≡ take place xs ++ take count (drop place xs)
 take_split zero count xs = let e : zero + count ≡ count = omega arith in ap (λ (n : ℕ). take n xs) e
 take_split (suc place) count [] = let e : suc place + count ≡ suc (place + count) = omega arith in
     ap (λ (n : ℕ). take n []) e ∙ sym (none count) where
-      none : (n : ℕ) → take {A = Item} n [] ≡ []
+      none : (n : ℕ) → take {A = NodeItem} n [] ≡ []
       none zero = refl
       none (suc n) = refl
 take_split (suc place) count (x ∷ xs) = let e : suc place + count ≡ suc (place + count) = omega arith in
-    ap (λ (n : ℕ). take n (x ∷ xs)) e ∙ ap (λ (ys : List Item). x ∷ ys) (take_split place count xs)
+    ap (λ (n : ℕ). take n (x ∷ xs)) e ∙ ap (λ (ys : List NodeItem). x ∷ ys) (take_split place count xs)
 
-pub record Part (leaf : Bool) (start begin place end : ℕ) (items part : List Item) : Type 0 where
+pub record Part (leaf : Bool) (start begin place end : ℕ) (items part : List NodeItem) : Type 0 where
   pub ascends : Ascends begin part
   pub plain : IsPlain leaf part
   pub more : take end items ≡ take place items ++ part
   pub ending : end_of begin part ≡ end_of start (take end items)
   pub long : length part ≡ end - place
 
-pub part_of : (leaf : Bool) (start begin place end : ℕ) (items : List Item) → place ≤ end → end ≤ length items
+pub part_of : (leaf : Bool) (start begin place end : ℕ) (items : List NodeItem) → place ≤ end → end ≤ length items
     → begin ≡ end_of start (take place items) → Ascends start items → IsPlain leaf items
     → Part leaf start begin place end items (take (end - place) (drop place items))
 part_of leaf start begin place end items order within begins ascends plain =
@@ -68,22 +68,22 @@ part_of leaf start begin place end items order within begins ascends plain =
     let e : place + (end - place) ≡ end = omega arith in
     let more : take end items ≡ take place items ++ part = sym (ap (λ (n : ℕ). take n items) e) ∙ take_split place (end - place) items in
     let whole : Ascends start (take end items) =
-    Ascends-left start (take end items) (drop end items) (subst (λ (xs : List Item). Ascends start xs) (sym (take-append-drop end items)) ascends) in
+    Ascends-left start (take end items) (drop end items) (subst (λ (xs : List NodeItem). Ascends start xs) (sym (take-append-drop end items)) ascends) in
     let clear : IsPlain leaf (take end items) =
-    IsPlain-left leaf (take end items) (drop end items) (subst (λ (xs : List Item). IsPlain leaf xs) (sym (take-append-drop end items)) plain) in
+    IsPlain-left leaf (take end items) (drop end items) (subst (λ (xs : List NodeItem). IsPlain leaf xs) (sym (take-append-drop end items)) plain) in
     let there : Ascends (end_of start (take place items)) part =
-    Ascends-right start (take place items) part (subst (λ (xs : List Item). Ascends start xs) more whole) in
+    Ascends-right start (take place items) part (subst (λ (xs : List NodeItem). Ascends start xs) more whole) in
     let rest = length-drop place items in
     record {
       ascends = subst (λ (p : ℕ). Ascends p part) (sym begins) there;
-      plain = IsPlain-right leaf (take place items) part (subst (λ (xs : List Item). IsPlain leaf xs) more clear);
+      plain = IsPlain-right leaf (take place items) part (subst (λ (xs : List NodeItem). IsPlain leaf xs) more clear);
       more = more;
       ending = ap (λ (p : ℕ). end_of p part) begins ∙ sym (end_of-append start (take place items) part) ∙ sym (ap (end_of start) more);
       long = length-take-le (end - place) (drop place items) (omega arith);
     }
 
 -- what holds once the items up to a place are packed
-pub record Packed (rows0 rows : List (List ℕ)) (free0 free : List ℕ) (leaf : Bool) (start begin place : ℕ) (items packed : List Item) : Type 0 where
+pub record Packed (rows0 rows : List (List ℕ)) (free0 free : List ℕ) (leaf : Bool) (start begin place : ℕ) (items packed : List NodeItem) : Type 0 where
   pub within : place ≤ length items
   pub begins : begin ≡ end_of start (take place items)
   pub nodes : (limit : ℕ) → (end_of start items < limit → least leaf ≤ length items) → AreNodes (at_of rows) leaf limit start packed
@@ -128,7 +128,7 @@ pub record Share (leaf : Bool) (left count : ℕ) : Type 0 where
 
 -- a node more
 pub pack_more : (rows0 rows rows' : List (List ℕ)) (free0 free free' : List ℕ) (leaf : Bool) (start begin place end count : ℕ)
-    (items packed packed' : List Item) (node : Item) (words : List ℕ)
+    (items packed packed' : List NodeItem) (node : NodeItem) (words : List ℕ)
     → Packed rows0 rows free0 free leaf start begin place items packed
     → place < length items → end ≡ place + count → Share leaf (length items - place) count
     → Ascends start items → IsPlain leaf items → ((row : ℕ) → times row free0 ≤ 1)
@@ -150,7 +150,7 @@ pack_more rows0 rows rows' free0 free free' leaf start begin place end count ite
     let stays : (row : ℕ) → row ≢ node.word → at_of rows row ≡ at_of rows' row = λ row other.
     sym (ap (λ (rs : List (List ℕ)). at_of rs row) rows_is ∙ kept_other rows node.word row words other) in
     let agree : Agree (at_of rows) (at_of rows') (rows_in packed) = λ row some. stays row (differ row some) in
-    let long : length packed' ≡ length packed + 1 = ap (λ (xs : List Item). length xs) packed_is ∙ length-append packed (node ∷ []) in
+    let long : length packed' ≡ length packed + 1 = ap (λ (xs : List NodeItem). length xs) packed_is ∙ length-append packed (node ∷ []) in
     let all : (limit : ℕ) → (end_of start items < limit → least leaf ≤ length items) → AreNodes (at_of rows') leaf limit start (packed ++ node ∷ []) =
     λ limit full.
     let one = nodes limit (λ low. elim (cases_lt count (length items - place)) as (λ _. least leaf ≤ length part) [
@@ -167,9 +167,9 @@ pack_more rows0 rows rows' free0 free free' leaf start begin place end count ite
     record {
       within = omega arith;
       begins = until ∙ is.ending;
-      nodes = λ limit full. subst (λ (xs : List Item). AreNodes (at_of rows') leaf limit start xs) (sym packed_is) (all limit full);
+      nodes = λ limit full. subst (λ (xs : List NodeItem). AreNodes (at_of rows') leaf limit start xs) (sym packed_is) (all limit full);
       ends = ap (end_of start) packed_is ∙ end_of-append start packed (node ∷ []);
-      under = ap (below (at_of rows') leaf) packed_is ∙ below_pushed (at_of rows) (at_of rows') leaf packed node part agree reads ∙ ap (λ (xs : List Item). xs ++ part) before.under ∙ sym is.more;
+      under = ap (below (at_of rows') leaf) packed_is ∙ below_pushed (at_of rows) (at_of rows') leaf packed node part agree reads ∙ ap (λ (xs : List NodeItem). xs ++ part) before.under ∙ sym is.more;
       rest = λ more enough. let o = share.over (omega arith) in omega arith;
       count =
           let c = count_more leaf (length items - place) count (length packed) (omega arith) before.count share.one share.two share.three in
@@ -184,13 +184,13 @@ pack_more rows0 rows rows' free0 free free' leaf start begin place end count ite
           sym (stays row other) ∙ before.kept row none;
       taken = λ row.
           let a = before.taken row in let b = split row in
-          let d = ap (λ (xs : List Item). times row (rows_in xs)) packed_is in
+          let d = ap (λ (xs : List NodeItem). times row (rows_in xs)) packed_is in
           let e = times-rows_in row packed (node ∷ []) in omega arith;
       room = let a = before.room in omega (arith, fewer);
     }
 
 -- all items are packed
-pub record Done (rows : List (List ℕ)) (leaf : Bool) (items packed : List Item) : Type 0 where
+pub record Done (rows : List (List ℕ)) (leaf : Bool) (items packed : List NodeItem) : Type 0 where
   pub under : below (at_of rows) leaf packed ≡ items
   pub some : 1 ≤ length packed
   pub few : length packed ≤ 3

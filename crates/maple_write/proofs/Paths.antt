@@ -1,7 +1,7 @@
 -- For `lead`, `find` and `rise`: what a path tells of other pages, and of a table whose free rows were filled.
 use Rattle.std.proofs.Common.{ℕ, zero, suc, ◌≡◌, ◌<◌, ◌≤◌, ◌+◌, ◌-◌, List, [], ◌∷◌, Some, refl, sym, ap, ◌∙◌, arith, inl, inr}
 use Rattle.std.proofs.lemmas.Bool.{cases_lt}
-use Rattle.maple_node.specs.declared.item.Item.{Item}
+use Rattle.maple_node.specs.declared.item.NodeItem.{NodeItem}
 use Rattle.maple_node.specs.Nodes.{end_of, Ascends}
 use Rattle.maple_node.specs.Levels.{at_of, item_at, level_of, IsTower, rows_of, times, Agree}
 use Rattle.maple_node.proofs.Levels.{level-ascends}
@@ -16,23 +16,23 @@ use Rattle.maple_write.proofs.Times.{times-lowest}
 use Rattle.maple_write.proofs.Rising.{framed}
 
 -- a path is one from a higher level too
-pub path_high : (at : ℕ → List ℕ) (top : Item) (height low higher : ℕ) (path : Path) → low ≤ higher → IsPath at top height low path
+pub path_high : (at : ℕ → List ℕ) (top : NodeItem) (height low higher : ℕ) (path : Path) → low ≤ higher → IsPath at top height low path
     → IsPath at top height higher path
 path_high at top height low higher path above is = record { each = λ level order within few. is.each level (omega arith) within few }
 
 -- the item that has a page has each other page from where it begins up to where it ends
-pub record Near (page later : ℕ) (items : List Item) (item : Item) : Type 0 where
+pub record Near (page later : ℕ) (items : List NodeItem) (item : NodeItem) : Type 0 where
   pub found : item_at later items ≡ Some item
   pub same : ending_by later items ≡ ending_by page items
 
-pub near : (start page later : ℕ) (items : List Item) (item : Item) → Ascends start items → item_at page items ≡ Some item
+pub near : (start page later : ℕ) (items : List NodeItem) (item : NodeItem) → Ascends start items → item_at page items ≡ Some item
     → end_of start (ending_by page items) ≤ later → later < item.end → Near page later items item
 near start page later [] item ascends found begins ends = absurd (cc)
 near start page later (x ∷ xs) item ascends found begins ends = elim (cases_lt page x.end) as (λ _. Near page later (x ∷ xs) item) [
   | inl above ↦
       let first : Some x ≡ Some item = sym (item_at-first page x xs above) ∙ found in
       let same : x ≡ item = cc in
-      let end = ap (λ (y : Item). y.end) same in
+      let end = ap (λ (y : NodeItem). y.end) same in
       let within : later < x.end = omega (arith, end, ends) in
       record {
         found = item_at-first later x xs within ∙ first;
@@ -47,11 +47,11 @@ near start page later (x ∷ xs) item ascends found begins ends = elim (cases_lt
       let deep = near x.end page later xs item ascends.1 (sym (item_at-later page x xs past) ∙ found) after ends in
       record {
         found = item_at-later later x xs over ∙ deep.found;
-        same = ending_by-first later x xs over ∙ ap (λ (ys : List Item). x ∷ ys) deep.same ∙ sym front;
+        same = ending_by-first later x xs over ∙ ap (λ (ys : List NodeItem). x ∷ ys) deep.same ∙ sym front;
       }
 ]
 
-pub begins_near : (at : ℕ → List ℕ) (top : Item) (height low level page later start : ℕ) (item : Item)
+pub begins_near : (at : ℕ → List ℕ) (top : NodeItem) (height low level page later start : ℕ) (item : NodeItem)
     → IsTower at top.end low (height - low) (top ∷ []) → low ≤ level → level ≤ height → later < top.end
     → Begins at top height page level start item → start ≤ later → later < item.end → Begins at top height later level start item
 begins_near at top height low level page later start item tower order within there is begins ends =
@@ -64,7 +64,7 @@ begins_near at top height low level page later start item tower order within the
     record { found = same.found; begins = from ∙ sym (ap (end_of 0) same.same); above = begins }
 
 -- the rows above a level are among those above a lower one
-rows_up : (at : ℕ → List ℕ) (row k low level up total : ℕ) (items : List Item) → low + k ≡ level → k + up ≡ total
+rows_up : (at : ℕ → List ℕ) (row k low level up total : ℕ) (items : List NodeItem) → low + k ≡ level → k + up ≡ total
     → times row (rows_of at level up items) ≤ times row (rows_of at low total items)
 rows_up at row zero low level up total items here all =
     let e : low ≡ level = omega arith in
@@ -80,7 +80,7 @@ rows_up at row (suc k) low level up total items here all =
     omega arith
 
 -- a path stays where the rows above its lowest level keep their words
-pub path_kept : (at after : ℕ → List ℕ) (top : Item) (height low : ℕ) (path : Path) → Agree at after (rows_of at low (height - low) (top ∷ []))
+pub path_kept : (at after : ℕ → List ℕ) (top : NodeItem) (height low : ℕ) (path : Path) → Agree at after (rows_of at low (height - low) (top ∷ []))
     → IsPath at top height low path → IsPath after top height low path
 path_kept at after top height low path agree is = record {
   each = λ level order within few.
@@ -91,12 +91,12 @@ path_kept at after top height low path agree is = record {
       in
       record {
         found = ap (item_at path.page) same ∙ old.found;
-        begins = old.begins ∙ sym (ap (λ (xs : List Item). end_of 0 (ending_by path.page xs)) same);
+        begins = old.begins ∙ sym (ap (λ (xs : List NodeItem). end_of 0 (ending_by path.page xs)) same);
         above = old.above;
       };
 }
 
-pub path_rises : (old : Table) (after : ℕ → List ℕ) (top : Item) (height level lo hi end : ℕ) (new : List Item) (path : Path)
+pub path_rises : (old : Table) (after : ℕ → List ℕ) (top : NodeItem) (height level lo hi end : ℕ) (new : List NodeItem) (path : Path)
     → Partly old top height level lo hi new → level < height → lo ≤ end
     → ((row : ℕ) → gone old row + times row (rows_in (ending_by end (ending_after lo (old_level old top height (level + 1))))) ≡ 0 → after row ≡ at_of old.rows row)
     → IsPath (at_of old.rows) top height (level + 1) path → IsPath after top height (level + 1) path

@@ -1,6 +1,6 @@
 -- For `renewed` and `rise_by_words`: a node that is made of the words of an old one.
 use Rattle.std.proofs.Common.{ℕ, ◌≡◌, ◌<◌, ◌≤◌, ◌+◌, ◌-◌, List, [], ◌∷◌, length, Some, refl, sym, ap, subst, ◌∙◌, arith}
-use Rattle.maple_node.specs.declared.item.Item.{Item}
+use Rattle.maple_node.specs.declared.item.NodeItem.{NodeItem}
 use Rattle.maple_node.specs.Nodes.{words_of, items_of, most, least, end_of, Ascends}
 use Rattle.maple_node.specs.Levels.{is_leaf, at_of, read, below, item_at, times}
 use Rattle.maple_node.proofs.Places.{items_of_words}
@@ -14,18 +14,18 @@ use Rattle.maple_write.proofs.Steps.{there_at, item_at-same, cut_of}
 use Rattle.maple_write.proofs.Rising.{Rose, rose}
 
 -- some items end at the same page wherever they begin
-pub ends_same : (a b : ℕ) (items : List Item) → 1 ≤ length items → end_of a items ≡ end_of b items
+pub ends_same : (a b : ℕ) (items : List NodeItem) → 1 ≤ length items → end_of a items ≡ end_of b items
 ends_same a b [] some = absurd (omega arith)
 ends_same a b (item ∷ items) some = refl
 
 -- what the words of the node that has a page tell
-pub record Source (leaf_words : List ℕ) (table : Table) (level : ℕ) (item : Item) : Type 0 where
+pub record Source (leaf_words : List ℕ) (table : Table) (level : ℕ) (item : NodeItem) : Type 0 where
   pub row : item.word < length table.rows
   pub ascends : Ascends 0 (items_of (is_leaf level) leaf_words)
   pub whole : leaf_words ≡ words_of (is_leaf level) (items_of (is_leaf level) leaf_words)
   pub ends : end_of 0 (items_of (is_leaf level) leaf_words) ≤ item.end
 
-pub source_of : (table : Table) (top : Item) (height level lo hi page : ℕ) (new : List Item) (item : Item) (words : List ℕ)
+pub source_of : (table : Table) (top : NodeItem) (height level lo hi page : ℕ) (new : List NodeItem) (item : NodeItem) (words : List ℕ)
     → Partly table top height level lo hi new → level < height → item_at page (old_level table top height (level + 1)) ≡ Some item
     → words ≡ at_of table.rows item.word → Source words table level item
 source_of table top height level lo hi page new item words partly less found is =
@@ -43,7 +43,7 @@ source_of table top height level lo hi page new item words partly less found is 
     }
 
 -- its items with the new ones among them
-spliced_cut : (table : Table) (top : Item) (height level lo hi : ℕ) (new : List Item) (left : Place)
+spliced_cut : (table : Table) (top : NodeItem) (height level lo hi : ℕ) (new : List NodeItem) (left : Place)
     → Partly table top height level lo hi new → level < height → item_at lo (old_level table top height (level + 1)) ≡ Some left.item
     → left.start ≡ end_of 0 (ending_by lo (old_level table top height (level + 1))) → hi ≤ left.item.end
     → Cut table top height level lo hi new left.start left.item.end (spliced lo hi new (read (at_of table.rows) (is_leaf level) left.item.word))
@@ -54,7 +54,7 @@ spliced_cut table top height level lo hi new left partly less found begins withi
     cut_of table top height level lo hi (hi - 1) left.start new left.item left.item partly less found e last begins
 
 -- words that were made of them list them
-pub lists_spliced : (table : Table) (top : Item) (height level lo hi : ℕ) (new : List Item) (left : Place) (words made : List ℕ)
+pub lists_spliced : (table : Table) (top : NodeItem) (height level lo hi : ℕ) (new : List NodeItem) (left : Place) (words made : List ℕ)
     → Partly table top height level lo hi new → level < height → item_at lo (old_level table top height (level + 1)) ≡ Some left.item
     → left.start ≡ end_of 0 (ending_by lo (old_level table top height (level + 1))) → hi ≤ left.item.end
     → words ≡ at_of table.rows left.item.word
@@ -68,7 +68,7 @@ lists_spliced table top height level lo hi new left words made partly less found
     ap (items_of leaf) (told ∙ ap (words_of leaf) same) ∙ items_of_words leaf left.start items cut.ascends cut.plain ∙ sym same
 
 -- the node anew
-pub renewed_is : (table : Table) (top : Item) (height level lo hi fewest : ℕ) (new : List Item) (left : Place) (words made : List ℕ)
+pub renewed_is : (table : Table) (top : NodeItem) (height level lo hi fewest : ℕ) (new : List NodeItem) (left : Place) (words made : List ℕ)
     → Partly table top height level lo hi new → level < height → item_at lo (old_level table top height (level + 1)) ≡ Some left.item
     → left.start ≡ end_of 0 (ending_by lo (old_level table top height (level + 1))) → hi ≤ left.item.end
     → words ≡ at_of table.rows left.item.word
@@ -86,14 +86,14 @@ renewed_is table top height level lo hi fewest new left words made partly less f
     let back : items_of leaf made ≡ items =
     lists_spliced table top height level lo hi new left words made partly less found begins within is told ∙ same in
     record {
-      cut = subst (λ (xs : List Item). Cut table top height level lo hi new left.start left.item.end xs) (sym back) cut;
+      cut = subst (λ (xs : List NodeItem). Cut table top height level lo hi new left.start left.item.end xs) (sym back) cut;
       whole = told ∙ ap (words_of leaf) (same ∙ sym back);
-      most = subst (λ (xs : List Item). length xs ≤ most leaf) (same ∙ sym back) fits;
-      least = λ inner. let few = least_told inner in subst (λ (xs : List Item). least leaf ≤ length xs) (same ∙ sym back) (omega arith);
+      most = subst (λ (xs : List NodeItem). length xs ≤ most leaf) (same ∙ sym back) fits;
+      least = λ inner. let few = least_told inner in subst (λ (xs : List NodeItem). least leaf ≤ length xs) (same ∙ sym back) (omega arith);
     }
 
 -- the level is built of that node
-pub rose_anew : (old mid after : Table) (top : Item) (height level lo hi : ℕ) (new nodes : List Item) (left : Place) (words : List ℕ)
+pub rose_anew : (old mid after : Table) (top : NodeItem) (height level lo hi : ℕ) (new nodes : List NodeItem) (left : Place) (words : List ℕ)
     → Partly old top height level lo hi new → level < height → IsRenewed old top height level lo hi new left words
     → mid.rows ≡ old.rows → length old.free ≤ length mid.free
     → ((row : ℕ) → gone mid row ≡ gone old row + times row (rows_in (ending_by left.item.end (ending_after lo (old_level old top height (level + 1))))))

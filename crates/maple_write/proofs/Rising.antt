@@ -1,7 +1,7 @@
 -- For `rise`: a level that is built anew stands in place of the old one.
 use Rattle.std.proofs.Common.{ℕ, suc, ◌≡◌, ◌<◌, ◌≤◌, ◌+◌, ◌-◌, nat_lt, cond, List, [], ◌∷◌, ◌++◌, length, sym, ap, subst, ◌∙◌, arith}
 use Rattle.std.proofs.lemmas.Grind.{flat_map-append}
-use Rattle.maple_node.specs.declared.item.Item.{Item}
+use Rattle.maple_node.specs.declared.item.NodeItem.{NodeItem}
 use Rattle.maple_node.specs.Nodes.{end_of, Ascends, IsPlain}
 use Rattle.maple_node.specs.Levels.{is_leaf, at_of, read, below, IsNode, level_of, IsTower, rows_of, times, Agree}
 use Rattle.maple_node.proofs.Levels.{nodes-ascend, end_of-below}
@@ -16,14 +16,14 @@ use Rattle.maple_write.proofs.Blocks.{inner-plain, times-parts}
 use Rattle.maple_write.proofs.Steps.{upper_of, raised, inner_level, counts}
 
 -- how often a row stands in the old tree above a level, and in the nodes of the level
-pub record Counted (table : Table) (top : Item) (height level lo hi : ℕ) (new : List Item) (row : ℕ) : Type 0 where
+pub record Counted (table : Table) (top : NodeItem) (height level lo hi : ℕ) (new : List NodeItem) (row : ℕ) : Type 0 where
   pub all : times row (rows_of (at_of table.rows) (level + 1) (height - (level + 1)) (top ∷ []))
       + times row (rows_in (old_level table top height (level + 1)))
       + times row (rows_of (at_of table.rows) 0 level (new_level table top height level lo hi new))
       + gone table row
       ≡ cond (nat_lt row (length table.rows)) 1 0
 
-pub counted : (table : Table) (top : Item) (height level lo hi : ℕ) (new : List Item) (row : ℕ) → Partly table top height level lo hi new
+pub counted : (table : Table) (top : NodeItem) (height level lo hi : ℕ) (new : List NodeItem) (row : ℕ) → Partly table top height level lo hi new
     → level < height → Counted table top height level lo hi new row
 counted table top height level lo hi new row partly less =
     let at = at_of table.rows in
@@ -39,13 +39,13 @@ counted table top height level lo hi new row partly less =
     record { all = omega arith }
 
 -- the rows that the level's nodes and the tree above have keep their words while free rows are filled
-pub record Frame (old : Table) (at : ℕ → List ℕ) (top : Item) (height level lo hi end : ℕ) (new : List Item) : Type 0 where
+pub record Frame (old : Table) (at : ℕ → List ℕ) (top : NodeItem) (height level lo hi end : ℕ) (new : List NodeItem) : Type 0 where
   pub above : Agree (at_of old.rows) at (rows_of (at_of old.rows) (level + 1) (height - (level + 1)) (top ∷ []))
   pub built : Agree (at_of old.rows) at (rows_of (at_of old.rows) 0 level (new_level old top height level lo hi new))
   pub before : Agree (at_of old.rows) at (rows_in (ending_by lo (old_level old top height (level + 1))))
   pub after : Agree (at_of old.rows) at (rows_in (ending_after end (old_level old top height (level + 1))))
 
-pub framed : (old : Table) (at : ℕ → List ℕ) (top : Item) (height level lo hi end : ℕ) (new : List Item) → Partly old top height level lo hi new
+pub framed : (old : Table) (at : ℕ → List ℕ) (top : NodeItem) (height level lo hi end : ℕ) (new : List NodeItem) → Partly old top height level lo hi new
     → level < height → lo ≤ end
     → ((row : ℕ) → gone old row + times row (rows_in (ending_by end (ending_after lo (old_level old top height (level + 1))))) ≡ 0 → at row ≡ at_of old.rows row)
     → Frame old at top height level lo hi end new
@@ -70,7 +70,7 @@ framed old at top height level lo hi end new partly less order kept =
     }
 
 -- the old level above, in a table whose free rows were filled
-pub kept_level : (old : Table) (after : Table) (top : Item) (height level lo hi end : ℕ) (new : List Item) → Partly old top height level lo hi new
+pub kept_level : (old : Table) (after : Table) (top : NodeItem) (height level lo hi end : ℕ) (new : List NodeItem) → Partly old top height level lo hi new
     → level < height → lo ≤ end
     → ((row : ℕ) → gone old row + times row (rows_in (ending_by end (ending_after lo (old_level old top height (level + 1))))) ≡ 0 → at_of after.rows row ≡ at_of old.rows row)
     → Kept (at_of old.rows) (at_of after.rows) top.end (level + 1) (height - (level + 1)) (top ∷ [])
@@ -80,7 +80,7 @@ kept_level old after top height level lo hi end new partly less order kept =
     kept-tower (at_of old.rows) (at_of after.rows) top.end (level + 1) (height - (level + 1)) (top ∷ []) frame.above step.above
 
 -- what is so of the nodes that a level has then
-record Level (old after : Table) (top : Item) (height level lo hi : ℕ) (new : List Item) (end : ℕ) (nodes : List Item) : Type 0 where
+record Level (old after : Table) (top : NodeItem) (height level lo hi : ℕ) (new : List NodeItem) (end : ℕ) (nodes : List NodeItem) : Type 0 where
   pub same : old_level after top height (level + 1) ≡ old_level old top height (level + 1)
   pub upper : new_level after top height (level + 1) lo end nodes ≡ spliced lo end nodes (old_level old top height (level + 1))
   pub all : AreNodes (at_of after.rows) (is_leaf level) top.end 0 (spliced lo end nodes (old_level old top height (level + 1)))
@@ -88,7 +88,7 @@ record Level (old after : Table) (top : Item) (height level lo hi : ℕ) (new : 
   pub built : Kept (at_of old.rows) (at_of after.rows) top.end 0 level (new_level old top height level lo hi new)
   pub front : end_of (end_of 0 (ending_by lo (old_level old top height (level + 1)))) nodes ≡ end
 
-level_of_nodes : (old after : Table) (top : Item) (height level lo hi begin end : ℕ) (new items nodes : List Item)
+level_of_nodes : (old after : Table) (top : NodeItem) (height level lo hi begin end : ℕ) (new items nodes : List NodeItem)
     → Partly old top height level lo hi new → level < height
     → Cut old top height level lo hi new begin end items
     → ((row : ℕ) → gone old row + times row (rows_in (ending_by end (ending_after lo (old_level old top height (level + 1))))) ≡ 0 → at_of after.rows row ≡ at_of old.rows row)
@@ -107,7 +107,7 @@ level_of_nodes old after top height level lo hi begin end new items nodes partly
     let back = ending_after end upper in
     let ascends = nodes-ascend at leaf top.end 0 upper step.nodes in
     let whole : AreNodes at leaf top.end 0 (ending_by end upper ++ back) =
-    subst (λ (xs : List Item). AreNodes at leaf top.end 0 xs) (sym (ending_by-ending_after 0 end upper ascends)) step.nodes in
+    subst (λ (xs : List NodeItem). AreNodes at leaf top.end 0 xs) (sym (ending_by-ending_after 0 end upper ascends)) step.nodes in
     let right : AreNodes at leaf top.end end back =
     subst (λ (p : ℕ). AreNodes at leaf top.end p back) cut.edge (AllFrom-right (IsNode at leaf top.end) 0 (ending_by end upper) back whole) in
     let left' : AreNodes at' leaf top.end 0 front = kept-nodes at at' leaf top.end 0 front frame.before (nodes-ending_by at leaf top.end 0 lo upper step.nodes) in
@@ -119,22 +119,22 @@ level_of_nodes old after top height level lo hi begin end new items nodes partly
     let ends' : end_of (end_of 0 front) nodes ≡ end = ap (λ (p : ℕ). end_of p nodes) (sym start) ∙ ends in
     record {
       same = lev.level;
-      upper = ap (λ (xs : List Item). spliced lo end nodes xs) lev.level;
+      upper = ap (λ (xs : List NodeItem). spliced lo end nodes xs) lev.level;
       all = AllFrom-append (IsNode at' leaf top.end) 0 front (nodes ++ back) left'
           (AllFrom-append (IsNode at' leaf top.end) (end_of 0 front) nodes back middle
           (subst (λ (p : ℕ). AreNodes at' leaf top.end p back) (sym ends') right'));
-      under = flat_map-append (λ (item : Item). read at' leaf item.word) front (nodes ++ back)
-          ∙ ap (λ (xs : List Item). below at' leaf front ++ xs) (flat_map-append (λ (item : Item). read at' leaf item.word) nodes back)
-          ∙ ap (λ (xs : List Item). xs ++ (below at' leaf nodes ++ below at' leaf back)) (sym (below-agree at at' leaf front frame.before))
-          ∙ ap (λ (xs : List Item). below at leaf front ++ (xs ++ below at' leaf back)) under
-          ∙ ap (λ (xs : List Item). below at leaf front ++ (items ++ xs)) (sym (below-agree at at' leaf back frame.after))
+      under = flat_map-append (λ (item : NodeItem). read at' leaf item.word) front (nodes ++ back)
+          ∙ ap (λ (xs : List NodeItem). below at' leaf front ++ xs) (flat_map-append (λ (item : NodeItem). read at' leaf item.word) nodes back)
+          ∙ ap (λ (xs : List NodeItem). xs ++ (below at' leaf nodes ++ below at' leaf back)) (sym (below-agree at at' leaf front frame.before))
+          ∙ ap (λ (xs : List NodeItem). below at leaf front ++ (xs ++ below at' leaf back)) under
+          ∙ ap (λ (xs : List NodeItem). below at leaf front ++ (items ++ xs)) (sym (below-agree at at' leaf back frame.after))
           ∙ sym cut.split;
       built = kept-tower at at' top.end 0 level (new_level old top height level lo hi new) frame.built partly.built;
       front = ends';
     }
 
 -- the step of a store: the level is built, and the old nodes in its place are left
-pub record Rose (old after : Table) (top : Item) (height level lo hi : ℕ) (new : List Item) (begin end : ℕ) (nodes : List Item) : Type 0 where
+pub record Rose (old after : Table) (top : NodeItem) (height level lo hi : ℕ) (new : List NodeItem) (begin end : ℕ) (nodes : List NodeItem) : Type 0 where
   pub partly : Partly after top height (level + 1) lo end nodes
   pub starts : begin ≡ end_of 0 (ending_by lo (old_level after top height (level + 1)))
   pub entries : new_entries after top height (level + 1) lo end nodes ≡ new_entries old top height level lo hi new
@@ -148,7 +148,7 @@ kept_after old mid after block rows left_now kept row none =
     let g = left_now row in
     subst (λ (rs : List (List ℕ)). at_of after.rows row ≡ at_of rs row) rows (kept row (omega arith))
 
-pub rose : (old mid after : Table) (top : Item) (height level lo hi begin end : ℕ) (new items nodes : List Item)
+pub rose : (old mid after : Table) (top : NodeItem) (height level lo hi begin end : ℕ) (new items nodes : List NodeItem)
     → Partly old top height level lo hi new → level < height
     → Cut old top height level lo hi new begin end items
     → AreNodes (at_of after.rows) (is_leaf level) top.end begin nodes → below (at_of after.rows) (is_leaf level) nodes ≡ items
@@ -181,10 +181,10 @@ rose old mid after top height level lo hi begin end new items nodes partly less 
         pages = above;
         limit = cut.limit;
         tower = lev.tower;
-        built = subst (λ (xs : List Item). IsTower at' top.end 0 (level + 1) xs) (sym is.upper) up.tower;
-        ascends = subst (λ (xs : List Item). Ascends 0 xs) (sym is.upper) (nodes-ascend at' leaf top.end 0 made is.all);
-        ending = ap (λ (xs : List Item). end_of (end_of 0 (ending_by lo xs)) nodes) is.same ∙ is.front;
-        edge = λ inner. ap (λ (xs : List Item). end_of 0 (ending_by end xs)) is.same ∙ cut.edge;
+        built = subst (λ (xs : List NodeItem). IsTower at' top.end 0 (level + 1) xs) (sym is.upper) up.tower;
+        ascends = subst (λ (xs : List NodeItem). Ascends 0 xs) (sym is.upper) (nodes-ascend at' leaf top.end 0 made is.all);
+        ending = ap (λ (xs : List NodeItem). end_of (end_of 0 (ending_by lo xs)) nodes) is.same ∙ is.front;
+        edge = λ inner. ap (λ (xs : List NodeItem). end_of 0 (ending_by end xs)) is.same ∙ cut.edge;
         plain = subst (λ b. IsPlain b nodes) (sym (inner_level level)) (inner-plain nodes);
         stand = record {
           each = λ row.
@@ -194,7 +194,7 @@ rose old mid after top height level lo hi begin end new items nodes partly less 
               (rows_of at' 0 (level + 1) (new_level after top height (level + 1) lo end nodes)) in
               let first = ap (times row) lev.rows in
               let second : times row (rows_of at' 0 (level + 1) (new_level after top height (level + 1) lo end nodes)) ≡ times row (rows_of at' 0 (level + 1) made) =
-              ap (λ (xs : List Item). times row (rows_of at' 0 (level + 1) xs)) is.upper in
+              ap (λ (xs : List NodeItem). times row (rows_of at' 0 (level + 1) xs)) is.upper in
               let third = up.rows row in
               let fourth = ap (times row) is.built.rows in
               let fifth = times-rows_in row (ending_by lo upper) (nodes ++ ending_after end upper) in
@@ -209,18 +209,18 @@ rose old mid after top height level lo hi begin end new items nodes partly less 
         };
         free = let f = partly.free in omega arith;
       };
-      starts = cut.start ∙ sym (ap (λ (xs : List Item). end_of 0 (ending_by lo xs)) is.same);
+      starts = cut.start ∙ sym (ap (λ (xs : List NodeItem). end_of 0 (ending_by lo xs)) is.same);
       entries = ap (level_of at' 0 (level + 1)) is.upper ∙ up.entries ∙ is.built.level;
       under = ap (below at' leaf) is.upper ∙ is.under;
     }
 
 -- what leaving the old nodes of the level asks for
-pub record Ready (old : Table) (top : Item) (height level lo end : ℕ) : Type 0 where
+pub record Ready (old : Table) (top : NodeItem) (height level lo end : ℕ) : Type 0 where
   pub tower : IsTower (at_of old.rows) top.end level (height - level) (top ∷ [])
   pub apart : (row : ℕ) → gone old row + times row (rows_in (ending_by end (ending_after lo (old_level old top height level))))
       ≤ cond (nat_lt row (length old.rows)) 1 0
 
-pub ready : (old : Table) (top : Item) (height level lo hi begin end : ℕ) (new items : List Item) → Partly old top height level lo hi new
+pub ready : (old : Table) (top : NodeItem) (height level lo hi begin end : ℕ) (new items : List NodeItem) → Partly old top height level lo hi new
     → level < height → Cut old top height level lo hi new begin end items → Ready old top height (level + 1) lo end
 ready old top height level lo hi begin end new items partly less cut =
     let upper = old_level old top height (level + 1) in

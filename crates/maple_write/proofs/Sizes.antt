@@ -2,7 +2,7 @@
 use Rattle.std.proofs.Common.{ℕ, zero, suc, ◌≡◌, ◌<◌, ◌≤◌, ◌+◌, ◌-◌, ◌*◌, ◌^◌, Bool, true, false, nat_eq, List, [], ◌∷◌, length, sym, ap, subst, arith, length-append}
 use Rattle.std.proofs.lemmas.Bool.Decides.{nat_tests}
 use Rattle.std.proofs.lemmas.List.{length-map}
-use Rattle.maple_node.specs.declared.item.Item.{Item}
+use Rattle.maple_node.specs.declared.item.NodeItem.{NodeItem}
 use Rattle.maple_node.specs.Nodes.{least, end_of}
 use Rattle.maple_node.specs.Levels.{is_leaf, read, below, level_of, IsTower, rows_of}
 use Rattle.maple_node.specs.Trees.{Tree, entries_of, tree_rows, IsLayout}
@@ -22,7 +22,7 @@ one_alone true items some = omega arith
 one_alone false items some = omega arith
 
 -- all nodes but the last have at least as many items as a node has
-pub full_below : (at : ℕ → List ℕ) (leaf : Bool) (limit start : ℕ) (items : List Item) → AreNodes at leaf limit start items
+pub full_below : (at : ℕ → List ℕ) (leaf : Bool) (limit start : ℕ) (items : List NodeItem) → AreNodes at leaf limit start items
     → end_of start items ≤ limit → 1 ≤ length items → least leaf * length items + 1 ≤ length (below at leaf items) + least leaf
 full_below at leaf limit start [] nodes ends some = absurd (omega arith)
 full_below at leaf limit start (x ∷ []) nodes ends some =
@@ -48,13 +48,13 @@ inner_test : (up : ℕ) → is_leaf (0 + suc up) ≡ false
 inner_test up = let test : nat_eq (0 + suc up) 0 ≡ false = grind (arith, nat_tests) in test
 
 -- how many rows there are for the entries
-pub few_rows : (at : ℕ → List ℕ) (limit up : ℕ) (items : List Item) → IsTower at limit 0 (suc up) items → end_of 0 items ≤ limit → 1 ≤ length items
+pub few_rows : (at : ℕ → List ℕ) (limit up : ℕ) (items : List NodeItem) → IsTower at limit 0 (suc up) items → end_of 0 items ≤ limit → 1 ≤ length items
     → 9 * length (rows_of at 0 (suc up) items) + 3 * length items ≤ 2 * length (level_of at 0 (suc up) items) + 1 + 9 * suc up
 unfolding IsTower rows_of level_of
 few_rows at limit zero items tower ends some =
     let full = full_below at true limit 0 items tower.0 ends some in
     let long = length-append (rows_in items) [] in
-    let rows = length-map items (λ (item : Item). item.word) in
+    let rows = length-map items (λ (item : NodeItem). item.word) in
     omega arith
 few_rows at limit (suc up) items tower ends some =
     let inner = inner_test up in
@@ -65,14 +65,14 @@ few_rows at limit (suc up) items tower ends some =
     let until = end_of-below at leaf limit 0 items tower.0 in
     let rest = few_rows at limit up deep tower.1 (omega arith) (omega arith) in
     let long = length-append (rows_in items) (rows_of at 0 (suc up) deep) in
-    let rows = length-map items (λ (item : Item). item.word) in
+    let rows = length-map items (λ (item : NodeItem). item.word) in
     omega arith
 
 -- how many entries there are for the height
 four_more : (up m : ℕ) → 4 ^ suc up * m ≡ 4 ^ up * (4 * m)
 four_more up m = let e : 4 ^ suc up ≡ 4 * 4 ^ up = grind arith in rw e (grind arith)
 
-pub many_entries : (at : ℕ → List ℕ) (limit up m : ℕ) (items : List Item) → IsTower at limit 0 (suc up) items → end_of 0 items ≤ limit
+pub many_entries : (at : ℕ → List ℕ) (limit up m : ℕ) (items : List NodeItem) → IsTower at limit 0 (suc up) items → end_of 0 items ≤ limit
     → m + 1 ≤ length items → 6 * (4 ^ up * m) + 1 ≤ length (level_of at 0 (suc up) items)
 unfolding IsTower level_of
 many_entries at limit zero m items tower ends some =

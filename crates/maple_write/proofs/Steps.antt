@@ -2,7 +2,7 @@
 use Rattle.std.proofs.Common.{ℕ, suc, ◌≡◌, ◌<◌, ◌≤◌, ◌+◌, ◌-◌, Bool, true, false, nat_eq, nat_lt, cond, List, [], ◌∷◌, ◌++◌, length, Some, refl, sym, ap, subst, ◌∙◌, arith, inl, inr, append_assoc, length-append}
 use Rattle.std.proofs.lemmas.Bool.{cases_lt}
 use Rattle.std.proofs.lemmas.Bool.Decides.{nat_tests}
-use Rattle.maple_node.specs.declared.item.Item.{Item}
+use Rattle.maple_node.specs.declared.item.NodeItem.{NodeItem}
 use Rattle.maple_node.specs.Nodes.{most, least, end_of, Ascends}
 use Rattle.maple_node.specs.Levels.{is_leaf, at_of, read, below, item_at, IsNode, level_of, IsTower, rows_of, times}
 use Rattle.maple_node.proofs.Lists.{end_of-append, Ascends-append}
@@ -16,23 +16,23 @@ use Rattle.maple_write.proofs.Levels.{AreNodes, ending_by-below, ending_after-be
 use Rattle.maple_write.proofs.Blocks.{item_edge, items-plain, length-ending_by, length-ending_after}
 
 -- the nodes of the level above, and how it is told from the level itself
-pub upper_of : (table : Table) (top : Item) (height level lo hi : ℕ) (new : List Item) → Partly table top height level lo hi new → level < height
+pub upper_of : (table : Table) (top : NodeItem) (height level lo hi : ℕ) (new : List NodeItem) → Partly table top height level lo hi new → level < height
     → Step (at_of table.rows) top.end height (level + 1) level top
 upper_of table top height level lo hi new partly less =
     step_down (at_of table.rows) top.end height level (level + 1) level top partly.tower (omega arith) refl (omega arith)
 
-pub ends_at : (table : Table) (top : Item) (height level lo hi : ℕ) (new : List Item) → Partly table top height level lo hi new → level < height
+pub ends_at : (table : Table) (top : NodeItem) (height level lo hi : ℕ) (new : List NodeItem) → Partly table top height level lo hi new → level < height
     → end_of 0 (old_level table top height (level + 1)) ≡ top.end
 ends_at table top height level lo hi new partly less =
     level-ends (at_of table.rows) top.end (level + 1) (height - (level + 1)) (top ∷ []) (upper_of table top height level lo hi new partly less).above
 
 -- the node that has a page
-pub record There (table : Table) (limit level begin : ℕ) (item : Item) : Type 0 where
+pub record There (table : Table) (limit level begin : ℕ) (item : NodeItem) : Type 0 where
   pub row : item.word < length table.rows
   pub few : length (read (at_of table.rows) (is_leaf level) item.word) ≤ most (is_leaf level)
   pub node : IsNode (at_of table.rows) (is_leaf level) limit begin item
 
-pub there_at : (table : Table) (top : Item) (height level lo hi page : ℕ) (new : List Item) (item : Item)
+pub there_at : (table : Table) (top : NodeItem) (height level lo hi page : ℕ) (new : List NodeItem) (item : NodeItem)
     → Partly table top height level lo hi new → level < height → item_at page (old_level table top height (level + 1)) ≡ Some item
     → There table top.end level (end_of 0 (ending_by page (old_level table top height (level + 1)))) item
 there_at table top height level lo hi page new item partly less found =
@@ -47,24 +47,24 @@ there_at table top height level lo hi page new item partly less found =
     }
 
 -- the item that has a page has each later one up to where it ends
-pub item_at-same : (page later : ℕ) (xs : List Item) (item : Item) → item_at page xs ≡ Some item → page ≤ later → later < item.end
+pub item_at-same : (page later : ℕ) (xs : List NodeItem) (item : NodeItem) → item_at page xs ≡ Some item → page ≤ later → later < item.end
     → item_at later xs ≡ Some item
 item_at-same page later [] item found after within = absurd (cc)
 item_at-same page later (x ∷ xs) item found after within = elim (cases_lt page x.end) as (λ _. item_at later (x ∷ xs) ≡ Some item) [
   | inl above ↦
       let first : Some x ≡ Some item = sym (item_at-first page x xs above) ∙ found in
       let same : x ≡ item = cc in
-      let end = ap (λ (y : Item). y.end) same in
+      let end = ap (λ (y : NodeItem). y.end) same in
       item_at-first later x xs (omega (arith, end, within)) ∙ first
   | inr past ↦ item_at-later later x xs (omega (arith, past, after))
       ∙ item_at-same page later xs item (sym (item_at-later page x xs past) ∙ found) after within
 ]
 
 -- new items between the beginning of one node and the end of another
-joined_parts : (a b c d e : List Item) → (a ++ b) ++ (c ++ (d ++ e)) ≡ a ++ ((b ++ (c ++ d)) ++ e)
+joined_parts : (a b c d e : List NodeItem) → (a ++ b) ++ (c ++ (d ++ e)) ≡ a ++ ((b ++ (c ++ d)) ++ e)
 joined_parts a b c d e = simp append_assoc
 
-pub cut_of : (table : Table) (top : Item) (height level lo hi last begin : ℕ) (new : List Item) (left right : Item)
+pub cut_of : (table : Table) (top : NodeItem) (height level lo hi last begin : ℕ) (new : List NodeItem) (left right : NodeItem)
     → Partly table top height level lo hi new → level < height
     → item_at lo (old_level table top height (level + 1)) ≡ Some left → last + 1 ≡ hi → item_at last (old_level table top height (level + 1)) ≡ Some right
     → begin ≡ end_of 0 (ending_by lo (old_level table top height (level + 1)))
@@ -87,13 +87,13 @@ cut_of table top height level lo hi last begin new left right partly less found 
     let low : ending_by lo lower ≡ before ++ front = ap (ending_by lo) step.down ∙ ending_by-below at leaf top.end 0 lo upper left nodes found in
     let high : ending_after hi lower ≡ back ++ after = ap (ending_after hi) step.down ∙ ending_after-below at leaf top.end 0 hi last upper right nodes next found' in
     let split : new_level table top height level lo hi new ≡ before ++ (items ++ after) =
-    ap (λ (xs : List Item). xs ++ (new ++ ending_after hi lower)) low ∙ ap (λ (xs : List Item). (before ++ front) ++ (new ++ xs)) high
+    ap (λ (xs : List NodeItem). xs ++ (new ++ ending_after hi lower)) low ∙ ap (λ (xs : List NodeItem). (before ++ front) ++ (new ++ xs)) high
     ∙ joined_parts before front new back after in
     let here = descend at leaf top.end 0 lo upper left nodes (omega arith) found in
     let there = descend at leaf top.end 0 last upper right nodes (omega arith) found' in
     let is = stands 0 last upper right ascends found' in
     let front_end : end_of begin front ≡ end_of 0 (ending_by lo lower) =
-    ap (λ (p : ℕ). end_of p front) begins ∙ sym here.front ∙ sym (ap (λ (xs : List Item). end_of 0 (ending_by lo xs)) step.down) in
+    ap (λ (p : ℕ). end_of p front) begins ∙ sym here.front ∙ sym (ap (λ (xs : List NodeItem). end_of 0 (ending_by lo xs)) step.down) in
     let inside = there.within in
     let outside = there.begins in
     let until = there.node.until in
@@ -101,7 +101,7 @@ cut_of table top height level lo hi last begin new left right partly less found 
     ending_after-ends (end_of 0 (ending_by last upper)) hi (read at leaf right.word) there.node.ascends (omega arith) (omega arith) ∙ until in
     let before_end : end_of 0 before ≡ begin = end_of-below at leaf top.end 0 (ending_by lo upper) (nodes-ending_by at leaf top.end 0 lo upper nodes) ∙ sym begins in
     let pages = partly.pages in
-    let whole : Ascends 0 (before ++ (items ++ after)) = subst (λ (xs : List Item). Ascends 0 xs) split partly.ascends in
+    let whole : Ascends 0 (before ++ (items ++ after)) = subst (λ (xs : List NodeItem). Ascends 0 xs) split partly.ascends in
     let rest : Ascends begin (items ++ after) = subst (λ (p : ℕ). Ascends p (items ++ after)) before_end (Ascends-right 0 before (items ++ after) whole) in
     let most_left = here.node.most in
     let most_right = there.node.most in
@@ -126,7 +126,7 @@ least_less : (leaf : Bool) → least leaf ≤ most leaf
 least_less true = omega arith
 least_less false = omega arith
 
-pub cut_more : (table : Table) (top : Item) (height level lo hi begin end : ℕ) (new items : List Item) (next : Item)
+pub cut_more : (table : Table) (top : NodeItem) (height level lo hi begin end : ℕ) (new items : List NodeItem) (next : NodeItem)
     → Partly table top height level lo hi new → level < height
     → Cut table top height level lo hi new begin end items → item_at end (old_level table top height (level + 1)) ≡ Some next
     → length items < least (is_leaf level)
@@ -152,8 +152,8 @@ cut_more table top height level lo hi begin end new items next partly less cut f
     let above = cut.above in
     let past = is.above in
     record {
-      split = cut.split ∙ ap (λ (xs : List Item). before ++ (items ++ xs)) rest
-          ∙ ap (λ (xs : List Item). before ++ xs) (sym (append_assoc items more after));
+      split = cut.split ∙ ap (λ (xs : List NodeItem). before ++ (items ++ xs)) rest
+          ∙ ap (λ (xs : List NodeItem). before ++ xs) (sym (append_assoc items more after));
       start = cut.start;
       ending = end_of-append begin items more ∙ ap (λ (p : ℕ). end_of p more) cut.ending ∙ node.until;
       ascends = Ascends-append begin items more cut.ascends (subst (λ (p : ℕ). Ascends p more) (sym cut.ending) node.ascends);
@@ -166,7 +166,7 @@ cut_more table top height level lo hi begin end new items next partly less cut f
     }
 
 -- then they are enough: the node has enough, or ends at the limit
-pub cut_enough : (table : Table) (top : Item) (height level lo hi begin end : ℕ) (new items : List Item) (next : Item)
+pub cut_enough : (table : Table) (top : NodeItem) (height level lo hi begin end : ℕ) (new items : List NodeItem) (next : NodeItem)
     → Partly table top height level lo hi new → level < height
     → Cut table top height level lo hi new begin end items → item_at end (old_level table top height (level + 1)) ≡ Some next
     → next.end < top.end → least (is_leaf level) ≤ length (items ++ read (at_of table.rows) (is_leaf level) next.word)
@@ -177,12 +177,12 @@ cut_enough table top height level lo hi begin end new items next partly less cut
     omega arith
 
 -- a level more under a tower
-pub record Raised (at : ℕ → List ℕ) (limit level : ℕ) (upper lower : List Item) : Type 0 where
+pub record Raised (at : ℕ → List ℕ) (limit level : ℕ) (upper lower : List NodeItem) : Type 0 where
   pub tower : IsTower at limit 0 (level + 1) upper
   pub entries : level_of at 0 (level + 1) upper ≡ level_of at 0 level lower
   pub rows : (row : ℕ) → times row (rows_of at 0 (level + 1) upper) ≡ times row (rows_in upper) + times row (rows_of at 0 level lower)
 
-pub raised : (at : ℕ → List ℕ) (limit level : ℕ) (upper lower : List Item) → AreNodes at (is_leaf level) limit 0 upper
+pub raised : (at : ℕ → List ℕ) (limit level : ℕ) (upper lower : List NodeItem) → AreNodes at (is_leaf level) limit 0 upper
     → below at (is_leaf level) upper ≡ lower → IsTower at limit 0 level lower → Raised at limit level upper lower
 unfolding IsTower level_of rows_of
 raised at limit level upper lower nodes under tower =
@@ -192,14 +192,14 @@ raised at limit level upper lower nodes under tower =
     let down : below at (is_leaf (0 + level)) upper ≡ lower = ap (λ (n : ℕ). below at (is_leaf n) upper) z' ∙ under in
     let one : IsTower at limit 0 (suc level) upper = (
       subst (λ (n : ℕ). AreNodes at (is_leaf n) limit 0 upper) z nodes,
-      subst (λ (xs : List Item). IsTower at limit 0 level xs) (sym down) tower,
+      subst (λ (xs : List NodeItem). IsTower at limit 0 level xs) (sym down) tower,
     ) in
     record {
       tower = subst (λ (n : ℕ). IsTower at limit 0 n upper) e one;
       entries = sym (ap (λ (n : ℕ). level_of at 0 n upper) e) ∙ ap (level_of at 0 level) down;
       rows = λ row. sym (ap (λ (n : ℕ). times row (rows_of at 0 n upper)) e)
           ∙ times-append row (rows_in upper) (rows_of at 0 level (below at (is_leaf (0 + level)) upper))
-          ∙ ap (λ (xs : List Item). times row (rows_in upper) + times row (rows_of at 0 level xs)) down;
+          ∙ ap (λ (xs : List NodeItem). times row (rows_in upper) + times row (rows_of at 0 level xs)) down;
     }
 
 -- a level above the leaves

@@ -4,7 +4,7 @@ use Rattle.std.proofs.lemmas.Bool.{cases_lt}
 use Rattle.std.proofs.lemmas.Bool.Decides.{nat_tests}
 use Rattle.std.proofs.lemmas.List.{length-set, length-map}
 use Rattle.grace_core.specs.Core as grace
-use Rattle.maple_node.specs.declared.item.Item.{Item}
+use Rattle.maple_node.specs.declared.item.NodeItem.{NodeItem}
 use Rattle.maple_node.specs.Nodes.{leaf_items, least, end_of, Ascends, IsPlain, gap_of, items_of}
 use Rattle.maple_node.specs.Levels.{is_leaf, at_of, read, item_at, IsNode, level_of, IsTower, rows_of, times}
 use Rattle.maple_node.specs.Trees.{Tree, Pair, top_of, entries_of, tree_rows, pairs_from, pairs_of, ApartFrom, IsLayout}
@@ -49,7 +49,7 @@ covers table tree shaped =
     }
 
 -- what was found at the lowest level is an entry
-pub entry_found : (table : Table) (tree : Tree) (page : ℕ) (item : Item) → item_at page (old_level table tree.top tree.height 0) ≡ Some item
+pub entry_found : (table : Table) (tree : Tree) (page : ℕ) (item : NodeItem) → item_at page (old_level table tree.top tree.height 0) ≡ Some item
     → item_at page (entries_of (at_of table.rows) tree) ≡ Some item
 entry_found table tree page item found =
     let e : tree.height ≡ tree.height - 0 = omega arith in
@@ -62,13 +62,13 @@ entry_begins table tree page start begins =
     begins ∙ ap (λ (n : ℕ). end_of 0 (ending_by page (level_of (at_of table.rows) 0 n (tree.top ∷ [])))) e
 
 -- the root is a node in a row of the table
-root_is : (at : ℕ → List ℕ) (limit height : ℕ) (top : Item) → 1 ≤ height → IsTower at limit 0 height (top ∷ []) → IsNode at (is_leaf (height - 1)) limit 0 top
+root_is : (at : ℕ → List ℕ) (limit height : ℕ) (top : NodeItem) → 1 ≤ height → IsTower at limit 0 height (top ∷ []) → IsNode at (is_leaf (height - 1)) limit 0 top
 root_is at limit height top tall tower =
     let e : height ≡ height - 0 = omega arith in
     let step = step_down at limit height 0 height (height - 1) top (subst (λ (n : ℕ). IsTower at limit 0 n (top ∷ [])) e tower) (omega arith) (omega arith)
     (omega arith) in
     let whole = level_of-top at height height (top ∷ []) (omega arith) in
-    (subst (λ (xs : List Item). AreNodes at (is_leaf (height - 1)) limit 0 xs) whole step.nodes).0
+    (subst (λ (xs : List NodeItem). AreNodes at (is_leaf (height - 1)) limit 0 xs) whole step.nodes).0
 
 pub root_there : (table : Table) (tree : Tree) → IsShaped table tree → tree.top.word < length table.rows
 root_there table tree shaped =
@@ -76,11 +76,11 @@ root_there table tree shaped =
     row_there table.rows (is_leaf (tree.height - 1)) tree.top.end 0 tree.top node
 
 -- where a gap begins that has the page before a page
-pub lo_zero : (page : ℕ) (xs : List Item) → page ≡ 0 → 0 ≡ widened_lo page xs
+pub lo_zero : (page : ℕ) (xs : List NodeItem) → page ≡ 0 → 0 ≡ widened_lo page xs
 unfolding widened_lo
 lo_zero page xs none = let test : nat_eq page 0 ≡ true = grind (arith, nat_tests) in rw test refl
 
-pub lo_gap : (page start : ℕ) (item : Item) (xs : List Item) → page ≢ 0 → item_at (page - 1) xs ≡ Some item
+pub lo_gap : (page start : ℕ) (item : NodeItem) (xs : List NodeItem) → page ≢ 0 → item_at (page - 1) xs ≡ Some item
     → start ≡ end_of 0 (ending_by (page - 1) xs) → item.word ≡ 0 → start ≡ widened_lo page xs
 unfolding widened_lo
 lo_gap page start item xs some found begins gap =
@@ -88,7 +88,7 @@ lo_gap page start item xs some found begins gap =
     let is : nat_eq item.word 0 ≡ true = grind (arith, nat_tests) in
     rw (test, found, is) begins
 
-pub lo_slot : (page : ℕ) (item : Item) (xs : List Item) → page ≢ 0 → item_at (page - 1) xs ≡ Some item → item.word ≢ 0 → page ≡ widened_lo page xs
+pub lo_slot : (page : ℕ) (item : NodeItem) (xs : List NodeItem) → page ≢ 0 → item_at (page - 1) xs ≡ Some item → item.word ≢ 0 → page ≡ widened_lo page xs
 unfolding widened_lo
 lo_slot page item xs some found slot =
     let test : nat_eq page 0 ≡ false = grind (arith, nat_tests) in
@@ -96,23 +96,23 @@ lo_slot page item xs some found slot =
     rw (test, found, is) refl
 
 -- where a gap ends that has a page
-pub hi_none : (page : ℕ) (xs : List Item) → Ascends 0 xs → end_of 0 xs ≤ page → page ≡ widened_hi page xs
+pub hi_none : (page : ℕ) (xs : List NodeItem) → Ascends 0 xs → end_of 0 xs ≤ page → page ≡ widened_hi page xs
 unfolding widened_hi
 hi_none page xs ascends ends = sym (ap (gap_end page) (item_at-past 0 page xs ascends ends))
 
-pub hi_gap : (page : ℕ) (item : Item) (xs : List Item) → item_at page xs ≡ Some item → item.word ≡ 0 → item.end ≡ widened_hi page xs
+pub hi_gap : (page : ℕ) (item : NodeItem) (xs : List NodeItem) → item_at page xs ≡ Some item → item.word ≡ 0 → item.end ≡ widened_hi page xs
 unfolding widened_hi
 hi_gap page item xs found gap = let is : nat_eq item.word 0 ≡ true = grind (arith, nat_tests) in rw (found, is) refl
 
-pub hi_slot : (page : ℕ) (item : Item) (xs : List Item) → item_at page xs ≡ Some item → item.word ≢ 0 → page ≡ widened_hi page xs
+pub hi_slot : (page : ℕ) (item : NodeItem) (xs : List NodeItem) → item_at page xs ≡ Some item → item.word ≢ 0 → page ≡ widened_hi page xs
 unfolding widened_hi
 hi_slot page item xs found slot = let is : nat_eq item.word 0 ≡ false = grind (arith, nat_tests) in rw (found, is) refl
 
 -- what a store finds: entries in order, with slots below a number, of which no two gaps are neighbours; and a span within them
-pub record Spanned (slots lo hi : ℕ) (xs : List Item) : Type 0 where
+pub record Spanned (slots lo hi : ℕ) (xs : List NodeItem) : Type 0 where
   pub ascends : Ascends 0 xs
   pub apart : ApartFrom 1 xs
-  pub numbered : All (λ (entry : Item). entry.word ≤ slots) xs
+  pub numbered : All (λ (entry : NodeItem). entry.word ≤ slots) xs
   pub some : lo < hi
   pub limit : hi ≤ end_of 0 xs
 
@@ -139,7 +139,7 @@ pub record Stored (after : Table) (slots : ℕ) (new : Tree) (pairs : List Pair)
   pub pairs_are : pairs_of (at_of after.rows) new ≡ pairs
 
 -- by a slot
-pub slot_stored : (after : Table) (slots lo hi word : ℕ) (new : Tree) (xs : List Item) → Spanned slots lo hi xs → word ≤ slots → word ≢ 0
+pub slot_stored : (after : Table) (slots lo hi word : ℕ) (new : Tree) (xs : List NodeItem) → Spanned slots lo hi xs → word ≤ slots → word ≢ 0
     → IsShaped after new → entries_of (at_of after.rows) new ≡ overwrite lo hi word xs
     → Stored after slots new (overwritten lo hi word (pairs_from 0 xs))
 slot_stored after slots lo hi word new xs found fits slot shaped entries =
@@ -147,14 +147,14 @@ slot_stored after slots lo hi word new xs found fits slot shaped entries =
     record {
       whole = record {
         shaped = shaped;
-        apart = subst (λ (ys : List Item). ApartFrom 1 ys) back (stored-apart lo hi word xs found.ascends found.apart found.some found.limit slot);
-        numbered = subst (λ (ys : List Item). All (λ (entry : Item). entry.word ≤ slots) ys) back (overwrite-words lo hi word slots xs found.numbered fits);
+        apart = subst (λ (ys : List NodeItem). ApartFrom 1 ys) back (stored-apart lo hi word xs found.ascends found.apart found.some found.limit slot);
+        numbered = subst (λ (ys : List NodeItem). All (λ (entry : NodeItem). entry.word ≤ slots) ys) back (overwrite-words lo hi word slots xs found.numbered fits);
       };
       pairs_are = ap (pairs_from 0) entries ∙ overwrite-pairs lo hi word xs found.ascends found.some found.limit;
     }
 
 -- by a gap, which takes in those beside it
-pub gap_stored : (after : Table) (slots lo hi low high : ℕ) (new : Tree) (xs : List Item) → Spanned slots lo hi xs → IsShaped after new
+pub gap_stored : (after : Table) (slots lo hi low high : ℕ) (new : Tree) (xs : List NodeItem) → Spanned slots lo hi xs → IsShaped after new
     → low ≡ widened_lo lo xs → high ≡ widened_hi hi xs
     → entries_of (at_of after.rows) new ≡ overwrite low high 0 xs → Stored after slots new (overwritten lo hi 0 (pairs_from 0 xs))
 gap_stored after slots lo hi low high new xs found shaped begins ends entries =
@@ -165,8 +165,8 @@ gap_stored after slots lo hi low high new xs found shaped begins ends entries =
     record {
       whole = record {
         shaped = shaped;
-        apart = subst (λ (ys : List Item). ApartFrom 1 ys) back is.apart;
-        numbered = subst (λ (ys : List Item). All (λ (entry : Item). entry.word ≤ slots) ys) back
+        apart = subst (λ (ys : List NodeItem). ApartFrom 1 ys) back is.apart;
+        numbered = subst (λ (ys : List NodeItem). All (λ (entry : NodeItem). entry.word ≤ slots) ys) back
             (overwrite-words (widened_lo lo xs) (widened_hi hi xs) 0 slots xs found.numbered (omega arith));
       };
       pairs_are = ap (pairs_from 0) same ∙ is.pairs;
@@ -181,7 +181,7 @@ pub record Gap (limit : ℕ) : Type 0 where
 pub gap_is : (limit : ℕ) → 0 < limit → Gap limit
 gap_is limit some = record { ascends = (some, tt); apart = ((λ one zero. absurd (omega arith)), tt); plain = (refl, tt) }
 
-pub gap_numbered : (limit slots : ℕ) → All (λ (entry : Item). entry.word ≤ slots) (all_gap limit)
+pub gap_numbered : (limit slots : ℕ) → All (λ (entry : NodeItem). entry.word ≤ slots) (all_gap limit)
 gap_numbered limit slots zero d within = omega arith
 gap_numbered limit slots (suc k) d within = absurd (omega arith)
 
@@ -191,7 +191,7 @@ gap_spanned limit slots lo hi some within =
     record { ascends = gap.ascends; apart = gap.apart; numbered = gap_numbered limit slots; some = some; limit = within }
 
 -- the first leaf of a tree
-pub record Planted (after : Table) (limit : ℕ) (items : List Item) (top : Item) : Type 0 where
+pub record Planted (after : Table) (limit : ℕ) (items : List NodeItem) (top : NodeItem) : Type 0 where
   pub shaped : IsShaped after (record { top = top; height = 1 })
   pub entries : entries_of (at_of after.rows) (record { top = top; height = 1 }) ≡ items
 
@@ -202,7 +202,7 @@ zero_once (suc row) =
     let b : nat_eq (suc row) 0 ≡ false = grind (arith, nat_tests) in
     rw (a, b) refl
 
-pub leaf_planted : (old made after : Table) (limit : ℕ) (items : List Item) (top : Item) (words : List ℕ)
+pub leaf_planted : (old made after : Table) (limit : ℕ) (items : List NodeItem) (top : NodeItem) (words : List ℕ)
     → ((row : ℕ) → gone old row + cond (nat_eq row 0) 1 0 ≡ cond (nat_lt row (length old.rows)) 1 0)
     → 0 < limit → end_of 0 items ≡ limit
     → ((most : ℕ) → (end_of 0 items < most → least true ≤ length items) → IsNode (at_of made.rows) true most 0 top)
@@ -249,13 +249,13 @@ blank_tree at height root one none zeros =
     subst (λ (h : ℕ). read at (is_leaf (h - 1)) root ≡ []) (sym one)
     (subst (λ (r : ℕ). read at true r ≡ []) (sym none) (blank_at at zeros))
 
-blank_entries : (at : ℕ → List ℕ) (height : ℕ) (top : Item) → height ≡ 1 → top.word ≡ 0 → at 0 ≡ replicate 32 0
+blank_entries : (at : ℕ → List ℕ) (height : ℕ) (top : NodeItem) → height ≡ 1 → top.word ≡ 0 → at 0 ≡ replicate 32 0
     → entries_of at (record { top = top; height = height }) ≡ []
 unfolding level_of
 blank_entries at height top one none zeros =
     ap (λ (h : ℕ). level_of at 0 h (top ∷ [])) one
     ∙ ap (λ (r : ℕ). read at true r ++ []) none
-    ∙ ap (λ (xs : List Item). xs ++ []) (blank_at at zeros)
+    ∙ ap (λ (xs : List NodeItem). xs ++ []) (blank_at at zeros)
 
 whole_of : (writer : NodeWriter) (tree : View) → IsBuilt writer tree → IsWhole (table_at writer) (sight writer).size.slots (built writer tree)
 whole_of writer tree is = record {
@@ -320,8 +320,8 @@ root_of_view writer tree is = elim is as (λ _. Root writer tree) [
       record {
         leaf = one_less tree.height (omega arith);
         there = omega arith;
-        ascends = subst (λ (xs : List Item). Ascends 0 xs) (sym none) tt;
-        ends = λ some. let long = ap (λ (xs : List Item). length xs) none in absurd (omega arith);
+        ascends = subst (λ (xs : List NodeItem). Ascends 0 xs) (sym none) tt;
+        ends = λ some. let long = ap (λ (xs : List NodeItem). length xs) none in absurd (omega arith);
       }
 ]
 
@@ -372,9 +372,9 @@ built_from old new t tree fills whole limit root height =
           let few : times row (tree_rows at t) ≤ cond (nat_lt row (length (writer_state new).words)) 1 0 = omega arith in
           (counts row (length (writer_state new).words) (times row (tree_rows at t)) few).0;
     } in
-    let made : Item → ℕ → Tree = λ top h. record { top = top; height = h } in
+    let made : NodeItem → ℕ → Tree = λ top h. record { top = top; height = h } in
     let named = root-named at (sight old).size.slots (tree_rows at t) t layout in
-    let same : t ≡ built new tree = ap (λ (i : Item). made i t.height) named
+    let same : t ≡ built new tree = ap (λ (i : NodeItem). made i t.height) named
     ∙ ap (λ (h : ℕ). made (top_of at h t.top.word) h) (sym height)
     ∙ ap (λ (r : ℕ). made (top_of at tree.height r) tree.height) (sym root) in
     record {
@@ -412,7 +412,7 @@ still_built old new tree words size free left is =
 -- the span that a gap takes in where all pages are one gap
 pub gap_lo : (limit lo : ℕ) → lo < limit → 0 ≡ widened_lo lo (all_gap limit)
 gap_lo limit lo less =
-    let gap : Item = record { end = limit; word = 0; gap = 0 } in
+    let gap : NodeItem = record { end = limit; word = 0; gap = 0 } in
     elim (cases_lt 0 lo) as (λ _. 0 ≡ widened_lo lo (all_gap limit)) [
       | inl some ↦ lo_gap lo 0 gap (all_gap limit) (λ none. omega arith) (item_at-first (lo - 1) gap [] (omega arith))
           (sym (ap (end_of 0) (ending_by-later (lo - 1) gap [] (omega arith)))) refl
@@ -421,46 +421,46 @@ gap_lo limit lo less =
 
 pub gap_hi : (limit hi : ℕ) → 0 < limit → hi ≤ limit → limit ≡ widened_hi hi (all_gap limit)
 gap_hi limit hi some within =
-    let gap : Item = record { end = limit; word = 0; gap = 0 } in
+    let gap : NodeItem = record { end = limit; word = 0; gap = 0 } in
     elim (cases_lt hi limit) as (λ _. limit ≡ widened_hi hi (all_gap limit)) [
       | inl less ↦ hi_gap hi gap (all_gap limit) (item_at-first hi gap [] less) refl
       | inr all ↦ let e : limit ≡ hi = omega arith in e ∙ hi_none hi (all_gap limit) (some, tt) all
     ]
 
 -- the entries of a store into it
-piece_few : (start page : ℕ) (item : Item) → length (piece_of start page (Some item)) ≤ 1
+piece_few : (start page : ℕ) (item : NodeItem) → length (piece_of start page (Some item)) ≤ 1
 piece_few start page item = go (nat_lt start page) where
-  piece : Item
+  piece : NodeItem
   piece = record { end = page; word = item.word; gap = 0 }
 
   go : (below : Bool) → length (if below then (piece ∷ []) else []) ≤ 1
   go true = omega arith
   go false = omega arith
 
-pub record GapEntries (limit lo hi word : ℕ) (items : List Item) : Type 0 where
+pub record GapEntries (limit lo hi word : ℕ) (items : List NodeItem) : Type 0 where
   pub entries : items ≡ overwrite lo hi word (all_gap limit)
   pub some : 1 ≤ length items
   pub few : length items ≤ 3
 
-pub gap_entries : (limit lo hi word : ℕ) (new items : List Item) → lo < hi → hi ≤ limit
+pub gap_entries : (limit lo hi word : ℕ) (new items : List NodeItem) → lo < hi → hi ≤ limit
     → new ≡ piece_of 0 lo (Some (record { end = limit; word = 0; gap = 0 })) ++ record { end = hi; word = word; gap = 0 } ∷ []
     → items ≡ new ++ ending_after hi (all_gap limit) → GapEntries limit lo hi word items
 gap_entries limit lo hi word new items some within news are =
-    let gap : Item = record { end = limit; word = 0; gap = 0 } in
-    let entry : Item = record { end = hi; word = word; gap = 0 } in
+    let gap : NodeItem = record { end = limit; word = 0; gap = 0 } in
+    let entry : NodeItem = record { end = hi; word = word; gap = 0 } in
     let piece = piece_of 0 lo (Some gap) in
     let back = ending_after hi (all_gap limit) in
     let front : ending_by lo (all_gap limit) ≡ [] = ending_by-later lo gap [] (omega arith) in
     let found : item_at lo (all_gap limit) ≡ Some gap = item_at-first lo gap [] (omega arith) in
     let same = first_entries 0 lo hi word gap (all_gap limit) found (sym (ap (end_of 0) front)) in
-    let all : items ≡ (piece ++ entry ∷ []) ++ back = are ∙ ap (λ (xs : List Item). xs ++ back) news in
-    let long = ap (λ (xs : List Item). length xs) all in
+    let all : items ≡ (piece ++ entry ∷ []) ++ back = are ∙ ap (λ (xs : List NodeItem). xs ++ back) news in
+    let long = ap (λ (xs : List NodeItem). length xs) all in
     let l1 = length-append (piece ++ entry ∷ []) back in
     let l2 = length-append piece (entry ∷ []) in
     let one = piece_few 0 lo gap in
     let rest = length-ending_after hi (all_gap limit) in
     record {
-      entries = all ∙ sym (ap (λ (xs : List Item). xs ++ ((piece ++ entry ∷ []) ++ back)) front) ∙ same;
+      entries = all ∙ sym (ap (λ (xs : List NodeItem). xs ++ ((piece ++ entry ∷ []) ++ back)) front) ∙ same;
       some = omega arith;
       few = omega arith;
     }
@@ -492,9 +492,9 @@ found_whole writer old limit is some = elim is as (λ _. IsWhole (table_at write
   | inr bare ↦ absurd (some bare.none)
 ]
 
-pub first_two : (start lo hi word : ℕ) (item : Item) → length (piece_of start lo (Some item) ++ record { end = hi; word = word; gap = 0 } ∷ []) ≤ 2
+pub first_two : (start lo hi word : ℕ) (item : NodeItem) → length (piece_of start lo (Some item) ++ record { end = hi; word = word; gap = 0 } ∷ []) ≤ 2
 first_two start lo hi word item =
-    let entry : Item = record { end = hi; word = word; gap = 0 } in
+    let entry : NodeItem = record { end = hi; word = word; gap = 0 } in
     let long = length-append (piece_of start lo (Some item)) (entry ∷ []) in
     let one = piece_few start lo item in
     omega arith

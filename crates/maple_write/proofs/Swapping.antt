@@ -1,7 +1,7 @@
 -- For `swapped`: one child in the place of one in the words of a node.
 use Rattle.std.proofs.Common.{ℕ, ◌≡◌, ◌<◌, ◌≤◌, ◌+◌, Bool, false, nat_eq, List, [], ◌∷◌, length, get_or, Option, Some, None, IfSome, refl, sym, ap, subst, ◌∙◌, arith}
 use Rattle.std.proofs.lemmas.Bool.Decides.{nat_tests}
-use Rattle.maple_node.specs.declared.item.Item.{Item}
+use Rattle.maple_node.specs.declared.item.NodeItem.{NodeItem}
 use Rattle.maple_node.specs.Nodes.{words_of, items_of, most, least, end_of, Ascends, gap_of}
 use Rattle.maple_node.specs.Levels.{is_leaf, at_of, read, item_at}
 use Rattle.maple_node.proofs.Levels.{nodes-ascend}
@@ -18,7 +18,7 @@ inner_is : (level : ℕ) → 0 < level → is_leaf level ≡ false
 inner_is level some = let test : nat_eq level 0 ≡ false = grind (arith, nat_tests) in test
 
 -- the largest gap of children is the same wherever they begin
-gap_anywhere : (a b : ℕ) (items : List Item) → gap_of false a items ≡ gap_of false b items
+gap_anywhere : (a b : ℕ) (items : List NodeItem) → gap_of false a items ≡ gap_of false b items
 gap_anywhere a b [] = refl
 gap_anywhere a b (item ∷ items) = refl
 
@@ -29,7 +29,7 @@ pub record Children (words : List ℕ) (page gap : ℕ) : Type 0 where
   pub whole : words ≡ words_of false (items_of false words)
   pub largest : gap_of false 0 (items_of false words) ≡ gap
 
-pub children_of : (table : Table) (top : Item) (height level lo hi : ℕ) (new : List Item) (item : Item) (words : List ℕ)
+pub children_of : (table : Table) (top : NodeItem) (height level lo hi : ℕ) (new : List NodeItem) (item : NodeItem) (words : List ℕ)
     → Partly table top height level lo hi new → level < height → 0 < level → item_at lo (old_level table top height (level + 1)) ≡ Some item
     → words ≡ at_of table.rows item.word → Children words lo item.gap
 children_of table top height level lo hi new item words partly less inner found is =
@@ -55,11 +55,11 @@ children_of table top height level lo hi new item words partly less inner found 
     }
 
 -- the node anew, and its largest gap
-pub record Swapped (table : Table) (top : Item) (height level lo hi : ℕ) (new : List Item) (left : Place) (made : List ℕ) (gap : ℕ) : Type 0 where
+pub record Swapped (table : Table) (top : NodeItem) (height level lo hi : ℕ) (new : List NodeItem) (left : Place) (made : List ℕ) (gap : ℕ) : Type 0 where
   pub renewed : IsRenewed table top height level lo hi new left made
   pub largest : gap ≡ gap_of (is_leaf level) left.start (items_of (is_leaf level) made)
 
-pub swapped_is : (table : Table) (top : Item) (height level lo hi : ℕ) (new : List Item) (left : Place) (child : Item) (words made : List ℕ) (gap : ℕ)
+pub swapped_is : (table : Table) (top : NodeItem) (height level lo hi : ℕ) (new : List NodeItem) (left : Place) (child : NodeItem) (words made : List ℕ) (gap : ℕ)
     → Partly table top height level lo hi new → level < height → 0 < level → new ≡ child ∷ []
     → item_at lo (old_level table top height (level + 1)) ≡ Some left.item
     → left.start ≡ end_of 0 (ending_by lo (old_level table top height (level + 1))) → hi ≤ left.item.end
@@ -74,13 +74,13 @@ swapped_is table top height level lo hi new left child words made gap partly les
     let low = end_of 0 (ending_by lo (old_level table top height level)) in
     let ends : child.end ≡ hi = sym (ap (end_of low) one) ∙ partly.ending in
     let same : spliced lo child.end (child ∷ []) (items_of false words) ≡ spliced lo hi new (items_of false words) =
-    ap (λ (xs : List Item). spliced lo child.end xs (items_of false words)) (sym one)
+    ap (λ (xs : List NodeItem). spliced lo child.end xs (items_of false words)) (sym one)
     ∙ ap (λ (p : ℕ). spliced lo p new (items_of false words)) ends in
     let told_here : made ≡ words_of leaf (spliced lo hi new (items_of leaf words)) =
     subst (λ (b : Bool). made ≡ words_of b (spliced lo hi new (items_of b words))) (sym leafless) (told ∙ ap (words_of false) same) in
     let count_here : length (spliced lo hi new (items_of leaf words)) ≡ length (items_of leaf words) =
     subst (λ (b : Bool). length (spliced lo hi new (items_of b words)) ≡ length (items_of b words)) (sym leafless)
-    (sym (ap (λ (xs : List Item). length xs) same) ∙ count) in
+    (sym (ap (λ (xs : List NodeItem). length xs) same) ∙ count) in
     let there = there_at table top height level lo hi lo new left.item partly less found in
     let long : length (items_of leaf words) ≡ length (read (at_of table.rows) leaf left.item.word) = ap (λ (ws : List ℕ). length (items_of leaf ws)) is in
     let few = there.node.most in
@@ -102,7 +102,7 @@ if_three None p q r all = tt
 if_three (Some gap) p q r all = all gap p q r
 
 -- one item is the list of it
-pub only : (items : List Item) (d : Item) → length items ≡ 1 → items ≡ get_or items 0 d ∷ []
+pub only : (items : List NodeItem) (d : NodeItem) → length items ≡ 1 → items ≡ get_or items 0 d ∷ []
 only [] d one = absurd (omega arith)
 only (item ∷ []) d one = refl
 only (item ∷ other ∷ items) d one = absurd (omega arith)

@@ -3,7 +3,7 @@ use Rattle.std.proofs.Common.{ℕ, zero, suc, ◌≡◌, ◌≢◌, ◌<◌, ◌
 use Rattle.std.proofs.lemmas.Bool.Decides.{nat_tests}
 use Rattle.std.proofs.lemmas.List.{map-append, get_or-set_other, get_or-set_same}
 use Rattle.std.proofs.lemmas.Grind.{flat_map-append}
-use Rattle.maple_node.specs.declared.item.Item.{Item}
+use Rattle.maple_node.specs.declared.item.NodeItem.{NodeItem}
 use Rattle.maple_node.specs.Nodes.{items_of, words_of, most, least, end_of, Ascends, gap_of}
 use Rattle.maple_node.specs.Levels.{is_leaf, at_of, read, below, IsNode, level_of, IsTower, rows_of, times, Agree}
 use Rattle.maple_node.proofs.Frames.{times-append, times-first, below-agree, rows_of-agree, level_of-agree, tower-agree}
@@ -12,8 +12,8 @@ use Rattle.maple_write.specs.Internal.Tables.{rows_in}
 use Rattle.maple_write.proofs.Levels.{AreNodes}
 
 -- how often a row is among those of joined items
-pub times-rows_in : (row : ℕ) (xs ys : List Item) → times row (rows_in (xs ++ ys)) ≡ times row (rows_in xs) + times row (rows_in ys)
-times-rows_in row xs ys = ap (times row) (map-append (λ (item : Item). item.word) xs ys) ∙ times-append row (rows_in xs) (rows_in ys)
+pub times-rows_in : (row : ℕ) (xs ys : List NodeItem) → times row (rows_in (xs ++ ys)) ≡ times row (rows_in xs) + times row (rows_in ys)
+times-rows_in row xs ys = ap (times row) (map-append (λ (item : NodeItem). item.word) xs ys) ∙ times-append row (rows_in xs) (rows_in ys)
 
 -- a row that is listed first
 pub times_same : (row : ℕ) (rows : List ℕ) → times row (row ∷ rows) ≡ 1 + times row rows
@@ -31,7 +31,7 @@ pub written_row : (rows : List (List ℕ)) (row : ℕ) (words : List ℕ) → ro
 written_row rows row words within = get_or-set_same rows row words [] within
 
 -- a row that keeps its words is still a node
-pub kept-node : (at after : ℕ → List ℕ) (leaf : Bool) (limit start : ℕ) (item : Item) → at item.word ≡ after item.word
+pub kept-node : (at after : ℕ → List ℕ) (leaf : Bool) (limit start : ℕ) (item : NodeItem) → at item.word ≡ after item.word
     → IsNode at leaf limit start item → IsNode after leaf limit start item
 kept-node at after leaf limit start item same node = record {
   some = subst (λ (words : List ℕ). 1 ≤ length (items_of leaf words)) same node.some;
@@ -43,7 +43,7 @@ kept-node at after leaf limit start item same node = record {
   words = subst (λ (words : List ℕ). words ≡ words_of leaf (items_of leaf words)) same node.words;
 }
 
-pub kept-nodes : (at after : ℕ → List ℕ) (leaf : Bool) (limit start : ℕ) (items : List Item) → Agree at after (rows_in items)
+pub kept-nodes : (at after : ℕ → List ℕ) (leaf : Bool) (limit start : ℕ) (items : List NodeItem) → Agree at after (rows_in items)
     → AreNodes at leaf limit start items → AreNodes after leaf limit start items
 kept-nodes at after leaf limit start [] agree nodes = tt
 kept-nodes at after leaf limit start (item ∷ items) agree nodes = (
@@ -52,30 +52,30 @@ kept-nodes at after leaf limit start (item ∷ items) agree nodes = (
 )
 
 -- the level below joined nodes, of which the last is new
-pub whole_list : (ys : List Item) → ys ++ [] ≡ ys
+pub whole_list : (ys : List NodeItem) → ys ++ [] ≡ ys
 whole_list [] = refl
-whole_list (y ∷ ys) = ap (λ (zs : List Item). y ∷ zs) (whole_list ys)
+whole_list (y ∷ ys) = ap (λ (zs : List NodeItem). y ∷ zs) (whole_list ys)
 
-pub below_pushed : (at after : ℕ → List ℕ) (leaf : Bool) (nodes : List Item) (node : Item) (items : List Item) → Agree at after (rows_in nodes)
+pub below_pushed : (at after : ℕ → List ℕ) (leaf : Bool) (nodes : List NodeItem) (node : NodeItem) (items : List NodeItem) → Agree at after (rows_in nodes)
     → read after leaf node.word ≡ items → below after leaf (nodes ++ node ∷ []) ≡ below at leaf nodes ++ items
 below_pushed at after leaf nodes node items agree reads =
-    flat_map-append (λ (item : Item). read after leaf item.word) nodes (node ∷ [])
-    ∙ ap (λ (xs : List Item). xs ++ (read after leaf node.word ++ [])) (sym (below-agree at after leaf nodes agree))
-    ∙ ap (λ (xs : List Item). below at leaf nodes ++ xs) (whole_list (read after leaf node.word) ∙ reads)
+    flat_map-append (λ (item : NodeItem). read after leaf item.word) nodes (node ∷ [])
+    ∙ ap (λ (xs : List NodeItem). xs ++ (read after leaf node.word ++ [])) (sym (below-agree at after leaf nodes agree))
+    ∙ ap (λ (xs : List NodeItem). below at leaf nodes ++ xs) (whole_list (read after leaf node.word) ∙ reads)
 
 -- one node more
-pub pushed : (at after : ℕ → List ℕ) (leaf : Bool) (limit start : ℕ) (nodes : List Item) (node : Item) → Agree at after (rows_in nodes)
+pub pushed : (at after : ℕ → List ℕ) (leaf : Bool) (limit start : ℕ) (nodes : List NodeItem) (node : NodeItem) → Agree at after (rows_in nodes)
     → AreNodes at leaf limit start nodes → IsNode after leaf limit (end_of start nodes) node → AreNodes after leaf limit start (nodes ++ node ∷ [])
 pushed at after leaf limit start nodes node agree all one =
     AllFrom-append (IsNode after leaf limit) start nodes (node ∷ []) (kept-nodes at after leaf limit start nodes agree all) (one, tt)
 
 -- a tower whose rows keep their words stays
-pub record Kept (at after : ℕ → List ℕ) (limit low up : ℕ) (items : List Item) : Type 0 where
+pub record Kept (at after : ℕ → List ℕ) (limit low up : ℕ) (items : List NodeItem) : Type 0 where
   pub tower : IsTower after limit low up items
   pub level : level_of after low up items ≡ level_of at low up items
   pub rows : rows_of after low up items ≡ rows_of at low up items
 
-pub kept-tower : (at after : ℕ → List ℕ) (limit low up : ℕ) (items : List Item) → Agree at after (rows_of at low up items)
+pub kept-tower : (at after : ℕ → List ℕ) (limit low up : ℕ) (items : List NodeItem) → Agree at after (rows_of at low up items)
     → IsTower at limit low up items → Kept at after limit low up items
 kept-tower at after limit low up items agree tower = record {
   tower = tower-agree at after limit low up items agree tower;
@@ -84,7 +84,7 @@ kept-tower at after limit low up items agree tower = record {
 }
 
 -- the rows of a tower are those above its lowest nodes, and those of these
-pub times-lowest : (at : ℕ → List ℕ) (row low up : ℕ) (items : List Item)
+pub times-lowest : (at : ℕ → List ℕ) (row low up : ℕ) (items : List NodeItem)
     → times row (rows_of at low (suc up) items) ≡ times row (rows_of at (suc low) up items) + times row (rows_in (level_of at (suc low) up items))
 unfolding rows_of level_of
 times-lowest at row low zero items = times-append row (rows_in items) [] ∙ (let e : times row (rows_in items) + 0 ≡ 0 + times row (rows_in items) = omega arith in e)

@@ -6,7 +6,7 @@ use Rattle.std.proofs.lemmas.Bool.Decides.{nat_tests}
 use Rattle.std.specs.List.Sorted.{IsPermutation}
 use Rattle.std.proofs.lemmas.List.Sorted.{sum_by-IsPermutation, length_permutation}
 use Rattle.mm_types.specs.declared.slot.Row.{Row}
-use Rattle.maple_node.specs.declared.item.Item.{Item}
+use Rattle.maple_node.specs.declared.item.NodeItem.{NodeItem}
 use Rattle.maple_node.specs.Nodes.{words_of}
 use Rattle.maple_node.specs.Levels.{times}
 use Rattle.maple_node.proofs.Frames.{times-append}
@@ -153,7 +153,7 @@ free_more old new row free = go (is_present old row) free where
   go false free = let a = ap (λ (xs : List ℕ). length xs) free in let d = length-append (free_of old) (row ∷ []) in omega arith
 
 -- what a row that was taken and filled has
-pub filled_words : (old taken filled : NodeWriter) (row told : ℕ) (words : List ℕ) (leaf : Bool) (items : List Item) → sight taken ≡ sight old
+pub filled_words : (old taken filled : NodeWriter) (row told : ℕ) (words : List ℕ) (leaf : Bool) (items : List NodeItem) → sight taken ≡ sight old
     → sight filled ≡ fill_at (sight taken) row words → words ≡ words_of leaf items → told ≡ row
     → (writer_state filled).words ≡ set (writer_state old).words told (words_of leaf items)
 filled_words old taken filled row told words leaf items seen fills are is =

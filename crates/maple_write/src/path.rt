@@ -2,7 +2,7 @@
 
 ghost use Rattle.std.specs.Prelude.{◌≡◌, ◌<◌, ◌≤◌, ◌+◌, ◌-◌, ℕ, List, Some, [], ◌∷◌};
 ghost use Rattle.maple_node.specs.Nodes.{end_of};
-ghost use Rattle.maple_node.specs.declared.item.Item.{Item};
+ghost use Rattle.maple_node.specs.declared.item.NodeItem.{NodeItem};
 ghost use Rattle.maple_node.specs.Levels.{item_at, IsTower};
 ghost use Rattle.maple_items.specs.Splices.{ending_by};
 ghost use Rattle.node_slots.specs.Built.{words_at};
@@ -11,7 +11,7 @@ ghost use Rattle.maple_write.specs.Internal.Stores.{old_level, Begins, IsPath};
 
 use crate::rows::{Rooted, words};
 use maple_items::{Place, item_in};
-use maple_node::Item;
+use maple_node::NodeItem;
 use node_slots::NodeWriter;
 
 /// How many levels a path keeps, from the entries up. A published tree has no more.
@@ -27,7 +27,7 @@ pub(crate) struct Path {
 /// What a path has in a level that it does not keep.
 pub(crate) const NO_PLACE: Place = Place {
     start: 0,
-    item: Item {
+    item: NodeItem {
         end: 0,
         word: 0,
         gap: 0,
@@ -91,7 +91,7 @@ impl Path {
     /// Keeps the item of a level, if it is one of the lowest.
     fn keep(&mut self, begin: Begin)
         ensures page { self.new.page ≡ self.old.page }
-        ensures path { (at : ℕ → List ℕ) (top : Item) (height : ℕ) → IsPath at top height (begin.level + 1) self.old
+        ensures path { (at : ℕ → List ℕ) (top : NodeItem) (height : ℕ) → IsPath at top height (begin.level + 1) self.old
             → Begins at top height self.old.page begin.level begin.place.start begin.place.item → IsPath at top height begin.level self.new }
     {
         let level = begin.level as usize;

@@ -10,19 +10,19 @@ ghost use Rattle.maple_write.specs.Tables.{FillsRows};
 
 use arrayvec::ArrayVec;
 use maple_items::{gap_in, share};
-use maple_node::{Item, node_words};
+use maple_node::{NodeItem, node_words};
 use mm_types::Row;
 use node_slots::NodeWriter;
 
 /// A tree as its root tells it: the root's item, and the tree's height. Height 1 is a single leaf.
 #[derive(Clone, Copy, Debug, PartialEq, Eq)]
 pub(crate) struct Rooted {
-    pub(crate) top: Item,
+    pub(crate) top: NodeItem,
     pub(crate) height: u32,
 }
 
 /// A few items, in an array of their own: short, since it is passed by value from level to level.
-pub(crate) type FewItems = ArrayVec<Item, 3>;
+pub(crate) type FewItems = ArrayVec<NodeItem, 3>;
 
 /// The words of a row.
 pub(crate) fn words(writer: &NodeWriter, row: u64) -> &[u64; 32]
@@ -42,7 +42,7 @@ fn put_words(
     end: u64,
     words: &[u64; 32],
     gap: u64,
-) -> Item
+) -> NodeItem
     requires free { 0 < length (free_of writer.old) }
     requires some { 1 ≤ length (items_of leaf words.now) }
     requires most { length (items_of leaf words.now) ≤ most leaf }
@@ -62,7 +62,7 @@ fn put_words(
 {
     let row = writer.take_row_for(old).unwrap();
     writer.fill(row, words);
-    Item {
+    NodeItem {
         end,
         word: u64::from(row.0),
         gap,
@@ -70,7 +70,13 @@ fn put_words(
 }
 
 /// Makes a node of items, of which the first begins at `start`, in a free row, in the place of an old one.
-pub(crate) fn put(writer: &mut NodeWriter, old: Row, leaf: bool, start: u64, items: &[Item]) -> Item
+pub(crate) fn put(
+    writer: &mut NodeWriter,
+    old: Row,
+    leaf: bool,
+    start: u64,
+    items: &[NodeItem],
+) -> NodeItem
     requires free { 0 < length (free_of writer.old) }
     requires some { 1 ≤ length items.now }
     requires most { length items.now ≤ most leaf }
@@ -132,7 +138,7 @@ pub(crate) fn pack(
     old: Row,
     leaf: bool,
     start: u64,
-    items: &[Item],
+    items: &[NodeItem],
 ) -> FewItems
     requires free { 3 ≤ length (free_of writer.old) }
     requires some { 1 ≤ length items.now }

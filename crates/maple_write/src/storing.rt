@@ -16,7 +16,7 @@ use crate::path::{LEVELS, NO_PLACE, Path, find};
 use crate::rows::{Rooted, put, words};
 use crate::tree::{first, replace};
 use maple_items::{ItemList, Place, gap_in, lists_nothing, push_all, push_ending_after};
-use maple_node::{Item, slot_word};
+use maple_node::{NodeItem, slot_word};
 use mm_types::{Row, Slot, Span};
 use node_slots::{NodeTable, NodeWriter, Tree};
 
@@ -83,7 +83,7 @@ fn rooted(writer: &NodeWriter, tree: &Tree) -> Rooted
         tree.limit.0
     };
     Rooted {
-        top: Item {
+        top: NodeItem {
             end,
             word: root,
             gap: gap_in(leaf, 0, words),
@@ -165,7 +165,7 @@ fn first_entries(limit: u64, lo: u64, hi: u64, word: u64) -> ItemList
     ensures some { 1 ≤ length result.items }
     ensures few { length result.items ≤ 3 }
 {
-    let gap = Item {
+    let gap = NodeItem {
         end: limit,
         word: 0,
         gap: 0,

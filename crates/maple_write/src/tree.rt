@@ -15,7 +15,7 @@ use crate::level::{Stretch, leave_block, rise};
 use crate::path::{Path, find};
 use crate::rows::{FewItems, Rooted, put};
 use maple_items::Place;
-use maple_node::Item;
+use maple_node::NodeItem;
 use mm_types::Row;
 use node_slots::NodeWriter;
 
@@ -28,13 +28,13 @@ pub(crate) fn first(place: Place, lo: u64, hi: u64, word: u64) -> Stretch
 {
     let mut items = FewItems::new();
     if place.start < lo {
-        items.push(Item {
+        items.push(NodeItem {
             end: lo,
             word: place.item.word,
             gap: 0,
         });
     }
-    items.push(Item {
+    items.push(NodeItem {
         end: hi,
         word,
         gap: 0,

@@ -4,7 +4,7 @@ use Rattle.std.proofs.lemmas.Bool.{cases_Bool, cases_lt, cond-true, cond-false, 
 use Rattle.std.proofs.lemmas.Bool.Decides.{eqb_tells}
 use Rattle.std.specs.Prelude.{All}
 use Rattle.grace_core.specs.Core.{times}
-use Rattle.maple_node.specs.declared.item.Item.{Item}
+use Rattle.maple_node.specs.declared.item.NodeItem.{NodeItem}
 use Rattle.maple_node.specs.declared.root.Root.{Root}
 use Rattle.maple_node.specs.Nodes.{words_of, leaf_items, Ascends}
 use Rattle.maple_node.specs.Levels as levels
@@ -16,7 +16,7 @@ use Rattle.node_slots.proofs.Counting.{times_first, times_last, one_if, none_if}
 use Rattle.node_slots.proofs.Listing.{kept_parts}
 
 -- an entry as an item
-abbrev pub entry : ℕ → ℕ → Item
+abbrev pub entry : ℕ → ℕ → NodeItem
 entry end word = record { end = end; word = word; gap = 0 }
 
 -- the root of a leaf
@@ -46,17 +46,17 @@ single row other = elim (cases_Bool (nat_eq other row)) [
 one_node : (at : ℕ → List ℕ) (row end word : ℕ) → at row ≡ words_of true (entry end word ∷ []) → leaf_items (at row) ≡ entry end word ∷ [] → 0 < end
     → let top = (tree_of at (leaf_root 0 row)).top in IsNode at true top.end 0 top
 one_node at row end word is reads some = record {
-  some = subst (λ (xs : List Item). 1 ≤ length xs) (sym reads) (omega arith);
-  most = subst (λ (xs : List Item). length xs ≤ 16) (sym reads) (omega arith);
+  some = subst (λ (xs : List NodeItem). 1 ≤ length xs) (sym reads) (omega arith);
+  most = subst (λ (xs : List NodeItem). length xs ≤ 16) (sym reads) (omega arith);
   least = λ less. absurd (omega arith);
-  ascends = subst (λ (xs : List Item). Ascends 0 xs) (sym reads) (some, tt);
+  ascends = subst (λ (xs : List NodeItem). Ascends 0 xs) (sym reads) (some, tt);
   until = refl;
   gap = refl;
-  words = is ∙ ap (λ (xs : List Item). words_of true xs) (sym reads);
+  words = is ∙ ap (λ (xs : List NodeItem). words_of true xs) (sym reads);
 }
 
 -- its one entry has one of so many slots
-one_small : (end word slots k : ℕ) (d : Item) → word ≤ slots → k < 1 → (get_or (entry end word ∷ []) k d).word ≤ slots
+one_small : (end word slots k : ℕ) (d : NodeItem) → word ≤ slots → k < 1 → (get_or (entry end word ∷ []) k d).word ≤ slots
 one_small end word slots zero d small low = small
 one_small end word slots (suc k) d small low = absurd (omega arith)
 
@@ -70,8 +70,8 @@ leaf_layout at slots tree row end word rows is some small alone =
       tall = omega arith;
       tower = ((one_node at row end word is reads some, tt), tt);
       wide = λ inner. absurd (omega arith);
-      apart = subst (λ (xs : List Item). ApartFrom 1 (xs ++ [])) (sym reads) ((λ gap. absurd (omega arith)), tt);
-      numbered = subst (λ (xs : List Item). All (λ (e : Item). e.word ≤ slots) (xs ++ [])) (sym reads)
+      apart = subst (λ (xs : List NodeItem). ApartFrom 1 (xs ++ [])) (sym reads) ((λ gap. absurd (omega arith)), tt);
+      numbered = subst (λ (xs : List NodeItem). All (λ (e : NodeItem). e.word ≤ slots) (xs ++ [])) (sym reads)
           (λ k d low. one_small end word slots k d small low);
       each = λ other. ap (λ (xs : List ℕ). levels.times other xs) (sym alone);
       once = λ other. single other row;

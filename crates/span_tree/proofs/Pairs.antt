@@ -3,7 +3,7 @@ use Rattle.std.proofs.Common.{ℕ, ◌≡◌, ◌≤◌, ◌-◌, nat_eq, List, 
 use Rattle.std.proofs.lemmas.Bool.{cond-true, cond-false}
 use Rattle.std.proofs.lemmas.Bool.Decides.{eqb_tells}
 use Rattle.std.proofs.lemmas.List.Elements.{All-head, All-tail}
-use Rattle.maple_node.specs.declared.item.Item.{Item}
+use Rattle.maple_node.specs.declared.item.NodeItem.{NodeItem}
 use Rattle.maple_node.specs.Nodes.{end_of, Ascends}
 use Rattle.maple_node.specs.Trees.{Tree, Pair, IsLayout, pairs_from, pairs_of, entries_of}
 use Rattle.maple_node.proofs.Trees.{entries-ascend, entries-end}
@@ -15,11 +15,11 @@ pairs_before slots limit start other [] le are = omega (arith, le, are)
 pairs_before slots limit start other (pair ∷ pairs) le are = (omega (arith, le, are.0), are.1, are.2, are.3)
 
 -- the pairs of entries
-from_pairs : (slots limit start : ℕ) (entries : List Item) → Ascends start entries → end_of start entries ≡ limit
-    → All (λ (entry : Item). entry.word ≤ slots) entries → ArePairs slots limit start (pairs_from start entries)
+from_pairs : (slots limit start : ℕ) (entries : List NodeItem) → Ascends start entries → end_of start entries ≡ limit
+    → All (λ (entry : NodeItem). entry.word ≤ slots) entries → ArePairs slots limit start (pairs_from start entries)
 from_pairs slots limit start [] ascends ends few = omega (arith, ends)
 from_pairs slots limit start (item ∷ entries) ascends ends few =
-    let rest = from_pairs slots limit item.end entries ascends.1 ends (All-tail (λ (entry : Item). entry.word ≤ slots) item entries few) in
+    let rest = from_pairs slots limit item.end entries ascends.1 ends (All-tail (λ (entry : NodeItem). entry.word ≤ slots) item entries few) in
     let one : List Pair = record { lo = start; hi = item.end; slot = item.word - 1 } ∷ [] in
     elim (eqb_tells item.word 0) [
       | inl gap ↦
@@ -28,7 +28,7 @@ from_pairs slots limit start (item ∷ entries) ascends ends few =
           (pairs_before slots limit item.end start (pairs_from item.end entries) (omega (arith, ascends.0)) rest)
       | inr slot ↦
           let some = slot.1 in
-          let below = All-head (λ (entry : Item). entry.word ≤ slots) item entries few in
+          let below = All-head (λ (entry : NodeItem). entry.word ≤ slots) item entries few in
           subst (λ (ps : List Pair). ArePairs slots limit start (ps ++ pairs_from item.end entries))
           (sym (cond-false (nat_eq item.word 0) [] one slot.0))
           (omega arith, ascends.0, omega (arith, below, some), rest)

@@ -5,7 +5,7 @@ use Rattle.std.proofs.lemmas.Bool.{cases_lt, cond-true, cond-false}
 use Rattle.std.proofs.lemmas.Bool.Decides.{eqb_tells}
 use Rattle.std.proofs.lemmas.List.{length-append}
 use Rattle.maple_write.proofs.Sizes.{tree_sizes, tall_trees}
-use Rattle.maple_node.specs.declared.item.Item.{Item}
+use Rattle.maple_node.specs.declared.item.NodeItem.{NodeItem}
 use Rattle.maple_node.specs.Trees.{Tree, Pair, IsLayout, ApartFrom, entries_of, tree_rows, pairs_of, pairs_from, pair_of}
 
 -- one more entry may come first where it is no gap that follows a gap
@@ -13,20 +13,20 @@ more_if : ℕ → ℕ
 more_if before = cond (nat_eq before 0) 0 1
 
 -- no gap has a pair, and each other entry has one
-pair-none : (start : ℕ) (item : Item) → item.word ≡ 0 → length (pair_of start item) ≡ 0
+pair-none : (start : ℕ) (item : NodeItem) → item.word ≡ 0 → length (pair_of start item) ≡ 0
 pair-none start item gap = elim (eqb_tells item.word 0) [
   | inl is ↦ ap (λ (ps : List Pair). length ps) (cond-true (nat_eq item.word 0) [] (record { lo = start; hi = item.end; slot = item.word - 1 } ∷ []) is.0)
   | inr not ↦ absurd (not.1 gap)
 ]
 
-pair-one : (start : ℕ) (item : Item) → (item.word ≡ 0 → ⊥) → length (pair_of start item) ≡ 1
+pair-one : (start : ℕ) (item : NodeItem) → (item.word ≡ 0 → ⊥) → length (pair_of start item) ≡ 1
 pair-one start item some = elim (eqb_tells item.word 0) [
   | inl is ↦ absurd (some is.1)
   | inr not ↦ ap (λ (ps : List Pair). length ps) (cond-false (nat_eq item.word 0) [] (record { lo = start; hi = item.end; slot = item.word - 1 } ∷ []) not.0)
 ]
 
 -- two gaps never follow each other, so there are at most twice as many entries as pairs, and one more
-few_from : (before start : ℕ) (entries : List Item) → ApartFrom before entries
+few_from : (before start : ℕ) (entries : List NodeItem) → ApartFrom before entries
     → length entries ≤ 2 * length (pairs_from start entries) + more_if before
 unfolding more_if
 few_from before start [] apart = omega arith
@@ -49,7 +49,7 @@ few_from before start (item ∷ entries) apart =
           omega (arith, rest, parts, one, last)
     ]
 
-pub few_entries : (entries : List Item) → ApartFrom 1 entries → length entries ≤ 2 * length (pairs_from 0 entries) + 1
+pub few_entries : (entries : List NodeItem) → ApartFrom 1 entries → length entries ≤ 2 * length (pairs_from 0 entries) + 1
 unfolding more_if
 few_entries entries apart = few_from 1 0 entries apart
 

@@ -1,7 +1,7 @@
 -- Which items a search goes into, and what it finds under them.
 use Rattle.std.specs.Prelude.{ℕ, zero, suc, ◌≡◌, ◌<◌, ◌≤◌, ◌-◌, ◌^◌, min, max, Bool, true, ◌&&◌, if◌then◌else◌, nat_le, List, [], ◌∷◌, All, Option, Some, None}
 use Rattle.std.specs.Option.{option_or, option_and}
-use Rattle.maple_node.specs.declared.item.Item.{Item}
+use Rattle.maple_node.specs.declared.item.NodeItem.{NodeItem}
 use Rattle.maple_node.specs.Nodes.{item_gap}
 use Rattle.maple_node.specs.Levels.{is_leaf, read, AllFrom, IsNode, level_of, item_at}
 use Rattle.maple_node.specs.Trees.{pairs_from, ApartFrom}
@@ -17,17 +17,17 @@ use Rattle.maple_gap.specs.declared.branch.Branch.{Branch}
 use Rattle.mm_types.specs.Searches.{IsGreatest, IsLeast, NonePasses}
 
 -- whether an item may have room: its largest gap is long enough, and so is its part in the window
-unfoldable pub may_have : Window → Bool → ℕ → Item → Bool
+unfoldable pub may_have : Window → Bool → ℕ → NodeItem → Bool
 may_have window leaf start item = nat_le window.len (item_gap leaf start item)
     && nat_le window.len (min item.end window.hi - max start window.lo)
 
 -- the least or the greatest start in an entry that has room
-abbrev pub edge : Side → Window → ℕ → Item → ℕ
+abbrev pub edge : Side → Window → ℕ → NodeItem → ℕ
 edge Low window start item = max start window.lo
 edge High window start item = min item.end window.hi - window.len
 
 -- the start that is sought in one entry
-unfoldable pub spot : Side → Window → ℕ → Item → Option ℕ
+unfoldable pub spot : Side → Window → ℕ → NodeItem → Option ℕ
 spot side window start item = if may_have window true start item then Some (edge side window start item) else None
 
 -- of what was found in lower and in higher pages, that which is sought
@@ -36,7 +36,7 @@ pick Low lower higher = option_or lower higher
 pick High lower higher = option_or higher lower
 
 -- the start that is sought in entries that begin at a page
-unfoldable pub best : Side → Window → ℕ → List Item → Option ℕ
+unfoldable pub best : Side → Window → ℕ → List NodeItem → Option ℕ
 best side window start [] = None
 best side window start (item ∷ items) = pick side (spot side window start item) (best side window item.end items)
 
@@ -53,13 +53,13 @@ abbrev pub nothing_chosen : Choice
 nothing_chosen = record { first = None; second = None }
 
 -- what is chosen with more items that begin at a page: of those that may have room the lowest two, or the highest two
-unfoldable pub chosen_from : Side → Window → Bool → Choice → ℕ → List Item → Choice
+unfoldable pub chosen_from : Side → Window → Bool → Choice → ℕ → List NodeItem → Choice
 chosen_from side window leaf choice start [] = choice
 chosen_from side window leaf choice start (item ∷ items) = chosen_from side window leaf
     (if may_have window leaf start item then chosen side choice (record { start = start; item = item }) else choice) item.end items
 
 -- the nodes under an item that begins at a page, for so many levels
-unfoldable pub IsUnder : (ℕ → List ℕ) → ℕ → ℕ → ℕ → Item → Type 0
+unfoldable pub IsUnder : (ℕ → List ℕ) → ℕ → ℕ → ℕ → NodeItem → Type 0
 IsUnder at limit zero start item = start < item.end
 IsUnder at limit (suc level) start item = IsNode at (is_leaf level) limit start item
     × AllFrom (IsUnder at limit level) start (read at (is_leaf level) item.word)
@@ -70,7 +70,7 @@ pub record IsBranch (at : ℕ → List ℕ) (branch : Branch) : Type 0 where
   pub under : IsUnder at limit branch.level branch.place.start branch.place.item
 
 -- an item that tells another gap
-abbrev pub with_gap : ℕ → Item → Item
+abbrev pub with_gap : ℕ → NodeItem → NodeItem
 with_gap gap item = record { end = item.end; word = item.word; gap = gap }
 
 -- a branch of a tree but for the gap that its item tells, which may be any: the entry of a page is found without it
@@ -80,7 +80,7 @@ pub record IsAnyBranch (at : ℕ → List ℕ) (branch : Branch) : Type 0 where
   pub under : IsUnder at limit branch.level branch.place.start (with_gap gap branch.place.item)
 
 -- the entries under a branch
-abbrev pub entries_under : (ℕ → List ℕ) → Branch → List Item
+abbrev pub entries_under : (ℕ → List ℕ) → Branch → List NodeItem
 entries_under at branch = level_of at 0 branch.level (branch.place.item ∷ [])
 
 -- a part of a branch: for each page of the part, the entry of the branch that has it is the one under the part

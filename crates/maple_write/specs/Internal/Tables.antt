@@ -1,6 +1,6 @@
 -- The writer's table as the proofs of a store see it.
 use Rattle.std.specs.Prelude.{ℕ, ◌≡◌, ◌+◌, List, map, length, if◌then◌else◌, nat_lt}
-use Rattle.maple_node.specs.declared.item.Item.{Item}
+use Rattle.maple_node.specs.declared.item.NodeItem.{NodeItem}
 use Rattle.maple_node.specs.Levels.{times}
 use Rattle.node_slots.specs.declared.seats.NodeWriter.{NodeWriter}
 use Rattle.node_slots.specs.Seats.{writer_state, free_of, left_of}
@@ -16,7 +16,7 @@ abbrev pub table_at : NodeWriter → Table
 table_at writer = record { rows = (writer_state writer).words; free = free_of writer; left = left_of writer }
 
 -- the rows of items
-abbrev pub rows_in : List Item → List ℕ
+abbrev pub rows_in : List NodeItem → List ℕ
 rows_in items = map (λ item. item.word) items
 
 -- how often a row is free or was left

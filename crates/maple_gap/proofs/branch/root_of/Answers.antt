@@ -1,6 +1,6 @@
 -- For `root_of`: the root's row is one of the table, and the whole tree is under it.
 use Rattle.std.proofs.Common.{◌∙◌, ◌-◌, List, length, ap, arith}
-use Rattle.maple_node.specs.declared.item.Item.{Item}
+use Rattle.maple_node.specs.declared.item.NodeItem.{NodeItem}
 use Rattle.maple_node.specs.Nodes.{items_of}
 use Rattle.maple_node.specs.Levels.{is_leaf, read}
 use Rattle.node_slots.specs.Built.{words_at}
@@ -20,7 +20,7 @@ returns-then-lists_nothing-clause-root g c =
     let leaf = is_leaf (tree.height - 1) in
     let items = items_of leaf c.words-words.result.now in
     let are = ap (items_of leaf) c.words-words.ensures.words ∙ ap (read (words_at writer) leaf) c.from-row.ensures in
-    gap_root writer tree items c.requires.tree are (ap (λ (xs : List Item). length xs) (c.lists_nothing.ensures.none leaf c.if-lists_nothing.true))
+    gap_root writer tree items c.requires.tree are (ap (λ (xs : List NodeItem). length xs) (c.lists_nothing.ensures.none leaf c.if-lists_nothing.true))
 
 pub returns-clause-root : goal.returns-clause-root
 returns-clause-root g c =

@@ -1,6 +1,6 @@
 -- For `root_with_gap`: the root is a node of the table, whose items ascend; and its gap is theirs.
 use Rattle.std.proofs.Common.{◌-◌, ◌∙◌, nat_eq, List, ap, sym, subst, arith}
-use Rattle.maple_node.specs.declared.item.Item.{Item}
+use Rattle.maple_node.specs.declared.item.NodeItem.{NodeItem}
 use Rattle.maple_node.specs.Nodes.{Ascends, items_of}
 use Rattle.maple_node.specs.Levels.{is_leaf, read}
 use Rattle.node_slots.specs.Built.{words_at}
@@ -28,7 +28,7 @@ gap_in-gap-requires g c =
     let test = c.if-root-eq0.false in
     let leaf = nat_eq root.level 1 in
     let are = ap (items_of leaf) c.words-words.ensures.words ∙ ap (λ b. read at b root.place.item.word) (one_less root.level (omega arith)) in
-    subst (λ (xs : List Item). Ascends root.place.start xs) (sym are) (any_node at root c.root_of-root.ensures.root.branch (omega arith)).ascends
+    subst (λ (xs : List NodeItem). Ascends root.place.start xs) (sym are) (any_node at root c.root_of-root.ensures.root.branch (omega arith)).ascends
 
 pub returns-clause-root : goal.returns-clause-root
 returns-clause-root g c =

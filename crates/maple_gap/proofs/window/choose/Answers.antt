@@ -1,6 +1,6 @@
 -- For `choose`: one item more that may have room.
 use Rattle.std.proofs.Common.{ℕ, ◌≡◌, ◌+◌, drop, true, sym, ap, ◌∙◌, arith}
-use Rattle.maple_node.specs.declared.item.Item.{Item}
+use Rattle.maple_node.specs.declared.item.NodeItem.{NodeItem}
 use Rattle.maple_node.specs.Nodes.{items_of}
 use Rattle.maple_node.specs.Codec.{width_of, listed_at}
 use Rattle.maple_gap.specs.declared.window.Choice.{Choice}
@@ -20,11 +20,11 @@ loop-spot-preserved c =
     let page = c.in-Some.spot.page in
     let item = c.listed_at-item.ensures in
     let adds : c.add.new.self ≡ chosen side choice (record { start = page; item = listed_at leaf words place }) =
-    c.add.ensures ∙ ap (λ (x : Item). chosen side choice (record { start = page; item = x })) item in
+    c.add.ensures ∙ ap (λ (x : NodeItem). chosen side choice (record { start = page; item = x })) item in
     record {
       within = omega (arith, room.within, c.width_of.ensures, c.told-words);
       chosen_so = ap (λ (n : ℕ). chosen_from side window leaf c.add.new.self c.listed_at-item.result.end (items_of leaf (drop (place + n) words))) c.width_of.ensures
-          ∙ ap (λ (x : Item). chosen_from side window leaf c.add.new.self x.end (items_of leaf (drop (place + width_of leaf) words))) item
+          ∙ ap (λ (x : NodeItem). chosen_from side window leaf c.add.new.self x.end (items_of leaf (drop (place + width_of leaf) words))) item
           ∙ ap (λ (more : Choice). chosen_from side window leaf more (listed_at leaf words place).end (items_of leaf (drop (place + width_of leaf) words))) adds
           ∙ sym (chosen_step side window leaf choice page place words true room.within room.some room.may)
           ∙ sym (room.same side choice)

@@ -1,6 +1,6 @@
 -- For `next_room`: an item that may not have room is passed over, and none is left.
 use Rattle.std.proofs.Common.{ℕ, ◌≡◌, ◌+◌, drop, false, sym, ap, ◌∙◌, arith}
-use Rattle.maple_node.specs.declared.item.Item.{Item}
+use Rattle.maple_node.specs.declared.item.NodeItem.{NodeItem}
 use Rattle.maple_node.specs.Nodes.{items_of}
 use Rattle.maple_node.specs.Codec.{width_of, listed_at}
 use Rattle.maple_items.proofs.Parts.{listed_none, listed_past}
@@ -27,7 +27,7 @@ loop-spot-preserved c =
       same = λ side choice.
           is.same side choice
           ∙ chosen_step side window leaf choice page place words false (omega (arith, c.loop-spot-test.true, is.width, c.told-words)) c.if-words-spot-ne0.true out
-          ∙ ap (λ (x : Item). chosen_from side window leaf choice x.end (items_of leaf (drop (place + width_of leaf) words))) (sym item)
+          ∙ ap (λ (x : NodeItem). chosen_from side window leaf choice x.end (items_of leaf (drop (place + width_of leaf) words))) (sym item)
           ∙ ap (λ (n : ℕ). chosen_from side window leaf choice c.listed_at-item.result.end (items_of leaf (drop (place + n) words))) (sym is.width);
     }
 

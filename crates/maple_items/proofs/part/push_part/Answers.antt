@@ -1,7 +1,7 @@
 -- For `push_part`: the item at the place is added, or left out.
 use Rattle.std.proofs.Common.{◌≡◌, ◌≤◌, ◌+◌, ℕ, Bool, true, false, List, [], ◌∷◌, ◌++◌, length, refl, sym, ap, subst, ◌∙◌, arith}
 use Rattle.arrayvec.specs.ArrayVec.{ArrayVec}
-use Rattle.maple_node.specs.declared.item.Item.{Item}
+use Rattle.maple_node.specs.declared.item.NodeItem.{NodeItem}
 use Rattle.maple_node.specs.Codec.{width_of, listed_at}
 use Rattle.maple_items.specs.Parts.{keeps}
 use Rattle.maple_items.proofs.Parts.{Lists, room_there, listed_none, listed_past, few_items, lists_more, lists_less, lists_all}
@@ -56,15 +56,15 @@ loop-place-preserved c =
     let list = c.loop-place.list.items in
     let item = listed_at leaf words place in
     let room = room_of leaf place c.width_of-width.result is.width c.loop-place-test.true words c.told-words in
-    let kept : c.keeps.result ≡ keeps c.args.part item.end = c.keeps.ensures ∙ ap (λ (x : Item). keeps c.args.part x.end) c.listed_at-item.ensures in
+    let kept : c.keeps.result ≡ keeps c.args.part item.end = c.keeps.ensures ∙ ap (λ (x : NodeItem). keeps c.args.part x.end) c.listed_at-item.ensures in
     let Next : ℕ → Type 0 = λ n. Lists c.args.part leaf words (place + n) before c.if-keeps.list.items in
     record {
       within = c.loop-place-test.true;
       width = is.width;
       lists = subst Next (sym is.width) (elim c.if-keeps.branch [
         | then-keeps w ↦ lists_more c.args.part leaf words place before list c.if-keeps.list.items is.lists room c.if-words-place-ne0.true
-            (sym kept ∙ w.if-keeps.true) (ap (λ (xs : ArrayVec Item). xs.items) w.list-is ∙ w.push.ensures.items ∙ ap (λ (x : Item). list ++ x ∷ []) c.listed_at-item.ensures)
-        | else-keeps w ↦ subst (λ (xs : List Item). Lists c.args.part leaf words (place + width_of leaf) before xs) (sym (ap (λ (xs : ArrayVec Item). xs.items) w.list-is))
+            (sym kept ∙ w.if-keeps.true) (ap (λ (xs : ArrayVec NodeItem). xs.items) w.list-is ∙ w.push.ensures.items ∙ ap (λ (x : NodeItem). list ++ x ∷ []) c.listed_at-item.ensures)
+        | else-keeps w ↦ subst (λ (xs : List NodeItem). Lists c.args.part leaf words (place + width_of leaf) before xs) (sym (ap (λ (xs : ArrayVec NodeItem). xs.items) w.list-is))
             (lists_less c.args.part leaf words place before list is.lists room c.if-words-place-ne0.true (sym kept ∙ w.if-keeps.false))
       ]);
     }

@@ -1,6 +1,6 @@
 -- For `item_in`: the place of the item that has the page.
 use Rattle.std.proofs.Common.{ℕ, ◌≡◌, ◌≤◌, ◌<◌, ◌+◌, Bool, List, length, get_or, Some, sym, ap, subst, ◌∙◌, arith}
-use Rattle.maple_node.specs.declared.item.Item.{Item}
+use Rattle.maple_node.specs.declared.item.NodeItem.{NodeItem}
 use Rattle.maple_node.specs.Codec.{width_of}
 use Rattle.maple_items.proofs.Listed.{Comes, Found, listed, comes_more, comes_there}
 use Rattle.maple_items.proofs.Spliced.{ends_at, some_words}
@@ -66,7 +66,7 @@ listed_at-requires c =
 
 pub returns-clause-item : goal.returns-clause-item
 returns-clause-item c =
-    (found _ _ _ _ _ _ c.loop-place.invariant.comes (omega (arith, c.loop-place-test.false))).found ∙ ap (λ (item : Item). Some item) (sym c.listed_at.ensures)
+    (found _ _ _ _ _ _ c.loop-place.invariant.comes (omega (arith, c.loop-place-test.false))).found ∙ ap (λ (item : NodeItem). Some item) (sym c.listed_at.ensures)
 
 pub returns-clause-start : goal.returns-clause-start
 returns-clause-start c = (found _ _ _ _ _ _ c.loop-place.invariant.comes (omega (arith, c.loop-place-test.false))).front

@@ -1,6 +1,6 @@
 -- For `gap_by`: the gap of the item at the place.
 use Rattle.std.proofs.Common.{ℕ, ◌+◌, max, sym, ap, subst, ◌∙◌, arith}
-use Rattle.maple_node.specs.declared.item.Item.{Item}
+use Rattle.maple_node.specs.declared.item.NodeItem.{NodeItem}
 use Rattle.maple_node.specs.Nodes.{item_gap}
 use Rattle.maple_node.specs.Codec.{width_of}
 use Rattle.maple_items.proofs.Parts.{listed_none, listed_past}
@@ -13,9 +13,9 @@ loop-place-preserved c =
     let leaf = c.args.leaf in
     let words = c.args.words.now in
     let place = c.loop-place.place in
-    let end = ap (λ (x : Item). x.end) c.listed_at-item.ensures in
+    let end = ap (λ (x : NodeItem). x.end) c.listed_at-item.ensures in
     let told = c.max-largest.ensures
-    ∙ ap (λ (g : ℕ). max g c.loop-place.largest) (c.item_gap.ensures ∙ ap (λ (x : Item). item_gap leaf c.loop-place.start x) c.listed_at-item.ensures) in
+    ∙ ap (λ (g : ℕ). max g c.loop-place.largest) (c.item_gap.ensures ∙ ap (λ (x : NodeItem). item_gap leaf c.loop-place.start x) c.listed_at-item.ensures) in
     let Wide : ℕ → Type 0 = λ n. Gapped leaf c.args.start (place + n) c.listed_at-item.result.end c.max-largest.result words in
     let Ends : ℕ → Type 0 = λ n. Gapped leaf c.args.start (place + width_of leaf) n c.max-largest.result words in
     record {

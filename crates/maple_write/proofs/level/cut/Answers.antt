@@ -1,6 +1,6 @@
 -- For `cut`: the nodes that have the first page and the last one.
 use Rattle.std.proofs.Common.{◌-◌, List, sym, subst, arith}
-use Rattle.maple_node.specs.declared.item.Item.{Item}
+use Rattle.maple_node.specs.declared.item.NodeItem.{NodeItem}
 use Rattle.maple_write.specs.Internal.Tables.{table_at}
 use Rattle.maple_write.specs.Internal.Stores.{Cut}
 use Rattle.maple_write.proofs.Writers.{rows_counted, few_rows}
@@ -37,7 +37,7 @@ returns c =
     let is = cut_of table old.top old.height c.args.level c.args.lo new.end (new.end - 1) c.find-left.result.start new.items.items c.find-left.result.item
     c.last-right.result.item c.requires.partly c.requires.below c.find-left.ensures.item (omega arith) c.last-right.ensures
     c.find-left.ensures.start in
-    subst (λ (xs : List Item). Cut table old.top old.height c.args.level c.args.lo new.end new.items.items c.find-left.result.start c.last-right.result.item.end xs)
+    subst (λ (xs : List NodeItem). Cut table old.top old.height c.args.level c.args.lo new.end new.items.items c.find-left.result.start c.last-right.result.item.end xs)
     (sym c.joined.ensures) is
 
 pub overflow_cast-result : goal.overflow_cast-result

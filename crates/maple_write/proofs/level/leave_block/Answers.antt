@@ -1,6 +1,6 @@
 -- For `leave_block`: the next node was not left before.
 use Rattle.std.proofs.Common.{◌≡◌, ◌∙◌, List, [], Some, ap, sym, arith}
-use Rattle.maple_node.specs.declared.item.Item.{Item}
+use Rattle.maple_node.specs.declared.item.NodeItem.{NodeItem}
 use Rattle.maple_node.specs.Levels.{times, item_at}
 use Rattle.node_slots.specs.declared.view.NodeView.{NodeView}
 use Rattle.node_slots.specs.Seats.{row_count}
@@ -75,5 +75,5 @@ returns-clause-gone c row =
     let writer = c.args.writer.now in
     let items = old_level (table_at writer) c.args.old.top c.args.old.height c.args.level in
     let a = c.loop-page.invariant.gone_are row in
-    let b = ap (λ (xs : List Item). times row (rows_in xs)) (block_done c.loop-page.page c.args.hi items c.loop-page-test.false) in
+    let b = ap (λ (xs : List NodeItem). times row (rows_in xs)) (block_done c.loop-page.page c.args.hi items c.loop-page-test.false) in
     omega arith

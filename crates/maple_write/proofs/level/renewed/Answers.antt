@@ -1,6 +1,6 @@
 -- For `renewed`: the node where the new items begin.
 use Rattle.std.proofs.Common.{◌≤◌, ◌<◌, ◌∙◌, List, length, ap, subst, arith}
-use Rattle.maple_node.specs.declared.item.Item.{Item}
+use Rattle.maple_node.specs.declared.item.NodeItem.{NodeItem}
 use Rattle.maple_node.specs.Nodes.{words_of, items_of, most, least}
 use Rattle.maple_node.specs.Levels.{is_leaf}
 use Rattle.maple_items.specs.Splices.{spliced}
@@ -48,10 +48,10 @@ returns c done =
     renewed_is (table_at c.args.writer.now) c.args.old.top c.args.old.height c.args.level c.args.lo c.args.new.now.end fewest
     c.args.new.now.items.items c.args.left c.words.result.now (padded c.spliced_words.new.made) c.requires.partly c.requires.below c.requires.left
     c.requires.start (omega (arith, within)) c.words.ensures
-    (c.spliced_words.ensures.words done ∙ ap (λ (xs : List Item). words_of (is_leaf c.args.level)
+    (c.spliced_words.ensures.words done ∙ ap (λ (xs : List NodeItem). words_of (is_leaf c.args.level)
     (spliced c.args.lo c.args.new.now.end xs (items_of (is_leaf c.args.level) c.words.result.now))) same)
-    (subst (λ (xs : List Item). length (spliced c.args.lo c.args.new.now.end xs (items_of (is_leaf c.args.level) c.words.result.now))
+    (subst (λ (xs : List NodeItem). length (spliced c.args.lo c.args.new.now.end xs (items_of (is_leaf c.args.level) c.words.result.now))
     ≤ most (is_leaf c.args.level)) same (c.spliced_words.ensures.most done))
-    (subst (λ (xs : List Item). fewest ≤ length (spliced c.args.lo c.args.new.now.end xs
+    (subst (λ (xs : List NodeItem). fewest ≤ length (spliced c.args.lo c.args.new.now.end xs
     (items_of (is_leaf c.args.level) c.words.result.now))) same (c.spliced_words.ensures.least done))
     enough

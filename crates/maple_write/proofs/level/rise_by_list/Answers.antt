@@ -1,6 +1,6 @@
 -- For `rise_by_list`: the old nodes of the level are left, and it is built.
 use Rattle.std.proofs.Common.{ℕ, ◌∙◌, ◌≤◌, ◌<◌, ◌+◌, List, length, nat_lt, cond, ap, sym, subst, arith}
-use Rattle.maple_node.specs.declared.item.Item.{Item}
+use Rattle.maple_node.specs.declared.item.NodeItem.{NodeItem}
 use Rattle.maple_node.specs.Nodes.{least, end_of}
 use Rattle.maple_node.specs.Levels.{is_leaf, times}
 use Rattle.maple_items.specs.Splices.{ending_by, ending_after}
@@ -51,7 +51,7 @@ rebuilt c =
     let full : end_of stretch.begin c.as_slice.result.now < tree.top.end → least (is_leaf c.args.level) ≤ length c.as_slice.result.now = λ less.
     let ends = ap (end_of stretch.begin) same in
     let until = cut.ending in
-    subst (λ (xs : List Item). least (is_leaf c.args.level) ≤ length xs) (sym same) (c.stretched-edges.ensures.least (omega arith)) in
+    subst (λ (xs : List NodeItem). least (is_leaf c.args.level) ≤ length xs) (sym same) (c.stretched-edges.ensures.least (omega arith)) in
     rose (table_at old) (table_at mid) (table_at after) tree.top tree.height c.args.level c.args.lo new.end stretch.begin stretch.end new.items.items
     c.stretched-edges.new.items.items c.pack-items.result.items c.requires.partly c.requires.below cut (c.pack-items.ensures.nodes tree.top.end full)
     (c.pack-items.ensures.below ∙ same) c.pack-items.ensures.some c.pack-items.ensures.few

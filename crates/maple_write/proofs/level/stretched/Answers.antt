@@ -1,6 +1,6 @@
 -- For `stretched`: the next node, whole.
 use Rattle.std.proofs.Common.{◌∙◌, ◌++◌, ◌≤◌, ℕ, List, length, ap, sym, subst, arith}
-use Rattle.maple_node.specs.declared.item.Item.{Item}
+use Rattle.maple_node.specs.declared.item.NodeItem.{NodeItem}
 use Rattle.maple_node.specs.Nodes.{least, items_of}
 use Rattle.maple_node.specs.Levels.{is_leaf, read}
 use Rattle.node_slots.specs.Built.{words_at}
@@ -35,7 +35,7 @@ returns-then-edges-old-clause-cut c =
     let bound = c.least.ensures in
     let more = read (words_at c.args.writer.now) (is_leaf c.args.level) c.find-next.result.item.word in
     let joined = c.push_part.ensures.items ∙ ap (λ (words : List ℕ). begun ++ items_of (is_leaf c.args.level) words) c.words-next_words.ensures in
-    subst (λ (xs : List Item). Cut table old.top old.height c.args.level c.args.lo new.end new.items.items cut.begin c.find-next.result.item.end xs) (sym joined)
+    subst (λ (xs : List NodeItem). Cut table old.top old.height c.args.level c.args.lo new.end new.items.items cut.begin c.find-next.result.item.end xs) (sym joined)
     (cut_more table old.top old.height c.args.level c.args.lo new.end cut.begin cut.end new.items.items begun c.find-next.result.item c.requires.partly
     c.requires.below c.cut-edges.ensures c.find-next.ensures.item (omega arith))
 
@@ -47,6 +47,6 @@ returns-then-edges-old-clause-least c inner =
     let cut = c.cut-edges.result in
     let begun = c.cut-edges.new.items.items in
     let joined = c.push_part.ensures.items ∙ ap (λ (words : List ℕ). begun ++ items_of (is_leaf c.args.level) words) c.words-next_words.ensures in
-    subst (λ (xs : List Item). least (is_leaf c.args.level) ≤ length xs) (sym joined)
+    subst (λ (xs : List NodeItem). least (is_leaf c.args.level) ≤ length xs) (sym joined)
     (cut_enough table old.top old.height c.args.level c.args.lo new.end cut.begin cut.end new.items.items begun c.find-next.result.item c.requires.partly
     c.requires.below c.cut-edges.ensures c.find-next.ensures.item inner)

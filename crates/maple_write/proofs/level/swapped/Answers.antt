@@ -1,7 +1,7 @@
 -- For `swapped`: the node where the new item begins.
 use Rattle.std.proofs.Common.{◌∙◌, ◌≡◌, List, [], ◌∷◌, get_or, IfSome, sym, ap, arith}
 use Rattle.std.proofs.lemmas.Option.{IfSome_then}
-use Rattle.maple_node.specs.declared.item.Item.{Item}
+use Rattle.maple_node.specs.declared.item.NodeItem.{NodeItem}
 use Rattle.maple_write.specs.Internal.Tables.{table_at}
 use Rattle.maple_write.proofs.Swapping.{Children, children_of, Swapped, swapped_is, if_three, only}
 use Rattle.maple_write.proofs.level.swapped.Goals as goal
@@ -31,10 +31,10 @@ anew : (c : After-swap_child) → IfSome c.swap_child.result (Swapped (table_at 
 anew c =
     let old = c.args.old in
     let new = c.args.new.now in
-    let none : Item = record { end = 0; word = 0; gap = 0 } in
+    let none : NodeItem = record { end = 0; word = 0; gap = 0 } in
     let within = c.if-left-new.false in
     let child = get_or c.as_slice.result.now 0 none in
-    let one : new.items.items ≡ child ∷ [] = only new.items.items none c.requires.one ∙ ap (λ (xs : List Item). get_or xs 0 none ∷ []) (sym c.as_slice.ensures.value) in
+    let one : new.items.items ≡ child ∷ [] = only new.items.items none c.requires.one ∙ ap (λ (xs : List NodeItem). get_or xs 0 none ∷ []) (sym c.as_slice.ensures.value) in
     if_three c.swap_child.result c.swap_child.ensures.words c.swap_child.ensures.count c.swap_child.ensures.gap
     (λ gap told count largest. swapped_is (table_at c.args.writer.now) old.top old.height c.args.level c.args.lo new.end new.items.items c.args.left child
     c.args.words.now c.swap_child.new.words gap c.requires.partly c.requires.below c.requires.inner one c.requires.left c.requires.start

@@ -1,7 +1,7 @@
 -- For `pack`: a node more.
 use Rattle.std.proofs.Common.{◌∙◌, ◌+◌, refl, arith}
 use Rattle.maple_node.specs.Nodes.{words_of}
-use Rattle.maple_node.specs.declared.item.Item.{Item}
+use Rattle.maple_node.specs.declared.item.NodeItem.{NodeItem}
 use Rattle.std.proofs.Common.{List, take, drop, ◌-◌}
 use Rattle.node_slots.specs.Seats.{writer_state, free_of}
 use Rattle.maple_write.proofs.Writers.{fills_both, once_free}
@@ -35,7 +35,7 @@ loop-place-preserved c =
     let items = c.args.items.now in
     let is = c.loop-place.invariant in
     let place = c.loop-place.place in
-    let part : List Item = take (place + c.share.result - place) (drop place items) in
+    let part : List NodeItem = take (place + c.share.result - place) (drop place items) in
     record {
       same = fills_both old before after is.same c.put-node.ensures.same;
       packs = pack_more (writer_state old).words (writer_state before).words (writer_state after).words (free_of old) (free_of before) (free_of after) leaf c.args.start

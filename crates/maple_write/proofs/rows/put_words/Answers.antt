@@ -1,6 +1,6 @@
 -- For `put_words`: the row that was taken is a node of the items.
 use Rattle.std.proofs.Common.{◌∙◌, ◌∷◌, ◌<◌, length, set, sym, ap, subst, List, ℕ}
-use Rattle.maple_node.specs.declared.item.Item.{Item}
+use Rattle.maple_node.specs.declared.item.NodeItem.{NodeItem}
 use Rattle.maple_node.specs.Nodes.{items_of}
 use Rattle.maple_node.specs.Levels.{at_of, read, IsNode, times}
 use Rattle.node_slots.specs.Seats.{writer_state, free_of}
@@ -23,7 +23,7 @@ returns-clause-node c limit full =
     let plain = items-plain leaf c.args.words.now in
     let node = made-node (writer_state old).words c.from.result leaf limit c.args.start until c.args.gap items within c.requires.ascends plain
     c.requires.some c.requires.most full c.requires.end c.requires.gap in
-    let item : Item = record { end = until; word = c.from.result; gap = c.args.gap } in
+    let item : NodeItem = record { end = until; word = c.from.result; gap = c.args.gap } in
     subst (λ (rs : List (List ℕ)). IsNode (at_of rs) leaf limit c.args.start item) (sym words) node
 
 pub returns-clause-items : goal.returns-clause-items

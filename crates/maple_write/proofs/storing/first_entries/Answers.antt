@@ -1,17 +1,17 @@
 -- For `first_entries`: what one entry leaves of one gap.
 use Rattle.std.proofs.Common.{◌≡◌, ◌++◌, ◌∙◌, List, [], length, ap, arith}
-use Rattle.maple_node.specs.declared.item.Item.{Item}
+use Rattle.maple_node.specs.declared.item.NodeItem.{NodeItem}
 use Rattle.maple_write.proofs.Stores.{gap_entries, first_two}
 use Rattle.maple_write.proofs.storing.first_entries.Goals as goal
 
 -- items that were put behind none are those
-moved : (none list items given : List Item) → items ≡ given → none ≡ [] → list ≡ none ++ items → list ≡ given
-moved none list items given is empty all = all ∙ ap (λ (xs : List Item). none ++ xs) is ∙ ap (λ (xs : List Item). xs ++ given) empty
+moved : (none list items given : List NodeItem) → items ≡ given → none ≡ [] → list ≡ none ++ items → list ≡ given
+moved none list items given is empty all = all ∙ ap (λ (xs : List NodeItem). none ++ xs) is ∙ ap (λ (xs : List NodeItem). xs ++ given) empty
 
 pub push_ending_after-requires : goal.push_ending_after-requires
 push_ending_after-requires c =
-    let gap : Item = record { end = c.args.limit; word = 0; gap = 0 } in
-    let long = ap (λ (xs : List Item). length xs) (moved c.new-entries.result.items c.push_all.new.list.items c.as_slice.result.now _ (c.as_slice.ensures.value ∙ c.first-stretch.ensures.items) c.new-entries.ensures c.push_all.ensures) in
+    let gap : NodeItem = record { end = c.args.limit; word = 0; gap = 0 } in
+    let long = ap (λ (xs : List NodeItem). length xs) (moved c.new-entries.result.items c.push_all.new.list.items c.as_slice.result.now _ (c.as_slice.ensures.value ∙ c.first-stretch.ensures.items) c.new-entries.ensures c.push_all.ensures) in
     let two = first_two 0 c.args.lo c.args.hi c.args.word gap in
     omega arith
 

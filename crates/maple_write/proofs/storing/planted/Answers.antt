@@ -1,6 +1,6 @@
 -- For `planted`: the leaf is the tree, and row 0 is kept until it is left.
 use Rattle.std.proofs.Common.{◌≡◌, ◌∙◌, List, true, ap, sym, subst, arith}
-use Rattle.maple_node.specs.declared.item.Item.{Item}
+use Rattle.maple_node.specs.declared.item.NodeItem.{NodeItem}
 use Rattle.maple_node.specs.Nodes.{Ascends, IsPlain, words_of, end_of}
 use Rattle.maple_items.proofs.Entries.{overwrite-ascends, overwrite-ends, overwrite-plain}
 use Rattle.node_slots.specs.declared.view.NodeView.{NodeView}
@@ -19,7 +19,7 @@ put-top-requires-clause-ascends c =
     let within = c.requires.limit in
     let gap = gap_is c.args.limit (omega arith) in
     let are = c.as_slice.ensures.value ∙ c.first_entries-entries.ensures.entries in
-    subst (λ (xs : List Item). Ascends 0 xs) (sym are) (overwrite-ascends lo hi c.args.word (all_gap c.args.limit) gap.ascends some within)
+    subst (λ (xs : List NodeItem). Ascends 0 xs) (sym are) (overwrite-ascends lo hi c.args.word (all_gap c.args.limit) gap.ascends some within)
 
 pub put-top-requires-clause-plain : goal.put-top-requires-clause-plain
 put-top-requires-clause-plain c =
@@ -29,7 +29,7 @@ put-top-requires-clause-plain c =
     let within = c.requires.limit in
     let gap = gap_is c.args.limit (omega arith) in
     let are = c.as_slice.ensures.value ∙ c.first_entries-entries.ensures.entries in
-    subst (λ (xs : List Item). IsPlain true xs) (sym are) (overwrite-plain lo hi c.args.word (all_gap c.args.limit) gap.plain)
+    subst (λ (xs : List NodeItem). IsPlain true xs) (sym are) (overwrite-plain lo hi c.args.word (all_gap c.args.limit) gap.plain)
 
 pub leave-requires : goal.leave-requires
 leave-requires c = record {

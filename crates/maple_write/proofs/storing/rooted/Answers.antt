@@ -1,6 +1,6 @@
 -- For `rooted`: the root's row is one of the table, and its words tell where the tree ends.
 use Rattle.std.proofs.Common.{◌∙◌, ◌≡◌, ◌≤◌, ◌-◌, nat_eq, ℕ, List, length, ap, sym, subst, arith}
-use Rattle.maple_node.specs.declared.item.Item.{Item}
+use Rattle.maple_node.specs.declared.item.NodeItem.{NodeItem}
 use Rattle.maple_node.specs.Nodes.{Ascends, items_of, end_of}
 use Rattle.maple_node.specs.Levels.{is_leaf, read}
 use Rattle.node_slots.specs.Built.{words_at}
@@ -23,7 +23,7 @@ gap_in-requires c =
     let leaf = nat_eq tree.height 1 in
     let are = ap (items_of leaf) c.words-words.ensures ∙ ap (λ b. read (words_at writer) b c.from-root.result) is.leaf
     ∙ ap (λ (row : ℕ). read (words_at writer) (is_leaf (tree.height - 1)) row) c.from-root.ensures in
-    subst (λ (xs : List Item). Ascends 0 xs) (sym are) is.ascends
+    subst (λ (xs : List NodeItem). Ascends 0 xs) (sym are) is.ascends
 
 pub returns : goal.returns
 returns c =
@@ -38,7 +38,7 @@ returns c =
     elim c.if-lists_nothing.branch as (λ _. c.if-lists_nothing.end ≡ end_of 0 (items_of leaf words)) [
       | then-lists_nothing w ↦ w.end-is ∙ sym (ap (end_of 0) (c.lists_nothing.ensures.none leaf w.if-lists_nothing.true))
       | else-lists_nothing w ↦ w.end-is
-          ∙ is.ends (subst (λ (xs : List Item). 1 ≤ length xs) are (c.lists_nothing.ensures.some leaf w.if-lists_nothing.false))
+          ∙ is.ends (subst (λ (xs : List NodeItem). 1 ≤ length xs) are (c.lists_nothing.ensures.some leaf w.if-lists_nothing.false))
           ∙ sym (ap (end_of 0) are)
     ] in
     root_told writer tree c.if-lists_nothing.end c.from-root.result c.gap_in.result leaf words c.words-words.ensures c.from-root.ensures is.leaf end

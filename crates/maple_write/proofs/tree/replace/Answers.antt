@@ -1,7 +1,7 @@
 -- For `replace`: the levels are built one after another, up to one that has one item with all pages, or to the top.
 use Rattle.std.proofs.Common.{ℕ, ◌≡◌, ◌∙◌, ◌≤◌, ◌+◌, false, nat_eq, List, length, nat_lt, cond, ap, sym, subst, refl, arith}
 use Rattle.std.proofs.lemmas.Bool.Decides.{nat_tests}
-use Rattle.maple_node.specs.declared.item.Item.{Item}
+use Rattle.maple_node.specs.declared.item.NodeItem.{NodeItem}
 use Rattle.maple_node.specs.Nodes.{end_of}
 use Rattle.maple_node.specs.Levels.{at_of, is_leaf, below, level_of, IsTower}
 use Rattle.maple_items.specs.Splices.{ending_by}
@@ -71,7 +71,7 @@ loop-level-preserved c =
           let some : 1 ≤ loop.level = omega arith in
           let inner : is_leaf loop.level ≡ false = let test : nat_eq loop.level 0 ≡ false = grind (arith, nat_tests) in test in
           let same : below (words_at after) false made ≡ was = subst (λ b. below (words_at after) b made ≡ was) inner c.rise.ensures.under in
-          subst (λ (xs : List Item). 2 ≤ length xs) (sym same) (is.wide some c.if-not-done.true);
+          subst (λ (xs : List NodeItem). 2 ≤ length xs) (sym same) (is.wide some c.if-not-done.true);
     }
 
 pub leave_upper-requires-clause-apart : goal.leave_upper-requires-clause-apart
@@ -98,7 +98,7 @@ crown-requires-clause-wide c one high =
     let loop = c.loop-level in
     let ready = all_pages (goal.at.crown-requires-clause-wide c).After-leave_upper in
     subst (λ (v : NodeView). 2 ≤ length (below (at_of v.known.writer_state.words) false loop.new.items.items)) (sym c.leave_upper.ensures.view)
-    (subst (λ (xs : List Item). 2 ≤ length (below (words_at loop.writer) false xs)) ready.alone (loop.invariant.under high))
+    (subst (λ (xs : List NodeItem). 2 ≤ length (below (words_at loop.writer) false xs)) ready.alone (loop.invariant.under high))
 
 pub crown-requires-clause-stand : goal.crown-requires-clause-stand
 crown-requires-clause-stand c =

@@ -1,6 +1,6 @@
 -- For `inner_words`.
 use Rattle.std.proofs.Common.{ℕ, ◌∙◌, ap, false, arith, get_or}
-use Rattle.maple_node.specs.declared.item.Item.{Item}
+use Rattle.maple_node.specs.declared.item.NodeItem.{NodeItem}
 use Rattle.maple_node.specs.Words.{child_item}
 use Rattle.maple_node.proofs.Packing.{made_next}
 use Rattle.maple_node.proofs.Padded.{made_room, made_words}
@@ -12,7 +12,7 @@ push_item-requires c = made_room false child_item c.args.children.now c.loop-chi
 pub loop-child-preserved : goal.loop-child-preserved
 loop-child-preserved c =
     let child = get_or c.args.children.now c.loop-child.child-index (0, record { 0 = 0 }, 0) in
-    let told : ℕ → Item = λ word. record { end = child.0; word = word; gap = child.2 } in
+    let told : ℕ → NodeItem = λ word. record { end = child.0; word = word; gap = child.2 } in
     made_next false child_item c.args.children.now c.loop-child.words c.push_item.new.self c.loop-child.child-index (0, record { 0 = 0 }, 0)
     (told c.from.result) c.loop-child-test.true c.loop-child.invariant (ap told c.from.ensures) c.push_item.ensures
 

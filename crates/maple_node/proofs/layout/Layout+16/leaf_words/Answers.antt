@@ -1,6 +1,6 @@
 -- For `leaf_words`.
 use Rattle.std.proofs.Common.{ℕ, ◌∙◌, ap, true, None, arith, get_or}
-use Rattle.maple_node.specs.declared.item.Item.{Item}
+use Rattle.maple_node.specs.declared.item.NodeItem.{NodeItem}
 use Rattle.maple_node.specs.Words.{entry_item}
 use Rattle.maple_node.proofs.Packing.{made_next}
 use Rattle.maple_node.proofs.Padded.{made_room, made_words}
@@ -12,7 +12,7 @@ push_item-requires c = made_room true entry_item c.args.entries.now c.loop-entry
 pub loop-entry-preserved : goal.loop-entry-preserved
 loop-entry-preserved c =
     let entry = get_or c.args.entries.now c.loop-entry.entry-index (0, None) in
-    let told : ℕ → Item = λ word. record { end = entry.0; word = word; gap = 0 } in
+    let told : ℕ → NodeItem = λ word. record { end = entry.0; word = word; gap = 0 } in
     made_next true entry_item c.args.entries.now c.loop-entry.words c.push_item.new.self c.loop-entry.entry-index (0, None) (told c.slot_word.result)
     c.loop-entry-test.true c.loop-entry.invariant (ap told c.slot_word.ensures) c.push_item.ensures
 
