@@ -1,4 +1,4 @@
--- For `leave_block`, `cut` and `rise`: the items of a level between two pages.
+-- For `leave_block`, `cut` and `rebuild_level`: the items of a level between two pages.
 use Rattle.std.proofs.Common.{ℕ, ◌≡◌, ◌<◌, ◌≤◌, ◌+◌, Bool, true, false, nat_eq, List, [], ◌∷◌, ◌++◌, length, Some, refl, sym, ap, subst, ◌∙◌, arith, inl, inr, if◌then◌else◌}
 use Rattle.std.proofs.lemmas.Bool.{cases_lt}
 use Rattle.maple_node.specs.declared.item.NodeItem.{NodeItem}

@@ -1,4 +1,4 @@
--- For `find`, `rise` and others: going down a level of a tree.
+-- For `find`, `rebuild_level` and others: going down a level of a tree.
 use Rattle.std.proofs.Common.{ℕ, zero, suc, ◌≡◌, ◌<◌, ◌≤◌, ◌+◌, ◌-◌, Bool, true, false, List, [], ◌∷◌, ◌++◌, length, Some, refl, sym, ap, subst, ◌∙◌, arith, inl, inr, append_assoc}
 use Rattle.std.proofs.lemmas.Bool.{cases_lt}
 use Rattle.std.proofs.lemmas.List.{get_or_past}
@@ -115,7 +115,7 @@ nodes-ending_by at leaf limit start page (x ∷ xs) nodes = elim (cases_lt page 
 ]
 
 -- what is so of the node that has a page, and of the item in it that has the page
-pub record Descent (at : ℕ → List ℕ) (leaf : Bool) (limit start page : ℕ) (items : List NodeItem) (item : NodeItem) : Type 0 where
+pub record Stepped (at : ℕ → List ℕ) (leaf : Bool) (limit start page : ℕ) (items : List NodeItem) (item : NodeItem) : Type 0 where
   pub node : IsNode at leaf limit (end_of start (ending_by page items)) item
   pub within : page < item.end
   pub begins : end_of start (ending_by page items) ≤ page
@@ -123,7 +123,7 @@ pub record Descent (at : ℕ → List ℕ) (leaf : Bool) (limit start page : ℕ
   pub front : end_of start (ending_by page (below at leaf items)) ≡ end_of (end_of start (ending_by page items)) (ending_by page (read at leaf item.word))
 
 pub descend : (at : ℕ → List ℕ) (leaf : Bool) (limit start page : ℕ) (items : List NodeItem) (item : NodeItem) → AreNodes at leaf limit start items
-    → start ≤ page → item_at page items ≡ Some item → Descent at leaf limit start page items item
+    → start ≤ page → item_at page items ≡ Some item → Stepped at leaf limit start page items item
 descend at leaf limit start page items item nodes begins found =
     let ascends = nodes-ascend at leaf limit start items nodes in
     record {

@@ -1,4 +1,4 @@
--- For `cut`, `stretched` and `rise`: one level of a store, from the items that stand anew to the nodes that list them.
+-- For `cut`, `rebalanced` and `rebuild_level`: one level of a store, from the items that stand anew to the nodes that list them.
 use Rattle.std.proofs.Common.{ℕ, suc, ◌≡◌, ◌<◌, ◌≤◌, ◌+◌, ◌-◌, Bool, true, false, nat_eq, nat_lt, cond, List, [], ◌∷◌, ◌++◌, length, Some, refl, sym, ap, subst, ◌∙◌, arith, inl, inr, append_assoc, length-append}
 use Rattle.std.proofs.lemmas.Bool.{cases_lt}
 use Rattle.std.proofs.lemmas.Bool.Decides.{nat_tests}
@@ -11,20 +11,23 @@ use Rattle.maple_node.proofs.Frames.{times-append}
 use Rattle.maple_items.specs.Splices.{ending_by, ending_after}
 use Rattle.maple_items.proofs.Lists.{Ascends-left, Ascends-right, IsPlain-append, IsPlain-ending_by, IsPlain-ending_after, item_at-first, item_at-later, stands, AllFrom-at, ending_after-ends}
 use Rattle.maple_write.specs.Internal.Tables.{Table, rows_in, gone, Stand}
-use Rattle.maple_write.specs.Internal.Stores.{old_level, new_level, Partly, Cut}
+use Rattle.maple_write.specs.Internal.Stores.{old_level, Level, old_nodes, node_begin, new_level, Partly, Cut}
 use Rattle.maple_write.proofs.Levels.{AreNodes, ending_by-below, ending_after-below, descend, nodes-ending_by, row_there, Step, step_down}
 use Rattle.maple_write.proofs.Blocks.{item_edge, items-plain, length-ending_by, length-ending_after}
 
 -- the nodes of the level above, and how it is told from the level itself
-pub upper_of : (table : Table) (top : NodeItem) (height level lo hi : ℕ) (new : List NodeItem) → Partly table top height level lo hi new → level < height
-    → Step (at_of table.rows) top.end height (level + 1) level top
-upper_of table top height level lo hi new partly less =
-    step_down (at_of table.rows) top.end height level (level + 1) level top partly.tower (omega arith) refl (omega arith)
+pub upper_of : (table : Table) (level : Level) → Partly table level → level.height < level.tree.height
+    → Step (at_of table.rows) level.tree.top.end level.tree.height (level.height + 1) level.height level.tree.top
+upper_of table level partly less =
+    let tree = level.tree in
+    step_down (at_of table.rows) tree.top.end tree.height level.height (level.height + 1) level.height tree.top partly.tower (omega arith) refl (omega arith)
 
-pub ends_at : (table : Table) (top : NodeItem) (height level lo hi : ℕ) (new : List NodeItem) → Partly table top height level lo hi new → level < height
-    → end_of 0 (old_level table top height (level + 1)) ≡ top.end
-ends_at table top height level lo hi new partly less =
-    level-ends (at_of table.rows) top.end (level + 1) (height - (level + 1)) (top ∷ []) (upper_of table top height level lo hi new partly less).above
+pub ends_at : (table : Table) (level : Level) → Partly table level → level.height < level.tree.height
+    → end_of 0 (old_nodes table level) ≡ level.tree.top.end
+ends_at table level partly less =
+    let tree = level.tree in
+    level-ends (at_of table.rows) tree.top.end (level.height + 1) (tree.height - (level.height + 1)) (tree.top ∷ [])
+    (upper_of table level partly less).above
 
 -- the node that has a page
 pub record There (table : Table) (limit level begin : ℕ) (item : NodeItem) : Type 0 where
@@ -32,16 +35,16 @@ pub record There (table : Table) (limit level begin : ℕ) (item : NodeItem) : T
   pub few : length (read (at_of table.rows) (is_leaf level) item.word) ≤ most (is_leaf level)
   pub node : IsNode (at_of table.rows) (is_leaf level) limit begin item
 
-pub there_at : (table : Table) (top : NodeItem) (height level lo hi page : ℕ) (new : List NodeItem) (item : NodeItem)
-    → Partly table top height level lo hi new → level < height → item_at page (old_level table top height (level + 1)) ≡ Some item
-    → There table top.end level (end_of 0 (ending_by page (old_level table top height (level + 1)))) item
-there_at table top height level lo hi page new item partly less found =
-    let step = upper_of table top height level lo hi new partly less in
-    let upper = old_level table top height (level + 1) in
-    let node = AllFrom-at (IsNode (at_of table.rows) (is_leaf level) top.end) 0 page upper item
-    (nodes-ascend (at_of table.rows) (is_leaf level) top.end 0 upper step.nodes) step.nodes found in
+pub there_at : (table : Table) (level : Level) (page : ℕ) (item : NodeItem)
+    → Partly table level → level.height < level.tree.height → item_at page (old_nodes table level) ≡ Some item
+    → There table level.tree.top.end level.height (end_of 0 (ending_by page (old_nodes table level))) item
+there_at table level page item partly less found =
+    let step = upper_of table level partly less in
+    let upper = old_nodes table level in
+    let node = AllFrom-at (IsNode (at_of table.rows) (is_leaf level.height) level.tree.top.end) 0 page upper item
+    (nodes-ascend (at_of table.rows) (is_leaf level.height) level.tree.top.end 0 upper step.nodes) step.nodes found in
     record {
-      row = row_there table.rows (is_leaf level) top.end (end_of 0 (ending_by page upper)) item node;
+      row = row_there table.rows (is_leaf level.height) level.tree.top.end (end_of 0 (ending_by page upper)) item node;
       few = node.most;
       node = node;
     }
@@ -64,42 +67,42 @@ item_at-same page later (x ∷ xs) item found after within = elim (cases_lt page
 joined_parts : (a b c d e : List NodeItem) → (a ++ b) ++ (c ++ (d ++ e)) ≡ a ++ ((b ++ (c ++ d)) ++ e)
 joined_parts a b c d e = simp append_assoc
 
-pub cut_of : (table : Table) (top : NodeItem) (height level lo hi last begin : ℕ) (new : List NodeItem) (left right : NodeItem)
-    → Partly table top height level lo hi new → level < height
-    → item_at lo (old_level table top height (level + 1)) ≡ Some left → last + 1 ≡ hi → item_at last (old_level table top height (level + 1)) ≡ Some right
-    → begin ≡ end_of 0 (ending_by lo (old_level table top height (level + 1)))
-    → Cut table top height level lo hi new begin right.end (ending_by lo (read (at_of table.rows) (is_leaf level) left.word)
-    ++ (new ++ ending_after hi (read (at_of table.rows) (is_leaf level) right.word)))
-cut_of table top height level lo hi last begin new left right partly less found next found' begins =
+pub cut_of : (table : Table) (level : Level) (last begin : ℕ) (left right : NodeItem)
+    → Partly table level → level.height < level.tree.height
+    → item_at level.lo (old_nodes table level) ≡ Some left → last + 1 ≡ level.hi → item_at last (old_nodes table level) ≡ Some right
+    → begin ≡ node_begin table level
+    → Cut table level begin right.end (ending_by level.lo (read (at_of table.rows) (is_leaf level.height) left.word)
+    ++ (level.new ++ ending_after level.hi (read (at_of table.rows) (is_leaf level.height) right.word)))
+cut_of table level last begin left right partly less found next found' begins =
     let at = at_of table.rows in
-    let leaf = is_leaf level in
-    let upper = old_level table top height (level + 1) in
-    let lower = old_level table top height level in
-    let step = upper_of table top height level lo hi new partly less in
+    let leaf = is_leaf level.height in
+    let upper = old_nodes table level in
+    let lower = old_level table level.tree level.height in
+    let step = upper_of table level partly less in
     let nodes = step.nodes in
-    let ascends = nodes-ascend at leaf top.end 0 upper nodes in
-    let ends = ends_at table top height level lo hi new partly less in
-    let front = ending_by lo (read at leaf left.word) in
-    let back = ending_after hi (read at leaf right.word) in
-    let before = below at leaf (ending_by lo upper) in
+    let ascends = nodes-ascend at leaf level.tree.top.end 0 upper nodes in
+    let ends = ends_at table level partly less in
+    let front = ending_by level.lo (read at leaf left.word) in
+    let back = ending_after level.hi (read at leaf right.word) in
+    let before = below at leaf (ending_by level.lo upper) in
     let after = below at leaf (ending_after right.end upper) in
-    let items = front ++ (new ++ back) in
-    let low : ending_by lo lower ≡ before ++ front = ap (ending_by lo) step.down ∙ ending_by-below at leaf top.end 0 lo upper left nodes found in
-    let high : ending_after hi lower ≡ back ++ after = ap (ending_after hi) step.down ∙ ending_after-below at leaf top.end 0 hi last upper right nodes next found' in
-    let split : new_level table top height level lo hi new ≡ before ++ (items ++ after) =
-    ap (λ (xs : List NodeItem). xs ++ (new ++ ending_after hi lower)) low ∙ ap (λ (xs : List NodeItem). (before ++ front) ++ (new ++ xs)) high
-    ∙ joined_parts before front new back after in
-    let here = descend at leaf top.end 0 lo upper left nodes (omega arith) found in
-    let there = descend at leaf top.end 0 last upper right nodes (omega arith) found' in
+    let items = front ++ (level.new ++ back) in
+    let low : ending_by level.lo lower ≡ before ++ front = ap (ending_by level.lo) step.down ∙ ending_by-below at leaf level.tree.top.end 0 level.lo upper left nodes found in
+    let high : ending_after level.hi lower ≡ back ++ after = ap (ending_after level.hi) step.down ∙ ending_after-below at leaf level.tree.top.end 0 level.hi last upper right nodes next found' in
+    let split : new_level table level ≡ before ++ (items ++ after) =
+    ap (λ (xs : List NodeItem). xs ++ (level.new ++ ending_after level.hi lower)) low ∙ ap (λ (xs : List NodeItem). (before ++ front) ++ (level.new ++ xs)) high
+    ∙ joined_parts before front level.new back after in
+    let here = descend at leaf level.tree.top.end 0 level.lo upper left nodes (omega arith) found in
+    let there = descend at leaf level.tree.top.end 0 last upper right nodes (omega arith) found' in
     let is = stands 0 last upper right ascends found' in
-    let front_end : end_of begin front ≡ end_of 0 (ending_by lo lower) =
-    ap (λ (p : ℕ). end_of p front) begins ∙ sym here.front ∙ sym (ap (λ (xs : List NodeItem). end_of 0 (ending_by lo xs)) step.down) in
+    let front_end : end_of begin front ≡ end_of 0 (ending_by level.lo lower) =
+    ap (λ (p : ℕ). end_of p front) begins ∙ sym here.front ∙ sym (ap (λ (xs : List NodeItem). end_of 0 (ending_by level.lo xs)) step.down) in
     let inside = there.within in
     let outside = there.begins in
     let until = there.node.until in
-    let back_end : end_of hi back ≡ right.end =
-    ending_after-ends (end_of 0 (ending_by last upper)) hi (read at leaf right.word) there.node.ascends (omega arith) (omega arith) ∙ until in
-    let before_end : end_of 0 before ≡ begin = end_of-below at leaf top.end 0 (ending_by lo upper) (nodes-ending_by at leaf top.end 0 lo upper nodes) ∙ sym begins in
+    let back_end : end_of level.hi back ≡ right.end =
+    ending_after-ends (end_of 0 (ending_by last upper)) level.hi (read at leaf right.word) there.node.ascends (omega arith) (omega arith) ∙ until in
+    let before_end : end_of 0 before ≡ begin = end_of-below at leaf level.tree.top.end 0 (ending_by level.lo upper) (nodes-ending_by at leaf level.tree.top.end 0 level.lo upper nodes) ∙ sym begins in
     let pages = partly.pages in
     let whole : Ascends 0 (before ++ (items ++ after)) = subst (λ (xs : List NodeItem). Ascends 0 xs) split partly.ascends in
     let rest : Ascends begin (items ++ after) = subst (λ (p : ℕ). Ascends p (items ++ after)) before_end (Ascends-right 0 before (items ++ after) whole) in
@@ -108,14 +111,14 @@ cut_of table top height level lo hi last begin new left right partly less found 
     record {
       split = split;
       start = begins;
-      ending = end_of-append begin front (new ++ back) ∙ end_of-append (end_of begin front) new back
-          ∙ ap (λ (p : ℕ). end_of (end_of p new) back) front_end ∙ ap (λ (p : ℕ). end_of p back) partly.ending ∙ back_end;
+      ending = end_of-append begin front (level.new ++ back) ∙ end_of-append (end_of begin front) level.new back
+          ∙ ap (λ (p : ℕ). end_of (end_of p level.new) back) front_end ∙ ap (λ (p : ℕ). end_of p back) partly.ending ∙ back_end;
       ascends = Ascends-left begin items after rest;
-      plain = IsPlain-append leaf front (new ++ back) (IsPlain-ending_by leaf lo (read at leaf left.word) (items-plain leaf (at left.word)))
-          (IsPlain-append leaf new back partly.plain (IsPlain-ending_after leaf hi (read at leaf right.word) (items-plain leaf (at right.word))));
-      some = let l1 = length-append front (new ++ back) in let l2 = length-append new back in let s = partly.some in omega arith;
-      few = let l1 = length-append front (new ++ back) in let l2 = length-append new back in let s = partly.few in
-          let f1 = length-ending_by lo (read at leaf left.word) in let f2 = length-ending_after hi (read at leaf right.word) in omega arith;
+      plain = IsPlain-append leaf front (level.new ++ back) (IsPlain-ending_by leaf level.lo (read at leaf left.word) (items-plain leaf (at left.word)))
+          (IsPlain-append leaf level.new back partly.plain (IsPlain-ending_after leaf level.hi (read at leaf right.word) (items-plain leaf (at right.word))));
+      some = let l1 = length-append front (level.new ++ back) in let l2 = length-append level.new back in let s = partly.some in omega arith;
+      few = let l1 = length-append front (level.new ++ back) in let l2 = length-append level.new back in let s = partly.few in
+          let f1 = length-ending_by level.lo (read at leaf left.word) in let f2 = length-ending_after level.hi (read at leaf right.word) in omega arith;
       edge = item_edge 0 last upper right ascends found';
       above = omega arith;
       limit = let w = is.within in omega arith;
@@ -126,22 +129,22 @@ least_less : (leaf : Bool) → least leaf ≤ most leaf
 least_less true = omega arith
 least_less false = omega arith
 
-pub cut_more : (table : Table) (top : NodeItem) (height level lo hi begin end : ℕ) (new items : List NodeItem) (next : NodeItem)
-    → Partly table top height level lo hi new → level < height
-    → Cut table top height level lo hi new begin end items → item_at end (old_level table top height (level + 1)) ≡ Some next
-    → length items < least (is_leaf level)
-    → Cut table top height level lo hi new begin next.end (items ++ read (at_of table.rows) (is_leaf level) next.word)
-cut_more table top height level lo hi begin end new items next partly less cut found short =
+pub cut_more : (table : Table) (level : Level) (begin end : ℕ) (items : List NodeItem) (next : NodeItem)
+    → Partly table level → level.height < level.tree.height
+    → Cut table level begin end items → item_at end (old_nodes table level) ≡ Some next
+    → length items < least (is_leaf level.height)
+    → Cut table level begin next.end (items ++ read (at_of table.rows) (is_leaf level.height) next.word)
+cut_more table level begin end items next partly less cut found short =
     let at = at_of table.rows in
-    let leaf = is_leaf level in
-    let upper = old_level table top height (level + 1) in
-    let step = upper_of table top height level lo hi new partly less in
-    let ascends = nodes-ascend at leaf top.end 0 upper step.nodes in
-    let ends = ends_at table top height level lo hi new partly less in
+    let leaf = is_leaf level.height in
+    let upper = old_nodes table level in
+    let step = upper_of table level partly less in
+    let ascends = nodes-ascend at leaf level.tree.top.end 0 upper step.nodes in
+    let ends = ends_at table level partly less in
     let is = stands 0 end upper next ascends found in
-    let there = there_at table top height level lo hi end new next partly less found in
-    let node : IsNode at leaf top.end end next = subst (λ (p : ℕ). IsNode at leaf top.end p next) cut.edge there.node in
-    let before = below at leaf (ending_by lo upper) in
+    let there = there_at table level end next partly less found in
+    let node : IsNode at leaf level.tree.top.end end next = subst (λ (p : ℕ). IsNode at leaf level.tree.top.end p next) cut.edge there.node in
+    let before = below at leaf (ending_by level.lo upper) in
     let after = below at leaf (ending_after next.end upper) in
     let more = read at leaf next.word in
     let rest : below at leaf (ending_after end upper) ≡ more ++ after = ap (below at leaf) is.ending_after in
@@ -166,14 +169,14 @@ cut_more table top height level lo hi begin end new items next partly less cut f
     }
 
 -- then they are enough: the node has enough, or ends at the limit
-pub cut_enough : (table : Table) (top : NodeItem) (height level lo hi begin end : ℕ) (new items : List NodeItem) (next : NodeItem)
-    → Partly table top height level lo hi new → level < height
-    → Cut table top height level lo hi new begin end items → item_at end (old_level table top height (level + 1)) ≡ Some next
-    → next.end < top.end → least (is_leaf level) ≤ length (items ++ read (at_of table.rows) (is_leaf level) next.word)
-cut_enough table top height level lo hi begin end new items next partly less cut found inner =
-    let there = there_at table top height level lo hi end new next partly less found in
+pub cut_enough : (table : Table) (level : Level) (begin end : ℕ) (items : List NodeItem) (next : NodeItem)
+    → Partly table level → level.height < level.tree.height
+    → Cut table level begin end items → item_at end (old_nodes table level) ≡ Some next
+    → next.end < level.tree.top.end → least (is_leaf level.height) ≤ length (items ++ read (at_of table.rows) (is_leaf level.height) next.word)
+cut_enough table level begin end items next partly less cut found inner =
+    let there = there_at table level end next partly less found in
     let enough = there.node.least inner in
-    let long = length-append items (read (at_of table.rows) (is_leaf level) next.word) in
+    let long = length-append items (read (at_of table.rows) (is_leaf level.height) next.word) in
     omega arith
 
 -- a level more under a tower

@@ -29,7 +29,7 @@ use Rattle.maple_write.proofs.Levels.{AreNodes, row_there, step_down, level_of-t
 use Rattle.maple_write.proofs.Times.{whole_list}
 use Rattle.maple_write.proofs.Steps.{counts}
 use Rattle.maple_write.proofs.Writers.{rows_counted, kept_counts, is_kept_from}
-use Rattle.maple_write.proofs.Crowns.{full, first_entries}
+use Rattle.maple_write.proofs.Roots.{full, first_entries}
 use Rattle.maple_write.proofs.Blocks.{length-ending_after}
 
 -- the entries of a tree have all its pages
@@ -42,21 +42,21 @@ covers table tree shaped =
     let at = at_of table.rows in
     let top = tree.top in
     let e : tree.height ≡ tree.height - 0 = omega arith in
-    let is = full table top tree.height 0 (subst (λ (n : ℕ). IsTower at top.end 0 n (top ∷ [])) e shaped.tower) shaped.limit in
+    let is = full table (record { top = top; height = tree.height }) 0 (subst (λ (n : ℕ). IsTower at top.end 0 n (top ∷ [])) e shaped.tower) shaped.limit in
     record {
       ascends = subst (λ (n : ℕ). Ascends 0 (level_of at 0 n (top ∷ []))) (sym e) is.ascends;
       ends = ap (λ (n : ℕ). end_of 0 (level_of at 0 n (top ∷ []))) e ∙ is.ends;
     }
 
 -- what was found at the lowest level is an entry
-pub entry_found : (table : Table) (tree : Tree) (page : ℕ) (item : NodeItem) → item_at page (old_level table tree.top tree.height 0) ≡ Some item
-    → item_at page (entries_of (at_of table.rows) tree) ≡ Some item
+pub entry_found : (table : Table) (tree : Rooted) (page : ℕ) (item : NodeItem) → item_at page (old_level table tree 0) ≡ Some item
+    → item_at page (entries_of (at_of table.rows) (tree_under tree)) ≡ Some item
 entry_found table tree page item found =
     let e : tree.height ≡ tree.height - 0 = omega arith in
     ap (λ (n : ℕ). item_at page (level_of (at_of table.rows) 0 n (tree.top ∷ []))) e ∙ found
 
-pub entry_begins : (table : Table) (tree : Tree) (page start : ℕ) → start ≡ end_of 0 (ending_by page (old_level table tree.top tree.height 0))
-    → start ≡ end_of 0 (ending_by page (entries_of (at_of table.rows) tree))
+pub entry_begins : (table : Table) (tree : Rooted) (page start : ℕ) → start ≡ end_of 0 (ending_by page (old_level table tree 0))
+    → start ≡ end_of 0 (ending_by page (entries_of (at_of table.rows) (tree_under tree)))
 entry_begins table tree page start begins =
     let e : tree.height - 0 ≡ tree.height = omega arith in
     begins ∙ ap (λ (n : ℕ). end_of 0 (ending_by page (level_of (at_of table.rows) 0 n (tree.top ∷ [])))) e
@@ -191,7 +191,7 @@ gap_spanned limit slots lo hi some within =
     record { ascends = gap.ascends; apart = gap.apart; numbered = gap_numbered limit slots; some = some; limit = within }
 
 -- the first leaf of a tree
-pub record Planted (after : Table) (limit : ℕ) (items : List NodeItem) (top : NodeItem) : Type 0 where
+pub record FirstLeaf (after : Table) (limit : ℕ) (items : List NodeItem) (top : NodeItem) : Type 0 where
   pub shaped : IsShaped after (record { top = top; height = 1 })
   pub entries : entries_of (at_of after.rows) (record { top = top; height = 1 }) ≡ items
 
@@ -202,16 +202,16 @@ zero_once (suc row) =
     let b : nat_eq (suc row) 0 ≡ false = grind (arith, nat_tests) in
     rw (a, b) refl
 
-pub leaf_planted : (old made after : Table) (limit : ℕ) (items : List NodeItem) (top : NodeItem) (words : List ℕ)
+pub leaf_made : (old made after : Table) (limit : ℕ) (items : List NodeItem) (top : NodeItem) (words : List ℕ)
     → ((row : ℕ) → gone old row + cond (nat_eq row 0) 1 0 ≡ cond (nat_lt row (length old.rows)) 1 0)
     → 0 < limit → end_of 0 items ≡ limit
     → ((most : ℕ) → (end_of 0 items < most → least true ≤ length items) → IsNode (at_of made.rows) true most 0 top)
     → read (at_of made.rows) true top.word ≡ items → top.end ≡ end_of 0 items
     → made.rows ≡ set old.rows top.word words → ((row : ℕ) → times row old.free ≡ times row (top.word ∷ made.free)) → made.left ≡ old.left
     → after.rows ≡ made.rows → ((row : ℕ) → gone after row ≡ gone made row + times row (0 ∷ []))
-    → Planted after limit items top
+    → FirstLeaf after limit items top
 unfolding IsTower rows_of level_of
-leaf_planted old made after limit items top words kept some ends node reads until rows free left rows' gone' =
+leaf_made old made after limit items top words kept some ends node reads until rows free left rows' gone' =
     let at = at_of after.rows in
     let back = sym rows' in
     let is : IsNode at true top.end 0 top =

@@ -1,15 +1,15 @@
 -- For `swapped`: one child in the place of one in the words of a node.
-use Rattle.std.proofs.Common.{ℕ, ◌≡◌, ◌<◌, ◌≤◌, ◌+◌, Bool, false, nat_eq, List, [], ◌∷◌, length, get_or, Option, Some, None, IfSome, refl, sym, ap, subst, ◌∙◌, arith}
+use Rattle.std.proofs.Common.{ℕ, ◌≡◌, ◌≢◌, ◌<◌, ◌≤◌, Bool, false, nat_eq, List, [], ◌∷◌, length, get_or, Option, Some, None, IfSome, IfNone, refl, sym, ap, subst, ◌∙◌, arith}
 use Rattle.std.proofs.lemmas.Bool.Decides.{nat_tests}
 use Rattle.maple_node.specs.declared.item.NodeItem.{NodeItem}
-use Rattle.maple_node.specs.Nodes.{words_of, items_of, most, least, end_of, Ascends, gap_of}
+use Rattle.maple_node.specs.Nodes.{words_of, items_of, end_of, Ascends, gap_of}
 use Rattle.maple_node.specs.Levels.{is_leaf, at_of, read, item_at}
 use Rattle.maple_node.proofs.Levels.{nodes-ascend}
 use Rattle.maple_items.specs.declared.place.Place.{Place}
 use Rattle.maple_items.specs.Splices.{ending_by, spliced}
 use Rattle.maple_items.proofs.Lists.{stands}
 use Rattle.maple_write.specs.Internal.Tables.{Table}
-use Rattle.maple_write.specs.Internal.Stores.{old_level, Partly, IsRenewed}
+use Rattle.maple_write.specs.Internal.Stores.{old_level, Level, old_nodes, node_begin, Partly, IsRenewed}
 use Rattle.maple_write.proofs.Steps.{upper_of, there_at}
 use Rattle.maple_write.proofs.Renewing.{ends_same, source_of, lists_spliced, renewed_is}
 
@@ -23,74 +23,93 @@ gap_anywhere a b [] = refl
 gap_anywhere a b (item ∷ items) = refl
 
 -- what the words of the node above the leaves that has a page tell
-pub record Children (words : List ℕ) (page gap : ℕ) : Type 0 where
+pub record Children (words : List ℕ) (page end gap : ℕ) : Type 0 where
   pub ascends : Ascends 0 (items_of false words)
+  pub ends : end_of 0 (items_of false words) ≡ end
   pub within : page < end_of 0 (items_of false words)
   pub whole : words ≡ words_of false (items_of false words)
   pub largest : gap_of false 0 (items_of false words) ≡ gap
 
-pub children_of : (table : Table) (top : NodeItem) (height level lo hi : ℕ) (new : List NodeItem) (item : NodeItem) (words : List ℕ)
-    → Partly table top height level lo hi new → level < height → 0 < level → item_at lo (old_level table top height (level + 1)) ≡ Some item
-    → words ≡ at_of table.rows item.word → Children words lo item.gap
-children_of table top height level lo hi new item words partly less inner found is =
-    let begin = end_of 0 (ending_by lo (old_level table top height (level + 1))) in
-    let source = source_of table top height level lo hi lo new item words partly less found is in
-    let there = there_at table top height level lo hi lo new item partly less found in
-    let nodes = (upper_of table top height level lo hi new partly less).nodes in
-    let ascends = nodes-ascend (at_of table.rows) (is_leaf level) top.end 0 (old_level table top height (level + 1)) nodes in
-    let here = stands 0 lo (old_level table top height (level + 1)) item ascends found in
+pub children_of : (table : Table) (level : Level) (item : NodeItem) (words : List ℕ)
+    → Partly table level → level.height < level.tree.height → 0 < level.height → item_at level.lo (old_nodes table level) ≡ Some item
+    → words ≡ at_of table.rows item.word → Children words level.lo item.end item.gap
+children_of table level item words partly less inner found is =
+    let begin = node_begin table level in
+    let source = source_of table level level.lo item words partly less found is in
+    let there = there_at table level level.lo item partly less found in
+    let nodes = (upper_of table level partly less).nodes in
+    let ascends = nodes-ascend (at_of table.rows) (is_leaf level.height) level.tree.top.end 0 (old_nodes table level) nodes in
+    let here = stands 0 level.lo (old_nodes table level) item ascends found in
     let listed : (leaf : Bool) → read (at_of table.rows) leaf item.word ≡ items_of leaf words = λ leaf. ap (items_of leaf) (sym is) in
-    let leafless = inner_is level inner in
-    let ends : end_of 0 (items_of (is_leaf level) words) ≡ item.end =
-    ap (end_of 0) (sym (listed (is_leaf level))) ∙ ends_same 0 begin (read (at_of table.rows) (is_leaf level) item.word) there.node.some ∙ there.node.until in
-    let within : lo < end_of 0 (items_of (is_leaf level) words) = let above = here.above in omega arith in
-    let gap : gap_of (is_leaf level) begin (items_of (is_leaf level) words) ≡ item.gap =
-    ap (gap_of (is_leaf level) begin) (sym (listed (is_leaf level))) ∙ there.node.gap in
+    let leafless = inner_is level.height inner in
+    let ends : end_of 0 (items_of (is_leaf level.height) words) ≡ item.end =
+    ap (end_of 0) (sym (listed (is_leaf level.height))) ∙ ends_same 0 begin (read (at_of table.rows) (is_leaf level.height) item.word) there.node.some ∙ there.node.until in
+    let within : level.lo < end_of 0 (items_of (is_leaf level.height) words) = let above = here.above in omega arith in
+    let gap : gap_of (is_leaf level.height) begin (items_of (is_leaf level.height) words) ≡ item.gap =
+    ap (gap_of (is_leaf level.height) begin) (sym (listed (is_leaf level.height))) ∙ there.node.gap in
     record {
       ascends = subst (λ (b : Bool). Ascends 0 (items_of b words)) leafless source.ascends;
-      within = subst (λ (b : Bool). lo < end_of 0 (items_of b words)) leafless within;
+      ends = subst (λ (b : Bool). end_of 0 (items_of b words) ≡ item.end) leafless ends;
+      within = subst (λ (b : Bool). level.lo < end_of 0 (items_of b words)) leafless within;
       whole = subst (λ (b : Bool). words ≡ words_of b (items_of b words)) leafless source.whole;
       largest = gap_anywhere 0 begin (items_of false words)
           ∙ subst (λ (b : Bool). gap_of b begin (items_of b words) ≡ item.gap) leafless gap;
     }
 
--- the node anew, and its largest gap
-pub record Swapped (table : Table) (top : NodeItem) (height level lo hi : ℕ) (new : List NodeItem) (left : Place) (made : List ℕ) (gap : ℕ) : Type 0 where
-  pub renewed : IsRenewed table top height level lo hi new left made
-  pub largest : gap ≡ gap_of (is_leaf level) left.start (items_of (is_leaf level) made)
+-- the only new item ends where they end
+pub only_ends : (table : Table) (level : Level) (child : NodeItem) → Partly table level → level.new ≡ child ∷ [] → child.end ≡ level.hi
+only_ends table level child partly one =
+    sym (ap (end_of (end_of 0 (ending_by level.lo (old_level table level.tree level.height)))) one) ∙ partly.ending
 
-pub swapped_is : (table : Table) (top : NodeItem) (height level lo hi : ℕ) (new : List NodeItem) (left : Place) (child : NodeItem) (words made : List ℕ) (gap : ℕ)
-    → Partly table top height level lo hi new → level < height → 0 < level → new ≡ child ∷ []
-    → item_at lo (old_level table top height (level + 1)) ≡ Some left.item
-    → left.start ≡ end_of 0 (ending_by lo (old_level table top height (level + 1))) → hi ≤ left.item.end
+-- a child in a node that ends below a page ends elsewhere
+pub ends_before : (words : List ℕ) (page end gap hi : ℕ) (child : NodeItem) → Children words page end gap → end < hi
+    → item_at page (items_of false words) ≡ Some child → child.end ≢ hi
+ends_before words page end gap hi child is past found same =
+    let within = (stands 0 page (items_of false words) child is.ascends found).within in
+    let ends = is.ends in
+    omega arith
+
+-- where there is no answer, it tells another thing
+pub if_none : {P Q : Type 0} (answer : Option ℕ) → IfNone answer P → (P → Q) → IfNone answer Q
+if_none None p more = more p
+if_none (Some gap) p more = tt
+
+-- the node anew, and its largest gap
+pub record Swapped (table : Table) (level : Level) (left : Place) (made : List ℕ) (gap : ℕ) : Type 0 where
+  pub renewed : IsRenewed table level left made
+  pub largest : gap ≡ gap_of (is_leaf level.height) left.start (items_of (is_leaf level.height) made)
+
+pub swapped_is : (table : Table) (level : Level) (left : Place) (child : NodeItem) (words made : List ℕ) (gap : ℕ)
+    → Partly table level → level.height < level.tree.height → 0 < level.height → level.new ≡ child ∷ []
+    → item_at level.lo (old_nodes table level) ≡ Some left.item
+    → left.start ≡ node_begin table level → level.hi ≤ left.item.end
     → words ≡ at_of table.rows left.item.word
-    → made ≡ words_of false (spliced lo child.end (child ∷ []) (items_of false words))
-    → length (spliced lo child.end (child ∷ []) (items_of false words)) ≡ length (items_of false words)
-    → gap ≡ gap_of false 0 (spliced lo child.end (child ∷ []) (items_of false words))
-    → Swapped table top height level lo hi new left made gap
-swapped_is table top height level lo hi new left child words made gap partly less inner one found begins within is told count largest =
-    let leaf = is_leaf level in
-    let leafless = inner_is level inner in
-    let low = end_of 0 (ending_by lo (old_level table top height level)) in
-    let ends : child.end ≡ hi = sym (ap (end_of low) one) ∙ partly.ending in
-    let same : spliced lo child.end (child ∷ []) (items_of false words) ≡ spliced lo hi new (items_of false words) =
-    ap (λ (xs : List NodeItem). spliced lo child.end xs (items_of false words)) (sym one)
-    ∙ ap (λ (p : ℕ). spliced lo p new (items_of false words)) ends in
-    let told_here : made ≡ words_of leaf (spliced lo hi new (items_of leaf words)) =
-    subst (λ (b : Bool). made ≡ words_of b (spliced lo hi new (items_of b words))) (sym leafless) (told ∙ ap (words_of false) same) in
-    let count_here : length (spliced lo hi new (items_of leaf words)) ≡ length (items_of leaf words) =
-    subst (λ (b : Bool). length (spliced lo hi new (items_of b words)) ≡ length (items_of b words)) (sym leafless)
+    → made ≡ words_of false (spliced level.lo child.end (child ∷ []) (items_of false words))
+    → length (spliced level.lo child.end (child ∷ []) (items_of false words)) ≡ length (items_of false words)
+    → gap ≡ gap_of false 0 (spliced level.lo child.end (child ∷ []) (items_of false words))
+    → Swapped table level left made gap
+swapped_is table level left child words made gap partly less inner one found begins within is told count largest =
+    let leaf = is_leaf level.height in
+    let leafless = inner_is level.height inner in
+    let ends = only_ends table level child partly one in
+    let same : spliced level.lo child.end (child ∷ []) (items_of false words) ≡ spliced level.lo level.hi level.new (items_of false words) =
+    ap (λ (xs : List NodeItem). spliced level.lo child.end xs (items_of false words)) (sym one)
+    ∙ ap (λ (p : ℕ). spliced level.lo p level.new (items_of false words)) ends in
+    let told_here : made ≡ words_of leaf (spliced level.lo level.hi level.new (items_of leaf words)) =
+    subst (λ (b : Bool). made ≡ words_of b (spliced level.lo level.hi level.new (items_of b words))) (sym leafless) (told ∙ ap (words_of false) same) in
+    let count_here : length (spliced level.lo level.hi level.new (items_of leaf words)) ≡ length (items_of leaf words) =
+    subst (λ (b : Bool). length (spliced level.lo level.hi level.new (items_of b words)) ≡ length (items_of b words)) (sym leafless)
     (sym (ap (λ (xs : List NodeItem). length xs) same) ∙ count) in
-    let there = there_at table top height level lo hi lo new left.item partly less found in
+    let there = there_at table level level.lo left.item partly less found in
     let long : length (items_of leaf words) ≡ length (read (at_of table.rows) leaf left.item.word) = ap (λ (ws : List ℕ). length (items_of leaf ws)) is in
     let few = there.node.most in
-    let lists = lists_spliced table top height level lo hi new left words made partly less found begins within is told_here in
-    let lists_here : items_of false made ≡ spliced lo hi new (items_of false words) =
-    subst (λ (b : Bool). items_of b made ≡ spliced lo hi new (items_of b words)) leafless lists in
+    let lists = lists_spliced table level left words made partly less found begins within is told_here in
+    let lists_here : items_of false made ≡ spliced level.lo level.hi level.new (items_of false words) =
+    subst (λ (b : Bool). items_of b made ≡ spliced level.lo level.hi level.new (items_of b words)) leafless lists in
     let gap_here : gap ≡ gap_of false left.start (items_of false made) =
     largest ∙ ap (gap_of false 0) (same ∙ sym lists_here) ∙ gap_anywhere 0 left.start (items_of false made) in
     record {
-      renewed = renewed_is table top height level lo hi (length (items_of leaf words)) new left words made partly less found begins within is told_here
+      renewed = renewed_is table level (length (items_of leaf words)) left words made partly less found begins within is told_here
           (omega arith) (omega arith) (λ ends_inside. let enough = there.node.least ends_inside in omega arith);
       largest = subst (λ (b : Bool). gap ≡ gap_of b left.start (items_of b made)) (sym leafless) gap_here;
     }

@@ -1,4 +1,4 @@
--- For `put`, `pack`, `rise` and others: how often a row stands among others, and what stays when other rows are written.
+-- For `put`, `pack`, `rebuild_level` and others: how often a row stands among others, and what stays when other rows are written.
 use Rattle.std.proofs.Common.{ℕ, zero, suc, ◌≡◌, ◌≢◌, ◌<◌, ◌≤◌, ◌+◌, Bool, true, nat_eq, List, [], ◌∷◌, ◌++◌, length, set, refl, sym, ap, subst, ◌∙◌, arith}
 use Rattle.std.proofs.lemmas.Bool.Decides.{nat_tests}
 use Rattle.std.proofs.lemmas.List.{map-append, get_or-set_other, get_or-set_same}

@@ -2,10 +2,11 @@
 //! anew in free rows, level by level. The rows of the old tree keep their words until the tree is published.
 #![tactic(auto)]
 
+mod descent;
 mod laws;
 mod level;
-mod path;
 mod rows;
+mod state;
 mod storing;
 mod tree;
 

@@ -10,9 +10,9 @@ ghost use Rattle.node_slots.specs.Seats.{Writes, sight, writer_state, row_count,
 ghost use Rattle.node_slots.specs.Built.{words_at, built, IsBuilt, IsWriters, pairs_now};
 ghost use Rattle.maple_write.specs.Internal.Tables.{table_at};
 ghost use Rattle.maple_write.specs.Tables.{FillsRows};
-ghost use Rattle.maple_write.specs.Internal.Stores.{IsShaped, IsWhole, Finds, tree_under, all_gap, IsPath};
+ghost use Rattle.maple_write.specs.Internal.Stores.{IsShaped, IsWhole, Finds, tree_under, all_gap, IsDescent};
 
-use crate::path::{LEVELS, NO_PLACE, Path, find};
+use crate::descent::{Descent, LEVELS, NO_PLACE, find};
 use crate::rows::{Rooted, put, words};
 use crate::tree::{first, replace};
 use maple_items::{ItemList, Place, gap_in, lists_nothing, push_all, push_ending_after};
@@ -93,16 +93,16 @@ fn rooted(writer: &NodeWriter, tree: &Tree) -> Rooted
 }
 
 /// Where the gap begins that has the page before a page, or else the page.
-fn gap_begin(writer: &NodeWriter, tree: Rooted, path: &Path, page: u64) -> u64
-    requires shaped { IsShaped (table_at writer.now) (tree_under tree) }
-    requires path { IsPath (words_at writer.now) tree.top tree.height 0 path.now }
-    requires within { page ≤ tree.top.end }
-    ensures { result ≡ widened_lo page (entries_of (words_at writer.now) (tree_under tree)) }
+fn gap_begin(writer: &NodeWriter, descent: &Descent, page: u64) -> u64
+    requires shaped { IsShaped (table_at writer.now) (tree_under descent.now.tree) }
+    requires descent { IsDescent (words_at writer.now) 0 descent.now }
+    requires within { page ≤ descent.now.tree.top.end }
+    ensures { result ≡ widened_lo page (entries_of (words_at writer.now) (tree_under descent.now.tree)) }
 {
     if page == 0 {
         return 0;
     }
-    let place = find(writer, tree, path, 0, page - 1);
+    let place = find(writer, descent, 0, page - 1);
     if place.item.word == 0 {
         place.start
     } else {
@@ -111,16 +111,16 @@ fn gap_begin(writer: &NodeWriter, tree: Rooted, path: &Path, page: u64) -> u64
 }
 
 /// Where the gap ends that has a page, or else the page.
-fn gap_end(writer: &NodeWriter, tree: Rooted, path: &Path, page: u64) -> u64
-    requires shaped { IsShaped (table_at writer.now) (tree_under tree) }
-    requires path { IsPath (words_at writer.now) tree.top tree.height 0 path.now }
-    requires within { page ≤ tree.top.end }
-    ensures { result ≡ widened_hi page (entries_of (words_at writer.now) (tree_under tree)) }
+fn gap_end(writer: &NodeWriter, descent: &Descent, page: u64) -> u64
+    requires shaped { IsShaped (table_at writer.now) (tree_under descent.now.tree) }
+    requires descent { IsDescent (words_at writer.now) 0 descent.now }
+    requires within { page ≤ descent.now.tree.top.end }
+    ensures { result ≡ widened_hi page (entries_of (words_at writer.now) (tree_under descent.now.tree)) }
 {
-    if page == tree.top.end {
+    if page == descent.tree.top.end {
         return page;
     }
-    let place = find(writer, tree, path, 0, page);
+    let place = find(writer, descent, 0, page);
     if place.item.word == 0 {
         place.item.end
     } else {
@@ -144,24 +144,25 @@ fn overwrite(writer: &mut NodeWriter, old: Rooted, span: Span, word: u64) -> Roo
     ensures height { result.height ≤ old.height + 1 }
     ensures free { length (free_of writer.old) ≤ length (free_of writer.new) + 3 * old.height + 1 }
 {
-    let mut path = Path {
+    let mut descent = Descent {
+        tree: old,
         page: span.lo,
         places: [NO_PLACE; LEVELS],
     };
-    path.lead(writer, old);
+    descent.descend(writer);
     if word != 0 {
-        return replace(writer, old, &path, span.lo, span.hi, word);
+        return replace(writer, descent, span, word);
     }
-    let lo = gap_begin(writer, old, &path, span.lo);
-    let hi = gap_end(writer, old, &path, span.hi);
-    replace(writer, old, &path, lo, hi, 0)
+    let lo = gap_begin(writer, &descent, span.lo);
+    let hi = gap_end(writer, &descent, span.hi);
+    replace(writer, descent, Span { lo, hi }, 0)
 }
 
-/// The entries of a tree whose pages were one gap up to `limit`, with one entry from page `lo` up to page `hi`.
-fn first_entries(limit: u64, lo: u64, hi: u64, word: u64) -> ItemList
-    requires some { lo < hi }
-    requires limit { hi ≤ limit }
-    ensures entries { result.items ≡ overwrite lo hi word (all_gap limit) }
+/// The entries of a tree whose pages were one gap up to `limit`, with one entry in a span.
+fn first_entries(limit: u64, span: Span, word: u64) -> ItemList
+    requires some { span.lo < span.hi }
+    requires limit { span.hi ≤ limit }
+    ensures entries { result.items ≡ overwrite span.lo span.hi word (all_gap limit) }
     ensures some { 1 ≤ length result.items }
     ensures few { length result.items ≤ 3 }
 {
@@ -174,15 +175,15 @@ fn first_entries(limit: u64, lo: u64, hi: u64, word: u64) -> ItemList
         start: 0,
         item: gap,
     };
-    let stretch = first(place, lo, hi, word);
+    let new = first(place, span, word);
     let mut entries = ItemList::new();
-    push_all(&mut entries, stretch.items.as_slice());
-    push_ending_after(&mut entries, hi, &[gap]);
+    push_all(&mut entries, new.items.as_slice());
+    push_ending_after(&mut entries, span.hi, &[gap]);
     entries
 }
 
 /// Makes the first leaf of a tree, in place of tree 0, whose row 0 is left.
-fn planted(writer: &mut NodeWriter, limit: u64, span: Span, word: u64) -> Rooted
+fn first_leaf(writer: &mut NodeWriter, limit: u64, span: Span, word: u64) -> Rooted
     requires kept { (row : ℕ) → is_kept writer.old row ≡ nat_eq row 0 }
     requires rows { 1 ≤ row_count writer.old }
     requires free { 1 ≤ length (free_of writer.old) }
@@ -195,14 +196,14 @@ fn planted(writer: &mut NodeWriter, limit: u64, span: Span, word: u64) -> Rooted
     ensures height { result.height ≡ 1 }
     ensures free { length (free_of writer.old) ≤ length (free_of writer.new) + 1 }
 {
-    let entries = first_entries(limit, span.lo, span.hi, word);
+    let entries = first_entries(limit, span, word);
     let top = put(writer, Row(0), true, 0, entries.as_slice());
     writer.leave(Row(0));
     Rooted { top, height: 1 }
 }
 
 /// A store into tree 0.
-fn plant(writer: &mut NodeWriter, limit: u64, span: Span, word: u64) -> Rooted
+fn store_first(writer: &mut NodeWriter, limit: u64, span: Span, word: u64) -> Rooted
     requires kept { (row : ℕ) → is_kept writer.old row ≡ nat_eq row 0 }
     requires rows { 1 ≤ row_count writer.old }
     requires free { 1 ≤ length (free_of writer.old) }
@@ -217,9 +218,9 @@ fn plant(writer: &mut NodeWriter, limit: u64, span: Span, word: u64) -> Rooted
     ensures free { length (free_of writer.old) ≤ length (free_of writer.new) + 1 }
 {
     if word != 0 {
-        return planted(writer, limit, span, word);
+        return first_leaf(writer, limit, span, word);
     }
-    planted(writer, limit, Span { lo: 0, hi: limit }, 0)
+    first_leaf(writer, limit, Span { lo: 0, hi: limit }, 0)
 }
 
 /// A store into the tree that the writer found: one with entries, or tree 0.
@@ -239,7 +240,7 @@ fn stored(writer: &mut NodeWriter, old: Rooted, limit: u64, span: Span, word: u6
     ensures free { length (free_of writer.old) ≤ length (free_of writer.new) + 3 * old.height + 1 }
 {
     if old.top.end == 0 {
-        return plant(writer, limit, span, word);
+        return store_first(writer, limit, span, word);
     }
     overwrite(writer, old, span, word)
 }

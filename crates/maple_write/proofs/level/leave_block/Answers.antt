@@ -10,25 +10,24 @@ use Rattle.maple_write.proofs.Writers.{few_rows, is_kept_from, left_more, free_m
 use Rattle.maple_write.proofs.Waiting.{leave_waits}
 use Rattle.maple_write.proofs.Blocks.{block_done}
 use Rattle.maple_write.proofs.Finding.{LeavesNext, leaves_next}
-use Rattle.maple_write.proofs.Crowns.{full}
+use Rattle.maple_write.proofs.Roots.{full}
 use Rattle.maple_write.proofs.level.leave_block.Goals as goal
 use Rattle.maple_write.proofs.level.leave_block.Goals.{After-find-place}
 
 -- the node that has the page was not left before
-next_node : (c : After-find-place) → LeavesNext (old_level (table_at c.args.writer.now) c.args.old.top c.args.old.height c.args.level) c.loop-page.page
-    c.args.hi c.find-place.result.item (gone (table_at c.loop-page.writer)) (row_count c.args.writer.now)
+next_node : (c : After-find-place) → LeavesNext (old_level (table_at c.args.writer.now) c.args.descent.now.tree c.args.level) c.loop-page.page
+    c.args.span.hi c.find-place.result.item (gone (table_at c.loop-page.writer)) (row_count c.args.writer.now)
 next_node c =
     let writer = c.args.writer.now in
-    let old = c.args.old in
-    let level = c.args.level in
-    let items = old_level (table_at writer) old.top old.height level in
+    let tree = c.args.descent.now.tree in
+    let items = old_level (table_at writer) tree c.args.level in
     let test = c.loop-page-test.true in
     let limit = c.requires.limit in
-    let is = full (table_at writer) old.top old.height level c.requires.tower (omega arith) in
+    let is = full (table_at writer) tree c.args.level c.requires.tower (omega arith) in
     let found : item_at c.loop-page.page items ≡ Some c.find-place.result.item =
-    sym (ap (λ (v : NodeView). item_at c.loop-page.page (old_level (record { rows = v.known.writer_state.words; free = []; left = [] }) old.top old.height level))
+    sym (ap (λ (v : NodeView). item_at c.loop-page.page (old_level (record { rows = v.known.writer_state.words; free = []; left = [] }) tree c.args.level))
     c.loop-page.invariant.view) ∙ c.find-place.ensures.item in
-    leaves_next items c.loop-page.page c.args.lo c.args.hi c.find-place.result.item (gone (table_at writer)) (gone (table_at c.loop-page.writer))
+    leaves_next items c.loop-page.page c.args.span.lo c.args.span.hi c.find-place.result.item (gone (table_at writer)) (gone (table_at c.loop-page.writer))
     (row_count writer) is.ascends test c.requires.edge found c.loop-page.invariant.gone_are c.requires.apart
 
 pub overflow_cast-place : goal.overflow_cast-place
@@ -70,10 +69,17 @@ loop-page-preserved c =
           omega arith;
     }
 
-pub returns-clause-gone : goal.returns-clause-gone
-returns-clause-gone c row =
-    let writer = c.args.writer.now in
-    let items = old_level (table_at writer) c.args.old.top c.args.old.height c.args.level in
-    let a = c.loop-page.invariant.gone_are row in
-    let b = ap (λ (xs : List NodeItem). times row (rows_in xs)) (block_done c.loop-page.page c.args.hi items c.loop-page-test.false) in
-    omega arith
+pub returns : goal.returns
+returns c =
+    let is = c.loop-page.invariant in
+    let items = old_level (table_at c.args.writer.now) c.args.descent.now.tree c.args.level in
+    record {
+      table = is.table;
+      view = is.view;
+      free = is.free;
+      waits = is.waits;
+      gone_are = λ row.
+          let a = is.gone_are row in
+          let b = ap (λ (xs : List NodeItem). times row (rows_in xs)) (block_done c.loop-page.page c.args.span.hi items c.loop-page-test.false) in
+          omega arith;
+    }

@@ -6,52 +6,53 @@ use Rattle.maple_node.specs.Levels.{is_leaf}
 use Rattle.maple_items.specs.Splices.{spliced}
 use Rattle.maple_node.specs.Padding.{padded}
 use Rattle.maple_write.specs.Internal.Tables.{table_at}
+use Rattle.maple_write.specs.Internal.Stores.{level_in}
 use Rattle.maple_write.proofs.Writers.{rows_counted}
 use Rattle.maple_write.proofs.Steps.{there_at}
 use Rattle.maple_write.proofs.Renewing.{source_of, renewed_is}
 use Rattle.maple_write.proofs.level.renewed.Goals as goal
-use Rattle.maple_write.proofs.level.renewed.Goals.{then-left-old, else-left-old}
+use Rattle.maple_write.proofs.level.renewed.Goals.{then-left-limit, else-left-limit}
 
 pub words-requires : goal.words-requires
 words-requires c =
-    let there = there_at (table_at c.args.writer.now) c.args.old.top c.args.old.height c.args.level c.args.lo c.args.new.now.end c.args.lo
-    c.args.new.now.items.items c.args.left.item c.requires.partly c.requires.below c.requires.left in
+    let there = there_at (table_at c.args.writer.now) (level_in c.args.state.now) c.args.state.now.lo c.args.left.item c.requires.writing.partly c.requires.below
+    c.requires.left.item in
     let row = there.row in
     let long = rows_counted c.args.writer.now in
     omega arith
 
 pub spliced_words-requires-clause-ascends : goal.spliced_words-requires-clause-ascends
 spliced_words-requires-clause-ascends c =
-    (source_of (table_at c.args.writer.now) c.args.old.top c.args.old.height c.args.level c.args.lo c.args.new.now.end c.args.lo
-    c.args.new.now.items.items c.args.left.item c.words.result.now c.requires.partly c.requires.below c.requires.left c.words.ensures).ascends
+    (source_of (table_at c.args.writer.now) (level_in c.args.state.now) c.args.state.now.lo c.args.left.item c.words.result.now c.requires.writing.partly c.requires.below
+    c.requires.left.item c.words.ensures).ascends
 
 pub spliced_words-requires-clause-whole : goal.spliced_words-requires-clause-whole
 spliced_words-requires-clause-whole c =
-    (source_of (table_at c.args.writer.now) c.args.old.top c.args.old.height c.args.level c.args.lo c.args.new.now.end c.args.lo
-    c.args.new.now.items.items c.args.left.item c.words.result.now c.requires.partly c.requires.below c.requires.left c.words.ensures).whole
+    (source_of (table_at c.args.writer.now) (level_in c.args.state.now) c.args.state.now.lo c.args.left.item c.words.result.now c.requires.writing.partly c.requires.below
+    c.requires.left.item c.words.ensures).whole
 
 pub spliced_words-requires-clause-end : goal.spliced_words-requires-clause-end
 spliced_words-requires-clause-end c =
-    (source_of (table_at c.args.writer.now) c.args.old.top c.args.old.height c.args.level c.args.lo c.args.new.now.end c.args.lo
-    c.args.new.now.items.items c.args.left.item c.words.result.now c.requires.partly c.requires.below c.requires.left c.words.ensures).ends
+    (source_of (table_at c.args.writer.now) (level_in c.args.state.now) c.args.state.now.lo c.args.left.item c.words.result.now c.requires.writing.partly c.requires.below
+    c.requires.left.item c.words.ensures).ends
 
 pub returns : goal.returns
 returns c done =
-    let within = c.if-left-new.false in
+    let level = level_in c.args.state.now in
+    let leaf = is_leaf level.height in
+    let left = c.args.left in
+    let words = c.words.result.now in
+    let within = c.if-left-state.false in
     let same = c.as_slice.ensures.value in
-    let fewest = c.if-left-old.fewest in
-    let enough : c.args.left.item.end < c.args.old.top.end → least (is_leaf c.args.level) ≤ fewest = λ inner.
-    elim c.if-left-old.branch as (λ _. least (is_leaf c.args.level) ≤ fewest) [
-      | then-left-old w ↦ let e = w.fewest-is in let told = w.least-fewest.ensures in omega arith
-      | else-left-old w ↦ let past = w.if-left-old.false in absurd (omega arith)
+    let fewest = c.if-left-limit.fewest in
+    let enough : left.item.end < level.tree.top.end → least leaf ≤ fewest = λ inner.
+    elim c.if-left-limit.branch as (λ _. least leaf ≤ fewest) [
+      | then-left-limit w ↦ let e = w.fewest-is in let told = w.least-fewest.ensures in omega arith
+      | else-left-limit w ↦ let past = w.if-left-limit.false in absurd (omega arith)
     ] in
-    renewed_is (table_at c.args.writer.now) c.args.old.top c.args.old.height c.args.level c.args.lo c.args.new.now.end fewest
-    c.args.new.now.items.items c.args.left c.words.result.now (padded c.spliced_words.new.made) c.requires.partly c.requires.below c.requires.left
-    c.requires.start (omega (arith, within)) c.words.ensures
-    (c.spliced_words.ensures.words done ∙ ap (λ (xs : List NodeItem). words_of (is_leaf c.args.level)
-    (spliced c.args.lo c.args.new.now.end xs (items_of (is_leaf c.args.level) c.words.result.now))) same)
-    (subst (λ (xs : List NodeItem). length (spliced c.args.lo c.args.new.now.end xs (items_of (is_leaf c.args.level) c.words.result.now))
-    ≤ most (is_leaf c.args.level)) same (c.spliced_words.ensures.most done))
-    (subst (λ (xs : List NodeItem). fewest ≤ length (spliced c.args.lo c.args.new.now.end xs
-    (items_of (is_leaf c.args.level) c.words.result.now))) same (c.spliced_words.ensures.least done))
+    renewed_is (table_at c.args.writer.now) level fewest left words (padded c.spliced_words.new.made) c.requires.writing.partly c.requires.below c.requires.left.item
+    c.requires.left.start (omega (arith, within)) c.words.ensures
+    (c.spliced_words.ensures.words done ∙ ap (λ (xs : List NodeItem). words_of leaf (spliced level.lo level.hi xs (items_of leaf words))) same)
+    (subst (λ (xs : List NodeItem). length (spliced level.lo level.hi xs (items_of leaf words)) ≤ most leaf) same (c.spliced_words.ensures.most done))
+    (subst (λ (xs : List NodeItem). fewest ≤ length (spliced level.lo level.hi xs (items_of leaf words))) same (c.spliced_words.ensures.least done))
     enough

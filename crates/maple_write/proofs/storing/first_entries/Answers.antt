@@ -11,21 +11,21 @@ moved none list items given is empty all = all ∙ ap (λ (xs : List NodeItem). 
 pub push_ending_after-requires : goal.push_ending_after-requires
 push_ending_after-requires c =
     let gap : NodeItem = record { end = c.args.limit; word = 0; gap = 0 } in
-    let long = ap (λ (xs : List NodeItem). length xs) (moved c.new-entries.result.items c.push_all.new.list.items c.as_slice.result.now _ (c.as_slice.ensures.value ∙ c.first-stretch.ensures.items) c.new-entries.ensures c.push_all.ensures) in
-    let two = first_two 0 c.args.lo c.args.hi c.args.word gap in
+    let long = ap (λ (xs : List NodeItem). length xs) (moved c.new-entries.result.items c.push_all.new.list.items c.as_slice.result.now _ (c.as_slice.ensures.value ∙ c.first-new.ensures.items) c.new-entries.ensures c.push_all.ensures) in
+    let two = first_two 0 c.args.span.lo c.args.span.hi c.args.word gap in
     omega arith
 
 pub returns-clause-entries : goal.returns-clause-entries
 returns-clause-entries c =
-    (gap_entries c.args.limit c.args.lo c.args.hi c.args.word c.push_all.new.list.items c.push_ending_after.new.list.items c.requires.some c.requires.limit
-    (moved c.new-entries.result.items c.push_all.new.list.items c.as_slice.result.now _ (c.as_slice.ensures.value ∙ c.first-stretch.ensures.items) c.new-entries.ensures c.push_all.ensures) c.push_ending_after.ensures).entries
+    (gap_entries c.args.limit c.args.span.lo c.args.span.hi c.args.word c.push_all.new.list.items c.push_ending_after.new.list.items c.requires.some c.requires.limit
+    (moved c.new-entries.result.items c.push_all.new.list.items c.as_slice.result.now _ (c.as_slice.ensures.value ∙ c.first-new.ensures.items) c.new-entries.ensures c.push_all.ensures) c.push_ending_after.ensures).entries
 
 pub returns-clause-some : goal.returns-clause-some
 returns-clause-some c =
-    (gap_entries c.args.limit c.args.lo c.args.hi c.args.word c.push_all.new.list.items c.push_ending_after.new.list.items c.requires.some c.requires.limit
-    (moved c.new-entries.result.items c.push_all.new.list.items c.as_slice.result.now _ (c.as_slice.ensures.value ∙ c.first-stretch.ensures.items) c.new-entries.ensures c.push_all.ensures) c.push_ending_after.ensures).some
+    (gap_entries c.args.limit c.args.span.lo c.args.span.hi c.args.word c.push_all.new.list.items c.push_ending_after.new.list.items c.requires.some c.requires.limit
+    (moved c.new-entries.result.items c.push_all.new.list.items c.as_slice.result.now _ (c.as_slice.ensures.value ∙ c.first-new.ensures.items) c.new-entries.ensures c.push_all.ensures) c.push_ending_after.ensures).some
 
 pub returns-clause-few : goal.returns-clause-few
 returns-clause-few c =
-    (gap_entries c.args.limit c.args.lo c.args.hi c.args.word c.push_all.new.list.items c.push_ending_after.new.list.items c.requires.some c.requires.limit
-    (moved c.new-entries.result.items c.push_all.new.list.items c.as_slice.result.now _ (c.as_slice.ensures.value ∙ c.first-stretch.ensures.items) c.new-entries.ensures c.push_all.ensures) c.push_ending_after.ensures).few
+    (gap_entries c.args.limit c.args.span.lo c.args.span.hi c.args.word c.push_all.new.list.items c.push_ending_after.new.list.items c.requires.some c.requires.limit
+    (moved c.new-entries.result.items c.push_all.new.list.items c.as_slice.result.now _ (c.as_slice.ensures.value ∙ c.first-new.ensures.items) c.new-entries.ensures c.push_all.ensures) c.push_ending_after.ensures).few

@@ -1,24 +1,25 @@
 -- For `leave_upper`: the nodes of the levels up to one were left.
-use Rattle.std.proofs.Common.{◌-◌, ◌≡◌, ◌≤◌, ◌+◌, ℕ, [], ◌∷◌, length}
-use Rattle.maple_node.specs.Levels.{rows_of, times}
+use Rattle.std.proofs.Common.{◌-◌, ◌≡◌, ◌≤◌, ◌+◌, ℕ, length}
+use Rattle.maple_node.specs.Levels.{times}
 use Rattle.node_slots.specs.Seats.{StaysAt, sight, free_of, is_waiting}
 use Rattle.node_slots.specs.Built.{words_at}
 use Rattle.maple_write.specs.Internal.Tables.{table_at, gone}
+use Rattle.maple_write.specs.Internal.Stores.{upper_rows}
 use Rattle.maple_write.proofs.tree.leave_upper.Given as goal
 
 abbrev pub invariant-loop-next : goal.invariant-loop-next
 invariant-loop-next l = record {
-  order : l.level ≤ l.next;
-  high : l.next ≤ l.old.height;
+  order : l.state.level ≤ l.next;
+  high : l.next ≤ l.state.descent.tree.height;
   table : StaysAt l.fn.writer l.writer;
   view : sight l.writer ≡ sight l.fn.writer;
   free : length (free_of l.fn.writer) ≤ length (free_of l.writer);
   waits : (row : ℕ) → is_waiting l.writer row ≡ is_waiting l.fn.writer row;
   gone_are : (row : ℕ) → gone (table_at l.writer) row
-      + times row (rows_of (words_at l.fn.writer) l.next (l.old.height - l.next) (l.old.top ∷ []))
+      + times row (upper_rows (words_at l.fn.writer) l.state.descent.tree l.next)
       ≡ gone (table_at l.fn.writer) row
-      + times row (rows_of (words_at l.fn.writer) l.level (l.old.height - l.level) (l.old.top ∷ []));
+      + times row (upper_rows (words_at l.fn.writer) l.state.descent.tree l.state.level);
 }
 
 abbrev pub decreases-loop-next : goal.decreases-loop-next
-decreases-loop-next l = l.old.height - l.next
+decreases-loop-next l = l.tree.height - l.next

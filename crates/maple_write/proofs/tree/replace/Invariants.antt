@@ -8,22 +8,22 @@ use Rattle.node_slots.specs.Seats.{free_of}
 use Rattle.node_slots.specs.Built.{words_at}
 use Rattle.maple_write.specs.Internal.Tables.{table_at}
 use Rattle.maple_write.specs.Tables.{FillsRows}
-use Rattle.maple_write.specs.Internal.Stores.{old_level, new_level, new_entries, Partly, tree_under, IsPath}
+use Rattle.maple_write.specs.Internal.Stores.{old_level, level_in, new_level, new_entries, tree_under, IsWriting}
 use Rattle.maple_write.proofs.tree.replace.Given as goal
 
-abbrev pub invariant-loop-level : goal.invariant-loop-level
-invariant-loop-level l = record {
+abbrev pub invariant-loop-state : goal.invariant-loop-state
+invariant-loop-state l = record {
   same : FillsRows l.fn.writer l.writer;
-  partly : Partly (table_at l.writer) l.old.top l.old.height l.level l.lo l.new.end l.new.items.items;
-  path : IsPath (words_at l.writer) l.old.top l.old.height l.level l.path;
-  entries : new_entries (table_at l.writer) l.old.top l.old.height l.level l.lo l.new.end l.new.items.items
-      ≡ overwrite l.lo l.hi l.word (entries_of (words_at l.fn.writer) (tree_under l.old));
-  free : length (free_of l.fn.writer) ≤ length (free_of l.writer) + 3 * l.level;
-  whole : l.done ≡ true → (1 ≤ l.level) × ((end_of 0 (ending_by l.lo (old_level (table_at l.writer) l.old.top l.old.height l.level)) ≡ 0)
-      × ((l.new.end ≡ l.old.top.end) × (length l.new.items.items ≡ 1)));
-  wide : 1 ≤ l.level → l.done ≡ false → 2 ≤ length (new_level (table_at l.writer) l.old.top l.old.height l.level l.lo l.new.end l.new.items.items);
-  under : 2 ≤ l.level → 2 ≤ length (below (words_at l.writer) false (new_level (table_at l.writer) l.old.top l.old.height l.level l.lo l.new.end l.new.items.items));
+  writing : IsWriting l.writer l.state;
+  tree : l.state.descent.tree ≡ l.tree;
+  entries : new_entries (table_at l.writer) (level_in l.state)
+      ≡ overwrite l.fn.span.lo l.fn.span.hi l.fn.word (entries_of (words_at l.fn.writer) (tree_under l.tree));
+  free : length (free_of l.fn.writer) ≤ length (free_of l.writer) + 3 * l.state.level;
+  whole : l.done ≡ true → (1 ≤ l.state.level) × ((end_of 0 (ending_by l.state.lo (old_level (table_at l.writer) l.state.descent.tree l.state.level)) ≡ 0)
+      × ((l.state.replacement.end ≡ l.tree.top.end) × (length l.state.replacement.items.items ≡ 1)));
+  wide : 1 ≤ l.state.level → l.done ≡ false → 2 ≤ length (new_level (table_at l.writer) (level_in l.state));
+  under : 2 ≤ l.state.level → 2 ≤ length (below (words_at l.writer) false (new_level (table_at l.writer) (level_in l.state)));
 }
 
-abbrev pub decreases-loop-level : goal.decreases-loop-level
-decreases-loop-level l = l.old.height - l.level
+abbrev pub decreases-loop-state : goal.decreases-loop-state
+decreases-loop-state l = l.tree.height - l.state.level

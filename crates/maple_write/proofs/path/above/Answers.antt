@@ -1,9 +1,0 @@
--- For `above`: the root has each page.
-use Rattle.std.proofs.Common.{arith}
-use Rattle.maple_write.proofs.Finding.{at_top_of}
-use Rattle.maple_write.proofs.path.above.Goals as goal
-
-pub returns-clause-begins : goal.returns-clause-begins
-returns-clause-begins c at page less =
-    let is = at_top_of at c.args.tree.height page c.args.tree.top less in
-    record { found = is.found; begins = is.begins; above = omega arith }
