@@ -2,3 +2,4 @@ pub mod RowWords
 pub mod LockSteps
 pub mod GraceSteps
 pub mod Scripts
+pub mod NoRefusals

@@ -1,22 +1,27 @@
 -- For the laws of scripts: their first bad line, and the bytes that settle them.
-use Rattle.std.proofs.Common.{◌≡◌, ◌⊎◌, ℕ, ◌+◌, ◌≤◌, List, length, take, Option, Some, None, Result, Ok, Err, refl, ap, ◌∙◌, inl, inr}
+use Rattle.std.proofs.Common.{◌≡◌, ◌⊎◌, ℕ, ◌+◌, ◌≤◌, List, [], ◌∷◌, length, take, Option, Some, None, Result, Ok, Err, refl, ap, ◌∙◌, inl, inr, arith}
 use Rattle.text_lexer.specs.declared.error.Cause.{Cause}
-use Rattle.text_lexer.specs.declared.error.Cause.TheVariants.{TooMany}
+use Rattle.text_lexer.specs.declared.error.Cause.TheVariants.{Header}
 use Rattle.text_lexer.specs.declared.error.BadLine.{BadLine}
 use Rattle.text_lexer.specs.declared.limits.TheConstants.{LINE_LIMIT}
 use Rattle.text_lexer.specs.Causes.{◌>>=◌}
-use Rattle.text_lexer.specs.Lines.{input_limit, raw_lines}
+use Rattle.text_lexer.specs.BadLines.{bad_line}
+use Rattle.text_lexer.specs.Lines.{input_limit, lines_from, raw_lines}
 use Rattle.text_lexer.specs.Words.{words_of}
 use Rattle.text_lexer.proofs.Beginnings.{IsLimited, lines_leave-front, lines_leave-within}
 use Rattle.text_lexer.proofs.FirstBad.{lines_leave-Err}
 use Rattle.text_lexer.proofs.LineTests.{text_within-past}
-use Rattle.std.specs.Prelude.{nat_lt, if◌then◌else◌}
 use Rattle.step_script.specs.declared.script.Script.{Script}
-use Rattle.step_script.specs.declared.script.TheConstants.{MOST_LINES}
 use Rattle.step_script.specs.Grammar.{after_lines, whole, script_of}
 use Rattle.step_script.specs.Laws.{IsFirstBad, NamesNoCore}
-use Rattle.step_script.specs.Lines.{after_text, after_line}
+use Rattle.step_script.specs.Lines.{said_in, with_said, after_line}
 use Rattle.step_script.specs.Output.{output_of, script_output}
+
+-- where there are no bytes, no line names a core
+pub script_of-empty : (bytes : List ℕ) → length bytes ≡ 0 → script_of bytes ≡ Err (bad_line 1 Header)
+unfolding script_of lines_from
+script_of-empty [] none = refl
+script_of-empty (byte ∷ bytes) none = absurd (omega arith)
 
 by_lines : (bytes : List ℕ) (first : BadLine) (read : Result (Option Script) BadLine) → after_lines None (raw_lines bytes) ≡ read
     → whole read ≡ Err first → IsFirstBad bytes first ⊎ NamesNoCore bytes first
@@ -33,8 +38,8 @@ script_of-Err bytes first e = by_lines bytes first (after_lines None (raw_lines 
 after_line-limited : IsLimited input_limit after_line
 unfolding after_line
 after_line-limited before line past =
-    ap (λ (r : Result (List ℕ) Cause). r >>= λ text. (after_text before line.number text (words_of text)
-    >>= λ next. if nat_lt MOST_LINES line.number then Err TooMany else Ok next)) (text_within-past LINE_LIMIT input_limit line past)
+    ap (λ (r : Result (List ℕ) Cause). r >>= λ text. (said_in before line.number text (words_of text)
+    >>= λ what. with_said line.number what)) (text_within-past LINE_LIMIT input_limit line past)
 
 -- so one byte more than the limit settles the output
 pub output-front : (bytes : List ℕ) → script_output (take (input_limit + 1) bytes) ≡ script_output bytes

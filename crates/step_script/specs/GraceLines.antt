@@ -1,5 +1,5 @@
 -- The events of the grace core, each from the words after its name.
-use Rattle.std.specs.Prelude.{ℕ, List, [], ◌∷◌, codes, bytes_eq, Result, Ok, Err, if◌then◌else◌}
+use Rattle.std.specs.Prelude.{ℕ, Bool, List, [], ◌∷◌, codes, bytes_eq, Result, Ok, Err, if◌then◌else◌}
 use Rattle.mm_types.specs.declared.slot.Row.{Row}
 use Rattle.grace_core.specs.declared.events.GraceEvent.{GraceEvent}
 use Rattle.grace_core.specs.declared.events.GraceEvent.TheVariants as events
@@ -73,6 +73,10 @@ scan_of readers words = do
   r ← reader_of readers words
   Ok (events.Scan r)
 
+-- whether a word is the name of the event that lists rows
+abbrev pub is_publish : List ℕ → Bool
+is_publish name = bytes_eq name (codes "publish")
+
 -- the event of this name
 unfoldable pub grace_event : ℕ → ℕ → List ℕ → List (List ℕ) → Result GraceEvent Cause
 grace_event readers rows name words = if bytes_eq name (codes "open") then open_of readers words
@@ -80,5 +84,5 @@ grace_event readers rows name words = if bytes_eq name (codes "open") then open_
     else (if bytes_eq name (codes "word") then word_of readers rows words
     else (if bytes_eq name (codes "close") then close_of readers words
     else (if bytes_eq name (codes "fill") then fill_of rows words
-    else (if bytes_eq name (codes "publish") then publish_of rows words
+    else (if is_publish name then publish_of rows words
     else (if bytes_eq name (codes "scan") then scan_of readers words else Err Word))))))

@@ -11,7 +11,7 @@ use Rattle.grace_core.specs.Events.{after_event, answer}
 use Rattle.grace_core.specs.Refusals.{refusal}
 use Rattle.grace_core.specs.States.{opening}
 use Rattle.step_script.specs.declared.script.EventLine.{EventLine}
-use Rattle.step_script.specs.declared.script.GraceScript.{GraceScript}
+use Rattle.step_script.specs.declared.script.CoreScript.{CoreScript}
 use Rattle.step_script.specs.Texts.{outcome_of, left_by, texts_below, numbers_text, start_text, refusal_text}
 
 -- what an event results in
@@ -83,5 +83,5 @@ grace_lines_text core [] = []
 grace_lines_text core (line ∷ lines) = grace_line_text core line ++ grace_lines_text (grace_after core line.event) lines
 
 -- the text of a script of the grace core
-abbrev pub grace_text : GraceScript → List ℕ
-grace_text script = grace_lines_text (opening script.readers script.rows) script.lines
+abbrev pub grace_text : CoreScript GraceEvent → List ℕ
+grace_text script = grace_lines_text (opening script.readers script.parts) script.lines

@@ -1,3 +1,4 @@
+pub mod Scripts
 pub mod Values
 pub mod Fields
 pub mod LockLines

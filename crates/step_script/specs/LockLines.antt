@@ -1,5 +1,5 @@
 -- The events of the lock core, each from the words after its name.
-use Rattle.std.specs.Prelude.{ℕ, List, [], ◌∷◌, codes, bytes_eq, Result, Ok, Err, if◌then◌else◌}
+use Rattle.std.specs.Prelude.{ℕ, Bool, List, [], ◌∷◌, codes, bytes_eq, Result, Ok, Err, if◌then◌else◌}
 use Rattle.lock_core.specs.declared.events.LockEvent.{LockEvent}
 use Rattle.lock_core.specs.declared.events.LockEvent.TheVariants.{Add, Look, Field, Sub, Begin, Mark, Store, End}
 use Rattle.text_lexer.specs.declared.error.Cause.{Cause}
@@ -83,6 +83,10 @@ unfoldable pub end_of : List ℕ → List (List ℕ) → Result LockEvent Cause
 end_of text (caller ∷ name ∷ more) = end_by text caller
 end_of text _ = Err Arity
 
+-- whether a word is the name of the event that has a call
+abbrev pub is_end : List ℕ → Bool
+is_end name = bytes_eq name (codes "end")
+
 -- the event of this name, in a line of this text
 unfoldable pub lock_event : ℕ → ℕ → List ℕ → List ℕ → List (List ℕ) → Result LockEvent Cause
 lock_event readers slots text name words = if bytes_eq name (codes "add") then add_of readers slots words
@@ -92,4 +96,4 @@ lock_event readers slots text name words = if bytes_eq name (codes "add") then a
     else (if bytes_eq name (codes "begin") then begin_of words
     else (if bytes_eq name (codes "mark") then mark_of slots words
     else (if bytes_eq name (codes "store") then store_of slots words
-    else (if bytes_eq name (codes "end") then end_of text words else Err Word)))))))
+    else (if is_end name then end_of text words else Err Word)))))))

@@ -12,7 +12,7 @@ use Rattle.lock_core.specs.Events.{answer}
 use Rattle.lock_core.specs.Refusals.{refusal}
 use Rattle.lock_core.specs.States.{Lock, opening_core, after_step}
 use Rattle.step_script.specs.declared.script.EventLine.{EventLine}
-use Rattle.step_script.specs.declared.script.LockScript.{LockScript}
+use Rattle.step_script.specs.declared.script.CoreScript.{CoreScript}
 use Rattle.step_script.specs.Texts.{outcome_of, left_by, texts_below, start_text, refusal_text}
 
 -- what an event results in
@@ -75,9 +75,9 @@ lock_lines_text lock [] = []
 lock_lines_text lock (line ∷ lines) = lock_line_text lock line ++ lock_lines_text (lock_after lock line.event) lines
 
 -- the state before the first event: the default configuration without files, and so many readers and slots
-abbrev pub lock_opening : LockScript → Lock
-lock_opening script = record { config = default_config []; core = opening_core script.readers script.slots }
+abbrev pub lock_opening : CoreScript LockEvent → Lock
+lock_opening script = record { config = default_config []; core = opening_core script.readers script.parts }
 
 -- the text of a script of the lock core
-abbrev pub lock_text : LockScript → List ℕ
+abbrev pub lock_text : CoreScript LockEvent → List ℕ
 lock_text script = lock_lines_text (lock_opening script) script.lines

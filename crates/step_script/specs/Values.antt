@@ -6,8 +6,10 @@ use Rattle.grace_core.specs.Core.{Core}
 use Rattle.grace_core.specs.States.{HasReader}
 use Rattle.lock_core.specs.declared.events.LockEvent.{LockEvent}
 use Rattle.lock_core.specs.declared.events.LockEvent.TheVariants as lock
-use Rattle.step_script.specs.declared.script.GraceScript.{GraceScript}
-use Rattle.step_script.specs.declared.script.LockScript.{LockScript}
+use Rattle.step_script.specs.declared.lines.Said.{Said}
+use Rattle.step_script.specs.declared.lines.Said.TheVariants as said
+use Rattle.step_script.specs.declared.script.CoreScript.{CoreScript}
+use Rattle.step_script.specs.declared.script.Counts.{Counts}
 use Rattle.step_script.specs.declared.script.Script.{Script}
 use Rattle.step_script.specs.declared.script.Script.TheVariants.{Lock, Grace}
 use Rattle.step_script.specs.declared.script.TheConstants.{MOST_PARTS}
@@ -37,23 +39,29 @@ IsGraceEvent readers rows (grace.Scan reader) = reader < readers
 IsGraceEvent readers rows (grace.Split reader) = ⊥
 IsGraceEvent readers rows (grace.Join first second) = ⊥
 
--- a script of the lock core: 1 to 8 readers and slots, fewer lines than this number, and events of these readers and slots
-pub record IsLockScript (limit : ℕ) (script : LockScript) : Type 0 where
-  pub some_readers : 0 < script.readers
-  pub few_readers : script.readers ≤ MOST_PARTS
-  pub some_slots : 0 < script.slots
-  pub few_slots : script.slots ≤ MOST_PARTS
-  pub few_lines : length script.lines < limit
-  pub events : All (λ line. IsLockEvent script.readers script.slots line.event) script.lines
+-- the counts that the line which names a core may have
+pub record AreCounts (counts : Counts) : Type 0 where
+  pub some_readers : 0 < counts.readers
+  pub few_readers : counts.readers ≤ MOST_PARTS
+  pub some_parts : 0 < counts.parts
+  pub few_parts : counts.parts ≤ MOST_PARTS
 
--- a script of the grace core: 1 to 8 readers and rows, fewer lines than this number, and events of these readers and rows
-pub record IsGraceScript (limit : ℕ) (script : GraceScript) : Type 0 where
+-- a script of one core: 1 to 8 readers and slots or rows, fewer lines than this number, and events of these
+pub record IsCoreScript {E : Type 0} (IsEvent : ℕ → ℕ → E → Type 0) (limit : ℕ) (script : CoreScript E) : Type 0 where
   pub some_readers : 0 < script.readers
   pub few_readers : script.readers ≤ MOST_PARTS
-  pub some_rows : 0 < script.rows
-  pub few_rows : script.rows ≤ MOST_PARTS
+  pub some_parts : 0 < script.parts
+  pub few_parts : script.parts ≤ MOST_PARTS
   pub few_lines : length script.lines < limit
-  pub events : All (λ line. IsGraceEvent script.readers script.rows line.event) script.lines
+  pub events : All (λ line. IsEvent script.readers script.parts line.event) script.lines
+
+-- a script of the lock core
+abbrev pub IsLockScript : ℕ → CoreScript LockEvent → Type 0
+IsLockScript limit script = IsCoreScript IsLockEvent limit script
+
+-- a script of the grace core
+abbrev pub IsGraceScript : ℕ → CoreScript GraceEvent → Type 0
+IsGraceScript limit script = IsCoreScript IsGraceEvent limit script
 
 -- a script of either core, with fewer lines than this number
 abbrev pub IsScript : ℕ → Script → Type 0
@@ -63,6 +71,13 @@ IsScript limit (Grace script) = IsGraceScript limit script
 -- a script so far is such a script, once a line named its core
 abbrev pub IsSoFar : ℕ → Option Script → Type 0
 IsSoFar limit script = IfSome script (IsScript limit)
+
+-- a line says this to a script so far with fewer lines than this number
+abbrev pub IsSaid : ℕ → Said → Type 0
+IsSaid limit (said.Nothing script) = IsSoFar limit script
+IsSaid limit (said.Core script) = IsScript 1 script
+IsSaid limit (said.Lock script event) = IsLockScript limit script × IsLockEvent script.readers script.parts event
+IsSaid limit (said.Grace script event) = IsGraceScript limit script × IsGraceEvent script.readers script.parts event
 
 -- a state of the grace core that has exactly these readers and rows, none of the readers joined away
 pub record IsGraceState (readers rows : ℕ) (core : Core) : Type 0 where

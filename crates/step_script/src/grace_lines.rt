@@ -2,7 +2,8 @@
 
 ghost use Rattle.std.specs.Prelude.{◌<◌, All, IfOk, map};
 ghost use Rattle.text_lexer.specs.Reading.{Gives, Reads};
-ghost use Rattle.step_script.specs.GraceLines.{open_of, root_of, word, word_of, close_of, fill, fill_of, rows_of, publish_of, scan_of, grace_event};
+ghost use Rattle.step_script.specs.GraceLines.{open_of, root_of, word, word_of, close_of, fill, fill_of, rows_of, publish_of, scan_of, grace_event, is_publish};
+ghost use Rattle.step_script.specs.Reading.{LacksOnlyIf};
 ghost use Rattle.step_script.specs.Values.{IsGraceEvent};
 
 use crate::fields::{index_of, reader_of};
@@ -139,6 +140,7 @@ pub(crate) fn grace_event(
     ensures value { Gives (λ event. event) result
         (grace_event readers rows name.now (map (λ word. word.now) words.now)) }
     ensures fits { IfOk result (IsGraceEvent readers rows) }
+    ensures memory { LacksOnlyIf (is_publish name.now) result }
 {
     match name {
         "open" => Ok(open_of(words, readers, rows)?),

@@ -1,11 +1,13 @@
 //! The run of a script of the grace core.
 
-ghost use Rattle.std.specs.Prelude.{◌≡◌, ◌++◌, ◌+◌, IfOk};
+ghost use Rattle.std.specs.Prelude.{◌≡◌, ◌++◌, ◌+◌, true, None, IfOk, OnErr};
+ghost use Rattle.grace_core.specs.Refusals.{refusal};
+ghost use Rattle.grace_core.specs.States.{takes_memory};
 ghost use Rattle.step_script.specs.GraceTexts.{grace_outcome, grace_after, grace_line_text, grace_text};
 ghost use Rattle.step_script.specs.Values.{IsGraceScript, IsGraceEvent, IsGraceState};
 
 use crate::grace_texts::{push_grace_outcome, push_grace_state};
-use crate::script::{EventLine, GraceScript, MOST_LINES};
+use crate::script::{CoreScript, EventLine, MOST_LINES};
 use crate::texts::push_start;
 use grace_core::{GraceAnswer, GraceEvent, GraceRefusal, GraceState, apply};
 use mm_types::NoMemory;
@@ -15,11 +17,11 @@ use std::alloc::Global;
 type Outcome = Result<GraceAnswer, GraceRefusal>;
 
 /// The text of a script of the grace core.
-pub(crate) fn grace_text(alloc: Global, script: GraceScript) -> Result<Vec<u8>, NoMemory>
+pub(crate) fn grace_text(alloc: Global, script: CoreScript<GraceEvent>) -> Result<Vec<u8>, NoMemory>
     requires { IsGraceScript (MOST_LINES + 1) script }
     ensures { IfOk result (λ text. text.items ≡ grace_text script) }
 {
-    let (readers, rows) = (script.readers, script.rows);
+    let (readers, rows) = (script.readers, script.parts);
     let mut state = GraceState::new(alloc, readers, rows)?;
     let mut text = Vec::new(alloc);
     for line in script.lines.into_vec() {
@@ -51,7 +53,7 @@ fn grace_step(
     Ok(state)
 }
 
-/// Makes an event, if it is not refused.
+/// Makes an event, if it is not refused. Only an event that takes memory, and that nothing refuses, may find none.
 fn grace_apply(
     state: GraceState,
     event: GraceEvent,
@@ -63,6 +65,8 @@ fn grace_apply(
     ensures kept { IfOk result (λ done. IsGraceState readers rows done.0) }
     ensures state { IfOk result (λ done. done.0 ≡ grace_after state event) }
     ensures outcome { IfOk result (λ done. done.1 ≡ grace_outcome state event) }
+    ensures no_memory { OnErr result (takes_memory event ≡ true) }
+    ensures last { OnErr result (refusal state event ≡ None) }
 {
     match apply(state, event) {
         Ok((state, found)) => Ok((state, Ok(found))),

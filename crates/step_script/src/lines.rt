@@ -1,20 +1,34 @@
 //! What one line does to the script so far.
 
 ghost use Rattle.std.specs.Prelude.{◌≡◌, ◌+◌, ◌≤◌, IfOk, map};
-ghost use Rattle.text_lexer.specs.Reading.{Gives, Reads, line_view};
-ghost use Rattle.step_script.specs.Lines.{is_header, lock, lock_of, grace, grace_of, core_of, with_lock_line, with_grace_line, with_words, after_first, after_words, after_text, after_line};
-ghost use Rattle.step_script.specs.Values.{IsLockScript, IsGraceScript, IsScript, IsSoFar};
+ghost use Rattle.text_lexer.specs.Reading.{Gives, GivesTested, Reads, line_view};
+ghost use Rattle.step_script.specs.Lines.{is_header, counted, counts_of, core_of, may_take_memory, words_may_take, line_may_take, said_to, said_by, said_in, with_said, after_line};
+ghost use Rattle.step_script.specs.Reading.{LacksOnlyIf};
+ghost use Rattle.step_script.specs.Values.{AreCounts, IsScript, IsSoFar, IsSaid};
 
 use crate::fields::count_of;
 use crate::grace_lines::grace_event;
 use crate::lock_lines::lock_event;
-use crate::script::{
-    EventLine, GraceLines, GraceScript, LockLines, LockScript, MOST_LINES, Script,
-};
+use crate::script::{CoreScript, Counts, MOST_LINES, Script};
+use grace_core::GraceEvent;
+use lock_core::LockEvent;
 use std::alloc::Global;
 use text_lexer::{CallError, Cause, RawLine, is_comment, text_of, words_of};
 
-/// The script after a line. The last test of a line is that there are no more than 10,000.
+/// What a line says, with the script so far to which it says it.
+#[derive(Debug, Drop)]
+pub(crate) enum Said {
+    /// Nothing: it is the header, has no words, or is a comment.
+    Nothing(Option<Script>),
+    /// Which core the script is of. Nothing was said before.
+    Core(Script),
+    /// An event of the lock core.
+    Lock(CoreScript<LockEvent>, LockEvent),
+    /// An event of the grace core.
+    Grace(CoreScript<GraceEvent>, GraceEvent),
+}
+
+/// The script after a line.
 #[tactic(auto, unfolding(crate::specs::Lines::after_line))]
 pub(crate) fn after_line(
     alloc: Global,
@@ -28,32 +42,56 @@ pub(crate) fn after_line(
 {
     let text = text_of(line)?;
     let words = words_of(alloc, text)?;
-    let next = after_text(alloc, script, line.number, text, words.as_slice())?;
-    if MOST_LINES < line.number {
-        return Err(CallError::Bad(Cause::TooMany));
-    }
+    let said = said_in(alloc, script, line.number, text, words.as_slice())?;
+    let next = with_said(line.number, said)?;
     Ok(next)
 }
 
-/// The script after a line, of which the first is the header.
-#[tactic(auto, unfolding(crate::specs::Lines::after_text))]
-fn after_text(
+/// The script with what a line says. The last test of a line, that there are no more than 10,000, comes before its event takes memory.
+#[tactic(auto, unfolding(crate::specs::Lines::with_said))]
+fn with_said(number: u64, said: Said) -> Result<Option<Script>, CallError>
+    requires fits { IsSaid number said }
+    ensures value { GivesTested (λ next. next) result (with_said number said) }
+    ensures fits { IfOk result (IsSoFar (number + 1)) }
+    ensures few { IfOk result (λ _. number ≤ MOST_LINES) }
+{
+    if MOST_LINES < number {
+        return Err(CallError::Bad(Cause::TooMany));
+    }
+    match said {
+        Said::Nothing(script) => Ok(script),
+        Said::Core(script) => Ok(Some(script)),
+        Said::Lock(script, event) => {
+            let next = script.with_event(number, event)?;
+            Ok(Some(Script::Lock(next)))
+        }
+        Said::Grace(script, event) => {
+            let next = script.with_event(number, event)?;
+            Ok(Some(Script::Grace(next)))
+        }
+    }
+}
+
+/// What a line says, of which the first is the header.
+#[tactic(auto, unfolding(crate::specs::Lines::said_in))]
+fn said_in(
     alloc: Global,
     script: Option<Script>,
     number: u64,
     text: &str,
     words: &[&str],
-) -> Result<Option<Script>, CallError>
+) -> Result<Said, CallError>
     requires fits { IsSoFar number script }
-    ensures value { Gives (λ next. next) result
-        (after_text script number text.now (map (λ word. word.now) words.now)) }
-    ensures fits { IfOk result (IsSoFar (number + 1)) }
+    ensures value { Gives (λ said. said) result
+        (said_in script number text.now (map (λ word. word.now) words.now)) }
+    ensures fits { IfOk result (IsSaid number) }
+    ensures memory { LacksOnlyIf (line_may_take script number (map (λ word. word.now) words.now)) result }
 {
     if number != 1 {
-        return after_words(alloc, script, number, text, words);
+        return said_by(alloc, script, number, text, words);
     }
     if is_header(words) {
-        Ok(script)
+        Ok(Said::Nothing(script))
     } else {
         Err(CallError::Bad(Cause::Header))
     }
@@ -70,156 +108,91 @@ fn is_header(words: &[&str]) -> bool
     }
 }
 
-/// The script after a line below the header. One without words, and a comment, is passed over.
-#[tactic(auto, unfolding(crate::specs::Lines::after_words, crate::specs::Lines::after_first))]
-fn after_words(
+/// What a line below the header says: nothing where it has no words or is a comment.
+#[tactic(auto, unfolding(crate::specs::Lines::said_by, crate::specs::Lines::said_after))]
+fn said_by(
     alloc: Global,
     script: Option<Script>,
     number: u64,
     text: &str,
     words: &[&str],
-) -> Result<Option<Script>, CallError>
+) -> Result<Said, CallError>
     requires fits { IsSoFar number script }
-    ensures value { Gives (λ next. next) result
-        (after_words script number text.now (map (λ word. word.now) words.now)) }
-    ensures fits { IfOk result (IsSoFar (number + 1)) }
+    ensures value { Gives (λ said. said) result
+        (said_by script text.now (map (λ word. word.now) words.now)) }
+    ensures fits { IfOk result (IsSaid number) }
+    ensures memory { LacksOnlyIf (words_may_take script (map (λ word. word.now) words.now)) result }
 {
     let [name, words @ ..] = words else {
-        return Ok(script);
+        return Ok(Said::Nothing(script));
     };
     if is_comment(name) {
-        return Ok(script);
+        return Ok(Said::Nothing(script));
     }
-    let next = with_words(alloc, script, number, text, name, words)?;
-    Ok(Some(next))
+    said_to(alloc, script, number, text, name, words)
 }
 
-/// The script with a line that says something: it names the core, or else it has an event of the core.
-#[tactic(auto, unfolding(crate::specs::Lines::with_words))]
-fn with_words(
+/// What a line says by its first word: it names the core, or else it has an event of the core.
+#[tactic(auto, unfolding(crate::specs::Lines::said_to))]
+fn said_to(
     alloc: Global,
     script: Option<Script>,
     number: u64,
     text: &str,
     name: &str,
     words: &[&str],
-) -> Result<Script, CallError>
+) -> Result<Said, CallError>
     requires fits { IsSoFar number script }
-    ensures value { Gives (λ next. next) result
-        (with_words script number text.now name.now (map (λ word. word.now) words.now)) }
-    ensures fits { IfOk result (IsScript (number + 1)) }
+    ensures value { Gives (λ said. said) result
+        (said_to script text.now name.now (map (λ word. word.now) words.now)) }
+    ensures fits { IfOk result (IsSaid number) }
+    ensures memory { LacksOnlyIf (may_take_memory script name.now) result }
 {
     match script {
-        None => Ok(core_of(alloc, name, words)?),
-        Some(Script::Lock(script)) => with_lock_line(alloc, script, number, text, name, words),
-        Some(Script::Grace(script)) => with_grace_line(alloc, script, number, name, words),
+        None => Ok(Said::Core(core_of(alloc, name, words)?)),
+        Some(Script::Lock(script)) => {
+            let event = lock_event(alloc, script.readers, script.parts, text, name, words)?;
+            Ok(Said::Lock(script, event))
+        }
+        Some(Script::Grace(script)) => {
+            let event = grace_event(alloc, script.readers, script.parts, name, words)?;
+            Ok(Said::Grace(script, event))
+        }
     }
 }
 
 /// The script without events that a line asks for which names the core.
-#[tactic(auto, unfolding(crate::specs::Lines::core_of))]
+#[tactic(auto, unfolding(crate::specs::Lines::core_of, crate::specs::Lines::lock_of, crate::specs::Lines::grace_of))]
 fn core_of(alloc: Global, name: &str, words: &[&str]) -> Result<Script, Cause>
     ensures value { Reads (λ next. next) result (core_of name.now (map (λ word. word.now) words.now)) }
     ensures fits { IfOk result (IsScript 1) }
 {
     match name {
-        "lock" => lock_of(alloc, words),
-        "grace" => grace_of(alloc, words),
+        "lock" => Ok(Script::Lock(CoreScript::new(alloc, counts_of(words)?))),
+        "grace" => Ok(Script::Grace(CoreScript::new(alloc, counts_of(words)?))),
         _ => Err(Cause::Word),
     }
 }
 
-/// A script of the lock core without events, of so many readers and slots.
-#[tactic(auto, unfolding(crate::specs::Lines::lock))]
-fn lock(alloc: Global, readers: &str, slots: &str) -> Result<Script, Cause>
-    ensures value { Reads (λ next. next) result (lock readers.now slots.now) }
-    ensures fits { IfOk result (IsScript 1) }
-{
-    let readers = count_of(readers)?;
-    let slots = count_of(slots)?;
-    Ok(Script::Lock(LockScript {
-        readers,
-        slots,
-        lines: LockLines::new(alloc),
-    }))
-}
-
-/// `lock READERS SLOTS`, from the words after the first.
-#[tactic(auto, unfolding(crate::specs::Lines::lock_of))]
-fn lock_of(alloc: Global, words: &[&str]) -> Result<Script, Cause>
-    ensures value { Reads (λ next. next) result (lock_of (map (λ word. word.now) words.now)) }
-    ensures fits { IfOk result (IsScript 1) }
+/// How many readers there are, and slots or rows, by the words after the name of a core.
+#[tactic(auto, unfolding(crate::specs::Lines::counts_of))]
+fn counts_of(words: &[&str]) -> Result<Counts, Cause>
+    ensures value { Reads (λ counts. counts) result (counts_of (map (λ word. word.now) words.now)) }
+    ensures fits { IfOk result AreCounts }
 {
     match words {
-        [readers, slots] => lock(alloc, readers, slots),
+        [readers, parts] => counted(readers, parts),
         _ => Err(Cause::Arity),
     }
 }
 
-/// A script of the grace core without events, of so many readers and rows.
-#[tactic(auto, unfolding(crate::specs::Lines::grace))]
-fn grace(alloc: Global, readers: &str, rows: &str) -> Result<Script, Cause>
-    ensures value { Reads (λ next. next) result (grace readers.now rows.now) }
-    ensures fits { IfOk result (IsScript 1) }
+/// How many readers there are, and slots or rows, by these words.
+#[tactic(auto, unfolding(crate::specs::Lines::counted))]
+fn counted(readers: &str, parts: &str) -> Result<Counts, Cause>
+    ensures value { Reads (λ counts. counts) result (counted readers.now parts.now) }
+    ensures fits { IfOk result AreCounts }
 {
     let readers = count_of(readers)?;
-    let rows = count_of(rows)?;
-    Ok(Script::Grace(GraceScript {
-        readers,
-        rows,
-        lines: GraceLines::new(alloc),
-    }))
-}
-
-/// `grace READERS ROWS`, from the words after the first.
-#[tactic(auto, unfolding(crate::specs::Lines::grace_of))]
-fn grace_of(alloc: Global, words: &[&str]) -> Result<Script, Cause>
-    ensures value { Reads (λ next. next) result (grace_of (map (λ word. word.now) words.now)) }
-    ensures fits { IfOk result (IsScript 1) }
-{
-    match words {
-        [readers, rows] => grace(alloc, readers, rows),
-        _ => Err(Cause::Arity),
-    }
-}
-
-/// A script of the lock core with one line more.
-#[tactic(auto, unfolding(crate::specs::Lines::with_lock_line))]
-fn with_lock_line(
-    alloc: Global,
-    script: LockScript,
-    number: u64,
-    text: &str,
-    name: &str,
-    words: &[&str],
-) -> Result<Script, CallError>
-    requires fits { IsLockScript number script }
-    ensures value { Gives (λ next. next) result
-        (with_lock_line script number text.now name.now (map (λ word. word.now) words.now)) }
-    ensures fits { IfOk result (IsScript (number + 1)) }
-{
-    let event = lock_event(alloc, script.readers, script.slots, text, name, words)?;
-    let mut script = script;
-    script.lines.push(EventLine { number, event })?;
-    Ok(Script::Lock(script))
-}
-
-/// A script of the grace core with one line more.
-#[tactic(auto, unfolding(crate::specs::Lines::with_grace_line))]
-fn with_grace_line(
-    alloc: Global,
-    script: GraceScript,
-    number: u64,
-    name: &str,
-    words: &[&str],
-) -> Result<Script, CallError>
-    requires fits { IsGraceScript number script }
-    ensures value { Gives (λ next. next) result
-        (with_grace_line script number name.now (map (λ word. word.now) words.now)) }
-    ensures fits { IfOk result (IsScript (number + 1)) }
-{
-    let event = grace_event(alloc, script.readers, script.rows, name, words)?;
-    let mut script = script;
-    script.lines.push(EventLine { number, event })?;
-    Ok(Script::Grace(script))
+    let parts = count_of(parts)?;
+    Ok(Counts { readers, parts })
 }

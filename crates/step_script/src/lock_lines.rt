@@ -2,7 +2,8 @@
 
 ghost use Rattle.std.specs.Prelude.{IfOk, map};
 ghost use Rattle.text_lexer.specs.Reading.{Gives, Reads};
-ghost use Rattle.step_script.specs.LockLines.{add, add_of, look_of, field, field_of, sub_of, begin_of, mark_of, store, store_of, end_by, end_of, lock_event};
+ghost use Rattle.step_script.specs.LockLines.{add, add_of, look_of, field, field_of, sub_of, begin_of, mark_of, store, store_of, end_by, end_of, lock_event, is_end};
+ghost use Rattle.step_script.specs.Reading.{LacksOnlyIf};
 ghost use Rattle.step_script.specs.Values.{IsLockEvent};
 
 use crate::fields::{caller_of, index_of, reader_of};
@@ -178,6 +179,7 @@ pub(crate) fn lock_event(
     ensures value { Gives (λ event. event) result
         (lock_event readers slots text.now name.now (map (λ word. word.now) words.now)) }
     ensures fits { IfOk result (IsLockEvent readers slots) }
+    ensures memory { LacksOnlyIf (is_end name.now) result }
 {
     match name {
         "add" => Ok(add_of(words, readers, slots)?),

@@ -1,12 +1,12 @@
 //! The run of a script of the lock core.
 
-ghost use Rattle.std.specs.Prelude.{◌≡◌, ◌++◌, ◌<◌, ◌+◌, ◌^◌, IfOk, length};
-ghost use Rattle.lock_core.specs.States.{HasRoom, NamesField};
+ghost use Rattle.std.specs.Prelude.{◌≡◌, ◌++◌, ◌<◌, ◌+◌, ◌^◌, true, IfOk, OnErr, length};
+ghost use Rattle.lock_core.specs.States.{HasRoom, NamesField, may_lack_memory};
 ghost use Rattle.step_script.specs.LockTexts.{lock_outcome, lock_after, lock_line_text, lock_text};
 ghost use Rattle.step_script.specs.Values.{IsLockScript};
 
 use crate::lock_texts::{push_lock_outcome, push_lock_state};
-use crate::script::{EventLine, LockScript, MOST_LINES};
+use crate::script::{CoreScript, EventLine, MOST_LINES};
 use crate::texts::push_start;
 use lock_core::{LockAnswer, LockEvent, LockState, StepRefusal, apply};
 use mm_types::{Config, Files, NoMemory};
@@ -16,12 +16,12 @@ use std::alloc::Global;
 type Outcome = Result<LockAnswer, StepRefusal>;
 
 /// The text of a script of the lock core.
-pub(crate) fn lock_text(alloc: Global, script: &LockScript) -> Result<Vec<u8>, NoMemory>
+pub(crate) fn lock_text(alloc: Global, script: &CoreScript<LockEvent>) -> Result<Vec<u8>, NoMemory>
     requires { IsLockScript (MOST_LINES + 1) script.now }
     ensures { IfOk result (λ text. text.items ≡ lock_text script.now) }
 {
     let config = Config::with_files(Files::of(Vec::new(alloc)));
-    let mut state = LockState::new(alloc, config, script.readers, script.slots)?;
+    let mut state = LockState::new(alloc, config, script.readers, script.parts)?;
     let mut text = Vec::new(alloc);
     for line in script.lines.items() {
         state = lock_step(alloc, state, line, &mut text)?;
@@ -50,7 +50,7 @@ fn lock_step(
     Ok(state)
 }
 
-/// Makes an event, if it is not refused.
+/// Makes an event, if it is not refused. Only an event that takes memory may find none.
 fn lock_apply(
     alloc: Global,
     state: LockState,
@@ -60,6 +60,7 @@ fn lock_apply(
     requires field { NamesField event }
     ensures state { IfOk result (λ done. done.0 ≡ lock_after state event) }
     ensures outcome { IfOk result (λ done. done.1 ≡ lock_outcome state event) }
+    ensures no_memory { OnErr result (may_lack_memory state.core event ≡ true) }
 {
     match apply(alloc, state, event) {
         Ok((state, found)) => Ok((state, Ok(found))),

@@ -1,6 +1,8 @@
 //! Which script bytes are.
 
-ghost use Rattle.std.specs.Prelude.{◌+◌, IfOk, None};
+ghost use Rattle.std.specs.Prelude.{◌≡◌, ◌+◌, length, IfOk, None, Err};
+ghost use Rattle.text_lexer.specs.BadLines.{bad_line};
+ghost use Rattle.text_lexer.specs.declared.error.Cause.TheVariants.{Header};
 ghost use Rattle.text_lexer.specs.Lines.{raw_lines};
 ghost use Rattle.step_script.specs.Grammar.{after_lines, script_of};
 ghost use Rattle.step_script.specs.Reading.{GivesRead};
@@ -16,11 +18,22 @@ use text_lexer::{CallError, Cause, ReadError, error_at, first_line};
 pub(crate) fn read_script(alloc: Global, bytes: &[u8]) -> Result<Script, ReadError>
     ensures value { GivesRead result (script_of bytes.now) }
     ensures fits { IfOk result (IsScript (MOST_LINES + 1)) }
+    ensures empty { length bytes.now ≡ 0 → result ≡ Err (ReadError.Bad (bad_line 1 Header)) }
 {
+    if bytes.is_empty() {
+        return Err(no_core());
+    }
     match read_lines(alloc, bytes)? {
         Some(script) => Ok(script),
-        None => Err(error_at(1, CallError::Bad(Cause::Header))),
+        None => Err(no_core()),
     }
+}
+
+/// No line names a core.
+fn no_core() -> ReadError
+    ensures { result ≡ ReadError.Bad (bad_line 1 Header) }
+{
+    error_at(1, CallError::Bad(Cause::Header))
 }
 
 /// The script that the lines of some bytes leave, or the first of them that is bad.

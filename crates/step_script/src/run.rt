@@ -1,6 +1,8 @@
 //! The output of a script.
 
-ghost use Rattle.std.specs.Prelude.{◌≡◌, ◌+◌, IfOk, IfErr, Ok};
+ghost use Rattle.std.specs.Prelude.{◌≡◌, ◌+◌, length, IfOk, IfErr, Ok, Err};
+ghost use Rattle.text_lexer.specs.BadLines.{bad_line};
+ghost use Rattle.text_lexer.specs.declared.error.Cause.TheVariants.{Header};
 ghost use Rattle.step_script.specs.Output.{script_output, script_text};
 ghost use Rattle.text_lexer.specs.Reading.{IsErrorOf};
 ghost use Rattle.step_script.specs.Values.{IsScript};
@@ -22,6 +24,7 @@ use text_lexer::ReadError;
 pub fn run_script(alloc: Global, bytes: &[u8]) -> Result<Vec<u8>, ReadError>
     ensures text { IfOk result (λ text. script_output bytes.now ≡ Ok text.items) }
     ensures bad { IfErr result (λ error. IsErrorOf error (script_output bytes.now)) }
+    ensures empty { length bytes.now ≡ 0 → result ≡ Err (ReadError.Bad (bad_line 1 Header)) }
 {
     let script = read_script(alloc, bytes)?;
     Ok(script_text(alloc, script)?)

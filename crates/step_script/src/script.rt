@@ -1,6 +1,7 @@
 //! A script as a value.
 
-ghost use Rattle.std.specs.Prelude.{◌≡◌, ◌++◌, ◌∷◌, [], OnOk};
+ghost use Rattle.std.specs.Prelude.{◌≡◌, ◌++◌, ◌∷◌, [], IfOk, OnOk};
+ghost use Rattle.step_script.specs.Scripts.{without_events, with_event};
 
 use grace_core::GraceEvent;
 use lock_core::LockEvent;
@@ -17,28 +18,52 @@ pub const MOST_PARTS: u64 = 8;
 /// A script: the core that it names, and its events.
 #[derive(Debug, Drop)]
 pub enum Script {
-    Lock(LockScript),
-    Grace(GraceScript),
+    /// Of the lock core. Its parts are slots.
+    Lock(CoreScript<LockEvent>),
+    /// Of the grace core. Its parts are rows.
+    Grace(CoreScript<GraceEvent>),
 }
 
-/// A script of the lock core.
+/// A script of the core that has these events.
 #[derive(Debug, Drop)]
-pub struct LockScript {
+pub struct CoreScript<E> {
     /// How many readers there are, numbered from 0.
     pub readers: u32,
-    /// How many slots there are, numbered from 0.
-    pub slots: u32,
-    pub lines: LockLines,
+    /// How many slots or rows there are, numbered from 0.
+    pub parts: u32,
+    pub lines: EventLines<E>,
 }
 
-/// A script of the grace core.
-#[derive(Debug, Drop)]
-pub struct GraceScript {
-    /// How many readers there are, numbered from 0.
-    pub readers: u32,
-    /// How many rows there are, numbered from 0.
-    pub rows: u32,
-    pub lines: GraceLines,
+impl<E> CoreScript<E> {
+    /// A script without events.
+    pub(crate) fn new(alloc: Global, counts: Counts) -> CoreScript<E>
+        ensures { result ≡ without_events counts }
+    {
+        CoreScript {
+            readers: counts.readers,
+            parts: counts.parts,
+            lines: EventLines::new(alloc),
+        }
+    }
+
+    /// The script with the event of one line more.
+    pub(crate) fn with_event(self, number: u64, event: E) -> Result<CoreScript<E>, NoMemory>
+    where
+        E: Drop,
+        ensures { IfOk result (λ next. next ≡ with_event self number event) }
+    {
+        let mut script = self;
+        script.lines.push(EventLine { number, event })?;
+        Ok(script)
+    }
+}
+
+/// How many parts of each kind a state has.
+#[derive(Clone, Copy, Debug)]
+pub(crate) struct Counts {
+    pub(crate) readers: u32,
+    /// Slots or rows.
+    pub(crate) parts: u32,
 }
 
 /// A line with an event of a core: its number, counted from 1, and the event.
@@ -48,34 +73,35 @@ pub struct EventLine<E> {
     pub event: E,
 }
 
-/// Lines with events of the lock core, seen by contracts as a list.
+/// Lines with events of one core, seen by contracts as a list.
 #[derive(Debug, Drop)]
-pub struct LockLines {
-    items: Vec<EventLine<LockEvent>>,
+pub struct EventLines<E> {
+    items: Vec<EventLine<E>>,
 }
 
-impl Model for LockLines {
+impl<E> Model for EventLines<E> {
     ghost use Rattle.std.specs.Prelude.{List};
-    ghost use Rattle.lock_core.specs.declared.events.LockEvent.{LockEvent};
     ghost use Rattle.step_script.specs.declared.script.EventLine.{EventLine};
 
-    ghost Value = { List (EventLine LockEvent) };
+    ghost Value = { List (EventLine E) };
 
     ghost view = { λ lines. lines.items.items };
 }
 
-impl LockLines {
+impl<E> EventLines<E> {
     /// No lines.
-    pub(crate) fn new(alloc: Global) -> LockLines
+    pub(crate) fn new(alloc: Global) -> EventLines<E>
         ensures { result ≡ [] }
     {
-        LockLines {
+        EventLines {
             items: Vec::new(alloc),
         }
     }
 
     /// Appends a line.
-    pub(crate) fn push(&mut self, line: EventLine<LockEvent>) -> Result<(), NoMemory>
+    pub(crate) fn push(&mut self, line: EventLine<E>) -> Result<(), NoMemory>
+    where
+        E: Drop,
         ensures { OnOk result (self.new ≡ self.old ++ line ∷ []) }
     {
         self.items.push(line)?;
@@ -83,49 +109,14 @@ impl LockLines {
     }
 
     /// Shows the lines.
-    pub fn items(&self) -> &[EventLine<LockEvent>]
+    pub fn items(&self) -> &[EventLine<E>]
         ensures { result.now ≡ self.now }
     {
         self.items.as_slice()
     }
-}
-
-/// Lines with events of the grace core, seen by contracts as a list.
-#[derive(Debug, Drop)]
-pub struct GraceLines {
-    items: Vec<EventLine<GraceEvent>>,
-}
-
-impl Model for GraceLines {
-    ghost use Rattle.std.specs.Prelude.{List};
-    ghost use Rattle.grace_core.specs.declared.events.GraceEvent.{GraceEvent};
-    ghost use Rattle.step_script.specs.declared.script.EventLine.{EventLine};
-
-    ghost Value = { List (EventLine GraceEvent) };
-
-    ghost view = { λ lines. lines.items.items };
-}
-
-impl GraceLines {
-    /// No lines.
-    pub(crate) fn new(alloc: Global) -> GraceLines
-        ensures { result ≡ [] }
-    {
-        GraceLines {
-            items: Vec::new(alloc),
-        }
-    }
-
-    /// Appends a line.
-    pub(crate) fn push(&mut self, line: EventLine<GraceEvent>) -> Result<(), NoMemory>
-        ensures { OnOk result (self.new ≡ self.old ++ line ∷ []) }
-    {
-        self.items.push(line)?;
-        Ok(())
-    }
 
     /// Gives the lines.
-    pub(crate) fn into_vec(self) -> Vec<EventLine<GraceEvent>>
+    pub(crate) fn into_vec(self) -> Vec<EventLine<E>>
         ensures { result.items ≡ self }
     {
         self.items
