@@ -298,3 +298,33 @@ fn many_areas(rt: HostRuntime) -> Result<(), Fail> {
     }
     Ok(())
 }
+
+/// A space in the memory of another that had an area begins without one, and goes by its own configuration.
+#[test]
+fn a_space_leaves_its_memory_to_the_next(rt: HostRuntime) -> Result<(), Fail> {
+    let first = config(rt.alloc())?;
+    let second = Config {
+        top: 0x2_4000,
+        ..config(rt.alloc())?
+    };
+    assert!(rt; first.valid() && second.valid());
+    assert_eq!(rt; first.areas, second.areas);
+    let mapping = anonymous(0x1000, READ, MAP_PRIVATE);
+    let mut space = PlainSpace::new(rt.alloc(), &first)?;
+    assert!(rt; space.counters().objects < u32::MAX);
+    assert_eq!(rt; space.call(&mapping), Reply::Addr(0x2_7000));
+    assert_eq!(rt;
+        space.area_from(Page(0x27)),
+        Some(area(0x27, 0x28, READ, 0, 0))
+    );
+    assert_eq!(rt; space.area_from(Page(0x28)), None);
+    let mut space = PlainSpace::within(space.into_room(), &second);
+    assert_eq!(rt; space.count(), 0);
+    makes(
+        &rt,
+        &mut space,
+        &[(mapping, Reply::Addr(0x2_3000))],
+        &[area(0x23, 0x24, READ, 0, 0)],
+    )?;
+    Ok(())
+}

@@ -54,6 +54,18 @@ impl AreaChunks {
         })
     }
 
+    /// Forgets all areas, and goes by the numbers of another configuration, which allows as many. It takes no memory.
+    #[tactic(auto, unfolding(area_rules::specs::Placement::bounds_of))]
+    pub fn restart(&mut self, config: &Config)
+        requires { config.now.areas ≡ self.old.most }
+        ensures { self.new ≡ record { list = []; bounds = bounds_of config.now; most = config.now.areas; sealed = false } }
+    {
+        self.store.clear();
+        self.bounds = bounds_of(config);
+        self.count = 0;
+        self.sealed = false;
+    }
+
     /// A copy of the list. `NoMemory` where there is none for it.
     pub fn copy_list(&self, alloc: Global) -> Result<AreaList, NoMemory>
         ensures value { IfOk result (λ list. list ≡ self.now.list) }

@@ -8,11 +8,13 @@ mod chunk;
 mod chunks;
 mod finding;
 mod placing;
+mod room;
 mod scanning;
 mod space;
 mod store;
 
 pub use chunks::AreaChunks;
+pub use room::Room;
 pub use space::PlainSpace;
 
 #[cfg(test)]

@@ -6,9 +6,11 @@ ghost use Rattle.area_rules.specs.Steps.{step, opening};
 ghost use Rattle.area_rules.specs.Growing.{grows};
 ghost use Rattle.area_rules.specs.Tables.{counters_of};
 ghost use Rattle.area_rules.specs.Verdicts.{verdict};
+ghost use Rattle.split_merge.specs.Finding.{first_from};
 
 use crate::chunks::AreaChunks;
-use mm_types::{Access, AreaList, Call, Config, Counters, NoMemory, Page, Reply, Verdict};
+use crate::room::Room;
+use mm_types::{Access, AreaList, Call, Config, Counters, NoMemory, Page, Record, Reply, Verdict};
 use split_merge::{Areas, Plan};
 use std::alloc::Global;
 use std::marker::Model;
@@ -45,14 +47,34 @@ impl<'a> PlainSpace<'a> {
         requires { IsValidConfig config.now }
         ensures { IfOk result (λ space. space ≡ record { config = config.now; space = opening config.now }) }
     {
-        let areas = AreaChunks::with_room(alloc, config)?;
-        let plan = Plan::with_room(alloc, config.areas)?;
-        Ok(PlainSpace {
+        Ok(PlainSpace::within(Room::new(alloc, config)?, config))
+    }
+
+    /// A space of this configuration with no area, an empty heap, and the files numbered, in the memory of another of as many
+    /// areas at most. It takes none.
+    pub fn within(room: Room, config: &'a Config) -> PlainSpace<'a>
+        requires valid { IsValidConfig config.now }
+        requires room { room ≡ config.now.areas }
+        ensures { result ≡ record { config = config.now; space = opening config.now } }
+    {
+        let Room { mut areas, plan } = room;
+        areas.restart(config);
+        PlainSpace {
             config,
             areas,
             counters: Counters::opening(config),
             plan,
-        })
+        }
+    }
+
+    /// The memory of the space, which ends.
+    pub fn into_room(self) -> Room
+        ensures { result ≡ self.entry.config.areas }
+    {
+        Room {
+            areas: self.areas,
+            plan: self.plan,
+        }
     }
 
     /// Makes a call, and returns what the kernel does. A call costs what its plan costs: a few searches by page, and for each
@@ -89,6 +111,13 @@ impl<'a> PlainSpace<'a> {
         ensures { result ≡ grows self.now.config self.now.space.areas page.0 access }
     {
         grows(self.config, &self.areas, page, access)
+    }
+
+    /// The first area that ends above the page. One search by page.
+    pub fn area_from(&self, page: Page) -> Option<Record>
+        ensures { result ≡ first_from self.now.space.areas page.0 }
+    {
+        self.areas.from(page)
     }
 
     /// A copy of the list of areas, which is sound for the configuration. `NoMemory` where there is none for it.

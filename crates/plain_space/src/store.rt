@@ -107,6 +107,15 @@ impl Store {
         })
     }
 
+    /// Forgets all areas, and keeps the room.
+    pub(crate) fn clear(&mut self)
+        requires sane { IsSane self.old }
+        ensures none { self.new.chunks.items ≡ [] }
+        ensures stays { StaysSane self.old self.new }
+    {
+        give_back(&mut self.chunks, &mut self.spares);
+    }
+
     /// Shares all areas out anew.
     fn share_out(&mut self)
         requires roomy { IsRoomy self.old }
