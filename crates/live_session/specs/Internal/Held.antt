@@ -1,0 +1,41 @@
+-- Bytes that were read and not yet answered, and what reading more results in.
+use Rattle.std.specs.Prelude.{ℕ, ◌≡◌, ◌+◌, ◌-◌, ◌^◌, ◌<◌, Bool, true, false, List, [], ◌++◌, length, take, get_or, All, Result, Ok, Err}
+use Rattle.std.specs.Io.KnownBytes.{Consumes, IsAtEnd, Keeps}
+use Rattle.io_edge.specs.Edge.{SourceView, FailedLast}
+use Rattle.text_lexer.specs.Lines.{is_newline}
+use Rattle.live_session.specs.declared.status.Status.{Status}
+use Rattle.live_session.specs.declared.status.Status.TheVariants as statuses
+
+-- the bytes, and how many lines and reads there were
+pub record HeldView : Type 0 where
+  pub bytes : List ℕ
+  pub turns : ℕ
+
+-- more turns were made, still as few as 64 bits count
+abbrev pub Turns : HeldView → HeldView → Type 0
+Turns old new = (old.turns < new.turns) × (new.turns < 2 ^ 64)
+
+-- one turn less: the last is that of the line which is at the front, or of the read which found the end
+abbrev pub without_turn : HeldView → HeldView
+without_turn held = record { bytes = held.bytes; turns = held.turns - 1 }
+
+-- no byte is a newline
+abbrev pub HasNoNewline : List ℕ → Type 0
+HasNoNewline bytes = All (λ c. is_newline c ≡ false) bytes
+
+-- the first newline of bytes is behind so many of them
+pub record HasLine (bytes : List ℕ) (len : ℕ) : Type 0 where
+  pub within : len < length bytes
+  pub newline : get_or bytes len 0 ≡ 10
+  pub single : HasNoNewline (take len bytes)
+
+-- what reading more results in: more bytes behind the others, or the end; or the source failed, or memory ran out once bytes were taken
+abbrev pub TakesMore : SourceView → SourceView → HeldView → HeldView → Result Bool Status → Type 0
+TakesMore old new held after (Ok true) = (more : List ℕ) × Consumes old.left new.left more × (new.faults ≡ old.faults)
+    × (after ≡ record { bytes = held.bytes ++ more; turns = held.turns }) × (0 < length more)
+TakesMore old new held after (Ok false) = IsAtEnd new.left × Consumes old.left new.left [] × (new.faults ≡ old.faults) × (after ≡ held)
+TakesMore old new held after (Err statuses.ReadFault) = Keeps old.left new.left × (new.faults ≡ old.faults + 1) × FailedLast new.just_failed
+TakesMore old new held after (Err statuses.NoMemory) = (more : List ℕ) × Consumes old.left new.left more × (new.faults ≡ old.faults)
+TakesMore old new held after (Err statuses.Done) = ⊥
+TakesMore old new held after (Err statuses.TooMany) = ⊥
+TakesMore old new held after (Err statuses.WriteFault) = ⊥

@@ -1,0 +1,95 @@
+-- How far a session is, and what the functions result in that take it on.
+use Rattle.std.specs.Prelude.{ℕ, ◌≡◌, ◌+◌, ◌-◌, ◌*◌, ◌^◌, ◌<◌, ◌≤◌, Bool, true, false, List, [], ◌++◌, length, Option, Some, None, Result, Ok, Err}
+use Rattle.std.specs.Io.KnownBytes.{Consumes, IsAtEnd}
+use Rattle.io_edge.specs.Edge.{SourceView, SinkView}
+use Rattle.trace_reader.specs.declared.trace.TraceLine.{TraceLine}
+use Rattle.trace_reader.specs.Reading.{so_far}
+use Rattle.output_print.specs.Giving.{Gave}
+use Rattle.live_session.specs.declared.asking.Says.{Says}
+use Rattle.live_session.specs.declared.answering.Stop.{Stop}
+use Rattle.live_session.specs.declared.answering.Stop.TheVariants as stops
+use Rattle.live_session.specs.declared.status.Status.{Status}
+use Rattle.live_session.specs.declared.status.Status.TheVariants as statuses
+use Rattle.live_session.specs.Sessions.{Opened, Answer, Session, begun, pieces_of, after_operation, operation_text, operated, answers, session_after}
+use Rattle.live_session.specs.Conversing.{IsConversation}
+use Rattle.live_session.specs.Internal.Held.{HeldView, HasLine, HasNoNewline, without_turn}
+
+-- the session of what the lines so far say and of the space that is open
+abbrev pub session_of : Says → Option Opened → Session
+session_of says opened = record { count = says.count; so_far = so_far says.builder; opened = opened }
+
+-- a session that whole lines lead to, of which there are fewer than 64 bits count
+pub record IsReached (session : Session) : Type 0 where
+  pub lines : List (List ℕ)
+  pub few : length lines < 2 ^ 64 - 1
+  pub now : session ≡ session_after begun lines
+
+-- the space that is open, if one is, has room for one operation more
+abbrev pub HasRoom : Option Opened → Type 0
+HasRoom None = Unit {0}
+HasRoom (Some now) = (now.space.objects < 2 ^ 32 - 1) × (now.version < 2 ^ 64 - 1)
+
+-- What answering a line results in: its answer was appended, and the session is that after it; or no space is open, and an operation is to
+-- be answered.
+abbrev pub AnswersLine : Answer → List ℕ → List ℕ → Session → Option Stop → Type 0
+AnswersLine answer old new after None = (new ≡ old ++ answer.text) × (after ≡ answer.session)
+AnswersLine answer old new after (Some stops.New) = (new ≡ old ++ answer.text) × (begun ≡ answer.session)
+AnswersLine answer old new after (Some (stops.Operation line)) = (new ≡ old) × (operated after line ≡ answer) × (after.opened ≡ None)
+AnswersLine answer old new after (Some stops.End) = ⊥
+
+-- what making an operation in a space results in, where one is open
+abbrev pub Operates : Option Opened → Option Opened → TraceLine → List ℕ → List ℕ → Option Stop → Type 0
+Operates (Some now) after line old new None = (new ≡ old ++ operation_text now line) × (after ≡ Some (after_operation now line.op))
+Operates None after line old new (Some stop) = (new ≡ old) × (after ≡ None) × (stop ≡ stops.Operation line)
+Operates (Some now) after line old new (Some stop) = ⊥
+Operates None after line old new None = ⊥
+
+-- So far: of the bytes that were taken the whole lines were answered, and the rest is held, whatever comes behind it; of the answers some
+-- were given, and the piece has the others. A turn was paid by a byte that was taken or by one that was answered.
+pub record Talked (source source' : SourceView) (sink sink' : SinkView) (held : HeldView) (piece : List ℕ) (session : Session) : Type 0 where
+  pub taken : List ℕ
+  pub lines : List (List ℕ)
+  pub given : List ℕ
+  pub moved : Consumes source.left source'.left taken
+  pub cut : (more : List ℕ) → pieces_of (taken ++ more) ≡ lines ++ pieces_of (held.bytes ++ more)
+  pub calm : source'.faults ≡ source.faults
+  pub gave : Gave sink sink' given
+  pub split : given ++ piece ≡ answers begun lines
+  pub now : session ≡ session_after begun lines
+  pub few : length lines ≤ held.turns
+  pub paid : held.turns + length held.bytes ≤ 2 * length taken
+
+-- so far, where neither the source nor the sink has failed as often as 64 bits count
+pub record IsTalking (source' : SourceView) (sink' : SinkView) (held : HeldView) (piece : List ℕ) (session : Session) : Type 0 where
+  pub source : SourceView
+  pub sink : SinkView
+  pub talked : Talked source source' sink sink' held piece session
+  pub source_room : source.faults < 2 ^ 64 - 1
+  pub sink_room : sink.faults < 2 ^ 64 - 1
+
+-- what looking for the next line results in: it is held; or the input ended, and all answers were given; or the session ended
+abbrev pub Finds : SourceView → SourceView → SinkView → SinkView → HeldView → List ℕ → Session → Result (Option ℕ) Status → Type 0
+Finds source source' sink sink' held piece session (Ok (Some len)) = Talked source source' sink sink' (without_turn held) piece session
+    × HasLine held.bytes len × (0 < held.turns) × (held.turns < 2 ^ 64)
+Finds source source' sink sink' held piece session (Ok None) = Talked source source' sink sink' (without_turn held) piece session × (piece ≡ [])
+    × IsAtEnd source'.left × HasNoNewline held.bytes
+Finds source source' sink sink' held piece session (Err status) = IsConversation status source source' sink sink'
+
+-- what answering lines results in: an address space ended, and another begins; or an operation opens one; or the session ended
+abbrev pub Ends : SourceView → SourceView → SinkView → SinkView → HeldView → List ℕ → Session → Result Stop Status → Type 0
+Ends source source' sink sink' held piece session (Ok stops.New) = Talked source source' sink sink' held piece begun
+Ends source source' sink sink' held piece session (Ok (stops.Operation line)) =
+    Talked source source' sink sink' held (piece ++ (operated session line).text) (operated session line).session × (session.opened ≡ None)
+Ends source source' sink sink' held piece session (Ok stops.End) = IsConversation statuses.Done source source' sink sink'
+Ends source source' sink sink' held piece session (Err status) = IsConversation status source source' sink sink'
+
+-- what answering the lines of an address space results in: another begins; or the session ended
+abbrev pub EndsSpace : SourceView → SourceView → SinkView → SinkView → HeldView → List ℕ → Result Bool Status → Type 0
+EndsSpace source source' sink sink' held piece (Ok true) = Talked source source' sink sink' held piece begun
+EndsSpace source source' sink sink' held piece (Ok false) = IsConversation statuses.Done source source' sink sink'
+EndsSpace source source' sink sink' held piece (Err status) = IsConversation status source source' sink sink'
+
+-- what a session ended with
+abbrev pub status_of : {T : Type 0} → Result T Status → Status
+status_of (Ok done) = statuses.Done
+status_of (Err status) = status

@@ -1,0 +1,76 @@
+//! What a line of a session asks for.
+ghost use Rattle.std.specs.Prelude.{◌≡◌, ◌+◌};
+ghost use Rattle.text_lexer.specs.Reading.{Gives, line_view};
+ghost use Rattle.trace_reader.specs.Grammar.{nothing};
+ghost use Rattle.trace_reader.specs.Reading.{StaysIfBad, so_far};
+ghost use Rattle.trace_reader.specs.Values.{AreNumbered};
+ghost use Rattle.live_session.specs.Asking.{asked_of};
+
+use crate::own_lines::{is_new, own_line};
+use std::alloc::Global;
+use text_lexer::{CallError, RawLine, text_of, words_of};
+use trace_reader::{TraceBuilder, TraceLine};
+
+/// What a line asks for.
+#[derive(Clone, Copy, Debug, PartialEq, Eq)]
+pub(crate) enum Asked {
+    /// Nothing: it is a header, a setting, a comment or blank.
+    Nothing,
+    /// The list of areas, which the line reads.
+    Areas(TraceLine),
+    /// An operation.
+    Operation(TraceLine),
+    /// The first area that ends above an address, in bytes.
+    Query(u64),
+    /// The end of the address space, and another.
+    New,
+}
+
+/// What the lines of a session say since the last `new`.
+#[derive(Debug, Drop)]
+pub(crate) struct Says {
+    /// The lines as those of a trace.
+    pub(crate) builder: TraceBuilder,
+    /// The number of the last line: 0 before the header.
+    pub(crate) count: u64,
+}
+
+impl Says {
+    /// Before the first line.
+    pub(crate) fn new(alloc: Global) -> Says
+        ensures lines { so_far result.builder ≡ nothing }
+        ensures count { result.count ≡ 0 }
+    {
+        Says {
+            builder: TraceBuilder::new(alloc),
+            count: 0,
+        }
+    }
+
+    /// What a line asks for behind the lines so far, which say with it what it adds to a trace. A bad line adds nothing, and has its cause.
+    #[tactic(auto, unfolding(crate::specs::Asking::asked_of, crate::specs::Asking::asked_by_words))]
+    pub(crate) fn ask(&mut self, alloc: Global, line: &RawLine<'_>) -> Result<Asked, CallError>
+        requires { AreNumbered (so_far self.old.builder).lines }
+        ensures asked { Gives (λ asked. (asked, so_far self.new.builder)) result
+            (asked_of (so_far self.old.builder) (line_view line.now)) }
+        ensures kept { StaysIfBad result (so_far self.old.builder) (so_far self.new.builder) }
+        ensures count { self.new.count ≡ self.old.count }
+    {
+        let text = text_of(line)?;
+        let mut words = words_of(alloc, text)?;
+        if is_new(words.as_slice()) {
+            return Ok(Asked::New);
+        }
+        if 1 < line.number {
+            if let Some(own) = own_line(line.number, words.as_slice()) {
+                return Ok(own?);
+            }
+        }
+        let before = self.builder.lines().len();
+        self.builder.add(alloc, &mut words, line)?;
+        match self.builder.lines().get(before) {
+            Some(line) => Ok(Asked::Operation(*line)),
+            None => Ok(Asked::Nothing),
+        }
+    }
+}

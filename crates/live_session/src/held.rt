@@ -1,0 +1,146 @@
+//! Bytes that were read and not yet answered.
+ghost use Rattle.std.specs.Prelude.{◌≡◌, ◌<◌, ◌+◌, ◌-◌, ◌^◌, ◌++◌, [], IfOk, MatchOption, OnOk, drop, length};
+ghost use Rattle.io_edge.specs.Edge.{SinkView, SourceView};
+ghost use Rattle.live_session.specs.Sessions.{Session};
+ghost use Rattle.live_session.specs.Internal.Held.{HasLine, HasNoNewline, TakesMore, Turns};
+ghost use Rattle.live_session.specs.Internal.Talking.{Finds, IsTalking, Talked};
+
+use crate::status::Status;
+use io_edge::{Failed, Sink, Source};
+use memchr::memchr;
+use mm_types::NoMemory;
+use output_print::give_all;
+use std::alloc::Global;
+use std::marker::Model;
+
+/// How many bytes a read asks for at most.
+const PIECE: usize = 8_192;
+
+/// Bytes that were read and not yet answered. Contracts see them, and how many lines and reads there were.
+#[derive(Drop)]
+pub(crate) struct Held {
+    bytes: Vec<u8>,
+    /// Where those begin that were not answered.
+    at: usize,
+    turns: u64,
+}
+
+impl Model for Held {
+    ghost use Rattle.std.specs.Prelude.{◌≤◌, drop, length};
+    ghost use Rattle.live_session.specs.Internal.Held.{HeldView};
+
+    ghost Value = { HeldView };
+
+    ghost view = { λ held. record { bytes = drop held.at held.bytes.items; turns = held.turns } };
+
+    ghost invariant = { λ held. held.at ≤ length held.bytes.items };
+}
+
+impl Held {
+    /// No byte, before the first read.
+    pub(crate) fn new(alloc: Global) -> Held
+        ensures { result ≡ record { bytes = []; turns = 0 } }
+    {
+        Held {
+            bytes: Vec::new(alloc),
+            at: 0,
+            turns: 0,
+        }
+    }
+
+    /// The bytes.
+    pub(crate) fn bytes(&self) -> &[u8]
+        ensures { result.now ≡ self.now.bytes }
+    {
+        &self.bytes[self.at..]
+    }
+
+    /// Takes a line of so many bytes and its newline off the front.
+    pub(crate) fn pass(&mut self, len: usize)
+        requires { len < length self.old.bytes }
+        ensures { self.new ≡ record { bytes = drop (len + 1) self.old.bytes; turns = self.old.turns } }
+    {
+        let line_end = self.at + len;
+        self.at = line_end + 1;
+    }
+
+    /// The length of the first line, if a newline ends one.
+    fn line_len(&self) -> Option<usize>
+        ensures { MatchOption result (HasNoNewline self.now.bytes) (HasLine self.now.bytes) }
+    {
+        memchr(b'\n', self.bytes())
+    }
+
+    /// Counts a turn.
+    fn turn(&mut self)
+        requires { self.old.turns < 2 ^ 64 - 1 }
+        ensures { self.new ≡ record { bytes = self.old.bytes; turns = self.old.turns + 1 } }
+    {
+        self.turns += 1;
+    }
+
+    /// Drops what was answered from memory.
+    fn forget(&mut self)
+        ensures { self.new ≡ self.old }
+    {
+        if self.at == self.bytes.len() {
+            self.bytes.clear();
+        } else {
+            self.bytes.rotate_left(self.at);
+            self.bytes.truncate(self.bytes.len() - self.at);
+        }
+        self.at = 0;
+    }
+
+    /// Appends bytes. Fails only where memory runs out.
+    fn append(&mut self, more: &[u8]) -> Result<(), NoMemory>
+        ensures { OnOk result (self.new ≡ record { bytes = self.old.bytes ++ more.now; turns = self.old.turns }) }
+    {
+        self.bytes.extend_from_slice(more)?;
+        Ok(())
+    }
+
+    /// Takes more bytes from a source, and tells whether there are any: there are none only at the end of the input.
+    fn take_more<S: Source>(&mut self, source: &mut S) -> Result<bool, Status>
+        requires { (S.seen source.old).faults < 2 ^ 64 - 1 }
+        ensures { TakesMore (S.seen source.old) (S.seen source.new) self.old self.new result }
+    {
+        let mut chunk = [0u8; PIECE];
+        match source.take(&mut chunk) {
+            Ok(0) => Ok(false),
+            Ok(count) => {
+                self.forget();
+                self.append(&chunk[..count])?;
+                Ok(true)
+            }
+            Err(Failed) => Err(Status::ReadFault),
+        }
+    }
+
+    /// Finds the next whole line, and answers its length. Where none is held, the answers in the piece are given to the sink, and then more
+    /// is read. There is no next line only at the end of the input.
+    pub(crate) fn find_line<S: Source, K: Sink>(
+        &mut self,
+        source: &mut S,
+        sink: &mut K,
+        piece: &mut Vec<u8>,
+    ) -> Result<Option<usize>, Status>
+        requires { (session : Session) × IsTalking (S.seen source.old) (K.seen sink.old) self.old piece.old.items session }
+        ensures found { (s : SourceView) (k : SinkView) (session : Session) → Talked s (S.seen source.old) k (K.seen sink.old) self.old piece.old.items session
+            → Finds s (S.seen source.new) k (K.seen sink.new) self.new piece.new.items session result }
+        ensures turns { IfOk result (λ len. Turns self.old self.new) }
+    {
+        'turns: while self.turns < u64::MAX {
+            self.turn();
+            if let Some(len) = self.line_len() {
+                return Ok(Some(len));
+            }
+            give_all(sink, piece.as_slice())?;
+            piece.clear();
+            if !self.take_more(source)? {
+                return Ok(None);
+            }
+        }
+        Err(Status::TooMany)
+    }
+}
