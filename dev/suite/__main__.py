@@ -3,6 +3,7 @@ or checks that it's so."""
 from __future__ import annotations
 
 import argparse
+import re
 import shutil
 import subprocess
 import sys
@@ -53,6 +54,8 @@ GROUPS = (
 )
 # What parts the legal outputs of a case in its file.
 PART = "==\n"
+# A sentence begins with a capital, or the name of a call, and with no word that goes on from another sentence.
+SENTENCE = re.compile(r"(?!(?:And|Also|It|Its|Neither is|Nor|Not|One that|Or|So|Such|The same|There|They)\b)(?:[A-Z]|m[a-z]+ )")
 
 
 def all_cases() -> list[Case]:
@@ -77,10 +80,11 @@ def written(program: Path, case: Case) -> dict[str, str]:
 
 
 def faults_of(cases: list[Case]) -> list[str]:
-    """What is wrong with the cases themselves: a name or a trace twice, too many lines."""
+    """What is wrong with the cases themselves: a name, a trace or a sentence twice, no sentence, too many lines."""
     found: list[str] = []
     names: set[str] = set()
     bodies: dict[tuple[int, object], str] = {}
+    comments: dict[str, str] = {}
     for case in cases:
         where = f"{case.group}/{case.name}"
         body = (case.version, case.lines)
@@ -90,8 +94,13 @@ def faults_of(cases: list[Case]) -> list[str]:
             found.append(f"{where}: repeats {bodies[body]}")
         if len(case.lines) + 2 > MOST_LINES:
             found.append(f"{where}: has {len(case.lines) + 2} lines, and not {MOST_LINES} at most")
+        if case.comment in comments:
+            found.append(f"{where}: says what {comments[case.comment]} does")
+        if not SENTENCE.match(case.says):
+            found.append(f"{where}: `{case.says}` is no sentence that can be read alone")
         names.add(where)
         bodies[body] = where
+        comments[case.comment] = where
     return found
 
 

@@ -42,11 +42,14 @@ class Case:
     version: int = 1
 
     @property
+    def comment(self) -> str:
+        """The first comment: the sentence, and the page that says so."""
+        return f"# {self.says}: {self.page}."
+
+    @property
     def trace(self) -> str:
         """The trace: the header, the sentence, settings, then operations."""
-        return "".join(
-            f"{line}\n" for line in (f"vmatrace {self.version}", f"# {self.says}: {self.page}.", *self.lines)
-        )
+        return "".join(f"{line}\n" for line in (f"vmatrace {self.version}", self.comment, *self.lines))
 
 
 def long_line(line: str) -> str:

@@ -19,11 +19,18 @@ ROWS = {
     "brk-name": "brk/limit-lower-splits brk/limit-lower-splits-one-of-two",
     "brk-none": "brk/no-heap brk/no-heap-greatest",
     "error-growing-file": "order/mmap-growth-not-private-memory-before-access-file-denies",
-    "error-move-below-min": "order/mremap-new-place-below-lowest-before-old-address-not-mapped",
+    "error-move-below-min": (
+        "order/mremap-new-place-below-lowest-before-old-address-not-mapped "
+        "order/mremap-new-place-below-lowest-before-ranges-overlap"
+    ),
+    "error-move-odd": "order/mremap-old-range-past-user-memory-before-new-range-odd-or-past-user-memory",
     "error-noreplace-access": "order/mmap-access-file-denies-before-range-not-replaced",
     "error-noreplace-unshared": "order/mmap-no-sharing-flag-before-range-not-replaced",
     "error-offset-odd": "order/mmap-offset-overflows-before-odd-fixed-address",
-    "error-old-zero-unmapped": "order/mremap-empty-old-length-before-old-address-not-mapped",
+    "error-old-zero-unmapped": (
+        "order/mremap-empty-old-length-before-old-address-not-mapped "
+        "order/mremap-empty-old-length-before-old-range-past-user-memory"
+    ),
     "error-place-first": (
         "order/mmap-access-file-denies-before-fixed-range-past-user-memory "
         "order/mmap-access-file-denies-before-odd-fixed-address "
@@ -67,6 +74,16 @@ ROWS = {
     "mremap-several": "mremap/two-mappings-to-a-place",
     "mremap-too-long": "mremap/new-length-greatest mremap/new-length-greatest-in-place",
     "near-end": "mmap/fixed-greatest-address",
+    "old-accounted": (
+        "limits/mprotect-of-all merging/after-mprotect-of-several mprotect/limit-joins mprotect/two-mappings"
+    ),
+    "old-heap-name": "brk/beside-plain-memory brk/mapping-right-above-the-heap",
+    "old-move-unmapped": (
+        "order/mremap-new-range-odd-or-past-user-memory-before-old-address-not-mapped "
+        "order/mremap-ranges-overlap-before-old-address-not-mapped"
+    ),
+    "old-seal-apart": "mseal/part-then-all",
+    "old-search-min": "placement/first-search-one-more",
     "seal-hole": "mseal/mprotect-hole-before-it",
     "seal-prefix": "mseal/mprotect-last-page",
     "seal-split": "brk/sealed-page-stays mseal/mremap-shrinks-over-a-sealed-tail",

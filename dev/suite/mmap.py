@@ -23,11 +23,11 @@ offset-one-past-a-page | An offset one past a page is EINVAL
   file 3 r 8192 08:01 77 /a; mmap 0 4096 R P 3 4097
 offset-odd-anonymous | The offset is tested for anonymous memory too
   mmap 0 4096 R PA -1 1
-offset-greatest-anonymous | The greatest offset isn't a multiple of the page size
+offset-greatest-anonymous | The greatest offset is EINVAL for anonymous memory, as it isn't a multiple of 4096
   mmap 0 4096 R PA -1 0xffffffffffffffff
-offset-ignored-anonymous | An aligned offset of anonymous memory plays no further part
+offset-ignored-anonymous | An aligned offset of anonymous memory is ignored
   mmap 0 4096 R PA -1 0x7ffffffffffff000
-offset-last-page-anonymous | So does the last aligned offset of all
+offset-last-page-anonymous | Even the last aligned offset of all is ignored for anonymous memory
   mmap 0 4096 R PA -1 0xfffffffffffff000
 descriptor-unknown | A descriptor of no open file is EBADF
   file 3 r 8192 08:01 77 /a; mmap 0 4096 R P 9 0
@@ -51,7 +51,7 @@ length-one-page-more | A length of one page more than user memory is ENOMEM
   mmap 0 0x800000000000 R PA -1 0
 length-greatest | The greatest length doesn't wrap when it's rounded up
   mmap 0 0xffffffffffffffff R PA -1 0
-length-greatest-fixed | Nor at a fixed address
+length-greatest-fixed | The greatest length at a fixed address doesn't wrap when it's rounded up
   mmap 0x20000 0xffffffffffffffff R PAF -1 0
 length-last-aligned | The greatest aligned length is ENOMEM
   mmap 0 0xfffffffffffff000 R PA -1 0
@@ -59,17 +59,17 @@ offset-overflows | A file's last page would end at 2^63
   file 3 r 8192 08:01 77 /a; mmap 0 4096 R P 3 0x7ffffffffffff000
 offset-just-fits | A file's last page may end one page below 2^63
   file 3 r 8192 08:01 77 /a; mmap 0 4096 R P 3 0x7fffffffffffe000
-offset-overflows-by-its-length | The length counts for the overflow
+offset-overflows-by-its-length | The length of a file's mapping counts for the overflow of the offset
   file 3 r 8192 08:01 77 /a; mmap 0 8192 R P 3 0x7fffffffffffe000
-offset-overflows-by-rounding | So does the rounding up of the length
+offset-overflows-by-rounding | The rounding up of the length counts for the overflow of the offset
   file 3 r 8192 08:01 77 /a; mmap 0 4097 R P 3 0x7fffffffffffe000
 sharing-none | Neither MAP_SHARED nor MAP_PRIVATE is EINVAL
   mmap 0 4096 R MAP_ANONYMOUS -1 0
-sharing-both | Both are EINVAL for anonymous memory
+sharing-both | MAP_SHARED and MAP_PRIVATE together are EINVAL for anonymous memory
   mmap 0 4096 R MAP_SHARED|MAP_PRIVATE|MAP_ANONYMOUS -1 0
-sharing-none-of-a-file | Neither is EINVAL for a file
+sharing-none-of-a-file | Neither MAP_SHARED nor MAP_PRIVATE is EINVAL for a file
   file 3 r 8192 08:01 77 /a; mmap 0 4096 R 0 3 0
-sharing-both-of-a-file | Both are EINVAL for a file: MAP_SHARED_VALIDATE isn't modelled
+sharing-both-of-a-file | MAP_SHARED and MAP_PRIVATE together are EINVAL for a file: MAP_SHARED_VALIDATE isn't modelled
   file 3 r 8192 08:01 77 /a; mmap 0 4096 R MAP_SHARED|MAP_PRIVATE 3 0
 grows-shared | MAP_GROWSDOWN of shared memory is EINVAL
   mmap 0 4096 RW MAP_SHARED|MAP_ANONYMOUS|MAP_GROWSDOWN -1 0
@@ -81,15 +81,15 @@ grows-private | MAP_GROWSDOWN of private anonymous memory is mapped
   mmap 0x20000 4096 RW PAG -1 0
 fixed-odd | MAP_FIXED at an address that isn't a multiple of 4096 is EINVAL
   mmap 0x20001 4096 R PAF -1 0
-fixed-odd-by-one-less | One below a page is as wrong as one above
+fixed-odd-by-one-less | MAP_FIXED at an address one below a page is EINVAL
   mmap 0x1ffff 4096 R PAF -1 0
-noreplace-odd | MAP_FIXED_NOREPLACE is held to the same
+noreplace-odd | MAP_FIXED_NOREPLACE at an address that isn't a multiple of 4096 is EINVAL
   mmap 0x20800 4096 R PAK -1 0
-fixed-and-noreplace-odd | So are both together
+fixed-and-noreplace-odd | MAP_FIXED and MAP_FIXED_NOREPLACE together at such an odd address are EINVAL
   mmap 0x20001 4096 R MAP_PRIVATE|MAP_ANONYMOUS|MAP_FIXED|MAP_FIXED_NOREPLACE -1 0
-fixed-greatest-address | The greatest address isn't a multiple of 4096
+fixed-greatest-address | MAP_FIXED at the greatest address is EINVAL, as that isn't a multiple of 4096
   mmap 0xffffffffffffffff 4096 R PAF -1 0
-fixed-zero | MAP_FIXED at 0 is below the lowest address
+fixed-zero | MAP_FIXED at 0 is EPERM, as that's below the lowest address
   mmap 0 4096 R PAF -1 0
 fixed-below-min | MAP_FIXED one page below the lowest address is EPERM
   mmap 0xf000 4096 R PAF -1 0
@@ -119,23 +119,23 @@ noreplace-free | MAP_FIXED_NOREPLACE of a free range is mapped there
   mmap 0x20000 4096 R PAK -1 0
 noreplace-taken | MAP_FIXED_NOREPLACE over a mapping is EEXIST
   mmap 0x20000 4096 R PAF -1 0; mmap 0x20000 4096 RW PAK -1 0
-noreplace-first-page-taken | One taken page is enough: the first
+noreplace-first-page-taken | MAP_FIXED_NOREPLACE is EEXIST where the first page alone is taken
   mmap 0x20000 4096 R PAF -1 0; mmap 0x20000 12288 RW PAK -1 0
-noreplace-last-page-taken | One taken page is enough: the last
+noreplace-last-page-taken | MAP_FIXED_NOREPLACE is EEXIST where the last page alone is taken
   mmap 0x22000 4096 R PAF -1 0; mmap 0x20000 12288 RW PAK -1 0
-noreplace-middle-page-taken | One taken page is enough: one inside
+noreplace-middle-page-taken | MAP_FIXED_NOREPLACE is EEXIST where one page inside is taken
   mmap 0x21000 4096 R PAF -1 0; mmap 0x20000 12288 RW PAK -1 0
-noreplace-beside | A range between two mappings is free
+noreplace-beside | MAP_FIXED_NOREPLACE between two mappings is mapped where it just fits
   mmap 0x1f000 4096 R PAF -1 0; mmap 0x21000 4096 R PAF -1 0; mmap 0x20000 4096 RW PAK -1 0
 noreplace-with-fixed | MAP_FIXED_NOREPLACE wins over MAP_FIXED
   mmap 0x20000 4096 R PAF -1 0; mmap 0x20000 4096 RW MAP_PRIVATE|MAP_ANONYMOUS|MAP_FIXED|MAP_FIXED_NOREPLACE -1 0
-noreplace-inside | A range inside a larger mapping is taken
+noreplace-inside | MAP_FIXED_NOREPLACE inside a larger mapping is EEXIST
   mmap 0x20000 16384 R PAF -1 0; mmap 0x21000 4096 RW PAK -1 0
-no-place-in-full-memory | Where all user memory is mapped there's no place
+no-place-in-full-memory | A mapping finds no place where all user memory is mapped
   mmap 0x10000 0x7ffffffef000 N PAF -1 0; mmap 0 4096 R PA -1 0
-no-place-hint-in-full-memory | A hint finds none there either
+no-place-hint-in-full-memory | A hint finds no place where all user memory is mapped
   mmap 0x10000 0x7ffffffef000 N PAF -1 0; mmap 0x20000 4096 R PA -1 0
-fixed-in-full-memory | MAP_FIXED replaces where there's no place
+fixed-in-full-memory | MAP_FIXED replaces a page where all user memory is mapped
   mmap 0x10000 0x7ffffffef000 N PAF -1 0; mmap 0x20000 4096 R PAF -1 0
 fixed-over-one | MAP_FIXED over a whole mapping replaces it
   mmap 0x20000 4096 R PAF -1 0; mmap 0x20000 4096 RW PAF -1 0

@@ -10,35 +10,39 @@ part | A sealed part doesn't join its neighbours
   mmap 0x20000 12288 RW PAF -1 0; mseal 0x21000 4096 0
 again | Sealing twice is done
   mmap 0x20000 4096 RW PAF -1 0; mseal 0x20000 4096 0; mseal 0x20000 4096 0
-part-then-all | Sealing the rest joins all
+part-then-all | Sealing all of a mapping with a sealed part joins it again
   mmap 0x20000 12288 RW PAF -1 0; mseal 0x21000 4096 0; mseal 0x20000 12288 0
 two-mappings | Two mappings may be sealed at once
   mmap 0x20000 4096 RW PAF -1 0; mmap 0x21000 4096 R PAF -1 0; mseal 0x20000 8192 0; munmap 0x21000 4096
-flag-one | A flag is EINVAL
+flag-one | An mseal with a flag is EINVAL
   mmap 0x20000 4096 RW PAF -1 0; mseal 0x20000 4096 1
-flag-greatest | So is any
+flag-greatest | Even the greatest flag is EINVAL
   mmap 0x20000 4096 RW PAF -1 0; mseal 0x20000 4096 0xffffffffffffffff
-odd-address | An address that isn't a multiple of 4096 is EINVAL
+odd-address | An mseal at an address that isn't a multiple of 4096 is EINVAL
   mmap 0x20000 4096 RW PAF -1 0; mseal 0x20001 4096 0
-odd-address-length-zero | Also for a length of 0
+odd-address-length-zero | An mseal at an odd address is EINVAL also for a length of 0
   mseal 0x20001 0 0
-length-zero | A length of 0 is done, and seals nothing
+length-zero | An mseal of length 0 is done, and seals nothing
   mmap 0x20000 4096 RW PAF -1 0; mseal 0x20000 0 0; munmap 0x20000 4096
-length-zero-nothing-there | Also where nothing is mapped
+length-zero-nothing-there | An mseal of length 0 is done also where nothing is mapped
   mseal 0x20000 0 0
-wraps | A range whose end is 2^64 is EINVAL
+wraps | An mseal whose range ends at 2^64 is EINVAL
   mseal 0xfffffffffffff000 4096 0
-length-greatest | So is the greatest length
+length-greatest | An mseal of the greatest length is EINVAL
   mmap 0x20000 4096 RW PAF -1 0; mseal 0x20000 0xffffffffffffffff 0
-nothing-there | A page that isn't mapped is ENOMEM
+nothing-there | An mseal of a page that isn't mapped is ENOMEM
   mseal 0x20000 4096 0
-hole-after | A range that ends in a hole seals nothing
+hole-after | An mseal of a range that ends in a hole seals nothing
   mmap 0x20000 4096 RW PAF -1 0; mseal 0x20000 8192 0; munmap 0x20000 4096
-hole-before | Nor one that begins in a hole
+hole-before | An mseal of a range that begins in a hole seals nothing
   mmap 0x21000 4096 RW PAF -1 0; mseal 0x20000 8192 0; munmap 0x21000 4096
-hole-between | Nor one with a hole
+hole-between | An mseal of a range with a hole seals nothing
   mmap 0x20000 4096 RW PAF -1 0; mmap 0x22000 4096 RW PAF -1 0; mseal 0x20000 12288 0; munmap 0x22000 4096
-past-user-memory | A range past user memory is ENOMEM
+hole-before-a-longer-mapping | An mseal of a range with a hole seals nothing, however far the mapping behind it goes
+  mmap 0x20000 4096 R PAF -1 0; mmap 0x22000 12288 R PAF -1 0; mseal 0x20000 12288 0; munmap 0x20000 12288
+hole-after-a-longer-mapping | An mseal of a range with a hole seals nothing, wherever the mapping before it begins
+  mmap 0x20000 12288 R PAF -1 0; mmap 0x24000 4096 R PAF -1 0; mseal 0x22000 12288 0; munmap 0x22000 12288
+past-user-memory | An mseal of a range past user memory is ENOMEM
   mmap 0x7fffffffe000 4096 RW PAF -1 0; mseal 0x7fffffffe000 8192 0
 last-page-of-memory | The last page of user memory may be sealed
   mmap 0x7fffffffe000 4096 RW PAF -1 0; mseal 0x7fffffffe000 4096 0
@@ -48,61 +52,69 @@ limit-reached | A seal that would make one mapping too many is ENOMEM
   limit areas 2; mmap 0x20000 12288 RW PAF -1 0; mseal 0x21000 4096 0
 limit-of-one | With one mapping allowed no part of it can be sealed
   limit areas 1; mmap 0x20000 8192 RW PAF -1 0; mseal 0x20000 4096 0
-limit-not-reached | One that makes the last that's allowed is done
+limit-not-reached | A seal that makes the last mapping that's allowed is done
   limit areas 3; mmap 0x20000 12288 RW PAF -1 0; mseal 0x21000 4096 0
-munmap | A sealed mapping isn't unmapped
+munmap | An munmap of a sealed mapping is EPERM
   mmap 0x20000 8192 RW PAF -1 0; mseal 0x20000 8192 0; munmap 0x20000 8192
-munmap-touching-a-sealed-page | One sealed page is enough, and nothing goes
+munmap-touching-a-sealed-page | An munmap that touches one sealed page is EPERM, and nothing goes
   mmap 0x20000 12288 RW PAF -1 0; mseal 0x22000 4096 0; munmap 0x20000 12288
-munmap-beside-a-sealed-page | Pages beside it go
+munmap-beside-a-sealed-page | An munmap of the pages beside a sealed one is done
   mmap 0x20000 12288 RW PAF -1 0; mseal 0x22000 4096 0; munmap 0x20000 8192
-munmap-refused-otherwise | A range that's wrong is refused for that
+munmap-refused-otherwise | An munmap that's wrong is refused for that, and not for the seal
   mmap 0x20000 4096 RW PAF -1 0; mseal 0x20000 4096 0; munmap 0x20000 0; munmap 0x20001 4096
-fixed-over-it | MAP_FIXED doesn't replace it | mmap(2)
+fixed-over-it | MAP_FIXED doesn't replace a sealed mapping | mmap(2)
   mmap 0x20000 8192 RW PAF -1 0; mseal 0x20000 8192 0; mmap 0x20000 4096 R PAF -1 0
-fixed-over-its-end | Nor a part of it | mmap(2)
+fixed-over-its-end | MAP_FIXED doesn't replace a part of a sealed mapping | mmap(2)
   mmap 0x20000 8192 RW PAF -1 0; mseal 0x21000 4096 0; mmap 0x21000 8192 R PAF -1 0
-fixed-beside-it | Beside it MAP_FIXED maps | mmap(2)
+fixed-beside-it | MAP_FIXED maps beside a sealed mapping | mmap(2)
   mmap 0x20000 4096 RW PAF -1 0; mseal 0x20000 4096 0; mmap 0x21000 4096 RW PAF -1 0
-noreplace-over-it | MAP_FIXED_NOREPLACE says EEXIST | mmap(2)
+noreplace-over-it | MAP_FIXED_NOREPLACE over a sealed mapping is EEXIST | mmap(2)
   mmap 0x20000 4096 RW PAF -1 0; mseal 0x20000 4096 0; mmap 0x20000 4096 R PAK -1 0
-hint-at-it | A hint at it is passed over | mmap(2)
+hint-at-it | A hint at a sealed mapping is passed over | mmap(2)
   mmap 0x20000 4096 RW PAF -1 0; mseal 0x20000 4096 0; mmap 0x20000 4096 R PA -1 0
-mprotect | Its protection doesn't change | mprotect(2)
+mprotect | An mprotect of a sealed mapping is EPERM | mprotect(2)
   mmap 0x20000 4096 RW PAF -1 0; mseal 0x20000 4096 0; mprotect 0x20000 4096 R
-mprotect-same | Not even to the one that it has | mprotect(2)
+mprotect-same | An mprotect of a sealed mapping is EPERM even for the protection that it has | mprotect(2)
   mmap 0x20000 4096 RW PAF -1 0; mseal 0x20000 4096 0; mprotect 0x20000 4096 RW
-mprotect-last-page | A range whose last page is sealed changes nothing | mprotect(2)
+mprotect-last-page | An mprotect of a range whose last page is sealed changes nothing | mprotect(2)
   mmap 0x20000 12288 RW PAF -1 0; mseal 0x22000 4096 0; mprotect 0x20000 12288 R
-mprotect-hole-before-it | The seal comes before a hole, wherever it is | mprotect(2)
+mprotect-hole-before-it | An mprotect tests for a seal before a hole, wherever the hole is | mprotect(2)
   mmap 0x20000 4096 RW PAF -1 0; mmap 0x22000 4096 RW PAF -1 0; mseal 0x22000 4096 0; mprotect 0x20000 12288 R
-mprotect-length-zero | A length of 0 is done | mprotect(2)
+mprotect-odd-address | An mprotect of a sealed mapping at an address that isn't a multiple of 4096 is EINVAL
+  mmap 0x20000 8192 RW PAF -1 0; mseal 0x20000 8192 0; mprotect 0x20001 4096 R
+mprotect-wraps | An mprotect of a sealed mapping whose range would wrap is ENOMEM
+  mmap 0x20000 8192 RW PAF -1 0; mseal 0x20000 8192 0; mprotect 0x20000 0xffffffffffffffff R
+mprotect-length-zero | An mprotect of length 0 is done at a sealed mapping | mprotect(2)
   mmap 0x20000 4096 RW PAF -1 0; mseal 0x20000 4096 0; mprotect 0x20000 0 R
-mremap-shrinks | It doesn't shrink | mremap(2)
+mremap-shrinks | A sealed mapping doesn't shrink | mremap(2)
   mmap 0x20000 8192 RW PAF -1 0; mseal 0x20000 8192 0; mremap 0x20000 8192 4096 0
-mremap-shrinks-over-a-sealed-tail | Nor over a sealed tail | mremap(2)
+mremap-shrinks-over-a-sealed-tail | A range with a sealed tail doesn't shrink | mremap(2)
   mmap 0x20000 12288 RW PAF -1 0; mseal 0x22000 4096 0; mremap 0x20000 12288 4096 0
-mremap-grows | Nor grow | mremap(2)
+mremap-grows | A sealed mapping doesn't grow | mremap(2)
   mmap 0x20000 4096 RW PAF -1 0; mseal 0x20000 4096 0; mremap 0x20000 4096 8192 MOVE
-mremap-same-length | Nor even stay | mremap(2)
+mremap-same-length | An mremap of a sealed mapping is EPERM even where its length stays | mremap(2)
   mmap 0x20000 4096 RW PAF -1 0; mseal 0x20000 4096 0; mremap 0x20000 4096 4096 0
-mremap-to-a-place | Nor move | mremap(2)
+mremap-to-a-place | A sealed mapping doesn't move | mremap(2)
   mmap 0x20000 4096 RW PAF -1 0; mseal 0x20000 4096 0; mremap 0x20000 4096 4096 TO 0x40000
-mremap-over-it | Nothing moves over it | mremap(2)
+mremap-over-it | Nothing moves over a sealed mapping | mremap(2)
   mmap 0x20000 4096 RW PAF -1 0; mmap 0x40000 4096 RW PAF -1 0; mseal 0x40000 4096 0
   mremap 0x20000 4096 4096 TO 0x40000
-mremap-shorter-to-a-place-over-a-sealed-tail | Nor is a sealed tail cut on the way | mremap(2)
+mremap-shorter-to-a-place-over-a-sealed-tail | A sealed tail isn't cut where MREMAP_FIXED shortens a range | mremap(2)
   mmap 0x20000 8192 RW PAF -1 0; mseal 0x21000 4096 0; mremap 0x20000 8192 4096 TO 0x40000
-mremap-refused-otherwise | A call that's wrong is refused for that | mremap(2)
+mremap-refused-otherwise | An mremap that's wrong is refused for that, and not for the seal | mremap(2)
   mmap 0x20000 4096 RW PAF -1 0; mseal 0x20000 4096 0; mremap 0x20000 4096 0 0
-faults-as-before | Faults find it as before | sigaction(2)
+mremap-shrinks-and-a-sealed-first-page | An mremap without a new place has nothing to do with a seal in the first pages of all
+  min 0x1000; mmap 0x1000 4096 R PAF -1 0; mseal 0x1000 4096 0; mmap 0x20000 12288 RW PAF -1 0; mremap 0x20000 12288 8192 0
+faults-as-before | A sealed mapping serves faults as before | sigaction(2)
   mmap 0x20000 4096 RW PAF -1 0; mseal 0x20000 4096 0; fault 0x20000 w; fault 0x20000 x
 stack-grows | A sealed stack still grows, sealed | mmap(2)
   mmap 0x20000 4096 RW PAG -1 0; mseal 0x20000 4096 0; fault 0x1f000 w; munmap 0x1f000 4096
 sealed-neighbours-join | Two sealed neighbours that are alike join
   mmap 0x20000 4096 RW PAF -1 0; mmap 0x21000 4096 R PAF -1 0; mprotect 0x21000 4096 RW; mseal 0x20000 4096 0
   mseal 0x21000 4096 0
-limit-comes-first | With too many mappings the limit is said, and not the seal
+limit-just-reached | A call that leaves as many mappings as are allowed is refused for the seal
+  limit areas 2; mmap 0x20000 8192 RW PAF -1 0; mseal 0x20000 4096 0; mmap 0x20000 4096 R PAF -1 0
+limit-comes-first | A call with too many mappings is refused for the limit, and not for the seal
   limit areas 1; mmap 0x20000 12288 RW PAF -1 0; mseal 0x20000 12288 0; munmap 0x21000 4096
 """
 

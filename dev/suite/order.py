@@ -222,7 +222,7 @@ MREMAP = Table(
             "MREMAP_FIXED|MREMAP_DONTUNMAP",
             "MREMAP_MAYMOVE|MREMAP_FIXED|MREMAP_DONTUNMAP",
         ),
-        (0x40000, 0x40001, 0x8000, 0x8001, 0x20000, 0x50000, 0x50001, 0x7FFFFFFFE000, 0x7FFFFFFFE001),
+        (0x40000, 0x40001, 0x8000, 0x8001, 0x20000, 0x50000, 0x50001, 0x7FFFFFFFE000, 0x7FFFFFFFE001, 0x10001),
     ),
 )
 
@@ -244,6 +244,33 @@ MSEAL = Table(
 )
 
 TABLES = (MMAP, MUNMAP, MPROTECT, MREMAP, MSEAL)
+
+
+# Pairs that only hold where a third row does, below both: each with its call.
+BESIDE_OTHERS = (
+    (
+        MREMAP,
+        "an empty old length",
+        "an old range past user memory",
+        ("mremap 0x800000000000 0 4096 MREMAP_MAYMOVE",),
+    ),
+    (
+        MREMAP,
+        "a new place below the lowest",
+        "ranges that overlap",
+        ("mremap 0x8000 8192 8192 MREMAP_MAYMOVE|MREMAP_FIXED 0x9000",),
+    ),
+    (
+        MREMAP,
+        "a range over two areas",
+        "an offset past all",
+        (
+            "mmap 0x40000 4096 R SF 3 0x7fffffffffffe000",
+            "mmap 0x41000 4096 R PAF -1 0",
+            "mremap 0x40000 8192 12288 MREMAP_MAYMOVE",
+        ),
+    ),
+)
 
 
 def words(table: Table, values: Values) -> str:
@@ -289,19 +316,21 @@ def pairs(table: Table) -> Iterator[tuple[Row, Row, Values]]:
         yield table.rows[first], table.rows[second], values
 
 
+def case_of(table: Table, first: str, second: str, lines: tuple[str, ...]) -> Case:
+    """The case that shows which of two rows decides."""
+    return Case(
+        "order",
+        f"{table.call}-{name_of(first)}-before-{name_of(second)}",
+        f"{table.call} tests for {first} before {second}",
+        table.page,
+        tuple(long_line(each) for each in (*LINES, *lines)),
+    )
+
+
 def cases() -> list[Case]:
-    found = []
-    for table in TABLES:
-        for first, second, values in pairs(table):
-            line = words(table, values)
-            says = f"{table.call} tests for {first.says} before {second.says}"
-            found.append(
-                Case(
-                    "order",
-                    f"{table.call}-{name_of(first.says)}-before-{name_of(second.says)}",
-                    says,
-                    table.page,
-                    tuple(long_line(each) for each in (*LINES, line)),
-                )
-            )
-    return found
+    drawn = [
+        case_of(table, first.says, second.says, (words(table, values),))
+        for table in TABLES
+        for first, second, values in pairs(table)
+    ]
+    return drawn + [case_of(*each) for each in BESIDE_OTHERS]

@@ -10,9 +10,9 @@ own-call-is-seen | A thread sees its own calls
   mmap 0x20000 4096 RW PAF -1 0; fault 0x20000 w; 1:fault 0x20000 w
 two-maps-one-place | Two mappings without a place are given two, in either order
   mmap 0 4096 R PA -1 0; 1:mmap 0 4096 RW PA -1 0
-two-maps-noreplace | Of two at one place with MAP_FIXED_NOREPLACE one is refused
+two-maps-noreplace | One of two mappings at one place with MAP_FIXED_NOREPLACE is refused
   mmap 0x20000 4096 R PAK -1 0; 1:mmap 0x20000 4096 RW PAK -1 0
-two-maps-fixed | Of two with MAP_FIXED the later one stays
+two-maps-fixed | The later of two mappings at one place with MAP_FIXED stays
   mmap 0x20000 4096 R PAF -1 0; 1:mmap 0x20000 4096 RW PAF -1 0
 map-and-unmap | An munmap of another thread may come first and find nothing
   mmap 0x20000 4096 R PAF -1 0; 1:munmap 0x20000 4096
@@ -22,7 +22,7 @@ protect-and-write | A write may come before the protection is taken away or afte
   mmap 0x20000 4096 RW PAF -1 0; mprotect 0x20000 4096 R; 1:fault 0x20000 w after=3
 read-twice | A thread never sees an older list than before
   mmap 0x20000 4096 R PAF -1 0; 1:fault 0x20000 r; 1:fault 0x20000 r
-told | What a thread was told comes before
+told | What a thread was told of comes before its next call
   mmap 0x20000 4096 R PAF -1 0; 1:fault 0x20000 r after=3
 two-growths | Two faults below a stack grow it once
   mmap 0x20000 4096 RW PAG -1 0; 1:fault 0x1f000 w after=3; 2:fault 0x1f000 w after=3

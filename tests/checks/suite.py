@@ -1,7 +1,7 @@
 #!/usr/bin/env python3
-"""Checks the conformance suite: each case is what its source says and has the program's output, each row of each table
-of docs/MODEL.md decides two cases or more, and each case in which Linux answers otherwise names a row of
-docs/KERNEL.md.
+"""Checks the conformance suite: each case is what its source says and has the program's output; each row of each table
+of docs/MODEL.md decides two cases or more; each test of the model, changed a little, is noticed by a case; and each
+case in which Linux answers otherwise has a row of docs/KERNEL.md.
 
 Exit status: 0 where all is so, 1 where not, with a line for each, 2 on wrong use.
 """
@@ -20,7 +20,8 @@ sys.path[:0] = [str(TOP), str(TOP / "tools")]
 
 from dev.suite.__main__ import all_cases, differences, faults_of, written  # noqa: E402
 from dev.suite.cases import Case  # noqa: E402
-from dev.suite.linux import HEAD, PART  # noqa: E402
+from dev.suite.linux import HEAD, PART, row_of  # noqa: E402
+from dev.suite.mutations import unnoticed  # noqa: E402
 from vmatools import coverage, traces  # noqa: E402
 
 SUITE = TOP / "suite"
@@ -45,15 +46,28 @@ def check_coverage(cases: list[Case]) -> Iterator[str]:
             yield f"docs/MODEL.md: the row {row} decides {reached[row]} cases, and not {LEAST}"
 
 
+def check_changes(cases: list[Case]) -> Iterator[str]:
+    """Changes of the model that no case notices: a boundary, an order of two tests or a merge that no case has."""
+    yield from unnoticed([traces.read_trace(case.trace.encode()) for case in cases])
+
+
 def check_linux() -> Iterator[str]:
-    """Answers of Linux without a row of docs/KERNEL.md, or without a case."""
-    rows = set(re.findall(r"[a-z]+(?:-[a-z]+)+", (TOP / "docs/KERNEL.md").read_text(encoding="utf-8")))
-    for path in sorted(SUITE.glob("*/*.linux")):
-        parts = [HEAD.match(part) for part in path.read_text(encoding="utf-8").split(PART)]
-        if any(not head or head[1] not in rows for head in parts):
-            yield f"{path}: a part names no row of docs/KERNEL.md, or no version"
+    """Answers of Linux that say no row, another one than the case has, or nothing that the program doesn't say; rows that
+    docs/KERNEL.md doesn't have; and files without a case, or the other way round."""
+    told = set(re.findall(r"[a-z]+(?:-[a-z]+)+", (TOP / "docs/KERNEL.md").read_text(encoding="utf-8")))
+    rows = row_of()
+    yield from (f"docs/KERNEL.md: the row {row} isn't there" for row in sorted({*rows.values()} - told))
+    files = {str(path.relative_to(SUITE).with_suffix("")): path for path in SUITE.glob("*/*.linux")}
+    yield from (f"suite/{where}: either the case or its answers of Linux are missing" for where in files.keys() ^ rows.keys())
+    for where, path in sorted(files.items()):
+        parts = path.read_text(encoding="utf-8").split(PART)
+        heads = [HEAD.match(part) for part in parts]
+        if any(not head or head[1] != rows.get(where) for head in heads):
+            yield f"{path}: a part has another row than {rows.get(where)}, or no version"
         if not path.with_suffix(".trace").exists():
             yield f"{path}: there is no such case"
+        elif all(part.partition("\n")[2] == path.with_suffix(".out").read_text(encoding="utf-8") for part in parts):
+            yield f"{path}: no version answers otherwise than the program"
 
 
 def main() -> int:
@@ -63,8 +77,8 @@ def main() -> int:
     parser.add_argument("program", type=Path, help="the proved program")
     options = parser.parse_args()
     cases = all_cases()
-    wrong = [*check_files(options.program, cases), *check_coverage(cases), *check_linux()]
-    right = f"suite: {len(cases)} cases are as the program answers, and each row decides {LEAST} or more"
+    wrong = [*check_coverage(cases), *check_changes(cases), *check_linux(), *check_files(options.program, cases)]
+    right = f"suite: {len(cases)} cases are as the program answers, each row decides {LEAST}, and each change is noticed"
     print("\n".join(wrong) if wrong else right)
     return 1 if wrong else 0
 

@@ -2,6 +2,7 @@
 from __future__ import annotations
 
 import json
+import subprocess
 import sys
 import tempfile
 import unittest
@@ -87,6 +88,14 @@ class Forms(unittest.TestCase):
         lines = list(conformance.as_tap(self.results))
         self.assertEqual(lines[1:4], ["1..2", "ok 1 - mmap/page", "not ok 2 - mmap/page"])
 
+    def test_what_is_left_out_has_its_reason(self) -> None:
+        one, two = (
+            conformance.judged(CASE, Ran("", conformance.CANNOT_RUN, f"line {n}: it leaves the window")) for n in (3, 4)
+        )
+        self.assertEqual(conformance.left_out([one, two, *self.results]), ["left out: 2: it leaves the window"])
+        self.assertIn("ok 1 - mmap/page # SKIP line 3: it leaves the window", conformance.as_tap([one]))
+        self.assertIn('<skipped message="line 3: it leaves the window" />', "".join(conformance.as_junit([one])))
+
     def test_json_has_a_line_a_case(self) -> None:
         self.assertEqual(
             [json.loads(line)["verdict"] for line in conformance.as_json(self.results)], ["passed", "failed"]
@@ -95,6 +104,19 @@ class Forms(unittest.TestCase):
     def test_junit_is_xml_whatever_a_system_writes(self) -> None:
         root = ElementTree.fromstring("".join(conformance.as_junit(self.results)))
         self.assertEqual((root.get("tests"), root.get("failures")), ("2", "1"))
+
+
+class Systems(unittest.TestCase):
+    """A system that doesn't run at all, and the tools' own adapter."""
+
+    def conform(self, *words: str) -> subprocess.CompletedProcess[str]:
+        command = [sys.executable, str(TOP / "tools/vma"), "conform", "--only", "munmap/whole", "--only", "munmap/again"]
+        return subprocess.run([*command, *words], capture_output=True, text=True)
+
+    def test_where_it_does_not_begin_no_case_is_judged(self) -> None:
+        adapter = "while read w n s; do [ $w = end ] && echo end $n 5 no such system; done"
+        done = self.conform("--batch", "--", "sh", "-c", adapter)
+        self.assertEqual((done.returncode, done.stdout, done.stderr), (2, "", "vma conform: no such system\n"))
 
 
 class Versions(unittest.TestCase):

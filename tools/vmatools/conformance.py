@@ -2,7 +2,9 @@
 from __future__ import annotations
 
 import json
+import re
 import xml.etree.ElementTree as ElementTree
+from collections import Counter
 from collections.abc import Iterable, Iterator, Sequence
 from dataclasses import dataclass
 from enum import Enum
@@ -15,6 +17,8 @@ SUITE = TOP / "suite"
 PART = "==\n"
 # How an adapter ends that can't make its system run a case, as one that asks for addresses that the system has itself.
 CANNOT_RUN = "ends with status 4"
+# How an adapter of many traces answers whose system can't be run at all, as where a package is missing.
+NO_SYSTEM = "ends with status 5"
 # What a case of Linux begins with: the row of docs/KERNEL.md and the versions that were seen to answer so.
 COMMENT = "#"
 
@@ -132,13 +136,21 @@ def table(results: Iterable[Result]) -> list[str]:
     return lines
 
 
+def left_out(results: Iterable[Result]) -> list[str]:
+    """Why cases were left out, each reason with how many, the most first."""
+    whys = Counter(
+        re.sub(r"^line \d+: ", "", result.why) for result in results if result.verdict is Verdict.LEFT_OUT
+    )
+    return [f"left out: {count}: {why}" for why, count in whys.most_common()]
+
+
 def as_tap(results: Sequence[Result]) -> Iterator[str]:
     """The Test Anything Protocol, version 13."""
     yield "TAP version 13"
     yield f"1..{len(results)}"
     for number, result in enumerate(results, 1):
         passed = result.verdict in (Verdict.PASSED, Verdict.LEFT_OUT)
-        skip = " # SKIP left out" if result.verdict is Verdict.LEFT_OUT else ""
+        skip = f" # SKIP {result.why}" if result.verdict is Verdict.LEFT_OUT else ""
         yield f"{'ok' if passed else 'not ok'} {number} - {result.case.where}{skip}"
         if not passed:
             yield f"  # {result.why}"
@@ -167,7 +179,7 @@ def as_junit(results: Sequence[Result]) -> Iterator[str]:
     for result in results:
         case = ElementTree.SubElement(suite, "testcase", classname=result.case.group, name=result.case.name)
         if result.verdict is Verdict.LEFT_OUT:
-            ElementTree.SubElement(case, "skipped")
+            ElementTree.SubElement(case, "skipped", message=printable(result.why))
         elif result.verdict is not Verdict.PASSED:
             ElementTree.SubElement(case, "failure", message=printable(result.why)).text = printable(result.case.trace)
     yield ElementTree.tostring(suite, encoding="unicode")

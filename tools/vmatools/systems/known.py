@@ -14,7 +14,9 @@ from .running import Once, Runner, Served, started
 
 WINDOW = Window(0x10000, 0x2000000)
 LOW_LINK = 0x38000000  # above the window, and below what an emulator has of its own
-BEGIN_SECONDS, MACHINE_SECONDS, MACHINE_GRACE = 60.0, 300.0, 60.0
+BEGIN_SECONDS = 60.0
+# A machine boots in six seconds of processor time, which a busy host may stretch to minutes; and so may a trace with it.
+BOOT_SECONDS, MACHINE_SECONDS, MACHINE_GRACE = 600.0, 720.0, 60.0
 GUEST = empty.Kernel(lowest=4096, most_areas=2000, is_wide=False)  # as the first process of a machine sets it up
 EMPTY_SECONDS = 60.0
 
@@ -45,7 +47,7 @@ class System:
         """What runs scripts in this system: in a process for all of them, or in one for each."""
         program = built(self.processor or platform.machine(), self.link)
         if self.boots:
-            return Served(machines.starts(program, self.boot_command()), MACHINE_SECONDS, MACHINE_GRACE)
+            return Served(machines.starts(program, self.boot_command()), BOOT_SECONDS, MACHINE_GRACE)
         words = [*self.under, str(program)]
         if self.window and is_served:
             return Served(lambda: started([*words, "serve"]), BEGIN_SECONDS)

@@ -4,6 +4,7 @@ from __future__ import annotations
 import glob
 import gzip
 import os
+import re
 import shutil
 import socket
 import subprocess
@@ -35,15 +36,36 @@ def padded(data: bytes) -> bytes:
     return data + bytes(-len(data) % 4)
 
 
-def newest_image() -> str:
-    """The newest kernel for machines in a cloud that is installed here."""
-    found = sorted(
+def images() -> list[str]:
+    """The kernels for machines in a cloud that are installed here, the newest last."""
+    return sorted(
         glob.glob(IMAGES),
         key=lambda name: [int(part) if part.isdigit() else 0 for part in name.replace("-", ".").split(".")],
     )
+
+
+def newest_image() -> str:
+    """The newest of these kernels."""
+    found = images()
     if not found:
         raise Refused(5, f"no kernel is there as {IMAGES} (Debian: apt-get install linux-image-cloud-amd64)")
     return found[-1]
+
+
+def version_of(image: str) -> str:
+    """The version of a kernel by the text in its file, whose place stands in the header of the boot protocol. Debian's name
+    has a number of its own, as 6.1.0-57, and the version stands behind `Debian`."""
+    try:
+        with open(image, "rb") as file:
+            head = file.read(0x210)
+            file.seek(0x200 + int.from_bytes(head[0x20E:0x210], "little"))
+            text = file.read(256).split(b"\0")[0].decode("ascii", "replace")
+    except OSError as error:
+        raise Refused(5, f"{image} cannot be read: {error.strerror}") from None
+    found = re.search(r"Debian (\d+\.\d+\.\d+)", text) or re.match(r"(\d+\.\d+\.\d+)", text)
+    if head[0x202:0x206] != b"HdrS" or not found:
+        raise Refused(5, f"{image} is no kernel of Linux for x86")
+    return found[1]
 
 
 def user_mode_linux(initramfs: str, serial: int) -> Sequence[str]:

@@ -50,7 +50,7 @@ def missing(system: System) -> str | None:
 def version_of(system: System) -> str:
     """The version of a system that is installed, as it says it."""
     if system.boots == Boot.KERNEL:
-        return Path(system.image or machines.newest_image()).name.removeprefix("vmlinuz-")
+        return machines.version_of(system.image or machines.newest_image())
     if system.name not in VERSIONS:
         return " ".join(Path("/proc/sys/kernel/osrelease").read_text(encoding="ascii").split())
     try:
