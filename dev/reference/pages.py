@@ -125,7 +125,7 @@ def page_of(crate: Crate, known: set[str]) -> str:
         ", ".join(f"[{name}]({name}.md)" if name in known else f"`{name}`" for name in crate.stands_on)
         or "nothing but `std`"
     )
-    lines = [MADE, f"# {crate.name}", "", crate.docs, "", f"Stands on {below}.", ""]
+    lines = [MADE, f"# {crate.name}", "", crate.docs, "", f"Depends on {below}.", ""]
     sections = (("Functions", crate.functions), ("Types", crate.types), ("Laws", crate.laws))
     for title, items in sections:
         if items:
@@ -170,10 +170,10 @@ def index_page(crates: list[Crate]) -> str:
         MADE,
         "# Reference",
         "",
-        f"Each crate with its public items, conditions, clauses and definitions, as the sources have them: {len(crates)} crates,",
-        f"{said}.",
+        "Each crate with its public items, conditions, clauses and definitions, taken from the sources.",
+        f"There are {len(crates)} crates, {said}.",
         "Look a name up in [names](names.md), [definitions](definitions.md) or [clauses](clauses.md).",
-        "Each line is of the sources; how to read them is in [PROOF.md](../PROOF.md).",
+        "[PROOF.md](../PROOF.md#how-to-read-a-contract) says how to read a contract.",
         *index_lines(crates),
     ]
     return "\n".join(lines).rstrip() + "\n"

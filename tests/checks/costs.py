@@ -1,24 +1,29 @@
 #!/usr/bin/env python3
-"""Checks that what the program takes grows with its input and not faster: memory that it asks for, and processor time.
+"""Checks that what the program takes grows with its input and not faster: memory that it asks for and uses, and processor time.
 
 PROGRAM is crates/vma_main/out/vma_main by default. Each run gets an address space of so many MiB, some tenth more
-than it needs, of two sizes of most inputs. And the processor time of an input is compared with that of one of four
-times its size, the least of three runs each: it may take seven times as long, where linear work takes four to five
-and quadratic sixteen. A comparison that fails is made again. It ends with status 1 at the first run that takes more,
-and 2 on wrong use, or where the program is missing.
+than it needs, and may have so many MiB of it resident, some fifth more than it has, of two sizes of most inputs. And
+the processor time of an input is compared with that of one of four times its size, the least of three runs each: it may
+take seven times as long, where linear work takes four to five and quadratic sixteen. A comparison that fails is made
+again. It ends with status 1 at the first run that takes more, and 2 on wrong use, or where the program is missing.
 """
 from __future__ import annotations
 
 import argparse
-import resource
+import os
+import subprocess
+import sys
 from collections.abc import Callable
+from typing import Any, NamedTuple
 
-from checking import answer, bytes_of, check_ended, fail, limit, main, passed
+from checking import TOP, Words, answer, bytes_of, check_ended, fail, main, passed
 
 MIB = 2**20
+PEAK = [sys.executable, "-IS", str(TOP / "tests/checks/peak.py")]
 SECONDS = 60
 TRIES = 5
 MOST_TIMES = 7
+MOST_AREAS = 65_530
 ANONYMOUS = "MAP_PRIVATE|MAP_ANONYMOUS|MAP_FIXED"
 
 Made = Callable[[int], list[str]]  # the lines of an input of a size
@@ -75,6 +80,12 @@ def placed(count: int) -> list[str]:
     ]
 
 
+def reads(count: int) -> list[str]:
+    """As many areas as there may be, and reads of their list."""
+    made = (f"0 mmap {place(area):#x} 4096 PROT_READ {ANONYMOUS} -1 0" for area in range(MOST_AREAS))
+    return ["vmatrace 1", *made, *["0 maps"] * count]
+
+
 def maps(count: int) -> list[str]:
     return [f"{place(area):08x}-{place(area) + 4096:08x} r--p 00000000 00:00 0 " for area in range(count)]
 
@@ -106,17 +117,26 @@ def nothing(_program: str, _count: int) -> bytes:
     return b""
 
 
-# the words, what makes the input, and its sizes, each with the MiB in which it runs
-MEMORY: list[tuple[str, list[str], Input, tuple[tuple[int, int], ...]]] = [
-    ("a header alone", ["serial"], given(calls), ((0, 80),)),
-    ("calls", ["serial"], given(calls), ((200_000, 150), (800_000, 400))),
-    ("faults", ["serial"], given(faults), ((200_000, 150), (800_000, 400))),
-    ("areas that come and leave", ["serial"], given(leaving), ((32_000, 36), (128_000, 120))),
-    ("a load", ["generate", "{}", "1"], nothing, ((100_000, 115), (400_000, 225))),
-    ("a text of calls", ["check"], judged(calls), ((200_000, 75), (800_000, 205))),
-    ("an address in a list", ["query", "0x10000000"], given(maps), ((250_000, 44), (1_000_000, 158))),
-    ("a list", ["retrace"], given(maps), ((16_000, 12), (64_000, 24))),
-    ("a script", ["steps"], given(script), ((2_500, 8), (9_996, 9))),
+class Size(NamedTuple):
+    """So many of an input's parts, and the MiB of address space and of resident memory that a run over them may take."""
+
+    parts: int
+    addresses: int
+    resident: int
+
+
+# the words, what makes the input, and its sizes
+MEMORY: list[tuple[str, list[str], Input, tuple[Size, ...]]] = [
+    ("a header alone", ["serial"], given(calls), (Size(0, 80, 52),)),
+    ("calls", ["serial"], given(calls), (Size(200_000, 150, 84), Size(800_000, 400, 222))),
+    ("faults", ["serial"], given(faults), (Size(200_000, 150, 76), Size(800_000, 400, 196))),
+    ("areas that come and leave", ["serial"], given(leaving), (Size(32_000, 36, 22), Size(128_000, 120, 77))),
+    ("reads of many areas", ["serial"], given(reads), (Size(16, 1000, 108), Size(64, 1000, 252))),
+    ("a load", ["generate", "{}", "1"], nothing, (Size(100_000, 115, 65), Size(400_000, 225, 153))),
+    ("a text of calls", ["check"], judged(calls), (Size(200_000, 75, 50), Size(800_000, 205, 166))),
+    ("an address in a list", ["query", "0x10000000"], given(maps), (Size(250_000, 44, 34), Size(1_000_000, 158, 132))),
+    ("a list", ["retrace"], given(maps), (Size(16_000, 12, 8), Size(64_000, 24, 20))),
+    ("a script", ["steps"], given(script), (Size(2_500, 8, 8), Size(9_996, 9, 9))),
 ]
 
 # the same, with the smaller of the two sizes
@@ -138,12 +158,24 @@ def words_of(words: list[str], count: int) -> list[str]:
     return [word.format(count) for word in words]
 
 
-def check_memory(program: str, name: str, words: list[str], text: bytes, count: int, most: int) -> None:
-    at = f"{name}, {count} of them in {most} MiB"
-    command = [program, *words_of(words, count)]
-    done, _ = answer(at, command, SECONDS, input=text, begin=lambda: limit(resource.RLIMIT_AS, most * MIB))
-    check_ended(at, done, 0)
-    passed(at)
+def resident(name: str, command: Words, text: bytes, addresses: int) -> float:
+    """The most MiB that a run has resident, which has to end well in so many MiB of address space."""
+    told, writer = os.pipe()
+    with open(told, "rb") as told_by:
+        with open(writer, "wb") as kept:
+            around = [*PEAK, str(kept.fileno()), str(addresses * MIB)]
+            ends: dict[str, Any] = {"stdout": subprocess.DEVNULL, "pass_fds": [kept.fileno()]}
+            done, _ = answer(name, [*around, *command], SECONDS, input=text, **ends)
+        check_ended(name, done, 0)
+        return int(told_by.read()) / 1024
+
+
+def check_memory(program: str, name: str, words: list[str], text: bytes, size: Size) -> None:
+    at = f"{name}, {size.parts} of them in {size.addresses} MiB"
+    most = resident(at, [program, *words_of(words, size.parts)], text, size.addresses)
+    if most > size.resident:
+        fail(at, f"{most:.0f} MiB are resident, and not at most {size.resident}")
+    passed(f"{at}, of which {most:.0f} are resident, of {size.resident}")
 
 
 def least_time(program: str, name: str, words: list[str], text: bytes, count: int) -> float:
@@ -165,8 +197,8 @@ def check_time(program: str, name: str, words: list[str], made: Input, count: in
 
 def check(options: argparse.Namespace) -> None:
     for name, words, made, sizes in MEMORY:
-        for count, most in sizes:
-            check_memory(options.program, name, words, made(options.program, count), count, most)
+        for size in sizes:
+            check_memory(options.program, name, words, made(options.program, size.parts), size)
     for name, words, made, count in TIME:
         check_time(options.program, name, words, made, count)
 

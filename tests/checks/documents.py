@@ -27,7 +27,7 @@ from dev.reference.__main__ import differences  # noqa: E402
 from dev.reference.pages import pages as reference_pages  # noqa: E402
 
 REFERENCE = Path("docs/reference")
-MANUAL = Path("docs/diltzekun.1")
+MANUALS = [Path("docs/diltzekun.1"), Path("docs/diltzekun-live.1")]
 # Pages whose names in `code` are those of the sources.
 OF_SOURCES = ("PROOF.md", "MODEL.md", "ARCHITECTURE.md", "LIBRARY.md", "PROVING.md")
 NOT_OURS = ("/", "Documentation/")  # paths of a system, or of Linux
@@ -201,11 +201,11 @@ def check_pictures() -> Iterator[str]:
 
 
 def check_manual() -> Iterator[str]:
-    """What mandoc warns of in the manual page."""
+    """What mandoc warns of in the manual pages."""
     if not shutil.which("mandoc"):
-        print("documents: mandoc is not installed: the manual page is not linted")
+        print("documents: mandoc is not installed: the manual pages are not linted")
         return
-    linted = subprocess.run(["mandoc", "-T", "lint", "-W", "warning", str(MANUAL)], capture_output=True, text=True)
+    linted = subprocess.run(["mandoc", "-T", "lint", "-W", "warning", *map(str, MANUALS)], capture_output=True, text=True)
     yield from linted.stdout.splitlines()
 
 

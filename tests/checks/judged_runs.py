@@ -3,7 +3,8 @@
 
 N is 10,000 by default, S is 1, and FOLDER is judged-runs-failed. Trace K of a seed is always the same: 2 to 8
 threads, a few lines each, over few pages, with areas that grow, a heap, seals, and lines that name others. Every 50th
-trace is run ten times, and it is told how many histories came of it. One judge is `vma judge`. Two are PROGRAM: its
+trace is run ten times, and it is told how many histories came of it: where there is more than one processor, of a
+third of these traces several have to come, as threads run at once. One judge is `vma judge`. Two are PROGRAM: its
 mode `check`, which has to name the same first wrong line; and its mode `serial` over the same lines in the order of
 the output, which has to write the same. What `serial` writes for the trace itself has to be legal too. Of every
 second trace something is changed in an output: a version, an address, an error, a verdict, a line of a list, a byte,
@@ -15,6 +16,7 @@ The status is 2 on wrong use, or where the program is missing.
 from __future__ import annotations
 
 import argparse
+import os
 import random
 import re
 import subprocess
@@ -23,12 +25,14 @@ from collections.abc import Sequence
 from pathlib import Path
 from typing import TypeVar
 
-from checking import TOOL, fail, main
+from checking import TOOL, fail, main, skipped
 from vmatools import judging, traces
 
 Choice = TypeVar("Choice")
 
 PAGE = 4096
+LEAST_SEVERAL = 3  # one of so many traces that are run ten times has several histories
+FEW = 10  # of so many of them that has to hold
 ITEM = re.compile(r"L(\d+) t(\d+) v(\d+) = (.*)")
 NOTE = re.compile(r" after=(\d+)$")
 ERRORS = ["EINVAL", "ENOMEM", "EACCES", "EBADF", "EEXIST", "EFAULT", "EOVERFLOW", "EPERM"]
@@ -361,6 +365,21 @@ class Runs:
             kind = "address" if result.startswith("0x") else result
             self.results[result.split()[0] if result.startswith(("served", "maps")) else kind] += 1
 
+    @property
+    def several(self) -> int:
+        """Of how many traces that were run ten times several histories came."""
+        return sum(count > 1 for count in self.histories)
+
+    def check_histories(self) -> None:
+        """Fails where threads seem to run one after the other: each trace then has one history."""
+        tried = len(self.histories)
+        if len(os.sched_getaffinity(0)) < 2:
+            return skipped("several histories", "there is one processor")
+        if tried < FEW:
+            return skipped("several histories", f"{tried} traces were run ten times, and not {FEW}")
+        if self.several * LEAST_SEVERAL < tried:
+            fail("several histories", f"{self.several} of {tried} traces had them, and not one in {LEAST_SEVERAL}")
+
     def summary(self) -> None:
         def told(counts: Counter[str]) -> str:
             return ", ".join(f"{name} {count:,}" for name, count in sorted(counts.items()))
@@ -368,10 +387,9 @@ class Runs:
         print(f"{TOOL}: {self.runs:,} runs, {self.lines:,} lines: all legal, for `vma judge`, check and serial")
         print(f"{TOOL}: results: {told(self.results)}")
         if self.histories:
-            many = sum(count > 1 for count in self.histories)
             mean = sum(self.histories) / len(self.histories)
             print(
-                f"{TOOL}: {len(self.histories)} traces were run ten times: {many} had several histories; "
+                f"{TOOL}: {len(self.histories)} traces were run ten times: {self.several} had several histories; "
                 f"{mean:.1f} in the mean, {max(self.histories)} at most"
             )
         print(f"{TOOL}: {sum(self.changes.values()):,} changed outputs, on which all agreed: {told(self.changes)}")
@@ -403,6 +421,7 @@ def check(options: argparse.Namespace) -> None:
             fail(f"trace {number} of seed {runs.seed}", f"{why}; trace and output are in {options.keep}")
         number += 1
     runs.summary()
+    runs.check_histories()
 
 
 if __name__ == "__main__":

@@ -342,6 +342,22 @@ def check_children_at_once(program: str) -> None:
     passed(name)
 
 
+def waits() -> list[str]:
+    """One page that seven threads fault on while another changes its protection: the writer waits for readers of one slot."""
+    place, times = 0x10000000, 20_000
+    first = f"0 mmap {place:#x} 4096 PROT_READ|PROT_WRITE {ANONYMOUS} -1 0"
+    kinds = ("PROT_READ", "PROT_READ|PROT_WRITE")
+    rounds = (
+        line
+        for time in range(times)
+        for line in (
+            f"0 mprotect {place:#x} 4096 {kinds[time % 2]}",
+            *(f"{thread} fault {place:#x} r" + (" after=2" if time == 0 else "") for thread in range(1, 8)),
+        )
+    )
+    return ["vmatrace 1", first, *rounds]
+
+
 def check_largest(program: str) -> None:
     """The largest traces: in `serial`, judged, and in `threads`."""
     for made, seconds in ((areas, 5), (operations, 60)):
@@ -417,6 +433,7 @@ def check(options: argparse.Namespace) -> None:
     )
     check_all_at_once(program)
     check_children_at_once(program)
+    check_threads(program, "a writer beside seven readers of one page", waits(), 60)
     check_largest(program)
 
 

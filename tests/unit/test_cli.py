@@ -42,6 +42,7 @@ class Commands(unittest.TestCase):
 
     def test_an_unknown_word_has_the_nearest(self) -> None:
         self.assertEqual(cli.unknown("compair"), "'compair' is no command; did you mean compare?")
+        self.assertEqual(cli.unknown("frm-strace"), "'frm-strace' is no command; did you mean import?")
         self.assertEqual(cli.unknown("xyzzy"), "'xyzzy' is no command; `vma --help` lists them")
         self.assertEqual(run("expalin").returncode, console.WRONG_USE)
 
@@ -79,6 +80,52 @@ class Ends(unittest.TestCase):
             done = run("draw", TRACE, capture_output=False, stdout=full, stderr=subprocess.PIPE)
         self.assertEqual(done.returncode, console.NOT_WRITTEN)
         self.assertEqual(done.stderr, "vma draw: standard output: No space left on device\n")
+
+    def test_a_full_device_of_another_file(self) -> None:
+        log = str(TOP / "tests/logs/plain.log")
+        conform = ("conform", "--only", "brk/raise", "--tap", "/dev/full", "--", "true")
+        for words in (("import", log, "--replies", "/dev/full"), conform):
+            done = run(*words)
+            self.assertEqual(done.returncode, console.NOT_WRITTEN)
+            self.assertEqual(done.stderr, f"vma {words[0]}: /dev/full: No space left on device\n")
+
+    def test_files_are_opened_before_the_work(self) -> None:
+        with tempfile.TemporaryDirectory() as folder:
+            path, mark = os.path.join(folder, "none", "x"), os.path.join(folder, "mark")
+            compare = ("compare", "--program", "/bin/true", "--json", path, "--", "touch", mark)
+            for words in (("conform", "--junit", path, "--", "touch", mark), compare):
+                done = run(*words)
+                self.assertEqual(done.returncode, console.WRONG_USE)
+                self.assertEqual(done.stderr, f"vma {words[0]}: {path}: No such file or directory\n")
+            self.assertFalse(os.path.exists(mark))
+
+    def test_a_file_that_has_no_end(self) -> None:
+        with self.assertRaises(console.Failure) as caught:
+            console.whole("/dev/zero", 1000)
+        self.assertEqual(str(caught.exception), "/dev/zero: it has more than 1,000 bytes")
+        self.assertEqual(caught.exception.status, console.WRONG_USE)
+
+    def test_one_standard_input(self) -> None:
+        for words in (("lists", "-", "-"), ("judge", "-", "-"), ("import", "-", "--maps", "-")):
+            self.assertIn("only one file can be standard input", run(*words, stdin=subprocess.DEVNULL).stderr)
+
+    def test_numbers_that_are_none(self) -> None:
+        long = "9" * 4301
+        for words in (
+            ("draw", "--most", "-1", TRACE),
+            ("draw", "--list", long, TRACE),
+            ("conform", "--jobs", "0", "--", "true"),
+            ("conform", "--seconds", "nan", "--", "true"),
+            ("compare", "--runs", long, "--", "true"),
+            ("import", "--most", "-1", TRACE),
+            ("lists", "--child", "-1", TRACE, TRACE),
+            ("systems", "--for", "0"),
+        ):
+            done = run(*words)
+            self.assertEqual((done.returncode, done.stdout), (console.WRONG_USE, ""), words[:2])
+            said = done.stderr.splitlines()[-1]
+            self.assertRegex(said, rf"^vma {words[0]}: argument {words[1]}: \S+ is no number ")
+            self.assertLess(len(said), 200)
 
     def test_a_closed_pipe(self) -> None:
         read, write = os.pipe()

@@ -37,6 +37,22 @@ LISTS = {
 }
 
 
+SERVED = "L2 t0 v0 = served 00010000-00012000 rw-p page {}\n"
+# Two outputs of a trace, and the kind of their difference.
+ANSWERS = {
+    ("L2 t0 v1 = 0x1000\n", "L2 t0 v1 = 0x2000\n"): ("an address", "another address"),
+    (SERVED.format(0), SERVED.format(1)): ("served", "served otherwise"),
+    ("L2 t0 v0 = child 1 areas 1\n", "L2 t0 v0 = child 1 areas 2\n"): ("a child", "another child"),
+    ("L2 t0 v1 = 0\n", "L2 t0 v2 = 0\n"): ("a version", "another version"),
+    ("L2 t0 v1 = 0\n", "L3 t0 v1 = 0\n"): ("an answer", "the answer to another line"),
+    ("L2 t0 v1 = 0\n", "rubbish\n"): ("an answer", "a line of no known form"),
+    ("L2 t0 v1 = 0\n", "maps 0\n"): ("an answer", "the output goes on with something else"),
+    ("L2 t0 v1 = 0\n", ""): ("an answer", "the output ends"),
+    ("L2 t0 v1 = 0\n", "L2 t0 v1 = 0\nmaps 0\n"): ("the end", "the output goes on"),
+    ("L2 t0 v1 = 0\n", "L2 t0 v1 = 0"): ("a newline", "no newline at the end"),
+}
+
+
 def maps(lines: list[str]) -> list[str]:
     return [f"maps {len(lines)}", *lines]
 
@@ -60,6 +76,15 @@ class Parts(unittest.TestCase):
     def test_numbers_of_many_digits_are_no_items(self) -> None:
         line = f"L{'9' * 4301} t0 v1 = 0"
         self.assertEqual(outputs.parts_of(line + "\n"), [outputs.Part(None, None, None, line, [line])])
+
+    def test_each_kind_of_answers(self) -> None:
+        page = (TOP / "docs/COMPARE.md").read_text(encoding="utf-8")
+        for (here, there), wanted in ANSWERS.items():
+            with self.subTest(wanted):
+                found = outputs.first_difference(here, there, {2: "mmap", 3: "mmap"})
+                self.assertEqual(found and outputs.kind_of(found)[1:], wanted)
+                for word in wanted:
+                    self.assertIn(f"`{word}`", page)
 
     def test_the_first_difference(self) -> None:
         here, there = "L2 t0 v1 = 0\nmaps 0\n", "L2 t0 v1 = -1 EINVAL\nmaps 0\n"

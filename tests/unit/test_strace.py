@@ -5,11 +5,17 @@ import subprocess
 import sys
 import tempfile
 import unittest
+from argparse import Namespace
 from pathlib import Path
 
 TOP = Path(__file__).resolve().parents[2]
 sys.path.insert(0, str(TOP / "tools"))
 from vmatools import traces
+from vmatools.console import Failure
+from vmatools.commands.lists import last_list
+from vmatools.strace import importing
+from vmatools.strace.areas import read_sections
+from vmatools.strace.log import Log
 
 VMA = str(TOP / "tools/vma")
 LOGS = TOP / "tests/logs"
@@ -73,6 +79,12 @@ class Maps(unittest.TestCase):
         self.assertEqual(done.returncode, 0, done.stderr)
         return "are these the areas of another program?" in done.stderr
 
+    def test_a_name_with_the_ends_of_lines_of_other_systems(self) -> None:
+        name = "/bin/a\x0b\x0c\x1c\x85\u2028"
+        self.assertEqual([area.name for area in read_sections(self.AREA.format(name), "maps")[0].areas], [name])
+        output = "maps 1\n" + self.AREA.format(name)
+        self.assertEqual([area.name for area in last_list(output, "output")], [name])
+
     def test_maps_of_another_program_are_warned_of(self) -> None:
         self.assertFalse(self.warned("/bin/a"))
         self.assertFalse(self.warned("/bin/a.real"))
@@ -83,6 +95,33 @@ class Refused(unittest.TestCase):
     def test_what_is_no_log(self) -> None:
         for text in ("", "hello\n", "\0\0\0\n"):
             self.assertEqual(imported(text).returncode, 2)
+
+    def test_lines_that_end_with_a_carriage_return(self) -> None:
+        why = "-: line 1: a carriage return stands at the end: lines end with a newline byte alone"
+        self.assertIn(why.replace("-", "standard input", 1), imported((EXEC + FORMS["plain"]).replace("\n", "\r\n")).stderr)
+        with tempfile.NamedTemporaryFile("w", newline="") as maps:
+            maps.write(Maps.AREA.format("/bin/a").replace("\n", "\r\n"))
+            maps.flush()
+            done = imported(EXEC + FORMS["plain"], "--maps", maps.name)
+        self.assertEqual(done.returncode, 2)
+        self.assertIn("line 1: a carriage return stands at the end", done.stderr)
+
+    def test_a_long_text_without_a_call_is_not_read_to_its_end(self) -> None:
+        read = Log("\n" * 10_000_000)
+        self.assertEqual(read.calls, [])
+        self.assertLess(read.lines, 20_000)
+        self.assertEqual(len(Log("hello\n" * 5_000 + EXEC).calls), 1)
+
+    def test_a_list_of_which_no_trace_can_be_made(self) -> None:
+        with tempfile.NamedTemporaryFile("w") as maps:
+            maps.write("00010000-00011000 rw-p 00000000 08:01 99999999999999999999 /a\n")
+            maps.flush()
+            options = Namespace(log=None, maps=maps.name, replies=None, final=None, all=None, exec=None, fork=None)
+            options.__dict__.update(hints=False, places=False, elsewhere=True, as_returned=False, most=None)
+            with self.assertRaises(Failure) as caught:
+                importing.run(options)
+        why = f"{maps.name}: what was made of it is no trace: 99999999999999999999 is not an inode"
+        self.assertIn(why, str(caught.exception))
 
     def test_replies_that_cannot_be_written(self) -> None:
         done = imported(EXEC + FORMS["plain"], "--replies", "/no/such/folder/replies")

@@ -26,6 +26,7 @@ from vmatools.traces import Line, read_trace
 
 BEGIN = '7 execve("/bin/a", ["a"], 0x7ffd /* 2 vars */) = 0\n7 brk(NULL) = 0x555555579000\n'
 MAP = "mmap(NULL, 4096, PROT_READ, MAP_PRIVATE|MAP_ANONYMOUS, -1, 0)"
+THREAD = "7 clone(child_stack=0x1000, flags=CLONE_VM|CLONE_FILES|CLONE_SIGHAND|CLONE_THREAD) = 8\n"
 MAPS = """555555554000-555555556000 r--p 00000000 fe:00 11                         /bin/a
 7ffff7ffb000-7ffff7fff000 rw-p 00031000 fe:00 12                         /lib/ld.so
 7ffffffde000-7ffffffff000 rw-p 00000000 00:00 0                          [stack]
@@ -165,6 +166,32 @@ class Files(unittest.TestCase):
         call = "7 mmap(NULL, 4096, PROT_READ|PROT_WRITE, MAP_SHARED, 5<anon_inode:[io_uring]>, 0)"
         self.assertIn("file 3 rw 4096 ", made(BEGIN + f"{call} = 0x7ffff7ffe000\n").text())
         self.assertIn("file 3 r 4096 ", made(BEGIN + f"{call} = -1 EACCES (Permission denied)\n").text())
+
+
+class Segments(unittest.TestCase):
+    """Shared memory of System V."""
+
+    MADE = "7 shmget(0xaba4aa, 56, IPC_CREAT|0600) = 9\n"
+
+    def test_attached_and_detached(self) -> None:
+        used = "7 shmat(9, NULL, 0) = 0x7ffff7ffa000\n7 shmdt(0x7ffff7ffa000) = 0\n7 shmdt(0x7ffff7ffa000) = -1 EINVAL\n"
+        trace = made(BEGIN + self.MADE + used)
+        self.assertIn("file 3 rw 56 00:01 9 /SYSV00aba4aa (deleted)\n", trace.text())
+        self.assertEqual(lines(trace), ["0 mmap 0 56 PROT_READ|PROT_WRITE MAP_SHARED 3 0", "0 munmap 0x7ffff7ffa000 56"])
+
+    def test_flags(self) -> None:
+        for flags, prot in (("SHM_RDONLY", "PROT_READ"), ("010000", "PROT_READ"), ("0x9000", "PROT_READ|PROT_EXEC")):
+            trace = made(BEGIN + self.MADE + f"7 shmat(9, 0x10000, {flags}) = 0x10000\n")
+            self.assertEqual(lines(trace), [f"0 mmap 0x10000 56 {prot} MAP_SHARED|MAP_FIXED 3 0"])
+
+    def test_a_fork_detaches_what_its_parent_attached(self) -> None:
+        used = "7 shmat(9, NULL, 0) = 0x7ffff7ffa000\n7 fork() = 8\n8 shmdt(0x7ffff7ffa000) = 0\n"
+        self.assertIn("1 munmap 0x7ffff7ffa000 56", lines(made(BEGIN + self.MADE + used)))
+
+    def test_what_is_left_out(self) -> None:
+        for text in ("7 shmat(9, NULL, 0) = 0x7ffff7ffa000\n", self.MADE + "7 shmat(9, NULL, 0) = -1 EACCES\n"):
+            importer = importer_of(BEGIN + text)
+            self.assertEqual(importer.processes.numbered(None).other["shmat"], 1)
 
 
 class Spaces(unittest.TestCase):
@@ -378,6 +405,20 @@ class Lists(unittest.TestCase):
         processes = importer_of(text).processes
         self.assertEqual([space.killed_by for space in processes.spaces], [None, None, "SIGKILL"])
         self.assertIsNone(processes.spaces[2].final)
+
+    def test_a_call_that_goes_on_after_the_last_list_is_told(self) -> None:
+        late = f"7 exit_group(0 <unfinished ...>\n8 {MAP} = 0x7ffff7ffa000\n7 <... exit_group resumed>) = ?\n"
+        importer = importer_of(BEGIN + THREAD + late, "# 7 execve\n# 7 begin\n" + MAPS + "# 7 exit\n" + MAPS)
+        space = importer.processes.numbered(None)
+        self.assertEqual((space.final, space.late), (None, 1))
+
+    def test_a_munmap_that_did_not_return_and_was_done(self) -> None:
+        begun = f"7 {MAP} = 0x7ffff7ffa000\n8 munmap(0x7ffff7ffa000, 4096 <unfinished ...>\n"
+        ends = "7 exit_group(0) = ?\n8 <... munmap resumed>) = ?\n"
+        there = "7ffff7ffa000-7ffff7ffb000 r--p 00000000 00:00 0 \n"
+        for last, of_it in ((MAPS, ["1 munmap 0x7ffff7ffa000 4096"]), (MAPS.replace("7ffff7ffb", there + "7ffff7ffb", 1), [])):
+            trace = made(BEGIN + THREAD + begun + ends, "# 7 execve\n# 7 begin\n" + MAPS + "# 7 exit\n" + last)
+            self.assertEqual(lines(trace)[1:], of_it)
 
     def test_the_list_of_a_child(self) -> None:
         parent, child = "00010000-00011000 rw-p 00000000 00:00 0 \n", "00020000-00021000 r--p 00000000 00:00 0 \n"

@@ -19,7 +19,7 @@ from typing import Any, NamedTuple, Optional, Union
 
 from . import coverage, generator, outputs, program, shrinking
 from .comparison import HANGS, Examined, Sides, Stopped, examine, is_trace, may_answer
-from .console import Failure, Progress, say
+from .console import Failure, Progress, open_file, say
 from .fitting import fitted
 from .findings import Finding, Findings, Journal, Kind, events_of
 from .traces import BadLine, Trace, read_trace
@@ -169,10 +169,7 @@ class Campaign:
             for event in events:
                 self.take(event)
         fresh = not self.done and not self.findings.traces
-        try:
-            self.state = Journal(path.open("w" if fresh else "a", encoding="utf-8"))
-        except OSError as error:
-            raise Failure(f"{path}: {error.strerror}") from None
+        self.state = Journal(open_file(path, "w" if fresh else "a"))
         if fresh:
             self.state.write({"event": "begin", "identity": self.settings.identity()})
 

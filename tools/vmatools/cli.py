@@ -15,7 +15,7 @@ from . import console
 
 ABOUT = """usage: vma COMMAND [WORDS]
 
-The tools around diltzekun, the replayer of the address space of Linux 6.13.
+The tools around diltzekun, an oracle for the mmap family of Linux.
 """
 AFTER = "`vma COMMAND --help` has the words of each, with an example. The exit statuses are those of docs/COMPARE.md."
 
@@ -55,6 +55,7 @@ GROUPS = {
     ),
 }
 COMMANDS = {command.name: command for group in GROUPS.values() for command in group}
+OLD_NAMES = {"from-strace": "import", "kernel-rows": "rows", "on-kernel": "kernel"}  # of tools that are commands now
 
 
 class Parser(argparse.ArgumentParser):
@@ -78,8 +79,9 @@ def whole_help() -> str:
 
 
 def unknown(word: str) -> str:
-    near = difflib.get_close_matches(word, COMMANDS, 1, 0.5)
-    return f"{word[:100]!r} is no command; " + (f"did you mean {near[0]}?" if near else "`vma --help` lists them")
+    near = difflib.get_close_matches(word, [*COMMANDS, *OLD_NAMES], 1, 0.5)
+    hint = f"did you mean {OLD_NAMES.get(near[0], near[0])}?" if near else "`vma --help` lists them"
+    return f"{word[:100]!r} is no command; {hint}"
 
 
 def parser_of(command: Command) -> tuple[Parser, ModuleType]:

@@ -1,6 +1,7 @@
 """What a command says on the terminal: what it finds, in colour where that helps, its failures in one line, and how far it is."""
 from __future__ import annotations
 
+import errno
 import io
 import os
 import sys
@@ -10,6 +11,7 @@ from contextlib import contextmanager
 from typing import Any
 
 TOOL = "vma"
+MOST_BYTES = 1 << 28  # of a file that is read as a whole
 
 # Exit statuses. Their table is in docs/COMPARE.md.
 DONE, FOUND, WRONG_USE, FAULT, NOT_WRITTEN, INTERRUPTED, NOT_READ_ON = 0, 1, 2, 70, 74, 130, 141
@@ -18,7 +20,7 @@ STATUSES = {
     FOUND: "something was found: a difference, a bad line, an output that is not legal, a row that is answered otherwise",
     WRONG_USE: "wrong use, or a file or program that is not there or cannot be read or run",
     FAULT: "a fault in the tool itself, which it shows",
-    NOT_WRITTEN: "standard output could not be written, as on a full device",
+    NOT_WRITTEN: "standard output or a file could not be written, as on a full device",
     INTERRUPTED: "interrupted by Ctrl-C; what there was until then is written",
     NOT_READ_ON: "whoever read standard output has closed it",
 }
@@ -32,13 +34,20 @@ class Failure(Exception):
         self.status = status
 
 
-class OutputFailure(Failure):
+class WriteFailure(Failure):
+    """A file that is open cannot be written."""
+
+    def __init__(self, error: OSError, name: str) -> None:
+        is_closed = isinstance(error, BrokenPipeError)
+        text = "nobody reads on" if is_closed else error.strerror or str(error)
+        super().__init__(f"{name}: {text}", NOT_READ_ON if is_closed else NOT_WRITTEN)
+
+
+class OutputFailure(WriteFailure):
     """Standard output cannot be written."""
 
     def __init__(self, error: OSError) -> None:
-        is_closed = isinstance(error, BrokenPipeError)
-        text = "nobody reads on" if is_closed else error.strerror or str(error)
-        super().__init__(f"standard output: {text}", NOT_READ_ON if is_closed else NOT_WRITTEN)
+        super().__init__(error, "standard output")
 
 
 def reason(error: OSError, name: str | os.PathLike[str] | None = None) -> str:
@@ -67,6 +76,44 @@ class StandardOutput(io.FileIO):
             return super().write(data)
         except OSError as error:
             raise OutputFailure(error) from None
+
+
+class OutputFile(io.FileIO):
+    """A file that is written, whose failures tell its name: a full device is met long after the file was opened."""
+
+    def write(self, data: Any) -> int:
+        try:
+            return super().write(data)
+        except OSError as error:
+            raise WriteFailure(error, printable(str(self.name))) from None
+
+
+def open_file(path: str | os.PathLike[str], mode: str = "w") -> io.TextIOWrapper:
+    """A file to be written, or with `a` to be written on, in UTF-8. It is opened before the work of which it gets the result."""
+    try:
+        raw = OutputFile(os.fspath(path), f"{mode}b")
+    except OSError as error:
+        raise Failure(reason(error, path)) from None
+    except ValueError as error:  # a zero byte in the name
+        raise Failure(f"{printable(os.fspath(path))}: {error}") from None
+    return io.TextIOWrapper(io.BufferedWriter(raw), encoding="utf-8")
+
+
+def write_file(path: str | os.PathLike[str], text: str | bytes) -> None:
+    """A whole file."""
+    with open_file(path) as file:
+        if isinstance(text, bytes):
+            file.buffer.write(text)
+        else:
+            file.write(text)
+
+
+def make_folder(path: str | os.PathLike[str]) -> None:
+    """A folder for what is written, with those above it, if it isn't there."""
+    try:
+        os.makedirs(path, exist_ok=True)
+    except OSError as error:
+        raise WriteFailure(error, os.fspath(path)) if error.errno == errno.ENOSPC else Failure(reason(error, path)) from None
 
 
 def open_output() -> None:
@@ -117,6 +164,20 @@ def reading(path: str) -> Iterator[None]:
         yield
     except OSError as error:
         raise Failure(reason(error, named(path))) from None
+
+
+def whole(path: str, most: int = MOST_BYTES) -> bytes:
+    """All of a file or of standard input, of which there may not be so much that no memory has it."""
+    with open_input(path) as source, reading(path):
+        data = source.read(most + 1)
+    if len(data) > most:
+        raise Failure(f"{named(path)}: it has more than {most:,} bytes")
+    return data
+
+
+def whole_text(path: str, most: int = MOST_BYTES) -> str:
+    """The same as a text, in which a byte that is no UTF-8 is a surrogate."""
+    return whole(path, most).decode("utf-8", "surrogateescape")
 
 
 def named(path: str) -> str:

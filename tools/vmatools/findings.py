@@ -14,7 +14,7 @@ from pathlib import Path
 from typing import Any, Optional
 from xml.etree import ElementTree
 
-from .console import Failure
+from .console import Failure, whole
 from .outputs import Difference
 
 Name = tuple[str, str, str]
@@ -87,11 +87,7 @@ class Baseline:
     @classmethod
     def read(cls, path: Path) -> Baseline:
         """Of a file whose lines are `NAME # REASON`, or empty, or begin with `#`."""
-        try:
-            text = path.read_text(encoding="utf-8")
-        except (OSError, UnicodeDecodeError) as error:
-            raise Failure(f"{path}: {getattr(error, 'strerror', None) or 'it is not UTF-8'}") from None
-        return cls(cls.lines(path, text))
+        return cls(cls.lines(path, utf8_of(path)))
 
     @staticmethod
     def lines(path: Path, text: str) -> Iterator[Known]:
@@ -101,7 +97,7 @@ class Baseline:
                 continue
             if pattern.count("/") < 2 and "*" not in pattern:
                 raise Failure(
-                    f"{path}: line {place}: `{pattern.strip()}` is no name of a difference, OPERATION/HERE/THERE"
+                    f"{path}: line {place}: `{pattern.strip()}` is no name of a difference, OPERATION/PROGRAM/YOURS"
                 )
             if not mark or not reason.strip():
                 raise Failure(f"{path}: line {place}: a reason is missing behind ` # `")
@@ -177,6 +173,14 @@ class Findings:
         }
 
 
+def utf8_of(path: Path) -> str:
+    """The text of a file, which has to be UTF-8."""
+    try:
+        return whole(str(path)).decode()
+    except UnicodeDecodeError:
+        raise Failure(f"{path}: it is not UTF-8") from None
+
+
 class Journal:
     """Lines of JSON that are written as things come, each of them whole."""
 
@@ -190,10 +194,7 @@ class Journal:
 
 def events_of(path: Path) -> Iterator[dict[str, Any]]:
     """The lines of a file of JSON. A last line that is cut short, by a run that was killed, is left out."""
-    try:
-        lines = path.read_text(encoding="utf-8").splitlines()
-    except (OSError, UnicodeDecodeError) as error:
-        raise Failure(f"{path}: {getattr(error, 'strerror', None) or 'it is not UTF-8'}") from None
+    lines = utf8_of(path).splitlines()
     for place, line in enumerate(lines, 1):
         try:
             event = json.loads(line)

@@ -120,7 +120,7 @@ def answers_of(here: str, there: str) -> tuple[str, str]:
     short = [answer_of(result) for result in (here, there)]
     if short[0] == short[1] == "served":
         return "served", "served otherwise"
-    return short[0], short[1] if short[0] != short[1] else short[1].replace("an ", "another ", 1)
+    return short[0], short[1] if short[0] != short[1] else re.sub("^an? ", "another ", short[1])
 
 
 def answer_of(result: str) -> str:

@@ -47,6 +47,7 @@ from .. import (
 from ..campaign import Campaign, Settings, sources
 from ..findings import Baseline, Findings, Journal, Kind
 from ..systems import beside
+from ..words import count, time_limit
 
 SUMMARY = "run random traces on the program and on a system of yours, and shrink what differs"
 SIGNALS = {"SIGINT": 130, "SIGTERM": 143}
@@ -54,21 +55,6 @@ OPERATIONS = (*traces.FORMS, "list", "output", "run")  # of kinds
 
 
 # Words
-
-
-def count(text: str) -> int:
-    """A number of at least 1."""
-    value = int(text)
-    if value < 1:
-        raise argparse.ArgumentTypeError(f"{text} is below 1")
-    return value
-
-
-def time_limit(text: str) -> float:
-    value = float(text)
-    if not 0 < value < 1e6:
-        raise argparse.ArgumentTypeError(f"{text} is no number of seconds")
-    return value
 
 
 def profiles_of(text: str) -> list[str]:
@@ -302,10 +288,7 @@ def status_of(findings: Findings, is_strict: bool, stopped: Optional[str]) -> in
 
 def make_folder(folder: Path) -> None:
     """The folder of --keep, made before the first run, since a run is long."""
-    try:
-        folder.mkdir(parents=True, exist_ok=True)
-    except OSError as error:
-        raise comparison.CannotRun(f"the folder {folder} cannot be made: {error.strerror}") from None
+    console.make_folder(folder)
     if not os.access(folder, os.W_OK | os.X_OK):
         raise comparison.CannotRun(f"nothing can be written to the folder {folder}")
     old = len(os.listdir(folder))
@@ -323,7 +306,7 @@ def keep(folder: Path, findings: Findings, sides: comparison.Sides) -> None:
             ("program", sides.here(trace)),
             ("yours", sides.there(trace).output),
         ):
-            (folder / f"{name}.{ending}").write_text(text, encoding="utf-8")
+            console.write_file(folder / f"{name}.{ending}", text)
 
 
 # Running
@@ -334,13 +317,6 @@ def make_sides(options: argparse.Namespace) -> comparison.Sides:
     rules = comparison.Rules(options.ignore, cases)
     words = (options.program, options.command, options.seconds, rules, options.shrink_seconds)
     return threaded.Threads(*words) if options.threads else comparison.Sides(*words)
-
-
-def opened(path: str, stack: ExitStack) -> TextIO:
-    try:
-        return stack.enter_context(open(path, "w", encoding="utf-8"))
-    except OSError as error:
-        raise console.Failure(console.reason(error)) from None
 
 
 def compare(options: argparse.Namespace) -> int:
@@ -360,9 +336,9 @@ def compare_sides(options: argparse.Namespace, settings: Settings, sides: compar
     with ExitStack() as stack:
         journal = None
         if options.json:
-            journal = Journal(sys.stdout if options.json == "-" else opened(options.json, stack))
+            journal = Journal(sys.stdout if options.json == "-" else stack.enter_context(console.open_file(options.json)))
             journal.write({"event": "begin", "identity": settings.identity(), "runs": settings.runs})
-        junit = opened(str(options.junit), stack) if options.junit else None
+        junit = stack.enter_context(console.open_file(options.junit)) if options.junit else None
         campaign = Campaign(settings, sides, findings, journal)
         if options.resume:
             campaign.go_on(options.resume)

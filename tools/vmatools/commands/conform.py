@@ -9,6 +9,7 @@ out: the system can't run it.
     vma conform -- ./my-adapter
     vma conform --only mremap --only brk/raise -- ./my-adapter
     vma conform --as linux --junit report.xml -- tools/vma kernel
+    vma conform --as linux --system native
     vma conform --system qemu-x86_64
 
 Exit status: 0 where all cases pass, 1 where one doesn't, 2 on wrong use, or where the suite or COMMAND can't be
@@ -18,12 +19,15 @@ from __future__ import annotations
 
 import argparse
 import contextlib
+import itertools
 import os
 import shutil
 import sys
+import threading
 from collections.abc import Callable, Iterator, Sequence
 from concurrent.futures import ThreadPoolExecutor
 from pathlib import Path
+from typing import TextIO
 
 from .. import conformance, console
 from ..conformance import Case, Result, Verdict
@@ -31,6 +35,7 @@ from ..program import TOP, Ran
 from ..program import run as run_command
 from ..systems.batch import Adapters
 from ..systems.known import KNOWN, MACHINE_SECONDS, system_of
+from ..words import count, time_limit
 
 VMA = (sys.executable, str(TOP / "tools/vma"))
 SUMMARY = "measure a system case by case, by the conformance suite"
@@ -58,10 +63,10 @@ def add_arguments(parser: argparse.ArgumentParser) -> None:
         help="what is right: this project's profile, or what Linux was seen to answer (profile)",
     )
     parser.add_argument(
-        "--seconds", type=float, default=10, metavar="T", help="how long COMMAND may take for a case (10)"
+        "--seconds", type=time_limit, default=10, metavar="T", help="how long COMMAND may take for a case (10)"
     )
     parser.add_argument(
-        "--jobs", type=int, default=os.cpu_count() or 1, metavar="N", help="cases at once (as many as processors)"
+        "--jobs", type=count, default=os.cpu_count() or 1, metavar="N", help="cases at once (as many as processors)"
     )
     parser.add_argument("--suite", type=Path, default=conformance.SUITE, metavar="FOLDER", help="the suite (suite/)")
     parser.add_argument("--list", action="store_true", help="print the cases and what each shows, and run none")
@@ -103,14 +108,31 @@ def runs(options: argparse.Namespace) -> Iterator[Callable[[Case], Ran]]:
 
 
 def all_results(cases: Sequence[Case], options: argparse.Namespace) -> list[Result]:
-    """What a system makes of each case, with a line that says how far it is."""
-    progress, results = console.Progress(), []
+    """What a system makes of each case, with a line that says how far it is. Where it doesn't run at all, the first case is
+    the last: a machine that doesn't boot takes minutes to say so."""
+    progress, results, has_run = console.Progress(), [], threading.Event()
+
+    def result_of(case: Case, run_case: Callable[[Case], Ran]) -> Result:
+        ran = run_case(case)
+        if options.batch and ran.fault == conformance.NO_SYSTEM and not has_run.is_set():
+            raise console.Failure(ran.message)
+        if ran.fault != conformance.CANNOT_RUN:
+            has_run.set()
+        return conformance.judged(case, ran)
+
     with runs(options) as run_case, ThreadPoolExecutor(max_workers=options.jobs) as pool:
-        for result in pool.map(lambda case: conformance.judged(case, run_case(case)), cases):
+        for result in pool.map(result_of, cases, itertools.repeat(run_case)):
             results.append(result)
             progress.tell(f"{len(results)} of {len(cases)} cases")
     progress.clear()
     return results
+
+
+def take_own_kernel(options: argparse.Namespace) -> None:
+    """`tools/vma kernel` answers many traces in one process, which saves it a start for each."""
+    program, *words = options.command
+    if not options.batch and words[:1] == ["kernel"] and Path(shutil.which(program) or program).resolve() == Path(VMA[1]):
+        options.command, options.batch = [*options.command, "--batch"], True
 
 
 def take_system(options: argparse.Namespace) -> None:
@@ -126,25 +148,21 @@ def take_system(options: argparse.Namespace) -> None:
 
 
 def report(results: Sequence[Result]) -> None:
-    """The table, and each case that isn't as it should be with the sentence that it shows."""
-    print("\n".join(conformance.table(results)))
+    """The table, why cases were left out, and each case that isn't as it should be with the sentence that it shows."""
+    print("\n".join([*conformance.table(results), *conformance.left_out(results)]))
     for result in results:
         if result.verdict not in (Verdict.PASSED, Verdict.LEFT_OUT):
             print(f"\n{result.verdict.value}: {result.case.where}: {result.case.says}\n  {result.why}")
 
 
-def write_forms(options: argparse.Namespace, results: Sequence[Result]) -> bool:
-    """Writes the forms that were asked for; whether one of them is on standard output."""
-    is_shown = False
-    for form, lines in FORMS.items():
-        place = getattr(options, form)
-        text = "".join(f"{line}\n" for line in lines(results)) if place else ""
-        if place == "-":
-            sys.stdout.write(text)
-            is_shown = True
-        elif place:
-            Path(place).write_text(text, encoding="utf-8")
-    return is_shown
+def open_forms(options: argparse.Namespace, stack: contextlib.ExitStack) -> dict[str, TextIO]:
+    """The files of the forms that are asked for, opened before the cases run; `-` is standard output."""
+    places = {form: getattr(options, form) for form in FORMS}
+    return {
+        form: sys.stdout if place == "-" else stack.enter_context(console.open_file(place))
+        for form, place in places.items()
+        if place
+    }
 
 
 def run(options: argparse.Namespace) -> int:
@@ -160,7 +178,12 @@ def run(options: argparse.Namespace) -> int:
         raise console.Failure("no COMMAND: give the system under test behind --")
     if not shutil.which(options.command[0]):
         raise console.Failure(f"{options.command[0]} cannot be run")
-    results = all_results(cases, options)
-    if not write_forms(options, results):
+    take_own_kernel(options)
+    with contextlib.ExitStack() as stack:
+        forms = open_forms(options, stack)
+        results = all_results(cases, options)
+        for form, file in forms.items():
+            file.writelines(f"{line}\n" for line in FORMS[form](results))
+    if sys.stdout not in forms.values():
         report(results)
     return 0 if all(result.verdict in (Verdict.PASSED, Verdict.LEFT_OUT) for result in results) else 1

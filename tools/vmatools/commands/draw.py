@@ -23,6 +23,7 @@ from ..drawing.page import page
 from ..drawing.picture import picture
 from ..drawing.runs import Run, read_numbered, replayed
 from ..traces import BadLine, File
+from ..words import count, number
 
 SUMMARY = "draw a trace and its output, as a page or as a picture"
 MOST_TOLD = 20  # differences on standard error
@@ -34,11 +35,11 @@ def add_arguments(parser: argparse.ArgumentParser) -> None:
     parser.add_argument("output", metavar="OUTPUT", nargs="?", help="what was written for it")
     parser.add_argument("--svg", action="store_true", help="the picture alone")
     parser.add_argument(
-        "--list", metavar="N", type=int, help="prints the list after version N instead, as a maps line would"
+        "--list", metavar="N", type=number, help="prints the list after version N instead, as a maps line would"
     )
-    parser.add_argument("--child", metavar="C", type=int, help="of this child alone")
+    parser.add_argument("--child", metavar="C", type=number, help="of this child alone")
     parser.add_argument(
-        "--most", metavar="N", type=int, default=10_000, help="draws traces of up to N operations (10,000)"
+        "--most", metavar="N", type=count, default=10_000, help="draws traces of up to N operations (10,000)"
     )
 
 

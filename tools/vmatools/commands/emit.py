@@ -13,7 +13,8 @@ from pathlib import Path
 
 from .. import console, loads
 from ..campaign import Settings, sources
-from .compare import add_traces, count
+from ..words import count
+from .compare import add_traces
 
 SUMMARY = "write random traces into a folder, for fuzzers of others"
 MOST_COUNT = 400_000  # operations of a generated trace
@@ -55,13 +56,11 @@ def traces_of(options: argparse.Namespace) -> Iterator[tuple[str, str]]:
 def run(options: argparse.Namespace) -> int:
     written, progress = 0, console.Progress()
     try:
-        options.folder.mkdir(parents=True, exist_ok=True)
+        console.make_folder(options.folder)
         for name, text in traces_of(options):
-            (options.folder / f"{name}.trace").write_text(text, encoding="utf-8")
+            console.write_file(options.folder / f"{name}.trace", text)
             written += 1
             progress.tell(f"{written} traces written")
-    except OSError as error:
-        raise console.Failure(console.reason(error)) from None
     finally:
         progress.clear()
     print(f"{written} traces in {options.folder}")

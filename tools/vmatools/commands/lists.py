@@ -12,22 +12,18 @@ from __future__ import annotations
 
 import argparse
 
-from ..console import Failure, counted, open_input, painted, reading
+from ..console import Failure, counted, painted, whole_text
 from ..strace.areas import Area, area_of, read_sections
 from ..strace.lists import compare
+from ..words import number
 
 SUMMARY = "compare the last list of a run with that of the kernel"
 
 
 def add_arguments(parser: argparse.ArgumentParser) -> None:
     parser.add_argument("output", metavar="OUTPUT", help="what `serial` wrote for the trace, or - for standard input")
-    parser.add_argument("--child", metavar="C", type=int, help="the list of this child, and not that of the parent")
+    parser.add_argument("--child", metavar="C", type=number, help="the list of this child, and not that of the parent")
     parser.add_argument("maps", metavar="MAPS", help="the list that the kernel had last")
-
-
-def text_in(path: str) -> str:
-    with open_input(path) as source, reading(path):
-        return source.read().decode("utf-8", "surrogateescape")
 
 
 def last_list(text: str, path: str, child: int | None = None) -> list[Area]:
@@ -36,7 +32,7 @@ def last_list(text: str, path: str, child: int | None = None) -> list[Area]:
     part = next((part for part in f"\n{text}".split("\nchild ")[child is not None :] if part.startswith(front)), None)
     if part is None:
         raise Failure(f"{path}: it has no child {child}")
-    lines = part.splitlines()
+    lines = part.removesuffix("\n").split("\n")
     places = [place for place, line in enumerate(lines) if line.startswith("maps ")]
     if not places:
         raise Failure(f"{path}: it has no list: is it an output of `serial`?")
@@ -47,8 +43,10 @@ def last_list(text: str, path: str, child: int | None = None) -> list[Area]:
 
 
 def run(options: argparse.Namespace) -> int:
-    ours = last_list(text_in(options.output), options.output, options.child)
-    theirs = read_sections(text_in(options.maps), options.maps)[-1].areas
+    if options.output == "-" and options.maps == "-":
+        raise Failure("only one file can be standard input")
+    ours = last_list(whole_text(options.output), options.output, options.child)
+    theirs = read_sections(whole_text(options.maps), options.maps)[-1].areas
     found = compare(ours, theirs)
     for line in found.told():
         print(line)

@@ -25,7 +25,7 @@ SUMMARY = "one report of the parts of a comparison that ran on several machines"
 
 def add_arguments(parser: argparse.ArgumentParser) -> None:
     parser.add_argument(
-        "--baseline", type=Path, metavar="FILE", help="known differences: lines `OPERATION/HERE/THERE # reason`"
+        "--baseline", type=Path, metavar="FILE", help="known differences: lines `OPERATION/PROGRAM/YOURS # reason`"
     )
     parser.add_argument("--strict", action="store_true", help="fail where a known difference does not come")
     parser.add_argument("--junit", type=Path, metavar="FILE", help="the report as JUnit's XML")
@@ -43,6 +43,7 @@ def missing_parts(shards: list[str]) -> list[str]:
 
 
 def run(options: argparse.Namespace) -> int:
+    junit = console.open_file(options.junit) if options.junit else None
     whole = Findings(Baseline.read(options.baseline) if options.baseline else Baseline())
     shards: list[str] = []
     has_ended = True
@@ -59,9 +60,7 @@ def run(options: argparse.Namespace) -> int:
         console.say(f"part {shard} is not there")
         has_ended = False
     write_report(sys.stdout, whole, bool(whole.coverage), None)
-    if options.junit:
-        try:
-            options.junit.write_text(found.junit(whole, options.strict, None), encoding="utf-8")
-        except OSError as error:
-            raise console.Failure(console.reason(error)) from None
+    if junit:
+        with junit:
+            junit.write(found.junit(whole, options.strict, None))
     return status_of(whole, options.strict, None) or int(not has_ended)

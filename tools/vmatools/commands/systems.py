@@ -26,6 +26,7 @@ from pathlib import Path
 from .. import console, program
 from ..systems import known, measuring, seen
 from ..systems.places import Refused
+from ..words import count, time_limit
 
 SUMMARY = "the systems that are known, and how far each answers as the program does"
 PAGE = program.TOP / "docs/SYSTEMS.md"
@@ -36,10 +37,10 @@ def add_arguments(parser: argparse.ArgumentParser) -> None:
     program.add_arguments(parser)
     parser.add_argument("--table", action="store_true", help="runs traces on each, and prints the table of conformance")
     parser.add_argument("--seen", action="store_true", help="runs the traces of examples/systems again")
-    parser.add_argument("--runs", metavar="N", type=int, default=10, help="traces of each profile (10)")
+    parser.add_argument("--runs", metavar="N", type=count, default=10, help="traces of each profile (10)")
     parser.add_argument("--seed", metavar="S", type=int, default=1, help="the same seed gives the same traces (1)")
     parser.add_argument(
-        "--for", metavar="SECONDS", dest="most", type=float, default=600.0, help="for each system at most (600)"
+        "--for", metavar="SECONDS", dest="most", type=time_limit, default=600.0, help="for each system at most (600)"
     )
     parser.add_argument(
         "--write", action="store_true", help="puts the table into docs/SYSTEMS.md (for those who keep that page)"

@@ -144,8 +144,8 @@ class Replay:
         answered = {result.line for part in said for result in part.answers}
         missing = [line.number for line in self.trace.lines if line.number not in answered]
         if missing:
-            many = counted(len(missing), "line")
-            self.runs[0].differences.append(f"{many} of the trace have no result, the first of them line {missing[0]}")
+            many, have = counted(len(missing), "line"), "has" if len(missing) == 1 else "have"
+            self.runs[0].differences.append(f"{many} of the trace {have} no result, the first of them line {missing[0]}")
         return self.runs
 
     def begun(self, child: int | None) -> Run | None:

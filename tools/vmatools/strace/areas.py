@@ -8,6 +8,7 @@ from typing import NamedTuple
 from ..console import Failure, printable
 from ..traces import PAGE, USER_PAGES
 from .files import Opening
+from .log import lines_in
 
 USER_END = USER_PAGES[1] * PAGE
 PROGRAMS = (0x555555554000, 0x570000000000)  # where the kernel puts a program that may be anywhere
@@ -71,7 +72,7 @@ def area_of(line: str) -> Area | None:
 def read_sections(text: str, path: str) -> list[Section]:
     """The lists of a file: one, of a saved /proc/PID/maps, or each that `vma record` kept."""
     sections = [Section(0, "begin", [])]
-    for place, line in enumerate(text.splitlines(), 1):
+    for place, line in enumerate(lines_in(text.removesuffix("\n")), 1):
         header = HEADER.match(line)
         if header:
             sections.append(Section(int(header[1]), header[2], []))

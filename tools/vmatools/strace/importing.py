@@ -1,7 +1,7 @@
 """Makes traces of the memory calls of a real program, from what strace wrote of it.
 
-LOG is what `strace -f -e trace=memory,desc,process -o LOG COMMAND` writes (with -v and -y it tells more); `-` is
-standard input. `vma record` makes one, with the lists of areas that each program begins and ends with. The trace goes
+LOG is what `strace -f -e trace=memory,desc,process,shmget -o LOG COMMAND` writes (with -v and -y it tells more); `-`
+is standard input. `vma record` makes one, with the lists of areas that each program begins and ends with. The trace goes
 to standard output. It has the calls mmap, munmap, mprotect, mremap, brk and mseal of one address space, with a number
 for each opening of a file that is mapped and one for each thread. All that a trace has no word for is counted and
 named on standard error.
@@ -27,28 +27,32 @@ import argparse
 import sys
 from pathlib import Path
 
-from ..console import Failure, printable, reason, say
+from ..console import MOST_BYTES, Failure, make_folder, named, open_file, printable, say, whole_text, write_file
 from ..explanations import explain
 from ..model import Space as Model, answer, permissions
 from ..traces import LIMITS, PAGE, BadLine, Line, read_trace
+from ..words import number
 from .areas import Area, Section, is_of, read_sections, top_of
 from .delaying import best_order
-from .files import Opening
-from .log import Log
+from .files import Opening, number_word
+from .log import Log, split_arguments
 from .order import Step, after
-from .processes import Processes, Space
+from .processes import Change, Processes, Space
 from .reports import report, report_all, report_list
 from .writing import Choices, Operation, Trace
 
+MOST_LOG = 1 << 30  # bytes of a log
 
-def text_of(path: str) -> str:
-    """A file, in which a byte that is no UTF-8 is a surrogate."""
-    try:
-        if path == "-":
-            return sys.stdin.buffer.read().decode("utf-8", "surrogateescape")
-        return Path(path).read_bytes().decode("utf-8", "surrogateescape")
-    except OSError as error:
-        raise Failure(reason(error, path)) from None
+
+def text_of(path: str, most: int = MOST_BYTES) -> str:
+    """A log or a list, as strace and the kernel write them: each line is ended by a newline alone."""
+    text = whole_text(path, most)
+    if "\r" in text[: text.find("\n")][-1:]:
+        raise Failure(
+            f"{named(path)}: line 1: a carriage return stands at the end: lines end with a newline byte alone "
+            "(`tr -d '\\r'` takes carriage returns away)"
+        )
+    return text
 
 
 def known_files(processes: Processes, areas: list[Area]) -> dict[str, list[Opening]]:
@@ -88,7 +92,23 @@ def attach(processes: Processes, sections: list[Section], lines: int) -> None:
         attach_process(processes, process, lists)
     for space in processes.spaces:
         if space.final and space.final[0] < space.last:
+            space.late = sum(change.call.end > space.final[0] for change in space.calls)
             space.final = None  # it goes on after that
+        elif space.final:
+            add_unended(space, *space.final)
+
+
+def add_unended(space: Space, line: int, areas: list[Area]) -> None:
+    """Adds each munmap that did not return, as of a thread whose process ended meanwhile, if the last list shows that it was
+    done."""
+    for call in space.unended:
+        words = split_arguments(call.text)
+        low, size = (number_word(words[0]), number_word(words[1])) if len(words) == 2 else (None, None)
+        if call.name != "munmap" or call.begin > line or low is None or not size:
+            continue
+        if not any(area.lo < low + size and area.hi > low for area in areas):
+            space.takes(Change(call._replace(end=line, result="0"), words))
+            space.found_done += 1
 
 
 def attach_process(processes: Processes, process: int, lists: list[Section]) -> None:
@@ -273,16 +293,16 @@ def add_arguments(parser: argparse.ArgumentParser) -> None:
     )
     which = parser.add_mutually_exclusive_group()
     which.add_argument(
-        "--exec", metavar="N", type=int, help="the address space that the Nth execve of the log began (the first)"
+        "--exec", metavar="N", type=number, help="the address space that the Nth execve of the log began (the first)"
     )
-    which.add_argument("--fork", metavar="N", type=int, help="the address space that the Nth fork of the log began")
+    which.add_argument("--fork", metavar="N", type=number, help="the address space that the Nth fork of the log began")
     which.add_argument(
         "--all", metavar="FOLDER", help="writes a trace of each address space there, with its replies and last list"
     )
     parser.add_argument(
         "--as-returned", action="store_true", help="leaves all calls in the order in which they returned"
     )
-    parser.add_argument("--most", metavar="N", type=int, help="the first N calls alone")
+    parser.add_argument("--most", metavar="N", type=number, help="the first N calls alone")
     parser.add_argument(
         "--elsewhere",
         action="store_true",
@@ -291,7 +311,7 @@ def add_arguments(parser: argparse.ArgumentParser) -> None:
 
 
 def importer_of(options: argparse.Namespace, choices: Choices) -> Importer:
-    log = Log(text_of(options.log))
+    log = Log(text_of(options.log, MOST_LOG))
     if not log.calls:
         raise Failure(f"{options.log}: no line is a call as strace writes them")
     processes = Processes(log)
@@ -321,7 +341,7 @@ def run_one(options: argparse.Namespace, importer: Importer) -> int:
 def write_beside(trace: Trace, space: Space, replies: str | None, final: str | None) -> None:
     """The replies, and the kernel's last list."""
     if replies:
-        Path(replies).write_text(trace.replies(), encoding="utf-8")
+        write_file(replies, trace.replies())
     if final and space.final:
         write_list(final, space.final[1])
     elif final:
@@ -331,20 +351,19 @@ def write_beside(trace: Trace, space: Space, replies: str | None, final: str | N
 
 def write_list(path: str, areas: list[Area]) -> None:
     text = "".join(f"{area.line()}\n" for area in areas)
-    Path(path).write_bytes(text.encode("utf-8", "surrogateescape"))
+    write_file(path, text.encode("utf-8", "surrogateescape"))
 
 
 def run_all(options: argparse.Namespace, importer: Importer) -> int:
     """Each address space that has calls, to a folder."""
     folder = Path(options.all)
-    folder.mkdir(parents=True, exist_ok=True)
     written: list[tuple[Space, Trace]] = []
     for space in importer.processes.with_calls():
         if space.name() in importer.in_lines:
             continue
         trace = importer.trace_of(space)
         name = folder / space.name()
-        name.with_suffix(".trace").write_text(trace.text(), encoding="utf-8")
+        write_file(name.with_suffix(".trace"), trace.text())
         write_beside(trace, space, f"{name}.kernel", f"{name}.maps" if space.final else None)
         for step in trace.steps:
             if step.fork and step.fork.final and step.text:
@@ -375,8 +394,6 @@ def run_list(options: argparse.Namespace, choices: Choices) -> int:
 
 
 def check_words(options: argparse.Namespace) -> None:
-    if options.most is not None and options.most < 0:
-        raise Failure("--most: a number of calls is not below 0")
     if options.log is None and not options.maps:
         raise Failure("no LOG, nor --maps")
     if options.log is None and (options.all or options.exec is not None or options.fork is not None or options.final):
@@ -393,12 +410,13 @@ def run(options: argparse.Namespace) -> int:
     try:
         for path in (options.replies, options.final):
             if path:
-                open(path, "a").close()  # whether it can be written, before the work
+                open_file(path, "a").close()  # whether it can be written, before the work
+        if options.all:
+            make_folder(options.all)
         if options.log is None:
             return run_list(options, choices)
         importer = importer_of(options, choices)
         return run_all(options, importer) if options.all else run_one(options, importer)
     except BadLine as bad:
-        raise Failure(f"{options.log}: what was made of it is no trace: {explain(bad)}") from None
-    except OSError as error:
-        raise Failure(reason(error)) from None
+        source = named(options.log or options.maps)
+        raise Failure(f"{source}: what was made of it is no trace: {explain(bad)}") from None

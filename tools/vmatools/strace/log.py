@@ -4,6 +4,7 @@ from __future__ import annotations
 import errno
 import re
 from collections import Counter
+from collections.abc import Iterator
 from typing import NamedTuple
 
 from ..console import Progress
@@ -100,6 +101,18 @@ KILLED = re.compile(r"\+\+\+ killed by (\w+)")
 ATTACHED = re.compile(r"strace: Process (\d+) attached(?: with \d+ threads)?\n")
 
 
+MOST_OTHERS = 10_000  # lines above the first call
+
+
+def lines_in(text: str) -> Iterator[str]:
+    """The lines of a text, one by one, as the text may be large. What is behind the last newline is one too."""
+    begin = 0
+    while (end := text.find("\n", begin)) >= 0:
+        yield text[begin:end]
+        begin = end + 1
+    yield text[begin:]
+
+
 class Log:
     """A log: its calls, the threads that ended, its signals, and what could not be read."""
 
@@ -122,11 +135,13 @@ class Log:
 
     def read(self, text: str) -> None:
         progress = Progress()
-        for at, line in enumerate(text.split("\n")):
+        for at, line in enumerate(lines_in(text)):
             self.line(at, line)
             self.lines = at
             if at % 512 == 0:
                 progress.tell(f"{at} lines of the log")
+                if at > MOST_OTHERS and not self.calls and not self.pending:
+                    break
         progress.clear()
 
     def line(self, at: int, line: str) -> None:
@@ -201,7 +216,7 @@ class Log:
             return
         result = SECONDS.sub("", found[2]).strip()
         if result.startswith("?") and name not in ("exit", "exit_group"):
-            self.pending[pid] = (end, name, text)
+            self.pending[pid] = (begin, name, found[1])
             return
         number = NUMBER_OF_ERROR.match(result)
         if number:  # as -e raw=all has errors

@@ -9,8 +9,9 @@ from typing import NamedTuple
 
 from ..console import Failure
 from .areas import Area
-from .files import Descriptors, Opening, follow_descriptor, quoted
+from .files import Descriptors, Opening, follow_descriptor, number_word, quoted
 from .log import FORKS, Call, Log, split_arguments
+from .segments import CALLS as OF_SEGMENTS, Segments
 
 # Calls that a trace has, by the names that strace has for them.
 CALLS = {
@@ -57,6 +58,16 @@ class Space:
     areas: list[Area] = field(default_factory=list)  # those that it begins with
     final: tuple[int, list[Area]] | None = None  # the last list that was read of it, and at which line of the log
     killed_by: str | None = None  # the signal that ended its process, before which no list is read
+    late: int = 0  # calls that returned after the last list was read, while its process waited to end
+    attached: dict[int, int] = field(default_factory=dict)  # how large each segment of shared memory is, by its address
+    unended: list[Call] = field(default_factory=list)  # calls that did not return
+    found_done: int = 0  # those of them that the last list shows to be done
+
+    def takes(self, change: Change) -> None:
+        """One more call."""
+        self.calls.append(change)
+        self.threads.add(change.call.pid)
+        self.last = max(self.last, change.call.end)
 
     def name(self) -> str:
         """How it is called on the command line and in names of files."""
@@ -83,8 +94,11 @@ class Processes:
         self.spaces, self.unexplained = [self.first], set[int]()
         self.execs = self.forks = 0
         self.tries: list[Try] = []
+        self.segments = Segments()
         for call in log.events():
             self.follow(call)
+        for thread, (begin, name, text) in log.pending.items():
+            self.space_of.get(thread, self.first).unended.append(Call(begin, begin, thread, name, text, "?"))
         for thread, signal in log.killed.items():
             space = self.space_of.get(thread, self.first)
             if space.owner in (0, self.leader_of.get(thread, thread)):
@@ -104,14 +118,33 @@ class Processes:
         elif call.name in CALLS:
             words = split_arguments(call.text)
             is_of_file = CALLS[call.name] == "mmap" and len(words) == 6 and not is_anonymous(words[3])
-            space.calls.append(Change(call, words, files.at(words[4]) if is_of_file else None))
-            space.threads.add(call.pid)
-            space.last = max(space.last, call.end)
-        else:
+            space.takes(Change(call, words, files.at(words[4]) if is_of_file else None))
+        elif call.name not in OF_SEGMENTS or not self.follow_segment(call, space):
             if call.name == "exit_group":
                 self.tries.append(Try(call, self.leader_of.get(call.pid, call.pid), space))
             follow_descriptor(call, files)
             space.other[call.name] += 1
+
+    def follow_segment(self, call: Call, space: Space) -> bool:
+        """A call on shared memory: attaching maps a segment as a file is mapped, detaching unmaps it. Whether it is one of
+        these."""
+        if call.name == "shmget":
+            self.segments.made(call)
+            return True
+        if call.name == "shmat":
+            made = self.segments.attached(call)
+            if made is None:
+                return False
+            words, segment = made
+            space.attached[int(call.result, 16)] = segment.size or 0
+            space.takes(Change(call._replace(name="mmap"), words, segment))
+            return True
+        address = number_word(call.text)
+        size = space.attached.pop(address, None) if address and call.result == "0" else None
+        if size is None:
+            return False
+        space.takes(Change(call._replace(name="munmap"), [hex(address or 0), str(size)]))
+        return True
 
     def fork(self, call: Call) -> None:
         found = CHILD.match(call.result)
@@ -124,7 +157,7 @@ class Processes:
         if not bits & CLONE_VM:
             self.forks += 1
             label = f"a fork of {parent.label}"
-            space = Space(None, self.forks, label, parent, call, child)
+            space = Space(None, self.forks, label, parent, call, child, attached=dict(parent.attached))
             self.spaces.append(space)
             parent.children.append(space)
         self.space_of[child] = parent if bits & CLONE_VM else self.spaces[-1]

@@ -18,7 +18,7 @@ seccomp(2): a command that has a listener of such filters itself, as a container
 strace, and by the filter, programs with a set-user-ID bit have no more rights than you.
 
 The status is that of the command, or 128 and the number of the signal that ended it; 125 where strace is not there or
-may not trace, and on wrong use; 127 where the command is not there.
+may not trace, where what it keeps cannot be written, and on wrong use; 127 where the command is not there.
 """
 from __future__ import annotations
 
@@ -29,10 +29,12 @@ import shutil
 import signal
 import subprocess
 import sys
+import threading
 import time
+from pathlib import Path
 from typing import BinaryIO, NoReturn
 
-from ..console import Failure, say
+from ..console import Failure, reason, say, write_file
 from . import watching
 
 ADDR_NO_RANDOMIZE = 0x0040000
@@ -40,10 +42,11 @@ PTRACE_TRACEME, PTRACE_DETACH = 0, 17
 PR_SET_PTRACER, ANY = 0x59616D61, -1
 TRACED = (
     "%memory,%process,open,openat,openat2,creat,close,close_range,dup,dup2,dup3,fcntl,fstat,newfstatat,statx,ftruncate,"
-    "memfd_create"
+    "memfd_create,shmget"
 )
 IN_FULL = "fstat,newfstatat,statx"  # with device and inode; the environment of an execve stays out of the log
 SECONDS = 10
+MOST_SAID = 100  # lines of strace that are passed on
 
 LIBC = ctypes.CDLL(None, use_errno=True)
 LIBC.ptrace.argtypes = [ctypes.c_long, ctypes.c_long, ctypes.c_void_p, ctypes.c_void_p]
@@ -103,18 +106,51 @@ def quoted(word: str) -> str:
 
 def keep_beginning(child: int, path: str, words: list[str], choices: argparse.Namespace) -> None:
     """The maps, and the log's first line, as strace comes only after the execve."""
-    with open(f"/proc/{child}/maps", "rb") as areas, open(choices.name + ".maps", "wb") as kept:
-        kept.write(areas.read())
-    with open(choices.name + ".log", "w") as log:
-        log.write(f"{child} execve({quoted(path)}, [{', '.join(map(quoted, words))}], ...) = 0\n")
+    write_file(choices.name + ".maps", Path(f"/proc/{child}/maps").read_bytes())
+    write_file(choices.name + ".log", f"{child} execve({quoted(path)}, [{', '.join(map(quoted, words))}], ...) = 0\n")
 
 
-def traced(child: int, log: str) -> subprocess.Popen[bytes]:
+class Tracer:
+    """strace while it traces a child. What it says on standard error is passed on, each line once: it names a full device at
+    each call."""
+
+    def __init__(self, words: list[str]) -> None:
+        self.process = subprocess.Popen(
+            words, stdin=subprocess.DEVNULL, stderr=subprocess.PIPE, start_new_session=True
+        )
+        self.said: dict[str, None] = {}
+        self.hears = threading.Thread(target=self.hear, daemon=True)
+        self.hears.start()
+
+    def hear(self) -> None:
+        assert self.process.stderr
+        for line in self.process.stderr:
+            text = line.decode(errors="replace").rstrip()
+            if text not in self.said and len(self.said) < MOST_SAID:
+                self.said[text] = None
+                print(text, file=sys.stderr, flush=True)
+
+    def end(self) -> None:
+        """Waits for its end: that of the last process that it traces. Those that the command left behind go on without it."""
+        try:
+            self.process.wait(SECONDS)
+        except (subprocess.TimeoutExpired, KeyboardInterrupt):
+            self.process.terminate()
+            self.process.wait()
+        self.hears.join(SECONDS)
+
+    def not_written(self, log: str) -> str | None:
+        """Why the log is not whole."""
+        front = f"strace: {log}: "
+        return next((text.removeprefix(front) for text in self.said if text.startswith(front)), None)
+
+
+def traced(child: int, log: str) -> Tracer:
     """strace, once it traces the child. Where it cannot, the child is ended."""
     # The child stops by a signal of its own, so that it waits for strace.
     LIBC.ptrace(PTRACE_DETACH, child, None, signal.SIGSTOP)
     os.waitpid(child, os.WUNTRACED)
-    tracer = subprocess.Popen(
+    tracer = Tracer(
         [
             "strace",
             "-f",
@@ -131,21 +167,22 @@ def traced(child: int, log: str) -> subprocess.Popen[bytes]:
             "signal=all",
             "-p",
             str(child),
-        ],
-        stdin=subprocess.DEVNULL,
-        start_new_session=True,
+        ]
     )
     until = time.monotonic() + SECONDS
-    while tracer.poll() is None and time.monotonic() < until:
+    while tracer.process.poll() is None and time.monotonic() < until:
         with open(f"/proc/{child}/status") as status:
-            if any(line.split() == ["TracerPid:", str(tracer.pid)] for line in status):
+            if any(line.split() == ["TracerPid:", str(tracer.process.pid)] for line in status):
                 return tracer
         time.sleep(0.005)
     os.kill(child, signal.SIGKILL)
+    has_ended = tracer.process.poll() is not None
+    if has_ended:
+        tracer.end()
     fail(
         125,
         "strace does not trace the command: what it says stands above"
-        if tracer.poll() is not None
+        if has_ended
         else f"strace has not begun to trace within {SECONDS} seconds",
     )
 
@@ -185,24 +222,22 @@ def run(choices: argparse.Namespace) -> int:
     try:
         lists = open(choices.name + ".lists", "wb") if watching.is_able() and not choices.no_lists else None
     except OSError as error:
-        fail(125, f"{error.filename}: {error.strerror}")
+        fail(125, reason(error))
     child, watcher = started(path, words, lists)
     try:
         keep_beginning(child, path, words, choices)
-    except OSError as error:
+    except Failure as failure:
         os.kill(child, signal.SIGKILL)
-        fail(125, f"{error.filename}: {error.strerror}")
+        fail(125, str(failure))
     tracer = traced(child, choices.name + ".log")
     os.kill(child, signal.SIGCONT)
     status = waited(child)
-    # strace ends with the last process that it traces; those that the command left behind go on without it.
-    try:
-        tracer.wait(SECONDS)
-    except (subprocess.TimeoutExpired, KeyboardInterrupt):
-        tracer.terminate()
-        tracer.wait()
+    tracer.end()
     if watcher:
         watcher.end()
+    for end, why in ((".log", tracer.not_written(choices.name + ".log")), (".lists", watcher and watcher.failure)):
+        if why:
+            fail(125, f"{choices.name}{end} is not whole: {why}")
     kept = [choices.name + end for end in (".log", ".maps", *([".lists"] if watcher else []))]
     say(f"{', '.join(kept[:-1])} and {kept[-1]} are written")
     return status

@@ -24,7 +24,7 @@ def report(trace: Trace, log: Log, processes: Processes, space: Space, in_lines:
         say(line)
     report_order(trace)
     report_places(trace)
-    report_killed(space, "it")
+    report_end(space, "it")
     report_left_out([trace], [space], log)
     for other in processes.spaces:
         if other is not space and other.calls and other.name() not in in_lines:
@@ -63,10 +63,15 @@ def report_places(trace: Trace) -> None:
         say(f"plain memory takes the place of {shown}, so that nothing else is put there")
 
 
-def report_killed(space: Space, which: str) -> None:
-    """Why there is no list that the kernel had last."""
-    if space.killed_by and space.final is None:
+def report_end(space: Space, which: str) -> None:
+    """Why there is no list that the kernel had last, and what is known from it alone."""
+    if space.late:
+        calls = counted(space.late, "call of another thread", "calls of other threads")
+        say(f"{which} has no last list: {calls} returned after it was read, while the process waited to end")
+    elif space.killed_by and space.final is None:
         say(f"{which} has no last list: {space.killed_by} ended it")
+    if space.found_done:
+        say(f"{which}: {counted(space.found_done, 'munmap')} did not return, and the last list shows that it was done")
 
 
 def report_left_out(traces: list[Trace], spaces: list[Space], log: Log) -> None:
@@ -105,10 +110,13 @@ def report_all(written: list[tuple[Space, Trace]], log: Log, processes: Processe
     for space, trace in written:
         say(f"{space.name()}: {headline(trace, space)}")
         report_order(trace)
-        report_killed(space, space.name())
+        report_end(space, space.name())
         for step in trace.steps:
             if step.fork and step.text:
-                report_killed(step.fork, f"child {step.text.split()[1]} of {space.name()}")
+                report_end(step.fork, f"child {step.text.split()[1]} of {space.name()}")
+    forks = sum(space.fork is not None and not space.calls for space in processes.spaces)
+    if forks:
+        say(f"{counted(forks, 'fork')} without a call that a trace has: none is written")
     report_left_out([trace for _, trace in written], [space for space, _ in written], log)
     report_log(log, processes)
 

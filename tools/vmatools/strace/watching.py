@@ -92,6 +92,7 @@ class Watcher(threading.Thread):
         self.is_first = True
         self.wake, self.waker = os.pipe()
         self.is_done = False  # whether nobody is left
+        self.failure: str | None = None  # why the lists could not be written
 
     def run(self) -> None:
         poll = select.poll()
@@ -111,7 +112,10 @@ class Watcher(threading.Thread):
         """Ends the thread. Those that are left are answered by a process of its own, as without one their calls would fail."""
         os.write(self.waker, b"x")
         self.join()
-        self.kept.close()
+        try:
+            self.kept.close()
+        except OSError as error:
+            self.failure = error.strerror
         if not self.is_done and os.fork() == 0:
             try:
                 os.setsid()
@@ -179,8 +183,15 @@ class Watcher(threading.Thread):
             self.begins.add(process)
         areas = b"" if self.is_first else Path(f"/proc/{thread}/maps").read_bytes()
         self.is_first = False  # the first execve is that of the command, whose list before is that of this program
-        self.kept.write(f"# {process} {when}\n".encode() + areas)
-        self.kept.flush()
+        self.write(f"# {process} {when}\n".encode() + areas)
+
+    def write(self, data: bytes) -> None:
+        try:
+            if self.failure is None:
+                self.kept.write(data)
+                self.kept.flush()
+        except OSError as error:
+            self.failure = error.strerror
 
 
 def process_of(thread: int) -> int:

@@ -1,0 +1,60 @@
+"""What the checks of tests/checks let pass and what not."""
+from __future__ import annotations
+
+import os
+import subprocess
+import sys
+import unittest
+from pathlib import Path
+from unittest import mock
+
+CHECKS = Path(__file__).resolve().parents[1] / "checks"
+sys.path.insert(0, str(CHECKS))
+import checking
+import judged_runs
+
+
+class Histories(unittest.TestCase):
+    def check(self, histories: list[int], processors: int = 4) -> None:
+        runs = judged_runs.Runs(judged_runs.Program("none"), 1)
+        runs.histories = histories
+        with mock.patch.object(os, "sched_getaffinity", return_value=set(range(processors))), mock.patch("builtins.print"):
+            runs.check_histories()
+
+    def test_threads_that_run_one_after_the_other_are_refused(self) -> None:
+        with self.assertRaises(checking.Failed):
+            self.check([1] * 20)
+        with self.assertRaises(checking.Failed):
+            self.check([2] * 6 + [1] * 14)
+        self.check([2] * 7 + [1] * 14)
+
+    def test_where_it_cannot_be_told(self) -> None:
+        self.check([1] * 20, processors=1)
+        self.check([1] * (judged_runs.FEW - 1))
+
+
+class Peaks(unittest.TestCase):
+    def resident(self, *command: str, addresses: int = 1 << 40) -> tuple[int, int]:
+        """The status of a command, and the KiB that it has resident at most."""
+        told, writer = os.pipe()
+        words = [sys.executable, "-IS", str(CHECKS / "peak.py"), str(writer), str(addresses), *command]
+        done = subprocess.run(words, pass_fds=[writer], stderr=subprocess.DEVNULL)
+        os.close(writer)
+        with open(told, "rb") as source:
+            return done.returncode, int(source.read())
+
+    def test_a_command_alone_is_counted(self) -> None:
+        self.assertLess(self.resident("/bin/true")[1], 12_000)
+        status, peak = self.resident(sys.executable, "-ISc", "bytearray(100_000_000)")
+        self.assertEqual(status, 0)
+        self.assertGreater(peak, 97_000)
+        self.assertLess(peak, 125_000)
+
+    def test_how_it_ends(self) -> None:
+        self.assertEqual(self.resident("/bin/sh", "-c", "exit 3")[0], 3)
+        self.assertEqual(self.resident("/bin/sh", "-c", "kill -9 $$")[0], 137)
+        self.assertNotEqual(self.resident(sys.executable, "-ISc", "bytearray(1 << 30)", addresses=1 << 29)[0], 0)
+
+
+if __name__ == "__main__":
+    unittest.main()

@@ -1,0 +1,35 @@
+"""Numbers and times among the words of a command line."""
+from __future__ import annotations
+
+import argparse
+import re
+
+
+def number(text: str) -> int:
+    """A number of at least 0, in decimal digits."""
+    if not re.fullmatch("[0-9]{1,18}", text):
+        raise argparse.ArgumentTypeError(f"{shortened(text)} is no number from 0 on")
+    return int(text)
+
+
+def count(text: str) -> int:
+    """A number of at least 1."""
+    value = number(text) if re.fullmatch("[0-9]{1,18}", text) else 0
+    if value < 1:
+        raise argparse.ArgumentTypeError(f"{shortened(text)} is no number from 1 on")
+    return value
+
+
+def time_limit(text: str) -> float:
+    """So many seconds, more than none."""
+    try:
+        value = float(text)
+    except ValueError:
+        value = 0.0
+    if not 0 < value < 1e6:
+        raise argparse.ArgumentTypeError(f"{shortened(text)} is no number of seconds")
+    return value
+
+
+def shortened(text: str) -> str:
+    return text if len(text) <= 40 else f"{text[:40]}.."
