@@ -15,8 +15,6 @@ mod readiness;
 mod seal_guard;
 mod step;
 mod tables;
-#[cfg(test)]
-mod tests;
 mod touch_table;
 
 pub use area_list::sound;

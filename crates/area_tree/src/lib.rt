@@ -13,6 +13,3 @@ mod tree;
 pub use resizing::beside;
 pub use shown::ShownArea;
 pub use tree::AreaTree;
-
-#[cfg(test)]
-mod tests;

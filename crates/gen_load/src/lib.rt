@@ -8,8 +8,6 @@
 mod draw;
 mod laws;
 mod loading;
-#[cfg(test)]
-mod tests;
 
 pub use draw::FIRST_ADDRESS;
 pub use laws::{flags_are_printed, generator_numbers, loads_are_traces};

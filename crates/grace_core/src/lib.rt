@@ -19,6 +19,3 @@ pub use rows::Rows;
 pub use state::GraceState;
 pub use tree::GraceTree;
 pub use writer_state::GraceWriter;
-
-#[cfg(test)]
-mod tests;

@@ -17,8 +17,6 @@ mod places;
 mod progress;
 mod run_laws;
 mod same;
-#[cfg(test)]
-mod tests;
 mod turns;
 
 pub use answers::{Answer, BadEntry, CheckError};

@@ -14,8 +14,6 @@ mod laws;
 mod live_space;
 mod own_lines;
 mod status;
-#[cfg(test)]
-mod tests;
 
 pub use conversing::converse;
 pub use laws::{answers_stay, session_gives_a_front};

@@ -15,6 +15,3 @@ pub use events::{LockAnswer, LockEvent, StepRefusal};
 pub use laws::rows_by_weight;
 pub use stage::{SlotState, Stage};
 pub use state::LockState;
-
-#[cfg(test)]
-mod tests;

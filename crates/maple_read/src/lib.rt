@@ -6,6 +6,3 @@ mod walking;
 
 pub use laws::{a_root_that_was_loaded, walks_keep_the_root};
 pub use walking::walk;
-
-#[cfg(test)]
-mod tests;

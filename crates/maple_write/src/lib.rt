@@ -12,6 +12,3 @@ mod tree;
 
 pub use laws::{new_trees_are_blank, sizes_of_trees};
 pub use storing::{publish_tree, store};
-
-#[cfg(test)]
-mod tests;

@@ -6,8 +6,6 @@ mod line;
 mod list;
 mod mapped;
 mod part;
-#[cfg(test)]
-mod tests;
 
 pub use line::{print_line, push_line, push_range};
 pub use list::{print_list, push_list};

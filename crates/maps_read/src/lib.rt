@@ -27,10 +27,3 @@ pub use laws::{first_bad_line, front_is_enough, lines_are_read, maps_are_within,
 pub use maps::{MapsLine, MapsText};
 pub use querying::query;
 pub use reading::{MAPS_LINE_LIMIT, read_maps};
-
-#[cfg(test)]
-mod process_tests;
-#[cfg(test)]
-mod random_tests;
-#[cfg(test)]
-mod tests;

@@ -37,6 +37,3 @@ pub use laws::{
     sound_lists_go_on,
 };
 pub use retracing::{retrace, retraced};
-
-#[cfg(test)]
-mod tests;

@@ -6,8 +6,6 @@ mod histories;
 mod inheriting;
 mod laws;
 mod lines;
-#[cfg(test)]
-mod tests;
 
 pub use checking::{check_child, check_parent};
 pub use histories::child_history;

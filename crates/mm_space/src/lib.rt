@@ -17,6 +17,3 @@ pub use name::SpaceName;
 pub use named::Named;
 pub use ready::Ready;
 pub use space::{Called, Faulted, Path, Space};
-
-#[cfg(test)]
-mod tests;

@@ -8,6 +8,3 @@ mod state;
 mod store;
 
 pub use state::MmState;
-
-#[cfg(test)]
-mod tests;

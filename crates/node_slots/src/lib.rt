@@ -22,6 +22,3 @@ pub use left::Left;
 pub use seats::{NodeSeat, NodeTable, NodeWriter, NodeWriterSeat};
 pub use tree::Tree;
 pub use view::{Known, NodeSeatKind, NodeView, SeenTree, SeenWriterState, ShownTree, Size};
-
-#[cfg(test)]
-mod tests;

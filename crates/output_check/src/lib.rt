@@ -10,18 +10,10 @@ mod checking;
 mod forks;
 mod given;
 mod input;
-#[cfg(test)]
-mod judge_tests;
 mod judgement;
 mod judging;
 mod laws;
-#[cfg(test)]
-mod slow_judge;
-#[cfg(test)]
-mod small_traces;
 mod stop;
-#[cfg(test)]
-mod tests;
 
 pub use checking::checked;
 pub use input::TEXT_LIMIT;

@@ -4,8 +4,6 @@
 
 mod items;
 mod output;
-#[cfg(test)]
-mod tests;
 
 pub use items::{push_item, push_maps};
 pub use output::{push_count, push_forked, push_reply, push_start, push_verdict};

@@ -16,8 +16,3 @@ mod store;
 pub use chunks::AreaChunks;
 pub use room::Room;
 pub use space::PlainSpace;
-
-#[cfg(test)]
-mod call_tests;
-#[cfg(test)]
-mod tests;

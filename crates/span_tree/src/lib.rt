@@ -11,6 +11,3 @@ mod waiting;
 pub use call::OpenCall;
 pub use laws::{pairs_are_apart, rows_suffice};
 pub use tree::SpanTree;
-
-#[cfg(test)]
-mod tests;

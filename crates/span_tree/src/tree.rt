@@ -168,6 +168,3 @@ impl SpanTree {
         scan_once(&self.nodes, &mut self.writer);
     }
 }
-
-#[cfg(test)]
-mod tests;

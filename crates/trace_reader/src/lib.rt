@@ -45,6 +45,3 @@ pub use limits::{MOST_FILE_BYTES, MOST_FORKS, MOST_LINES, MOST_MAPS, MOST_NAMED}
 pub use reading::read;
 pub use text_lexer::{BadLine, CallError, Cause, ReadError, number_of};
 pub use trace::{Lines, Op, Trace, TraceLine};
-
-#[cfg(test)]
-mod tests;

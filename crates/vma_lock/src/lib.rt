@@ -18,6 +18,3 @@ pub use seats::{NoteSeat, ReaderSeat, VmaTable, WriterSeat};
 pub use view::{LastWords, LockWriterState, SeatKind, SeenAt, Trace, View};
 pub use words::word_count;
 pub use writing::ReadersLeft;
-
-#[cfg(test)]
-mod tests;

@@ -62,6 +62,3 @@ impl SpanTree {
         before_slot(&self.nodes, &self.writer, &self.tree, page)
     }
 }
-
-#[cfg(test)]
-mod tests;

@@ -1,8 +1,0 @@
-//! Trees that are stored into, published and walked, beside plain arrays of their pages.
-
-mod bench;
-mod layout;
-mod pages;
-mod row;
-mod stores;
-mod walks;
