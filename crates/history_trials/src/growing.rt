@@ -1,13 +1,12 @@
 //! The row of a stack that grows, worked by hand: its history is accepted, and refused where a growth is taken for a read.
 
+use crate::by_hand::{READ, WRITE, area, called, faulted, mmap};
 use crate::slow_judge::Told;
 use crate::tests::{Whose, bad_of};
-use history::{Content, History, Item};
-use mm_types::{
-    Access, Attr, Call, Config, Files, MAP_ANONYMOUS, MAP_FIXED, MAP_GROWSDOWN, MAP_PRIVATE,
-    MmapArgs, NoMemory, Page, Prot, Record, Reply, Span, Verdict,
-};
+use history::{History, Item};
+use mm_types::{Access, Call, MAP_GROWSDOWN, NoMemory, Page, Record, Reply, Verdict};
 use std::alloc::Global;
+use std::process::Abort;
 use std::test::Fail;
 use trace_reader::{Trace, read};
 
@@ -22,65 +21,14 @@ const STACK: &[u8] = b"vmatrace 1
 0 fault 0x101000 r
 ";
 
-/// Reads alone.
-const READ: Prot = Prot {
-    read: true,
-    write: false,
-    exec: false,
-};
-
-/// Reads and writes.
-const WRITE: Prot = Prot {
-    read: true,
-    write: true,
-    exec: false,
-};
-
-/// Private memory at an address.
-fn mmap(addr: u64, len: u64, prot: Prot, more: u32) -> Call {
-    Call::Mmap(MmapArgs {
-        addr,
-        len,
-        prot,
-        flags: MAP_PRIVATE | MAP_ANONYMOUS | MAP_FIXED | more,
-        fd: -1,
-        offset: 0,
-    })
-}
-
 /// The stack, which begins at a page.
 fn stack_from(lo: u64) -> Record {
-    Record {
-        span: Span { lo, hi: 0x102 },
-        attr: Attr {
-            prot: WRITE,
-            most: Prot {
-                read: true,
-                write: true,
-                exec: true,
-            },
-            shared: false,
-            grows: true,
-            sealed: false,
-            heap: false,
-        },
-        object: 0,
-        offset: 0,
-    }
-}
-
-/// An item of the one caller.
-fn item(version: u64, content: Content) -> Item {
-    Item {
-        caller: 0,
-        version,
-        content,
-    }
+    area(lo, 0x102, WRITE, true)
 }
 
 /// A call of mmap(2) that has the address that it asks for.
 fn mapped(version: u64, call: Call, addr: u64) -> Item {
-    item(version, Content::Called(call, Reply::Addr(addr)))
+    called(0, version, call, Reply::Addr(addr))
 }
 
 /// The write to a page by which the stack grows to it.
@@ -101,20 +49,7 @@ fn growth(page: u64) -> Reply {
 
 /// A fault by which the stack grows to the page.
 fn grown(version: u64, page: u64) -> Item {
-    item(version, Content::Called(touch(page), growth(page)))
-}
-
-/// A fault by which nothing grows.
-fn fault(version: u64, page: u64, access: Access, verdict: Verdict) -> Item {
-    let page = Page(page);
-    item(
-        version,
-        Content::Fault {
-            page,
-            access,
-            verdict,
-        },
-    )
+    called(0, version, touch(page), growth(page))
 }
 
 /// The history, whose first fault is this item.
@@ -128,10 +63,10 @@ fn history(alloc: Global, first: Item) -> Result<History, NoMemory> {
     items.push(mapped(1, stack, 0x10_0000))?;
     items.push(mapped(2, mmap(0xf_c000, 4096, READ, 0), 0xf_c000))?;
     items.push(first)?;
-    items.push(fault(3, 0xfe, Access::Exec, Verdict::AccErr))?;
+    items.push(faulted(0, 3, 0xfe, Access::Exec, Verdict::AccErr))?;
     items.push(grown(4, 0xfe))?;
-    items.push(fault(4, 0xfd, Access::Write, Verdict::MapErr))?;
-    items.push(fault(4, 0x101, Access::Read, served))?;
+    items.push(faulted(0, 4, 0xfd, Access::Write, Verdict::MapErr))?;
+    items.push(faulted(0, 4, 0x101, Access::Read, served))?;
     Ok(History::of(items))
 }
 
@@ -143,19 +78,29 @@ fn row(alloc: Global) -> Result<Trace, Fail> {
     }
 }
 
-#[test]
-fn a_stack_that_grows_is_judged(rt: HostRuntime) -> Result<(), Fail> {
+/// Has the history judged as that of whose it is, as it is and with a growth taken for a read.
+fn judge(rt: &(impl Abort + AllocGlobal), whose: Whose<'_>) -> Result<(), Fail> {
     let trace = row(rt.alloc())?;
     let right = history(rt.alloc(), grown(3, 0xff))?;
-    assert_eq!(rt; bad_of(&rt, &trace, Whose::Alone, &right)?, None);
+    assert_eq!(rt; bad_of(rt, &trace, whose, &right)?, None);
 
-    let read = fault(2, 0xff, Access::Write, Verdict::MapErr);
+    let read = faulted(0, 2, 0xff, Access::Write, Verdict::MapErr);
     let wrong = history(rt.alloc(), read)?;
     let wanted = (
         3,
         Told::Call(touch(0xff), growth(0xff)),
         Told::Fault(Verdict::MapErr),
     );
-    assert_eq!(rt; bad_of(&rt, &trace, Whose::Alone, &wrong)?, Some(wanted));
+    assert_eq!(rt; bad_of(rt, &trace, whose, &wrong)?, Some(wanted));
     Ok(())
+}
+
+#[test]
+fn a_stack_that_grows_is_judged(rt: HostRuntime) -> Result<(), Fail> {
+    judge(&rt, Whose::Alone)
+}
+
+#[test]
+fn a_stack_of_a_parent_that_grows_is_judged(rt: HostRuntime) -> Result<(), Fail> {
+    judge(&rt, Whose::Parent)
 }

@@ -111,7 +111,7 @@ fn history_of(
 }
 
 /// What a child inherits that was forked after so many entries.
-fn inherited(
+pub(crate) fn inherited(
     rt: &(impl Abort + AllocGlobal),
     journal: &[Entry],
     fork: usize,

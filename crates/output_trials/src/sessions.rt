@@ -1,0 +1,75 @@
+//! Sessions worked by hand, over memory.
+
+use io_edge::{MemSink, MemSource};
+use live_session::{Status, converse};
+use std::alloc::Global;
+use std::process::Abort;
+use std::test::Fail;
+
+/// What a session gives for this input, and what it ends with, where the read of this number fails.
+fn given(alloc: Global, input: &[u8], failing: u64) -> Result<(Vec<u8>, Status), Fail> {
+    let mut fail = Vec::new(alloc);
+    fail.push(failing)?;
+    let mut source = MemSource::new(Vec::from_slice(alloc, input)?, fail);
+    let mut sink = MemSink::new(alloc, Vec::new(alloc));
+    let status = converse(alloc, &mut source, &mut sink);
+    Ok((Vec::from_slice(alloc, sink.bytes())?, status))
+}
+
+/// A session gives this for an input that ends.
+fn gives(rt: &(impl Abort + AllocGlobal), input: &str, wanted: &str) -> Result<(), Fail> {
+    let (found, status) = given(rt.alloc(), input.as_bytes(), u64::MAX)?;
+    assert_eq!(rt; status, Status::Done);
+    assert_eq!(rt; found.as_slice(), wanted.as_bytes(), "{input}");
+    Ok(())
+}
+
+#[test]
+fn operations_are_answered(rt: HostRuntime) -> Result<(), Fail> {
+    gives(
+        &rt,
+        "vmatrace 1\nlimit areas 4\n0 mmap 0x10000 8192 PROT_READ MAP_PRIVATE|MAP_FIXED|MAP_ANONYMOUS -1 0\n\
+         1 fault 65536 r\n1 maps\nquery 0x11fff\nquery 0x12000\n0 munmap 65536 4096\n",
+        "L3 t0 v1 = 0x10000\nL4 t1 v1 = served 00010000-00012000 r--p page 0\n\
+         L5 t1 v1 = maps 1\n00010000-00012000 r--p 00000000 00:00 0 \n\
+         00010000-00012000 r--p 00000000 00:00 0 \nnone\nL8 t0 v2 = 0\n\
+         maps 1\n00011000-00012000 r--p 00000000 00:00 0 \n",
+    )
+}
+
+#[test]
+fn bad_lines_change_nothing(rt: HostRuntime) -> Result<(), Fail> {
+    gives(
+        &rt,
+        "0 maps\nvmatrace 1\nquery\nquery x\n64 maps\n0 fork 1\n0 munmap 4096\nlimit areas 3\n0 maps\n0 munmap 4096 4096\nlimit areas 2\n0 maps",
+        "trace line 1 cause 1 Header\ntrace line 2 cause 6 Arity\ntrace line 3 cause 4 Number\n\
+         trace line 4 cause 7 Thread\ntrace line 5 cause 14 Child\ntrace line 6 cause 6 Arity\n\
+         L8 t0 v0 = maps 0\nL9 t0 v1 = 0\ntrace line 10 cause 3 Word\ntrace line 11 cause 11 NoEnd\nmaps 0\n",
+    )
+}
+
+#[test]
+fn new_begins_another_space(rt: HostRuntime) -> Result<(), Fail> {
+    gives(
+        &rt,
+        "new\nvmatrace 1\n0 mmap 0x10000 4096 PROT_NONE MAP_PRIVATE|MAP_FIXED|MAP_ANONYMOUS -1 0\nnew\nnew\n\
+         vmatrace 2\nquery 0\nnew 1\n0 brk 0\n",
+        "L2 t0 v1 = 0x10000\nmaps 1\n00010000-00011000 ---p 00000000 00:00 0 \nnone\n\
+         trace line 3 cause 3 Word\nL4 t0 v1 = 0x0\nmaps 0\n",
+    )?;
+    gives(&rt, "", "")
+}
+
+/// Where a read fails, each whole line before it was answered.
+#[test]
+fn lines_are_answered_before_the_next_read(rt: HostRuntime) -> Result<(), Fail> {
+    let input =
+        "vmatrace 1\n# a line of many bytes, so that the first read ends in line 3\n0 munmap 4096 4096\n";
+    let (found, status) = given(rt.alloc(), input.as_bytes(), 2)?;
+    assert_eq!(rt; status, Status::ReadFault);
+    assert_eq!(rt; found.as_slice(), b"L3 t0 v1 = 0\n".as_slice());
+    let (found, status) = given(rt.alloc(), input.as_bytes(), 1)?;
+    assert_eq!(rt; status, Status::ReadFault);
+    assert_eq!(rt; found.as_slice(), b"".as_slice());
+    Ok(())
+}
