@@ -25,8 +25,8 @@ const NO_SLOT: Slot = Slot(2);
 /// How many areas are mapped one after the other, and how many readers are made.
 const MANY: u32 = 130;
 
-/// One page of private anonymous memory, to read and write.
-const PAGE: Call = Call::Mmap(MmapArgs {
+/// The arguments of a call that maps a page of private anonymous memory, to read and write.
+pub(crate) const PAGE_ARGS: MmapArgs = MmapArgs {
     addr: 0,
     len: 4096,
     prot: Prot {
@@ -37,7 +37,10 @@ const PAGE: Call = Call::Mmap(MmapArgs {
     flags: MAP_PRIVATE | MAP_ANONYMOUS,
     fd: -1,
     offset: 0,
-});
+};
+
+/// Maps such a page where the caller leaves its place open.
+const PAGE: Call = Call::Mmap(PAGE_ARGS);
 
 /// A call that is refused, and changes nothing.
 const NOTHING: Call = Call::Munmap { addr: 1, len: 4096 };
@@ -204,15 +207,8 @@ fn push_mapping(lines: &mut Vec<Line>, place: u32) -> Result<(), NoMemory>
         0,
         Call::Mmap(MmapArgs {
             addr: 4096 * page,
-            len: 4096,
-            prot: Prot {
-                read: true,
-                write: true,
-                exec: false,
-            },
             flags: MAP_PRIVATE | MAP_ANONYMOUS | MAP_FIXED,
-            fd: -1,
-            offset: 0,
+            ..PAGE_ARGS
         }),
     );
     let differs = Err(StepRefusal::NotTheList(u64::from(place)));

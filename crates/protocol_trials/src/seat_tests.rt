@@ -9,10 +9,8 @@ mod seats;
 mod small;
 mod threads;
 
-use mm_types::{
-    ADDRESS_LIMIT, Call, Config, DEFAULT_MIN, DEFAULT_TOP, Files, MAP_ANONYMOUS, MAP_PRIVATE,
-    MmapArgs, PAGE_SIZE, Prot,
-};
+use crate::lock_tests::PAGE_ARGS;
+use mm_types::{ADDRESS_LIMIT, Call, Config, DEFAULT_MIN, DEFAULT_TOP, Files, MmapArgs};
 use std::alloc::Global;
 use vma_lock::ReaderSeat;
 
@@ -33,25 +31,14 @@ fn config(alloc: Global) -> Config
     }
 }
 
-/// Maps a page of private anonymous memory where the caller leaves its place open.
+/// Maps such a page where the caller leaves its place open.
 fn mapping() -> Call {
     mapping_at(0)
 }
 
 /// Maps a page of private anonymous memory at this address, if it is free.
 fn mapping_at(addr: u64) -> Call {
-    Call::Mmap(MmapArgs {
-        addr,
-        len: PAGE_SIZE,
-        prot: Prot {
-            read: true,
-            write: true,
-            exec: false,
-        },
-        flags: MAP_PRIVATE | MAP_ANONYMOUS,
-        fd: -1,
-        offset: 0,
-    })
+    Call::Mmap(MmapArgs { addr, ..PAGE_ARGS })
 }
 
 /// The first of some readers.

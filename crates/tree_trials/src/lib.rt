@@ -5,8 +5,6 @@
 #[cfg(test)]
 mod area_tests;
 #[cfg(test)]
-mod change_tests;
-#[cfg(test)]
 mod read_tests;
 #[cfg(test)]
 mod search_tests;

@@ -8,11 +8,13 @@ mod scenario;
 mod threads;
 mod walker;
 
-use self::leaf::{OneLeaf, SLOTS};
+pub(crate) use self::leaf::OneLeaf;
+use self::leaf::SLOTS;
 pub(crate) use self::walker::{Found, Walker};
 use mm_types::NoMemory;
 use node_slots::{NodeSeat, NodeTable, NodeWriter};
 use std::alloc::Global;
+use std::process::Abort;
 
 /// How many rows a table has.
 const ROWS: u32 = 8;
@@ -24,6 +26,15 @@ fn open(alloc: Global, readers: u32) -> Result<(OneLeaf, Vec<Walker>), NoMemory>
     let (table, writer, seats) = NodeTable::new(alloc, ROWS, SLOTS, readers)?;
     let walkers = walkers(alloc, &writer, seats)?;
     Ok((OneLeaf::new(table, writer), walkers))
+}
+
+/// The writer of a new table, and its one reader.
+pub(crate) fn open_one<R: Abort>(rt: &R, alloc: Global) -> Result<(OneLeaf, Walker), NoMemory> {
+    let (writer, mut walkers) = open(alloc, 1)?;
+    let Some(walker) = walkers.pop() else {
+        panic!(rt; "there is no reader")
+    };
+    Ok((writer, walker))
 }
 
 /// Gives each of some readers a handle of the table.

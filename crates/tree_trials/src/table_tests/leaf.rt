@@ -1,12 +1,12 @@
 //! The writer of trees that are one leaf of one entry in one row.
-ghost use Rattle.std.specs.Prelude.{◌≡◌, ◌≤◌, []};
+ghost use Rattle.std.specs.Prelude.{◌≡◌, ◌<◌, ◌≤◌, []};
 ghost use Rattle.maple_node.specs.Words.{slot_word};
 ghost use Rattle.node_slots.specs.Opening.{IsFreeFrom};
 ghost use Rattle.node_slots.specs.Seats.{Writes, sight, writer_state, free_of, left_of, row_count};
 ghost use Rattle.node_slots.specs.Internal.Leaves.{IsOneLeaf};
 
 use maple_node::Layout;
-use mm_types::{Row, Slot};
+use mm_types::{Page, Row, Slot};
 use node_slots::{NodeTable, NodeWriter};
 
 /// The number of slots.
@@ -25,7 +25,7 @@ pub(super) fn entry_of(tree: u64) -> (u64, Option<Slot>)
 
 /// The writer of a table whose present tree has one row.
 #[derive(Drop)]
-pub(super) struct OneLeaf {
+pub(crate) struct OneLeaf {
     table: NodeTable,
     writer: NodeWriter,
     row: Row,
@@ -53,14 +53,24 @@ impl OneLeaf {
         }
     }
 
-    /// Publishes the next tree in a row of its own, and answers its number. None where no row is free.
+    /// Publishes the next tree with the entry of its number.
     pub(super) fn publish(&mut self) -> Option<u64> {
+        let (end, slot) = entry_of(self.tree.saturating_add(1));
+        self.publish_entry(Page(end), slot)
+    }
+
+    /// Publishes the next tree in a row of its own, with one entry that ends at a page, and answers its number. None where no row is
+    /// free.
+    pub(crate) fn publish_entry(&mut self, end: Page, slot: Option<Slot>) -> Option<u64>
+        requires end { 0 < end.0 }
+        requires slot { slot_word slot ≤ 4 }
+    {
         if self.tree >= LAST {
             return None;
         }
         let tree = self.tree + 1;
         let row = self.table.take_row(&mut self.writer)?;
-        let words = Layout::<16>::leaf_words(&[entry_of(tree)]);
+        let words = Layout::<16>::leaf_words(&[(end.0, slot)]);
         self.table.fill(&mut self.writer, row, &words);
         self.table.leave(&mut self.writer, self.row);
         self.table.publish(&mut self.writer, row, 1);

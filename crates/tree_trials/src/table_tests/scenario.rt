@@ -2,7 +2,7 @@
 
 use super::leaf::entry_of;
 use super::walker::{Found, Inside};
-use super::{OneLeaf, ROWS, open};
+use super::{OneLeaf, ROWS, open_one};
 use maple_node::Layout;
 use mm_types::NoMemory;
 use std::alloc::Global;
@@ -44,12 +44,9 @@ fn a_reader_that_never_closes_keeps_its_rows(rt: HostRuntime) -> Result<(), NoMe
 
 /// A table with a reader whose snapshot is tree 1. All other rows are free.
 fn first_snapshot<R: Abort>(rt: &R, alloc: Global) -> Result<(OneLeaf, Inside), NoMemory> {
-    let (mut writer, mut walkers) = open(alloc, 1)?;
+    let (mut writer, walker) = open_one(rt, alloc)?;
     assert_eq!(rt; writer.publish(), Some(1));
     assert_eq!(rt; writer.scan(), 1);
-    let Some(walker) = walkers.pop() else {
-        panic!(rt; "there is no reader")
-    };
     let mut inside = walker.enter();
     let Found { root, words } = inside.read();
     assert_eq!(rt; root.tree, 1);

@@ -3,7 +3,8 @@ ghost use Rattle.node_slots.specs.Seats.{IsOf, IsClosed};
 ghost use Rattle.node_slots.specs.Internal.Leaves.{AreBeside, IsInside};
 
 use maple_node::Root;
-use mm_types::{NoMemory, Row};
+use maple_read::walk;
+use mm_types::{NoMemory, Page, Row, Slot};
 use node_slots::{NodeSeat, NodeTable, NodeWriter};
 use std::thread;
 
@@ -64,6 +65,16 @@ impl Walker {
         let words = read(&self.table, &mut self.seat, root.row);
         self.table.close(&mut self.seat);
         Found { root, words }
+    }
+
+    /// Opens, looks two pages up in the present tree, and closes.
+    pub(crate) fn slots(&mut self, one: Page, other: Page) -> (Option<Slot>, Option<Slot>) {
+        self.table.open(&mut self.seat);
+        let root = self.table.root(&mut self.seat);
+        let first = walk(&self.table, &mut self.seat, root, one);
+        let second = walk(&self.table, &mut self.seat, root, other);
+        self.table.close(&mut self.seat);
+        (first, second)
     }
 }
 

@@ -11,7 +11,7 @@ use std::alloc::Global;
 use std::marker::Model;
 
 /// How many rows the table has. A tree of 1,500 pages has fewer than 400.
-const ROWS: u32 = 4096;
+pub(super) const ROWS: u32 = 4096;
 
 /// The number of slots.
 const SLOTS: u32 = 4096;
@@ -92,6 +92,11 @@ impl Bench {
         publish_tree(&self.nodes, &mut self.writer, &self.tree);
         self.published += 1;
         true
+    }
+
+    /// Frees the rows that were left and that no reader may read any more.
+    pub(super) fn scan(&mut self) {
+        self.nodes.scan(&mut self.writer);
     }
 
     /// The slot that the present tree pairs with a page, as a walk finds it.

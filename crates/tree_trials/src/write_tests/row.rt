@@ -10,8 +10,8 @@ const AREAS: u32 = 17;
 /// How many pages a process has: 2^47 bytes, less the last page of them.
 const LIMIT: u64 = 0x7_ffff_ffff;
 
-/// The pages of an area.
-fn span_of(number: u32) -> Span {
+/// The page of an area.
+pub(super) fn span_of(number: u32) -> Span {
     let lo = 16 + 2 * u64::from(number);
     Span { lo, hi: lo + 1 }
 }

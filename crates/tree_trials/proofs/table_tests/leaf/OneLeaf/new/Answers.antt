@@ -17,4 +17,5 @@ invariant_of-result c =
           slots = c.requires.slots;
         },
       );
+      number = c.requires.number;
     }

@@ -1,9 +1,9 @@
--- For `look`: the root that was loaded stays loaded.
+-- For `Walker::slots`: the root that was loaded stays loaded.
 use Rattle.std.proofs.Common.{◌%◌, ◌∙◌, ap}
 use Rattle.node_slots.specs.declared.view.NodeView.{NodeView}
 use Rattle.node_slots.specs.Seats.{view}
 use Rattle.maple_read.proofs.Seated.{loaded-now, loaded-still}
-use Rattle.tree_trials.proofs.read_tests.look.Goals as goal
+use Rattle.tree_trials.proofs.table_tests.walker.Walker.slots.Goals as goal
 
 pub walk-first-requires-clause-open : goal.walk-first-requires-clause-open
 walk-first-requires-clause-open c = ap (λ (v : NodeView). v.pin % 2) c.root-root.ensures.shown.4 ∙ c.open.ensures.open

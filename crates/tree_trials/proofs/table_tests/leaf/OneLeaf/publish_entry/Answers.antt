@@ -1,4 +1,4 @@
--- For `OneLeaf::publish`: the new tree is a leaf in the row that was taken, and each other row is free or was left.
+-- For `OneLeaf::publish_entry`: the new tree is a leaf in the row that was taken, and each other row is free or was left.
 use Rattle.std.proofs.Common.{◌<◌, ◌∙◌, ◌+◌, ◌∷◌, ◌++◌, [], ℕ, refl, sym, ap, subst, arith, List, length, get_or-set_same}
 use Rattle.grace_core.specs.Core.{times}
 use Rattle.maple_node.specs.Levels.{at_of}
@@ -9,7 +9,7 @@ use Rattle.node_slots.proofs.Counting.{times_last, one_if}
 use Rattle.node_slots.proofs.Listing.{kept_from}
 use Rattle.node_slots.proofs.Leaves.{leaf_rows, leaf_layout, next_alone, alone_reached}
 use Rattle.node_slots.proofs.Writers.{writer_taken}
-use Rattle.tree_trials.proofs.table_tests.leaf.OneLeaf.publish.Goals as goal
+use Rattle.tree_trials.proofs.table_tests.leaf.OneLeaf.publish_entry.Goals as goal
 
 pub leave-requires-clause-kept : goal.leave-requires-clause-kept
 leave-requires-clause-kept c =
@@ -37,8 +37,8 @@ publish-requires-clause-layout c =
     let words = ap (λ (v : NodeView). at_of v.known.writer_state.words row) filled ∙ get_or-set_same _ _ _ _ low ∙ c.leaf_words-words.ensures in
     let slots = ap (λ (v : NodeView). v.size.slots) filled ∙ ap (λ (v : NodeView). v.size.slots) c.in_ok-row.ensures.view
     ∙ c.args.self.now.kept.1.slots in
-    leaf_layout (at_of (writer_state next).words) (sight next).size.slots ((writer_state next).tree.number + 1) row c.entry_of.result.0 _ _ words
-    (omega (arith, c.entry_of.ensures.end)) (omega (arith, slots, c.entry_of.ensures.slot))
+    leaf_layout (at_of (writer_state next).words) (sight next).size.slots ((writer_state next).tree.number + 1) row c.args.end.0 _ _ words
+    c.requires.end (omega (arith, slots, c.requires.slot))
     (leaf_rows (writer_state next).words ((writer_state next).tree.number + 1) row)
 
 pub publish-requires-clause-rows : goal.publish-requires-clause-rows
@@ -71,6 +71,8 @@ invariant_of-self-2 c =
     let size = ap (λ (v : NodeView). v.size) c.publish.ensures.view ∙ ap (λ (v : NodeView). v.size) (c.leave.ensures.view ∙ c.fill.ensures.view) in
     let sizes = size ∙ ap (λ (v : NodeView). v.size) c.in_ok-row.ensures.view in
     let within = (writer_taken taken row c.in_ok-row.ensures.taken).0 in
+    let number : (u v : NodeView) → u ≡ v → u.known.writer_state.tree.number ≡ v.known.writer_state.tree.number = λ u v is.
+    ap (λ (w : NodeView). w.known.writer_state.tree.number) is in
     record {
       kept = (
         c.publish.ensures.table,
@@ -86,4 +88,6 @@ invariant_of-self-2 c =
           slots = ap (λ (s : Size). s.slots) sizes ∙ c.args.self.now.kept.1.slots;
         },
       );
+      number = number _ _ c.publish.ensures.view
+          ∙ ap (λ (n : ℕ). n + 1) (number _ _ (c.leave.ensures.view ∙ c.fill.ensures.view) ∙ number _ _ c.in_ok-row.ensures.view ∙ c.args.self.now.number);
     }
