@@ -4,17 +4,21 @@
 PROGRAM is crates/vma_main/out/vma_main by default, and LIVE crates/vma_live/out/vma_live. A client sends random lines one
 at a time, and each has to be answered before the next is sent. Then: the session that docs/TOUR.md shows, a client that
 reads late, one that closes its end, a line that comes in parts, one of a mebibyte, a million address spaces in the memory
-of one, an interruption, words behind the program's name, and the clients of examples/live. It ends with status 1 at the
-first session that is not as it should be, and 2 on wrong use, or where a program is missing.
+of one, an interruption, words behind the program's name, the clients of examples/live, the conformance suite by `vma conform
+--live`, and `vma compare --live`. It ends with status 1 at the first session that is not as it should be, and 2 on wrong use,
+or where a program is missing.
 """
 from __future__ import annotations
 
 import argparse
+import json
 import os
 import re
+import shlex
 import shutil
 import signal
 import subprocess
+import sys
 import tempfile
 import threading
 import time
@@ -23,8 +27,11 @@ from contextlib import contextmanager, suppress
 from pathlib import Path
 
 from checking import TOP, WAIT, answer, bytes_of, check_ended, compare, fail, main, passed, skipped
+from vmatools import conformance
+from vmatools.conformance import Verdict
 from vmatools.generator import PROFILES, Generator
 
+VMA = [sys.executable, str(TOP / "tools/vma")]
 LIVE = TOP / "crates/vma_live/out/vma_live"
 LINES = 10_000
 OPERATIONS = 400  # of a trace
@@ -286,6 +293,37 @@ def check_words(live: str) -> None:
     passed("words behind the name are refused")
 
 
+def check_suite(live: str) -> None:
+    """Each case of the suite passes, but for those that fork, which are left out."""
+    name = "vma conform --live"
+    done = subprocess.run([*VMA, "conform", "--json", "-", "--live", live], capture_output=True)
+    check_ended(name, done, 0)
+    results = {result["case"]: result["verdict"] for result in map(json.loads, done.stdout.splitlines())}
+    for case in conformance.read_suite():
+        forks = any(line.split()[1:2] == ["fork"] for line in case.trace.splitlines())
+        wanted = Verdict.LEFT_OUT if forks else Verdict.PASSED
+        if results.pop(case.where) != wanted.value:
+            fail(name, f"{case.where} is not {wanted.value}")
+    compare(name, "".join(results).encode(), b"")
+    passed(name)
+
+
+def check_comparison(program: str, live: str) -> None:
+    """Sessions stand in for the program where traces don't fork, and one that answers otherwise is found out."""
+    words = ["compare", "--program", program, "--runs", "60", "--live"]
+    done = subprocess.run([*VMA, *words, live, "--", program, "serial"], capture_output=True)
+    check_ended("vma compare --live", done, 0)
+    compare("vma compare --live", done.stdout, b"60 traces, 0 differ\n")
+    with tempfile.TemporaryDirectory() as work:
+        wrong = Path(work, "wrong")
+        wrong.write_text(f"#!/bin/sh\n{shlex.quote(live)} | sed -u 's/= -1 E.*/= 0/'\n")
+        wrong.chmod(0o755)
+        done = subprocess.run([*VMA, *words, str(wrong), "--", program, "serial"], capture_output=True)
+    if done.returncode != 2 or b"diltzekun-live answers otherwise than the program" not in done.stderr:
+        fail("vma compare --live", f"a wrong session is not found out: status {done.returncode}, {done.stderr[-300:]!r}")
+    passed("vma compare --live")
+
+
 def check(options: argparse.Namespace) -> None:
     live = str(options.live.resolve())
     if not os.access(live, os.X_OK):
@@ -299,6 +337,8 @@ def check(options: argparse.Namespace) -> None:
     check_interrupted(live)
     check_words(live)
     check_clients(live)
+    check_suite(live)
+    check_comparison(options.program, live)
     check_spaces(live, options.spaces)
 
 

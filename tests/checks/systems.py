@@ -89,7 +89,7 @@ def check_ends() -> None:
     for fault, script in cases.items():
         with contextlib.closing(batch.Adapter(["sh", "-c", script])) as adapter:
             told = (
-                [adapter.run(TRACE, 0.5 - batch.GRACE).fault for _ in range(2)]
+                [adapter.run(TRACE, 0.5 - adapter.GRACE).fault for _ in range(2)]
                 if fault == batch.DOES_NOT_END
                 else [adapter.run(TRACE, 30).fault for _ in range(2)]
             )

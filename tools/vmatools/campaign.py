@@ -313,7 +313,7 @@ class Campaign:
             # With all the time that COMMAND may take it has to differ as well.
             difference = self.sides.same_kind(small, wanted, self.settings.seconds)
             if difference and (difference.there in HANGS) == is_hang:
-                self.sides.confirm(small)
+                self.sides.confirm_smallest(small)
                 return Finding(name, difference, small.text(), found.source, found.repeat)
         return None
 

@@ -123,6 +123,7 @@ class Sides:
         self.is_stopped = False
         self.short = min(short, seconds)  # how long a run may take while the end of a system is looked for
         self.adapters: Optional[Adapters] = None  # processes that answer many traces, in place of one for each
+        self.live: Optional[Adapters] = None  # those of the program: sessions with diltzekun-live
         self.shown: Callable[[str], str] = str  # what of an output is compared
 
     def here(self, trace: Trace) -> str:
@@ -134,7 +135,29 @@ class Sides:
         if self.adapters and self.program_output(trace) != serial_output(trace):
             raise CannotRun(f"the model of the tools answers otherwise than the program on this trace:\n{trace.text()}")
 
+    def confirm_smallest(self, trace: Trace) -> None:
+        """Ends the comparison where a smallest trace differs from what `serial` answers, whatever stands in for it."""
+        self.confirm(trace)
+        live = self.by_live(trace)
+        if live is not None and live != self.by_serial(trace):
+            raise CannotRun(
+                "diltzekun-live answers otherwise than the program on this trace; are both of one build?\n"
+                f"{trace.text()}"
+            )
+
     def program_output(self, trace: Trace) -> str:
+        """What the program answers: by a session with diltzekun-live where there is one, as that saves a start."""
+        live = self.by_live(trace)
+        return self.by_serial(trace) if live is None else live
+
+    def by_live(self, trace: Trace) -> Optional[str]:
+        """What a session answers; nothing where there is none, where the trace forks, and where `serial` has to say why not."""
+        if self.live is None or any(line.word == "fork" for line in trace.lines):
+            return None
+        answer = self.live.run(trace.text().encode(), PROGRAM_SECONDS)
+        return None if answer.fault else answer.output
+
+    def by_serial(self, trace: Trace) -> str:
         ran = run([self.program, "serial"], trace.text().encode(), PROGRAM_SECONDS)
         if ran.fault:
             raise CannotRun(f"the program {ran.fault} on a trace, with `{ran.message.strip()[:200]}` on standard error")

@@ -22,6 +22,32 @@ VARIABLE = "DILTZEKUN"
 ON_PATH = "diltzekun"
 MOST_OUTPUT = 64 * 1024 * 1024
 BUILDS = f"`(cd {TOP}/crates/vma_main && rt run -- serial < ../../examples/readme.trace)` proves and builds it"
+LIVE_BUILDS = f"`(cd {TOP}/crates/vma_live && rt run < ../../examples/readme.trace)` proves and builds it"
+
+
+@dataclass(frozen=True)
+class Named:
+    """A program of this repository: what names it, and how it is built."""
+
+    option: str
+    variable: str
+    on_path: str
+    default: Path
+    builds: str
+
+    def place(self, given: str | os.PathLike[str] | None) -> tuple[str | os.PathLike[str], str]:
+        """The first place that names it, and which that is."""
+        places = [
+            (given, self.option),
+            (os.environ.get(self.variable), f"${self.variable}"),
+            (shutil.which(self.on_path), "the PATH"),
+            (self.default, "the repository"),
+        ]
+        return next((place, source) for place, source in places if place)
+
+
+PROGRAM = Named("--program", VARIABLE, ON_PATH, DEFAULT_PROGRAM, BUILDS)
+LIVE = Named("--live", f"{VARIABLE}_LIVE", f"{ON_PATH}-live", TOP / "crates/vma_live/out/vma_live", LIVE_BUILDS)
 
 
 @dataclass(frozen=True)
@@ -43,26 +69,37 @@ def add_arguments(parser: argparse.ArgumentParser) -> None:
     parser.add_argument("-v", "--verbose", action="store_true", help="says on standard error which program is taken")
 
 
-def find(given: str | os.PathLike[str] | None = None, verbose: bool = False) -> str:
-    """The path of the program that is to be run, from the first place that names one."""
-    on_path = shutil.which(ON_PATH)
-    places = [
-        (given, "--program"),
-        (os.environ.get(VARIABLE), f"${VARIABLE}"),
-        (on_path, "the PATH"),
-        (DEFAULT_PROGRAM, "the repository"),
-    ]
-    place, source = next((place, source) for place, source in places if place)
-    path = existing(place)
+def find(given: str | os.PathLike[str] | None = None, verbose: bool = False, named: Named = PROGRAM) -> str:
+    """The path of a program that is to be run, from the first place that names one."""
+    place, source = named.place(given)
+    path = existing(place, named.builds)
     if verbose:
-        console.say(f"the program is {path} ({source})")
+        console.say(f"{'the program' if named is PROGRAM else named.on_path} is {path} ({source})")
     return path
+
+
+def live_beside(given: str | os.PathLike[str] | None, verbose: bool = False) -> str | None:
+    """The path of diltzekun-live, if the place that names the program has it too: so both are of one build."""
+    _, source = PROGRAM.place(given)
+    beside = {
+        f"${PROGRAM.variable}": os.environ.get(LIVE.variable),
+        "the PATH": shutil.which(LIVE.on_path),
+        "the repository": LIVE.default,
+    }
+    place = beside.get(source)
+    if not place or not is_program(os.path.abspath(place)):
+        return None
+    return find(place, verbose, LIVE)
+
+
+def is_program(path: str) -> bool:
+    return os.path.isfile(path) and os.access(path, os.X_OK)
 
 
 def existing(place: str | os.PathLike[str], builds: str = BUILDS) -> str:
     """The whole path of a program, which has to be there."""
     path = os.path.abspath(place)
-    if os.path.isfile(path) and os.access(path, os.X_OK):
+    if is_program(path):
         return path
     missing = "is not there" if not os.path.exists(path) else "cannot be run"
     raise console.Failure(f"the program {path} {missing}; {builds}")

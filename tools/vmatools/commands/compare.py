@@ -5,9 +5,11 @@ COMMAND is the system behind an adapter: it reads a trace on standard input and 
 writes for it, both in the form of docs/TRACE.md. docs/COMPARE.md shows an adapter, a session, and a run in a CI.
 
 Differences are of one kind where they are of the same operation and the same pair of answers. Lists are of one kind
-where the same operation leaves them different in the same way. A COMMAND that crashes, that does not end in time or
-that writes something else is a kind too. All differences of a trace are found: the line of each is taken out, and the
-rest is run again. Of each kind the shortest trace is made as small as it can be while it differs in the same way.
+where the same operation leaves them different in the same way. A COMMAND that ends by a signal or with a status other than
+0, that does not end in --seconds, or that writes more than 64 MiB is of a kind that says so. So is an output that is of
+another form (`a line of no known form`), that ends early, or that goes on. All differences of a trace are found: the line
+of each is taken out, and the rest is run again. Of each kind the shortest trace is made as small as it can be while it
+differs in the same way.
 
 A difference that is set aside, by --ignore or by --kernel, is counted. RULE is `list` (the lists at the end are not
 compared), `errors` (an error of the program and another one of yours), or a kind as it is printed,
@@ -193,6 +195,12 @@ def add_arguments(parser: argparse.ArgumentParser) -> None:
         metavar="N",
         help="differences of one trace at most " f"({comparison.MOST_FINDINGS})",
     )
+    how.add_argument(
+        "--live",
+        metavar="PATH",
+        help="diltzekun-live, whose sessions answer traces without threads and forks in the program's place (the one that is "
+        "where the program is found, but with --program none)",
+    )
     beside.add_arguments(parser)
     program.add_arguments(parser)
     parser.add_argument(
@@ -228,6 +236,7 @@ def settings_of(options: argparse.Namespace) -> Settings:
         ("--threads", options.threads, 0),
         ("--seconds", options.seconds, 10),
         ("--program", getattr(options, "given_program", options.program), None),
+        ("--live", getattr(options, "given_live", options.live), None),
     ):
         words += [name, f"{value:g}" if isinstance(value, float) else str(value)] if value != default else []
     words += ["--profile", ",".join(options.profile)] if options.profile != generator.IN_TURN else []
@@ -386,14 +395,23 @@ def try_mutants(options: argparse.Namespace) -> int:
     return 1 if missed else 0
 
 
+def take_program(options: argparse.Namespace) -> None:
+    """Finds the program, and diltzekun-live where it is given, or where the place that names the program has it too."""
+    options.given_program, options.given_live = options.program, options.live
+    options.program = program.find(options.given_program, options.verbose)
+    if options.given_live:
+        options.live = program.find(options.given_live, options.verbose, program.LIVE)
+    elif not options.threads:
+        options.live = program.live_beside(options.given_program, options.verbose)
+
+
 def run(options: argparse.Namespace) -> int:
     if options.mutants:
         return try_mutants(options)
     beside.take_system(options)
     if not options.command:
         raise console.Failure("COMMAND is missing: the system under test stands behind --")
-    options.given_program = options.program
-    options.program = program.find(options.program, options.verbose)
+    take_program(options)
     if shutil.which(options.command[0]) is None:
         raise console.Failure(f"COMMAND {options.command[0]} is not there or cannot be run")
     return compare(options)

@@ -11,6 +11,7 @@ out: the system can't run it.
     vma conform --as linux --junit report.xml -- tools/vma kernel
     vma conform --as linux --system native
     vma conform --system qemu-x86_64
+    vma conform --live
 
 Exit status: 0 where all cases pass, 1 where one doesn't, 2 on wrong use, or where the suite or COMMAND can't be
 read or run.
@@ -29,11 +30,12 @@ from concurrent.futures import ThreadPoolExecutor
 from pathlib import Path
 from typing import TextIO
 
-from .. import conformance, console
+from .. import conformance, console, program
 from ..conformance import Case, Result, Verdict
+from ..live import LiveAdapter
 from ..program import TOP, Ran
 from ..program import run as run_command
-from ..systems.batch import Adapters
+from ..systems.batch import Adapter, Adapters
 from ..systems.known import KNOWN, MACHINE_SECONDS, system_of
 from ..words import count, time_limit
 
@@ -85,17 +87,25 @@ def add_arguments(parser: argparse.ArgumentParser) -> None:
         help=f"one that is known, in place of COMMAND: {', '.join(KNOWN)}, or machine:IMAGE",
     )
     parser.add_argument(
+        "--live",
+        metavar="PATH",
+        nargs="?",
+        const="",
+        help=f"diltzekun-live, in place of COMMAND (${program.LIVE.variable}, {program.LIVE.on_path} on the PATH, or the "
+        "repository's crates/vma_live/out/vma_live)",
+    )
+    parser.add_argument(
         "command", metavar="COMMAND", nargs="*", help="the system under test and its arguments, behind --"
     )
 
 
 @contextlib.contextmanager
 def runs(options: argparse.Namespace) -> Iterator[Callable[[Case], Ran]]:
-    """Runs a case: in a process of its own, or with --batch in one that answers many."""
+    """Runs a case: in a process of its own, or with --batch and --live in one that answers many."""
     if not options.batch:
         yield lambda case: run_command(options.command, case.trace.encode(), options.seconds)
         return
-    adapters = Adapters(options.command)
+    adapters = Adapters(options.command, Adapter if options.live is None else LiveAdapter)
 
     def ran(case: Case) -> Ran:
         answer = adapters.run(case.trace.encode(), options.seconds)
@@ -147,6 +157,15 @@ def take_system(options: argparse.Namespace) -> None:
         options.jobs, options.seconds = 1, MACHINE_SECONDS
 
 
+def take_live(options: argparse.Namespace) -> None:
+    """Takes diltzekun-live in the place of COMMAND."""
+    if options.live is None:
+        return
+    if options.command or options.batch or options.system:
+        raise console.Failure("--live stands in the place of COMMAND, --batch and --system: only one of them can be given")
+    options.command, options.batch = [program.find(options.live, named=program.LIVE)], True
+
+
 def report(results: Sequence[Result]) -> None:
     """The table, why cases were left out, and each case that isn't as it should be with the sentence that it shows."""
     print("\n".join([*conformance.table(results), *conformance.left_out(results)]))
@@ -173,6 +192,7 @@ def run(options: argparse.Namespace) -> int:
     if options.list:
         print("\n".join(f"{case.where}: {case.says}" for case in cases))
         return 0
+    take_live(options)
     take_system(options)
     if not options.command:
         raise console.Failure("no COMMAND: give the system under test behind --")

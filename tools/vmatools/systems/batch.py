@@ -19,7 +19,6 @@ from typing import IO
 
 from .running import end_group, ended, read_some, write_all
 
-GRACE = 5.0  # seconds that an adapter has beyond those of a trace, to end its system itself
 MOST_OUTPUT = 64 << 20
 END_SECONDS = 2.0  # for an adapter to end by itself, with what it started
 DOES_NOT_END = "does not end"
@@ -38,6 +37,8 @@ class Answer:
 class Adapter:
     """One process that answers traces. It is started at the first, and anew where it ended or was too slow."""
 
+    GRACE = 5.0  # seconds that it has beyond those of a trace, to end its system itself
+
     def __init__(self, command: Sequence[str]) -> None:
         self.command, self.number = command, 0
         self.process: subprocess.Popen[bytes] | None = None
@@ -46,11 +47,21 @@ class Adapter:
     def run(self, text: bytes, seconds: float) -> Answer:
         process = self.process or self.begin()
         self.number += 1
-        request = b"trace %d %g\n%send %d\n" % (self.number, seconds, text, self.number)
-        answer = self.exchange(process, request, time.monotonic() + seconds + GRACE)
+        answer = self.exchange(process, self.request(text, seconds), time.monotonic() + seconds + self.GRACE)
         if answer.fault and not answer.is_told:
             self.close()
         return answer
+
+    def request(self, text: bytes, seconds: float) -> bytes:
+        """What the process is sent for a trace."""
+        return b"trace %d %g\n%send %d\n" % (self.number, seconds, text, self.number)
+
+    def answered(self, data: bytearray) -> Answer | None:
+        """The answer in what came so far, which ends with a whole line; nothing where more is to come."""
+        last = data.rfind(b"\n", 0, len(data) - 1) + 1
+        if not data.startswith(b"end %d" % self.number, last):
+            return None
+        return answer_of(data[:last], data[last:].decode("utf-8", "replace").split(maxsplit=3))
 
     def begin(self) -> subprocess.Popen[bytes]:
         self.errors = tempfile.TemporaryFile()
@@ -73,16 +84,16 @@ class Adapter:
             sender.start()
         else:
             send(process.stdin.fileno(), request)
-        data, mark = bytearray(), f"end {self.number}".encode()
+        data = bytearray()
         while True:
             ready, _, _ = select.select([process.stdout], [], [], max(end - time.monotonic(), 0))
             piece = read_some(process.stdout.fileno()) if ready else b""
             data += piece
             if not ready or len(data) > MOST_OUTPUT:
                 return Answer(text_of(data), DOES_NOT_END if not ready else "writes on and on", self.said())
-            last = data.rfind(b"\n", 0, len(data) - 1) + 1
-            if piece and data.endswith(b"\n") and data.startswith(mark, last):
-                return answer_of(data[:last], data[last:].decode("utf-8", "replace").split(maxsplit=3))
+            answer = self.answered(data) if piece and data.endswith(b"\n") else None
+            if answer:
+                return answer
             if not piece:
                 return Answer(text_of(data), fault_of(ended(process)), self.said())
 
@@ -130,12 +141,12 @@ def fault_of(ending: str) -> str:
 class Adapters:
     """As many processes as run traces at the same time: each thread has one of its own."""
 
-    def __init__(self, command: Sequence[str]) -> None:
-        self.command, self.idle, self.lock = command, list[Adapter](), threading.Lock()
+    def __init__(self, command: Sequence[str], kind: type[Adapter] = Adapter) -> None:
+        self.command, self.kind, self.idle, self.lock = command, kind, list[Adapter](), threading.Lock()
 
     def run(self, text: bytes, seconds: float) -> Answer:
         with self.lock:
-            adapter = self.idle.pop() if self.idle else Adapter(self.command)
+            adapter = self.idle.pop() if self.idle else self.kind(self.command)
         try:
             return adapter.run(text, seconds)
         finally:

@@ -8,6 +8,7 @@ from contextlib import ExitStack, contextmanager
 from .. import console, generator, program, windows
 from ..campaign import Settings
 from ..comparison import CANNOT_RUN, Sides
+from ..live import LiveAdapter
 from ..traces import PAGE, Trace, read_trace
 from .batch import Adapters
 from .known import KNOWN, MACHINE_SECONDS, WINDOW, system_of
@@ -71,11 +72,14 @@ def words_of(options: argparse.Namespace) -> list[str]:
 
 @contextmanager
 def prepared(options: argparse.Namespace, settings: Settings, sides: Sides) -> Iterator[None]:
-    """Makes both sides ready: the processes of a batch, how traces are fitted, and the running kernel beside."""
+    """Makes both sides ready: the processes of a batch and of sessions, how traces are fitted, and the running kernel beside."""
     with ExitStack() as stack:
         if options.batch:
             sides.adapters = Adapters(sides.command)
             stack.callback(sides.adapters.close)
+        if options.live and not options.threads:
+            sides.live = Adapters([options.live], LiveAdapter)
+            stack.callback(sides.live.close)
         if options.window or options.system:
             settings.fit = fit_of(options, sides)
         if options.window and options.profile == generator.IN_TURN:

@@ -1,0 +1,77 @@
+"""Traces for diltzekun-live, one after the other in one process: what it answers, in the order in which `serial` prints it."""
+from __future__ import annotations
+
+import re
+
+from .conformance import CANNOT_RUN
+from .systems.batch import Adapter, Answer, text_of
+
+NEW = b"new\n"
+# Behind each trace, in an address space of its own: the answer to `query` is that of no line of a trace.
+MARK = b"vmatrace 1\nquery 0\nnew\n"
+MARKED = b"none\nmaps 0\n"
+# The lines that a session has and a trace has not. `serial` refuses them.
+OWN_LINE = re.compile(rb"^[ \t]*(new[ \t]*$|query[ \t])", re.MULTILINE)
+RESULT = re.compile(r"L\d+ t(\d+) v(\d+) = ")
+BAD_LINE = re.compile(r"trace line (\d+) cause \d+ (\w+)")
+BAD_TRACE = "ends with status 3"  # as `serial` does
+
+
+def results_of(output: str) -> list[str]:
+    """The answers to the operations of a trace, in the order of their lines, and the list at its end."""
+    results: list[str] = []
+    for line in output.splitlines(keepends=True):
+        if RESULT.match(line) or BAD_LINE.match(line) or line.startswith("maps "):
+            results.append(line)
+        elif results:
+            results[-1] += line  # of a list
+        else:
+            results.append(line)
+    return results
+
+
+def as_serial(output: str) -> str:
+    """The answers to a trace in the order of `serial`: by version, the call first, then the reads by ascending thread."""
+    keyed: list[tuple[tuple[int, bool, int], str]] = []
+    before = 0
+    *results, last = results_of(output) or [""]
+    for result in results:
+        found = RESULT.match(result)
+        if found is None:
+            return output
+        version = int(found[2])
+        is_read = version == before
+        keyed.append(((version, is_read, int(found[1]) if is_read else 0), result))
+        before = version
+    return "".join(result for _, result in sorted(keyed, key=lambda pair: pair[0])) + last
+
+
+def answer_of(output: str) -> Answer:
+    """What came of a trace. Where a line was bad, no line behind it counts; a fork is bad here alone."""
+    bad = BAD_LINE.search(output)
+    if bad is None:
+        return Answer(as_serial(output), None, "", True)
+    if bad[2] == "Child":
+        return Answer("", CANNOT_RUN, f"line {bad[1]}: diltzekun-live doesn't fork", True)
+    return Answer("", BAD_TRACE, bad[0], True)
+
+
+class LiveAdapter(Adapter):
+    """A session with diltzekun-live, in which each trace has an address space of its own."""
+
+    GRACE = 0.0
+
+    def run(self, text: bytes, seconds: float) -> Answer:
+        own = OWN_LINE.search(text)
+        if own or not text.endswith(b"\n"):
+            line = text.count(b"\n", 0, own.start()) + 1 if own else text.count(b"\n") + 1
+            return Answer("", BAD_TRACE, f"line {line}: no line of a trace is so", True)
+        return super().run(text, seconds)
+
+    def request(self, text: bytes, seconds: float) -> bytes:
+        return text + NEW + MARK
+
+    def answered(self, data: bytearray) -> Answer | None:
+        if data != MARKED and not data.endswith(b"\n" + MARKED):
+            return None
+        return answer_of(text_of(data[: -len(MARKED)]))
