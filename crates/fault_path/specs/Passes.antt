@@ -87,7 +87,7 @@ walks_of pass = (walker pass).walks
 
 -- What is kept of a pass, while its seat holds a slot too: it has seen a legal journal, has its caller's turn, its pin is closed,
 -- each read of its log is right in what it has seen, versions rise along the log, and what it made, what it read and what is left
--- are no more than its operations, for which its log has room.
+-- are no more than its operations, for which its log has exactly the room.
 pub record KeepsPass (pass : PassView) (reserved : ℕ) : Type 0 where
   pub legal : IsLegalJournal (config pass) (seen_by pass)
   pub turn : HasTurn pass.reader
@@ -95,7 +95,7 @@ pub record KeepsPass (pass : PassView) (reserved : ℕ) : Type 0 where
   pub right : All (IsReadRight (config pass) (seen_by pass)) pass.log
   pub rises : AllPairs (λ earlier later. version_of earlier ≤ version_of later) pass.log
   pub few : length (made_by pass) + length pass.log + pass.left ≤ pass.operations
-  pub room : pass.operations ≤ reserved
+  pub room : reserved ≡ pass.operations
 
 -- what a pass keeps: all this, and its seat holds no slot
 pub record IsPass (pass : PassView) (reserved : ℕ) : Type 0 where
