@@ -82,7 +82,7 @@ pub record IsMade (old new : Inside) (entry : Entry) (answer : Planned) (plan : 
   pub done : IsCarriedOut old.store new.store plan.changes entry
   pub counters : new.counters ≡ answer.counters
   pub pushed : new.journal.items ≡ old.journal.items ++ entry ∷ []
-  pub capacity : vec_capacity old.journal ≤ vec_capacity new.journal
+  pub capacity : vec_capacity new.journal ≡ vec_capacity old.journal
   pub cleared : new.plan ≡ record plan { changes = [] }
 
 module _ (old new : Inside) (entry : Entry) (answer : Planned) (plan : PlanView) (made : IsMade old new entry answer plan) where
@@ -121,7 +121,7 @@ module _ (old new : Inside) (entry : Entry) (answer : Planned) (plan : PlanView)
     };
     room = omega (arith, ap length made.pushed, length-append old.journal.items (entry ∷ []), made.asked.spare);
     entries = made.asked.state.entries;
-    reserved = omega (arith, made.capacity, made.asked.state.reserved);
+    reserved = made.capacity ∙ made.asked.state.reserved;
   }
 
   -- and the call was entered

@@ -1,8 +1,9 @@
 -- For `run_before`, `AreaStore::detach_all` and `AreaStore::change_all`: changes that take away areas which adjoin each other.
-use Rattle.std.proofs.Common.{◌≡◌, ◌≤◌, ◌<◌, ◌+◌, ◌-◌, ℕ, suc, zero, List, [], ◌∷◌, ◌++◌, length, take, drop, get_or, refl, sym, ap, ◌∙◌, subst, arith, drop-cons}
+use Rattle.std.proofs.Common.{◌≡◌, ◌≢◌, ◌≤◌, ◌<◌, ◌+◌, ◌-◌, ℕ, suc, zero, List, [], ◌∷◌, ◌++◌, length, take, drop, get_or, refl, sym, ap, ◌∙◌, subst, arith, drop-cons, inl, inr}
 use Rattle.std.specs.List.{Contains}
+use Rattle.std.proofs.lemmas.Bool.{cases_lt}
 use Rattle.std.proofs.lemmas.List.Elements.{Contains-append_right}
-use Rattle.std.proofs.lemmas.List.{length-drop, drop-drop, take-append-drop}
+use Rattle.std.proofs.lemmas.List.{length-drop, length-take, drop-drop, drop-take, get_or-drop, get_or-take, take-append-drop}
 use Rattle.mm_types.specs.declared.area.Record.{Record}
 use Rattle.split_merge.specs.declared.plan.Change.{Change}
 use Rattle.split_merge.specs.declared.plan.Change.TheVariants.{Detach, Alter, Add}
@@ -94,3 +95,58 @@ run_after lo hi changes place left d area run within next is =
     let same : from.0 ≡ area = cc in
     let count : suc place ≡ left = omega arith in
     subst (λ n. IsRun area.span.hi hi (drop n changes)) count (subst (λ (other : Record). IsRun other.span.hi hi (drop (suc place) changes)) same from.2)
+
+-- a run has each change between its ends, which takes an area away, and from there on it is a run
+pub run_passes : (changes : List Change) (first place end lo hi : ℕ) (d : Change) → first ≤ place → place < end → end ≤ length changes
+    → IsRun lo hi (take (end - first) (drop first changes))
+    → (area : Record) × (get_or changes place d ≡ Detach area) × IsRun area.span.hi hi (take (end - (place + 1)) (drop (place + 1) changes))
+run_passes changes first place end lo hi d from upto within run =
+    let many = length-take (end - first) (drop first changes) in
+    let all = length-drop first changes in
+    let at : (area : Record) × (get_or (take (end - first) (drop first changes)) (place - first) d ≡ Detach area)
+    × IsRun area.span.hi hi (drop (suc (place - first)) (take (end - first) (drop first changes))) =
+    run_from lo hi (take (end - first) (drop first changes)) (place - first) d run (omega (arith, many, all)) in
+    let here : first + (place - first) ≡ place = omega arith in
+    let parts : end - first ≡ suc (place - first) + (end - (place + 1)) = omega arith in
+    let next : first + suc (place - first) ≡ place + 1 = omega arith in
+    let rest : drop (suc (place - first)) (drop first changes) ≡ drop (place + 1) changes =
+    drop-drop (suc (place - first)) first changes ∙ ap (λ n. drop n changes) next in
+    let same : get_or (take (end - first) (drop first changes)) (place - first) d ≡ get_or changes place d =
+    get_or-take (end - first) (drop first changes) (place - first) d (omega arith) ∙ get_or-drop first changes (place - first) d
+    ∙ ap (λ n. get_or changes n d) here in
+    let cut : drop (suc (place - first)) (take (end - first) (drop first changes)) ≡ take (end - (place + 1)) (drop (suc (place - first)) (drop first changes)) =
+    ap (λ n. drop (suc (place - first)) (take n (drop first changes))) parts ∙ drop-take (suc (place - first)) (end - (place + 1)) (drop first changes) in
+    (at.0, ◌∙◌ {c = Detach at.0} (sym same) at.1, subst (IsRun at.0.span.hi hi) (cut ∙ ap (take (end - (place + 1))) rest) at.2)
+
+-- where a run with a change begins
+pub run_begin : (lo hi page other : ℕ) (changes : List Change) → 0 < length changes → IsRun lo hi changes → IsRun page other changes → lo ≡ page
+run_begin lo hi page other [] some run run2 = absurd (omega arith)
+run_begin lo hi page other (Detach area ∷ changes) some run run2 = sym run.0 ∙ run2.0
+run_begin lo hi page other (Alter old new ∷ changes) some run run2 = absurd run
+run_begin lo hi page other (Add new ∷ changes) some run run2 = absurd run
+
+-- a run that the change before it does not lengthen is the longest that ends there
+pub longest_from : (changes : List Change) (first end lo hi : ℕ) (d : Change) → 0 < first → first ≤ end → end ≤ length changes
+    → IsRun lo hi (take (end - first) (drop first changes))
+    → ((area : Record) → get_or changes (first - 1) d ≡ Detach area → (first < end) × (area.span.hi ≢ lo))
+    → (other page upto : ℕ) → IsRun page upto (take (end - other) (drop other changes)) → first ≤ other
+longest_from changes first end lo hi d some within all run stops other page upto longer = elim (cases_lt other first) [
+  | inl less ↦
+      let last : (area : Record) × (get_or changes (first - 1) d ≡ Detach area) × IsRun area.span.hi upto (take (end - (first - 1 + 1)) (drop (first - 1 + 1) changes)) =
+      run_passes changes other (first - 1) end page upto d (omega arith) (omega arith) all longer in
+      let stop = stops last.0 last.1 in
+      let inside = stop.0 in
+      let next : first - 1 + 1 ≡ first = omega arith in
+      let rest : IsRun last.0.span.hi upto (take (end - first) (drop first changes)) = subst (λ n. IsRun last.0.span.hi upto (take (end - n) (drop n changes))) next last.2 in
+      let many = length-take (end - first) (drop first changes) in
+      let count = length-drop first changes in
+      absurd (stop.1 (run_begin last.0.span.hi upto lo hi (take (end - first) (drop first changes)) (omega (arith, inside, all, many, count)) rest run))
+  | inr more ↦ more
+]
+
+-- nor does one whose area ends elsewhere than where the run begins
+pub longest_apart : (changes : List Change) (first end lo hi : ℕ) (d : Change) (area : Record) → 0 < first → first < end → end ≤ length changes
+    → IsRun lo hi (take (end - first) (drop first changes)) → get_or changes (first - 1) d ≡ Detach area → area.span.hi ≢ lo
+    → (other page upto : ℕ) → IsRun page upto (take (end - other) (drop other changes)) → first ≤ other
+longest_apart changes first end lo hi d area some inside all run is apart = longest_from changes first end lo hi d some (omega arith) all run
+    (λ other there. let same : other ≡ area = cc in (inside, subst (λ (r : Record). r.span.hi ≢ lo) (sym same) apart))

@@ -45,4 +45,4 @@ pub record IsState (state : Inside) : Type 0 where
   pub fresh : IsFresh state.config.areas state.plan
   pub room : length state.journal.items ≤ state.room
   pub entries : state.room ≤ 2 ^ 31
-  pub reserved : state.room ≤ vec_capacity state.journal
+  pub reserved : vec_capacity state.journal ≡ state.room

@@ -1,5 +1,5 @@
 //! Changes that take away areas which adjoin each other.
-ghost use Rattle.std.specs.Prelude.{◌≤◌, ◌-◌, length, take, drop};
+ghost use Rattle.std.specs.Prelude.{ℕ, ◌≤◌, ◌-◌, length, take, drop};
 ghost use Rattle.mm_state.specs.Internal.Runs.{IsRun};
 
 use mm_types::Span;
@@ -12,11 +12,12 @@ pub(crate) struct Run {
     pub(crate) span: Span,
 }
 
-/// A run that ends before a place: the longest, as a test shows. It has no change, where the last one there takes no area away.
+/// The longest run that ends before a place. It has no change where the last one there takes no area away.
 pub(crate) fn run_before(changes: &[Change], end: usize) -> Run
     requires { end ≤ length changes.now }
     ensures first { result.first ≤ end }
     ensures run { IsRun result.span.lo result.span.hi (take (end - result.first) (drop result.first changes.now)) }
+    ensures longest { (first lo hi : ℕ) → IsRun lo hi (take (end - first) (drop first changes.now)) → result.first ≤ first }
 {
     let mut first = end;
     let mut lo = 0;

@@ -1,6 +1,6 @@
 -- For `run_before`: one change more is of the run.
 use Rattle.std.proofs.Common.{◌-◌, sym, arith}
-use Rattle.mm_state.proofs.Running.{run_begins, run_joins, run_more}
+use Rattle.mm_state.proofs.Running.{run_begins, run_joins, run_more, longest_from, longest_apart}
 use Rattle.mm_state.proofs.runs.run_before.Goals as goal
 use Rattle.mm_state.proofs.runs.run_before.Goals.{then-first-end, else-first-end+else-area-lo}
 
@@ -15,3 +15,16 @@ loop-first-preserved c = record {
             (omega arith) (sym w.hi-is) c.loop-first.invariant.run
       ]);
 }
+
+pub returns-in_default : goal.returns-in_default
+returns-in_default c = record {
+  first = c.loop-first.invariant.upto;
+  run = c.loop-first.invariant.run;
+  longest = longest_from c.args.changes.now c.loop-first.first c.args.end c.loop-first.lo c.loop-first.hi _ (omega arith) c.loop-first.invariant.upto c.requires c.loop-first.invariant.run
+      (λ area is. absurd (c.in_default.not-Detach area is));
+}
+
+pub returns-then-area-lo-clause-longest : goal.returns-then-area-lo-clause-longest
+returns-then-area-lo-clause-longest c =
+    longest_apart c.args.changes.now c.loop-first.first c.args.end c.loop-first.lo c.loop-first.hi _ c.in-Detach.area (omega arith) (omega arith) c.requires c.loop-first.invariant.run
+    c.in-Detach.is c.if-area-lo.true

@@ -55,7 +55,7 @@ invariant_of-self g c =
       done = subst (λ (changes : List Change). IsCarriedOut s.store c.carry_out.new.self changes entry) c.changes.ensures c.carry_out.ensures.done;
       counters = refl;
       pushed = c.push_reserved.ensures.items;
-      capacity = omega (arith, c.push_reserved.ensures.capacity);
+      capacity = c.push_reserved.ensures.capacity;
       cleared = c.clear.ensures;
     }
 
@@ -77,7 +77,7 @@ returns g c =
       done = subst (λ (changes : List Change). IsCarriedOut s.store c.carry_out.new.self changes entry) c.changes.ensures c.carry_out.ensures.done;
       counters = refl;
       pushed = c.push_reserved.ensures.items;
-      capacity = omega (arith, c.push_reserved.ensures.capacity);
+      capacity = c.push_reserved.ensures.capacity;
       cleared = c.clear.ensures;
     } in
     let told = call_entered s new entry c.plan_call-called.result c.plan_call-called.new.plan made c.plan_call-called.ensures.touch in

@@ -30,5 +30,5 @@ invariant_of-result c =
       fresh = record { empty = ap (λ (p : PlanView). p.changes) plan; room = omega (arith, ap (λ (p : PlanView). p.room) plan) };
       room = omega (arith, ap length none);
       entries = c.requires.entries;
-      reserved = c.in_ok-journal.ensures.capacity;
+      reserved = c.in_ok-journal.ensures.exact;
     }
