@@ -7,6 +7,7 @@ import sys
 import tempfile
 import unittest
 import xml.etree.ElementTree as ElementTree
+from dataclasses import replace
 from pathlib import Path
 
 TOP = Path(__file__).resolve().parents[2]
@@ -14,6 +15,7 @@ sys.path[:0] = [str(TOP), str(TOP / "tools")]
 
 from dev.suite import linux  # noqa: E402
 from vmatools import conformance  # noqa: E402
+from vmatools.commands import conform  # noqa: E402
 from vmatools.conformance import Case, Verdict  # noqa: E402
 from vmatools.program import Ran  # noqa: E402
 
@@ -117,6 +119,10 @@ class Systems(unittest.TestCase):
         adapter = "while read w n s; do [ $w = end ] && echo end $n 5 no such system; done"
         done = self.conform("--batch", "--", "sh", "-c", adapter)
         self.assertEqual((done.returncode, done.stdout, done.stderr), (2, "", "vma conform: no such system\n"))
+
+    def test_a_place_that_is_searched_is_no_case_for_a_window(self) -> None:
+        for right, line in (("L3 t0 v1 = 0x7ffff7ffe000\nmaps 0\n", 3), ("L3 t0 v1 = -1 ENOMEM\nmaps 0\n", None)):
+            self.assertEqual(conform.searched_place(replace(CASE, right=(right,))), line)
 
 
 class Versions(unittest.TestCase):

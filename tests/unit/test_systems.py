@@ -56,6 +56,11 @@ class Places(unittest.TestCase):
         self.assertEqual(WINDOW.of(trace_of("heap 0x100000")), (0xD0000, 0x140000))
         self.assertIn("leaves the window from 0xd0000", self.refusal("heap 0x100000", "0 fault 0x1000000 r"))
 
+    def test_the_ends_of_a_trace_narrow_the_window(self) -> None:
+        self.assertEqual(WINDOW.of(trace_of("min 0x40000", "top 0x100000")), (0x40000, 0x100000))
+        self.assertEqual(WINDOW.of(trace_of("min 0x1000", "heap 0x100000")), (0xD0000, 0x140000))
+        self.assertIn("leaves the window from 0x40000", self.refusal("min 0x40000", "0 fault 0x3f000 w"))
+
     def test_which_lines_find_a_place(self) -> None:
         finding = [f"0 mmap 0x10000 4096 PROT_READ {MAP} -1 0", "0 mremap 0x10000 4096 8192 MREMAP_MAYMOVE"]
         fixed = [

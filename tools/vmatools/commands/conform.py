@@ -33,10 +33,14 @@ from typing import TextIO
 from .. import conformance, console, program
 from ..conformance import Case, Result, Verdict
 from ..live import LiveAdapter
+from ..outputs import parts_of
 from ..program import TOP, Ran
 from ..program import run as run_command
 from ..systems.batch import Adapter, Adapters
 from ..systems.known import KNOWN, MACHINE_SECONDS, system_of
+from ..systems.places import NOT_EMPTY, finds_place
+from ..systems.searches import is_place_of_search
+from ..traces import read_trace
 from ..words import count, time_limit
 
 VMA = (sys.executable, str(TOP / "tools/vma"))
@@ -97,6 +101,7 @@ def add_arguments(parser: argparse.ArgumentParser) -> None:
     parser.add_argument(
         "command", metavar="COMMAND", nargs="*", help="the system under test and its arguments, behind --"
     )
+    parser.set_defaults(is_windowed=False)
 
 
 @contextlib.contextmanager
@@ -117,12 +122,23 @@ def runs(options: argparse.Namespace) -> Iterator[Callable[[Case], Ran]]:
         adapters.close()
 
 
+def searched_place(case: Case) -> int | None:
+    """The first line to which a right output answers by a place that was searched in an empty space."""
+    lines = {line.number: line for line in read_trace(case.trace.encode()).lines if finds_place(line)}
+    parts = (part for right in case.right for part in parts_of(right))
+    found = (part.number for part in parts if part.number in lines and is_place_of_search(lines[part.number], part.result))
+    return min(found, default=None)
+
+
 def all_results(cases: Sequence[Case], options: argparse.Namespace) -> list[Result]:
     """What a system makes of each case, with a line that says how far it is. Where it doesn't run at all, the first case is
     the last: a machine that doesn't boot takes minutes to say so."""
     progress, results, has_run = console.Progress(), [], threading.Event()
 
     def result_of(case: Case, run_case: Callable[[Case], Ran]) -> Result:
+        line = searched_place(case) if options.is_windowed else None
+        if line is not None:
+            return Result(case, Verdict.LEFT_OUT, message=f"line {line}: {NOT_EMPTY}")
         ran = run_case(case)
         if options.batch and ran.fault == conformance.NO_SYSTEM and not has_run.is_set():
             raise console.Failure(ran.message)
@@ -153,6 +169,7 @@ def take_system(options: argparse.Namespace) -> None:
         raise console.Failure("--system stands in the place of COMMAND: only one of them can be given")
     system = system_of(options.system)
     options.command, options.batch = [*VMA, "kernel", "--batch", "--system", options.system], True
+    options.is_windowed = system.window is not None
     if system.boots:
         options.jobs, options.seconds = 1, MACHINE_SECONDS
 

@@ -29,11 +29,14 @@ class Window:
     shift: int = 0
 
     def of(self, trace: Trace) -> tuple[int, int]:
-        """The addresses that a trace may use. With a heap they lie around it, as the window does around the break."""
+        """The addresses that a trace may use: those from its `min` up to its `top`, which the system has not. With a heap
+        they lie around it, as the window does around the break."""
+        low = max(self.low, trace.settings.get("min", 0))
+        high = min(self.high, trace.settings.get("top", USER_END))
         heap = trace.settings.get("heap")
         if not heap:
-            return self.low, self.high
-        return max(self.low, heap - BELOW_HEAP), min(self.high, heap + ABOVE_HEAP)
+            return low, high
+        return max(low, heap - BELOW_HEAP), min(high, heap + ABOVE_HEAP)
 
 
 def ranges(line: Line) -> Iterator[tuple[int, int]]:
@@ -64,6 +67,9 @@ def leaves(line: Line, low: int, high: int) -> bool:
     return any(not low <= address < high or high < end <= PAST_ALL for address, end in ends)
 
 
+NOT_EMPTY = "it leaves the place to the system, which is not empty outside of the window"
+
+
 def finds_place(line: Line) -> bool:
     """Whether a line may leave it to the system where memory comes to lie."""
     values = line.arguments
@@ -83,9 +89,7 @@ def check_window(trace: Trace, window: Window) -> None:
         raise Refused(4, "`limit areas` counts the areas of the system itself too, so it cannot be set in a window")
     for line in trace.lines:
         if line.word == "mmap" and not line.arguments[3] & ANY_FIXED and line.arguments[0] < PAGE:
-            raise Refused(
-                4, f"line {line.number}: it leaves the place to the system, which is not empty outside of the window"
-            )
+            raise Refused(4, f"line {line.number}: {NOT_EMPTY}")
         if line.word == "brk" and "heap" not in trace.settings:
             raise Refused(4, f"line {line.number}: brk in a window takes a `heap`")
         if leaves(line, low, high):

@@ -6,7 +6,7 @@ from collections.abc import Sequence
 from ..model import Space, answer
 from ..traces import Line, Trace
 from .empty import OWN, TOP
-from .places import USER_END, Refused, Window, finds_place
+from .places import NOT_EMPTY, USER_END, Refused, Window, finds_place
 
 ERROR = 2**64 - 4095
 
@@ -22,9 +22,7 @@ def check_searches(trace: Trace, texts: Sequence[str], window: Window | None) ->
             continue
         asked = asked or answers_of_model(trace)
         if window and is_place_of_search(line, asked[line.number]):
-            raise Refused(
-                4, f"line {line.number}: it leaves the place to the system, which is not empty outside of the window"
-            )
+            raise Refused(4, f"line {line.number}: {NOT_EMPTY}")
         if window is None and reaches_own(line, asked[line.number], int(words[2], 16)):
             raise Refused(
                 4,
