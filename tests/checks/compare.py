@@ -286,7 +286,7 @@ def check_statuses(program: str) -> None:
         (os.path.join(HERE, f"{name}.py"), ["/no/program"], 2, "rt run")
         for name in ("program", "compare", "judged_runs", "memory")
     ]
-    jobs += [(os.path.join(DEV, name), ["/no/program"], 2, "rt run") for name in ("measure", "measure-faults")]
+    jobs += [(os.path.join(DEV, name), ["/no/program"], 2, "rt run") for name in ("measure", "measure-faults", "measure-live")]
     jobs += [
         (vma, ["compare", "--program", "/no/program", "--", "true"], 2, "rt run"),
         (measure, ["--only", "nosuch", program], 2, "nosuch"),

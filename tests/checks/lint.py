@@ -22,6 +22,7 @@ PROGRAMS = (
     "dev/conform-systems",
     "dev/measure",
     "dev/measure-faults",
+    "dev/measure-live",
     "dev/real-programs",
     "dev/suite-linux",
 )
