@@ -1,5 +1,5 @@
 -- For `divide`, `Store::insert_at` and `Store::remove_at`: chunks with an area and room for one more.
-use Rattle.std.proofs.Common.{◌≡◌, ◌≤◌, ◌<◌, ◌+◌, ℕ, List, [], ◌∷◌, ◌++◌, length, take, drop, get_or, set, refl, ap, ◌∙◌, sym, subst, All, arith, append_assoc, length-append}
+use Rattle.std.proofs.Common.{◌≡◌, ◌≤◌, ◌<◌, ◌+◌, ◌/◌, ℕ, List, [], ◌∷◌, ◌++◌, length, take, drop, get_or, set, refl, ap, ◌∙◌, sym, subst, All, arith, append_assoc, length-append}
 use Rattle.std.specs.List.{insert, AllByRecursion as Each}
 use Rattle.std.proofs.lemmas.List.{take_more_set, drop-set-lt, take-set, length-take-le, length-drop}
 use Rattle.std.proofs.lemmas.List.Elements.{All-from_recursion, recursion_from_All}
@@ -52,12 +52,21 @@ divided_filled chunks place lower upper within others low high =
     (Each-append IsFilled (take place chunks) (lower ∷ (upper ∷ drop (place + 1) chunks)) (recursion_from_All IsFilled (take place chunks) others.front)
     (low, (high, recursion_from_All IsFilled (drop (place + 1) chunks) others.back))))
 
--- the halves of a full chunk
-pub lower_filled : (chunk : List Record) → length chunk ≡ 128 → IsFilled (take 64 chunk)
-lower_filled chunk full = let half = length-take-le 64 chunk (omega arith) in (omega (arith, half), omega (arith, half))
+-- all are filled where the one at a place is too
+pub all_filled : (chunks : List (List Record)) (place : ℕ) → place < length chunks → AreOthersFilled chunks place → IsFilled (get_or chunks place [])
+    → All IsFilled chunks
+all_filled chunks place within others here =
+    subst (λ list. All IsFilled list) (sym (parts_at chunks place within))
+    (All-from_recursion IsFilled (take place chunks ++ (get_or chunks place [] ∷ drop (place + 1) chunks))
+    (Each-append IsFilled (take place chunks) (get_or chunks place [] ∷ drop (place + 1) chunks) (recursion_from_All IsFilled (take place chunks) others.front)
+    (here, recursion_from_All IsFilled (drop (place + 1) chunks) others.back)))
 
-pub upper_filled : (chunk : List Record) → length chunk ≡ 128 → IsFilled (drop 64 chunk)
-upper_filled chunk full = let half = length-drop 64 chunk in (omega (arith, half), omega (arith, half))
+-- the halves of a large chunk
+pub lower_filled : (chunk : List Record) (half : ℕ) → half ≡ length chunk / 2 → 128 ≤ length chunk → length chunk ≤ 1024 → IsFilled (take half chunk)
+lower_filled chunk half is large most = let lower = length-take-le half chunk (omega (arith, is)) in (omega (arith, lower, is), omega (arith, lower, is))
+
+pub upper_filled : (chunk : List Record) (half : ℕ) → half ≡ length chunk / 2 → 128 ≤ length chunk → length chunk ≤ 1024 → IsFilled (drop half chunk)
+upper_filled chunk half is large most = let upper = length-drop half chunk in (omega (arith, upper, is), omega (arith, upper, is))
 
 -- no chunk more, where the one at a place is empty
 pub emptied_areas : (chunks : List (List Record)) (place : ℕ) → place < length chunks → length (get_or chunks place []) ≤ 0

@@ -1,5 +1,5 @@
 -- For `AreaChunks::apply`, `Chunk::from`, `Chunk::before` and others: canonical lists lie in ascending order, by index.
-use Rattle.std.proofs.Common.{◌≡◌, ◌≤◌, ◌<◌, ◌+◌, ℕ, Bool, true, false, if◌then◌else◌, nat_le, nat_lt, ◌⊎◌, List, [], ◌∷◌, take, slice_get, Some, None, refl, ap, ◌∙◌, sym, All, AllPairs, arith}
+use Rattle.std.proofs.Common.{◌≡◌, ◌≤◌, ◌<◌, ◌+◌, ℕ, Bool, true, false, if◌then◌else◌, nat_le, nat_lt, List, [], ◌∷◌, take, slice_get, Some, None, refl, ap, ◌∙◌, sym, All, AllPairs, arith}
 use Rattle.std.specs.List.{filter, last_or, AllByRecursion as Each}
 use Rattle.std.proofs.lemmas.Bool.{cond-true, cond-false, ltb-false, leb-true, leb-false, lt-ltb, le-ltb}
 use Rattle.std.proofs.lemmas.List.Elements.{All-from_recursion}

@@ -10,3 +10,4 @@ pub mod Locating
 pub mod Among
 pub mod Rooms
 pub mod Filling
+pub mod Widening

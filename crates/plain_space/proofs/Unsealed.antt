@@ -1,5 +1,5 @@
 -- For `AreaChunks::apply`: lists without a sealed area.
-use Rattle.std.proofs.Common.{◌≡◌, false, not, ◌||◌, nat_lt, List, [], ◌∷◌, All}
+use Rattle.std.proofs.Common.{◌≡◌, false, not, nat_lt, List, [], ◌∷◌, All}
 use Rattle.std.specs.List.{filter, AllByRecursion as Each}
 use Rattle.std.proofs.lemmas.Bool.{cond_both, or_parts}
 use Rattle.std.proofs.lemmas.List.Elements.{All-from_recursion, recursion_from_All}

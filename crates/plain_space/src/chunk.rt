@@ -8,16 +8,19 @@ ghost use Rattle.plain_space.specs.Internal.Chunks.{low_of, high_of};
 ghost use Rattle.plain_space.specs.Internal.Gaps.{IsAscending, HasScannedDown, HasScannedUp};
 
 use crate::binary_search::{area_at, begins_below, ends_by, last_of};
-use crate::scanning::{Scan, scan_down, scan_up, widest_gap};
+use crate::scanning::{Scan, gap_around, gap_before, scan_down, scan_up, widest_after, widest_gap};
 use mm_types::{NoMemory, Record};
 use std::alloc::Global;
 use std::marker::Model;
 
-/// The most areas of a chunk. One with so many is divided.
-pub(crate) const MOST_IN_CHUNK: usize = 128;
+/// The most areas of a chunk.
+pub(crate) const MOST_IN_CHUNK: usize = 1024;
 
-/// How many areas each of the two halves of a full chunk has.
+/// How many areas each chunk but the last has when all areas were shared out anew.
 pub(crate) const HALF: usize = MOST_IN_CHUNK / 2;
+
+/// A chunk with so many areas is divided while another one is spare.
+const LARGE: usize = 128;
 
 /// Some areas in order, with room for as many as a chunk may have. Contracts see it as their list.
 #[derive(Debug, Drop)]
@@ -68,6 +71,13 @@ impl Chunk {
         ensures { result.now ≡ self.now }
     {
         self.items.as_slice()
+    }
+
+    /// Whether it has so many areas that it is to be divided.
+    pub(crate) fn is_large(&self) -> bool
+        ensures { result ≡ nat_le LARGE (length self.now) }
+    {
+        LARGE <= self.items.len()
     }
 
     /// Whether it has as many areas as a chunk may have.
@@ -129,8 +139,10 @@ impl Chunk {
         ensures { self.new ≡ without (old.now ∷ []) self.old }
     {
         let place = begins_below(self.items.as_slice(), old.span.lo);
+        let gone = gap_around(self.items.as_slice(), place);
         self.items.remove(place);
-        self.widest = widest_gap(self.items.as_slice());
+        let come = gap_before(self.items.as_slice(), place);
+        self.widest = widest_after(self.items.as_slice(), self.widest, gone, come);
     }
 
     /// Inserts an area by its lowest page.
@@ -140,8 +152,10 @@ impl Chunk {
         ensures { self.new ≡ insert_area new self.old }
     {
         let place = begins_below(self.items.as_slice(), new.span.lo);
+        let gone = gap_before(self.items.as_slice(), place);
         let _fits = self.items.insert(place, new);
-        self.widest = widest_gap(self.items.as_slice());
+        let come = gap_around(self.items.as_slice(), place);
+        self.widest = widest_after(self.items.as_slice(), self.widest, gone, come);
     }
 
     /// The first area that ends above the page.

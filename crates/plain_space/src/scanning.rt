@@ -1,6 +1,6 @@
 //! Gaps between the areas of one chunk: the widest, and the first one below or above a page that is wide enough.
-ghost use Rattle.std.specs.Prelude.{◌≡◌};
-ghost use Rattle.plain_space.specs.Internal.Gaps.{gap_behind, widest_gap, IsAscending, HasScannedDown, HasScannedUp};
+ghost use Rattle.std.specs.Prelude.{◌≡◌, ◌≤◌, ◌<◌, length};
+ghost use Rattle.plain_space.specs.Internal.Gaps.{gap_behind, gap_before, gap_around, widest_gap, HasChanged, IsAscending, HasScannedDown, HasScannedUp};
 
 use crate::binary_search::{area_at, begins_below, ends_by, last_of};
 use area_rules::fits;
@@ -36,6 +36,41 @@ pub(crate) fn widest_gap(areas: &[Record]) -> u64
         rest = tail;
     }
     widest
+}
+
+/// The gap between the area before a place and the one at it; 0 where there is none.
+pub(crate) fn gap_before(areas: &[Record], place: usize) -> u64
+    requires { place ≤ length areas.now }
+    ensures { result ≡ gap_before areas.now place }
+{
+    if place == 0 {
+        return 0;
+    }
+    match &areas[place - 1..] {
+        [area, others @ ..] => gap_behind(area, others),
+        [] => 0,
+    }
+}
+
+/// The wider one of the gaps on both sides of the area at a place.
+pub(crate) fn gap_around(areas: &[Record], place: usize) -> u64
+    requires { place < length areas.now }
+    ensures { result ≡ gap_around areas.now place }
+{
+    gap_before(areas, place).max(gap_before(areas, place + 1))
+}
+
+/// The widest gap, where it was `widest` before gaps of at most `gone` gave way to gaps of at most `come`. All gaps are
+/// looked at only where a widest one is gone.
+pub(crate) fn widest_after(areas: &[Record], widest: u64, gone: u64, come: u64) -> u64
+    requires { HasChanged widest (widest_gap areas.now) gone come }
+    ensures { result ≡ widest_gap areas.now }
+{
+    if gone < widest || widest <= come {
+        widest.max(come)
+    } else {
+        widest_gap(areas)
+    }
 }
 
 /// Looks for room of so many pages below an end, from the area with the highest begin below it down to the first with room

@@ -50,8 +50,8 @@ impl<'a> PlainSpace<'a> {
         Ok(PlainSpace::within(Room::new(alloc, config)?, config))
     }
 
-    /// A space of this configuration with no area, an empty heap, and the files numbered, in the memory of another of as many
-    /// areas at most. It takes none.
+    /// A space of this configuration with no area, an empty heap, and the files numbered, in the memory of another whose
+    /// configuration allows exactly as many areas. It takes none.
     pub fn within(room: Room, config: &'a Config) -> PlainSpace<'a>
         requires valid { IsValidConfig config.now }
         requires room { room ≡ config.now.areas }

@@ -2,7 +2,7 @@
 ghost use Rattle.std.specs.Prelude.{◌≡◌, ◌≤◌, ◌<◌, ◌+◌, ◌*◌, [], ◌∷◌, ◌++◌, length, All, Contains, IfOk, vec_len, vec_capacity, set, slice_index_or};
 ghost use Rattle.area_list.specs.Changes.{insert_area};
 ghost use Rattle.split_merge.specs.Plans.{without};
-ghost use Rattle.plain_space.specs.declared.chunk.TheConstants.{MOST_IN_CHUNK, HALF};
+ghost use Rattle.plain_space.specs.declared.chunk.TheConstants.{MOST_IN_CHUNK, HALF, LARGE};
 ghost use Rattle.split_merge.specs.Internal.Sorted.{BeginsRise, BeginsAscend};
 ghost use Rattle.plain_space.specs.Internal.Chunks.{areas_of, IsFilled, AreOthersFilled};
 ghost use Rattle.plain_space.specs.Stored.{IsRoomy, IsSane, StaysSane};
@@ -70,10 +70,11 @@ fn deal(chunks: &mut Vec<Chunk>, spares: &mut Vec<Chunk>, areas: &[Record])
     }
 }
 
-/// Divides a full chunk into two halves, the upper one into a spare chunk.
+/// Divides a large chunk into two halves, the upper one into a spare chunk.
 fn divide(chunks: &mut Vec<Chunk>, place: usize, mut upper: Chunk)
     requires within { place < vec_len chunks.old }
-    requires full { length (slice_index_or chunks.old.items place []) ≡ MOST_IN_CHUNK }
+    requires large { LARGE ≤ length (slice_index_or chunks.old.items place []) }
+    requires most { length (slice_index_or chunks.old.items place []) ≤ MOST_IN_CHUNK }
     requires others { AreOthersFilled chunks.old.items place }
     requires room { vec_len chunks.old < vec_capacity chunks.old }
     ensures areas { areas_of chunks.new.items ≡ areas_of chunks.old.items }
@@ -82,8 +83,9 @@ fn divide(chunks: &mut Vec<Chunk>, place: usize, mut upper: Chunk)
     ensures room { vec_capacity chunks.new ≡ vec_capacity chunks.old }
 {
     let lower = &mut chunks[place];
-    upper.fill(&lower.areas()[HALF..]);
-    lower.keep_first(HALF);
+    let half = lower.areas().len() / 2;
+    upper.fill(&lower.areas()[half..]);
+    lower.keep_first(half);
     let _fits = chunks.insert(place + 1, upper);
 }
 
@@ -128,19 +130,21 @@ impl Store {
         deal(&mut self.chunks, &mut self.spares, self.whole.as_slice());
     }
 
-    /// Makes two chunks of a full one, or, where no chunk is spare, shares all areas out anew.
+    /// Makes two chunks of a large one. Where no chunk is spare it may grow until it is full: then all areas are shared out anew.
     fn relieve(&mut self, place: usize)
         requires within { place < vec_len self.old.chunks }
-        requires full { length (slice_index_or self.old.chunks.items place []) ≡ MOST_IN_CHUNK }
+        requires large { LARGE ≤ length (slice_index_or self.old.chunks.items place []) }
+        requires most { length (slice_index_or self.old.chunks.items place []) ≤ MOST_IN_CHUNK }
         requires others { AreOthersFilled self.old.chunks.items place }
         requires roomy { IsRoomy self.old }
         requires few { length (areas_of self.old.chunks.items) ≤ vec_capacity self.old.whole }
         ensures areas { areas_of self.new.chunks.items ≡ areas_of self.old.chunks.items }
         ensures stays { StaysSane self.old self.new }
     {
-        match self.spares.pop() {
-            Some(upper) => divide(&mut self.chunks, place, upper),
-            None => self.share_out(),
+        if let Some(upper) = self.spares.pop() {
+            divide(&mut self.chunks, place, upper);
+        } else if self.chunks[place].is_full() {
+            self.share_out();
         }
     }
 
@@ -171,7 +175,7 @@ impl Store {
     {
         let chunk = &mut self.chunks[place];
         chunk.insert(new);
-        if chunk.is_full() {
+        if chunk.is_large() {
             self.relieve(place);
         }
     }

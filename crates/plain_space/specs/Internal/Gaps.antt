@@ -1,5 +1,5 @@
 -- Gaps between the areas of a chunk.
-use Rattle.std.specs.Prelude.{ℕ, ◌≡◌, ◌≤◌, ◌<◌, ◌+◌, ◌-◌, max, Bool, true, false, List, [], ◌∷◌, All, Contains}
+use Rattle.std.specs.Prelude.{ℕ, zero, suc, ◌≡◌, ◌≤◌, ◌<◌, ◌+◌, ◌-◌, max, Bool, true, false, List, [], ◌∷◌, drop, All, Contains}
 use Rattle.mm_types.specs.declared.area.Record.{Record}
 use Rattle.area_rules.specs.Placement.{is_free}
 use Rattle.plain_space.specs.declared.chunk.TheConstants.{MOST_IN_CHUNK}
@@ -10,10 +10,30 @@ abbrev pub gap_behind : Record → List Record → ℕ
 gap_behind area [] = 0
 gap_behind area (next ∷ others) = next.span.lo - area.span.hi
 
+-- the gap behind the first area; 0 where there is none
+abbrev pub first_gap : List Record → ℕ
+first_gap [] = 0
+first_gap (area ∷ areas) = gap_behind area areas
+
 -- the widest gap between an area and the next; 0 where there is none
 abbrev pub widest_gap : List Record → ℕ
 widest_gap [] = 0
 widest_gap (area ∷ areas) = max (gap_behind area areas) (widest_gap areas)
+
+-- the gap between the area before a place and the one at it; 0 where there is none
+abbrev pub gap_before : List Record → ℕ → ℕ
+gap_before areas zero = 0
+gap_before areas (suc place) = first_gap (drop place areas)
+
+-- the wider one of the gaps on both sides of the area at a place
+abbrev pub gap_around : List Record → ℕ → ℕ
+gap_around areas place = max (gap_before areas place) (gap_before areas (suc place))
+
+-- the widest gap before and after gaps whose widest was the one gave way to gaps whose widest is the other
+pub record HasChanged (before after gone come : ℕ) : Type 0 where
+  pub rest : ℕ
+  pub was : before ≡ max rest gone
+  pub is : after ≡ max rest come
 
 -- a chunk has room for exactly as many areas as one may have, and notes its widest gap
 pub record IsWellFilled (areas : List Record) (room widest : ℕ) : Type 0 where

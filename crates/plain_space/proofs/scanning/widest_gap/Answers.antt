@@ -1,5 +1,5 @@
 -- For `widest_gap` of scanning.rt: its goals.
-use Rattle.std.proofs.Common.{ℕ, ◌≡◌, ◌≤◌, ◌-◌, max, List, [], ◌∷◌, length, take, drop, get_or, ap, subst, arith}
+use Rattle.std.proofs.Common.{ℕ, ◌≡◌, ◌≤◌, ◌-◌, max, List, [], ◌∷◌, length, take, drop, get_or, ap, arith}
 use Rattle.std.proofs.lemmas.List.{take_all}
 use Rattle.mm_types.specs.declared.area.Record.{Record}
 use Rattle.plain_space.specs.Internal.Gaps.{gap_behind, widest_gap}

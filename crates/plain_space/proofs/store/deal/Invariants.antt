@@ -11,7 +11,7 @@ invariant-loop-rest l = record {
   total : vec_len l.chunks + vec_len l.spares ≡ vec_len l.fn.spares;
   room : vec_capacity l.chunks ≡ vec_capacity l.fn.chunks;
   spare_room : vec_capacity l.spares ≡ vec_capacity l.fn.spares;
-  halves : 0 < length l.rest → 64 * vec_len l.chunks + length l.rest ≡ length l.areas;
+  halves : 0 < length l.rest → 512 * vec_len l.chunks + length l.rest ≡ length l.areas;
 }
 
 abbrev pub decreases-loop-rest : goal.decreases-loop-rest

@@ -1,5 +1,5 @@
 -- For `divide` of store.rt: its goals.
-use Rattle.std.proofs.Common.{◌≡◌, ◌<◌, ◌-◌, ◌++◌, true, [], List, length, take, drop, get_or, sym, ap, ◌∙◌, subst, All, arith}
+use Rattle.std.proofs.Common.{◌≡◌, ◌<◌, ◌-◌, ◌/◌, ◌++◌, true, ℕ, [], List, length, take, drop, get_or, sym, ap, ◌∙◌, subst, All, arith}
 use Rattle.std.specs.Result.{is_ok}
 use Rattle.std.proofs.lemmas.Bool.{cond-true}
 use Rattle.std.proofs.lemmas.List.{get_or_read, take_rest, take-append-drop}
@@ -9,8 +9,9 @@ use Rattle.plain_space.proofs.Filling.{divided_areas, divided_filled, lower_fill
 use Rattle.plain_space.proofs.store.divide.Goals as goal
 
 -- what is written into the upper chunk
-upper_is : (chunk whole shown upper : List Record) → whole ≡ chunk → shown ≡ whole → upper ≡ take (length shown - 64) (drop 64 shown) → upper ≡ drop 64 chunk
-upper_is chunk whole shown upper first second third = third ∙ take_rest shown 64 ∙ ap (drop 64) (second ∙ first)
+upper_is : (chunk whole shown upper : List Record) (half : ℕ) → whole ≡ chunk → shown ≡ whole → upper ≡ take (length shown - half) (drop half shown)
+    → upper ≡ drop half chunk
+upper_is chunk whole shown upper half first second third = third ∙ take_rest shown half ∙ ap (drop half) (second ∙ first)
 
 pub returns-clause-areas : goal.returns-clause-areas
 returns-clause-areas c =
@@ -20,12 +21,13 @@ returns-clause-areas c =
     let within : place < length chunks = omega (arith, len, c.requires.within) in
     let chunk : List Record = get_or chunks place [] in
     let read = get_or_read chunks place c.index_mut-lower.result.now within c.index_mut-lower.ensures.value [] in
-    let lower = c.keep_first.ensures ∙ ap (take 64) read in
-    let upper = upper_is chunk c.index_mut-lower.result.now c.areas.result.now c.fill.new.self read c.areas.ensures c.fill.ensures in
+    let half : ℕ = length c.areas.result.now / 2 in
+    let lower = c.keep_first.ensures ∙ ap (take half) read in
+    let upper = upper_is chunk c.index_mut-lower.result.now c.areas-2.result.now c.fill.new.self half read c.areas-2.ensures c.fill.ensures in
     let fits : is_ok c.insert-fits.result ≡ true = c.insert-fits.ensures.succeeds c.requires.room in
     ap areas_of (c.insert-fits.ensures.items ∙ cond-true _ _ _ fits)
     ∙ divided_areas chunks place c.keep_first.new.self c.fill.new.self within
-    (ap (λ list. list ++ c.fill.new.self) lower ∙ ap (λ list. take 64 chunk ++ list) upper ∙ take-append-drop 64 chunk)
+    (ap (λ list. list ++ c.fill.new.self) lower ∙ ap (λ list. take half chunk ++ list) upper ∙ take-append-drop half chunk)
 
 pub returns-clause-filled : goal.returns-clause-filled
 returns-clause-filled c =
@@ -35,9 +37,12 @@ returns-clause-filled c =
     let within : place < length chunks = omega (arith, len, c.requires.within) in
     let chunk : List Record = get_or chunks place [] in
     let read = get_or_read chunks place c.index_mut-lower.result.now within c.index_mut-lower.ensures.value [] in
-    let lower = c.keep_first.ensures ∙ ap (take 64) read in
-    let upper = upper_is chunk c.index_mut-lower.result.now c.areas.result.now c.fill.new.self read c.areas.ensures c.fill.ensures in
+    let half : ℕ = length c.areas.result.now / 2 in
+    let is : half ≡ length chunk / 2 = ap (λ list. length list / 2) (c.areas.ensures ∙ read) in
+    let lower = c.keep_first.ensures ∙ ap (take half) read in
+    let upper = upper_is chunk c.index_mut-lower.result.now c.areas-2.result.now c.fill.new.self half read c.areas-2.ensures c.fill.ensures in
     let fits : is_ok c.insert-fits.result ≡ true = c.insert-fits.ensures.succeeds c.requires.room in
     subst (λ (list : List (List Record)). All IsFilled list) (sym (c.insert-fits.ensures.items ∙ cond-true _ _ _ fits))
     (divided_filled chunks place c.keep_first.new.self c.fill.new.self within c.requires.others
-    (subst IsFilled (sym lower) (lower_filled chunk c.requires.full)) (subst IsFilled (sym upper) (upper_filled chunk c.requires.full)))
+    (subst IsFilled (sym lower) (lower_filled chunk half is c.requires.large c.requires.most))
+    (subst IsFilled (sym upper) (upper_filled chunk half is c.requires.large c.requires.most)))

@@ -1,10 +1,10 @@
 -- For `AreaChunks::apply` of chunks.rt: its goals.
-use Rattle.std.proofs.Common.{◌≡◌, ◌∙◌, false, All, List, length, ap, subst, sym, arith}
+use Rattle.std.proofs.Common.{◌≡◌, ◌∙◌, All, List, length, ap, subst, sym, arith}
 use Rattle.std.specs.List.{Contains}
 use Rattle.std.proofs.lemmas.Bool.{or_parts}
 use Rattle.mm_types.specs.declared.area.Record.{Record}
 use Rattle.split_merge.specs.declared.plan.Change.{Change}
-use Rattle.split_merge.specs.Plans.{olds_of, news_of, applied, IsPlanOf, IsKept}
+use Rattle.split_merge.specs.Plans.{olds_of, applied, IsPlanOf, IsKept}
 use Rattle.split_merge.proofs.Ascending.{ascending}
 use Rattle.split_merge.proofs.Counting.{plan_counts}
 use Rattle.plain_space.specs.Internal.Chunks.{areas_of}
