@@ -115,8 +115,9 @@ fn lines_give_the_callers(rt: HostRuntime) -> Result<(), Fail> {
         fault_line(5, 4, 4),
         fault_line(6, 9, 5),
     ]?;
-    assert!(rt; lines.iter().all(|line| line.thread < MOST_THREADS as u32));
     let trace = trace_of(alloc, lines);
+    let lines = trace.lines.items();
+    assert!(rt; lines.iter().all(|line| line.thread < MOST_THREADS as u32));
     let journal = [entry(0)];
     let log = [
         fault(0, 1),
