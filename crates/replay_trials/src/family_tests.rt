@@ -1,13 +1,12 @@
 //! Traces that fork, and traces in which a line names another, worked by hand: a trace for each, and its output in both modes.
 
-use crate::tests::words;
-use io_edge::{PlainGate, SureSink, SureSource};
+use crate::tests::run_trace;
+use io_edge::PlainGate;
 use std::alloc::Global;
 use std::process::Abort;
 use std::sync::Wait;
 use std::test::Fail;
 use std::thread::Threads;
-use vma_replay::{Status, replay};
 
 /// A parent that maps a page, forks and unmaps it, while the child has it still.
 const FORKED: &[u8] = b"vmatrace 1\n\
@@ -122,12 +121,8 @@ fn expect_output<R: Threads + Wait + Sync + Abort>(
     output: &[u8],
     runs: usize,
 ) -> Result<(), Fail> {
-    let words = words(alloc, &[mode])?;
-    let mut source = SureSource::new(Vec::from_slice(alloc, trace)?);
-    let mut sink = SureSink::new(alloc);
-    let replayed = replay(rt, alloc, &words, &mut source, &mut sink, &PlainGate);
-    assert_eq!(rt; replayed.status, Status::Done);
-    assert_eq!(rt; replayed.runs.items().len(), runs);
+    let (closed, sink) = run_trace(rt, alloc, mode, trace, &PlainGate)?;
+    assert_eq!(rt; closed.items().len(), runs);
     assert_eq!(rt; sink.bytes(), output);
     Ok(())
 }

@@ -1,10 +1,13 @@
 //! Whole runs over sources and sinks in memory. The expected texts follow the manual pages mmap(2) and
 //! proc_pid_maps(5), from the highest address down.
 
-use io_edge::{MOST_AT_A_CALL, MemSink, MemSource, PlainGate, SureSink, SureSource};
+use io_edge::{Gate, MOST_AT_A_CALL, MemSink, MemSource, PlainGate, SureSink, SureSource};
 use std::alloc::{AllocError, Global};
+use std::process::Abort;
+use std::sync::Wait;
 use std::test::Fail;
-use vma_replay::{Cause, Status, replay, status_line, status_number};
+use std::thread::Threads;
+use vma_replay::{Cause, Replayed, Runs, Status, replay, status_line, status_number};
 
 /// A trace that maps two pages, which a `MemSource` gives in two calls.
 const TWO_PAGES: &[u8] =
@@ -21,6 +24,22 @@ pub(crate) fn words(alloc: Global, texts: &[&str]) -> Result<Vec<String>, AllocE
         words.push(String::from_str(alloc, text)?)?;
     }
     Ok(words)
+}
+
+/// The closed runs and the output of a trace, which is run to its end in a mode.
+pub(crate) fn run_trace<R: Threads + Wait + Sync + Abort, G: Gate>(
+    rt: &R,
+    alloc: Global,
+    mode: &str,
+    trace: &[u8],
+    gate: &G,
+) -> Result<(Runs, SureSink), Fail> {
+    let words = words(alloc, &[mode])?;
+    let mut source = SureSource::new(Vec::from_slice(alloc, trace)?);
+    let mut sink = SureSink::new(alloc);
+    let Replayed { status, runs } = replay(rt, alloc, &words, &mut source, &mut sink, gate);
+    assert_eq!(rt; status, Status::Done);
+    Ok((runs, sink))
 }
 
 #[test]

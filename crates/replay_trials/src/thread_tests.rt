@@ -1,7 +1,8 @@
 //! Runs in the mode `threads`: outputs that no schedule changes, outputs of which the schedule picks one, and workers that run at once.
 
 use crate::form_tests::{STACK, STACK_OUTPUT};
-use io_edge::{Gate, PlainGate, SureSink, SureSource};
+use crate::tests::run_trace;
+use io_edge::{Gate, PlainGate, SureSink};
 use std::alloc::Global;
 use std::process::Abort;
 use std::sync::Wait;
@@ -9,7 +10,6 @@ use std::sync::atomic::{AtomicU64, Ordering};
 use std::test::Fail;
 use std::thread;
 use std::thread::Threads;
-use vma_replay::{Status, replay};
 
 /// What a mode gives for a trace, which it runs to its end with one closed run.
 fn output<R: Threads + Wait + Sync + Abort, G: Gate>(
@@ -31,13 +31,8 @@ fn output_of_runs<R: Threads + Wait + Sync + Abort, G: Gate>(
     gate: &G,
     runs: usize,
 ) -> Result<SureSink, Fail> {
-    let mut words = Vec::new(alloc);
-    words.push(String::from_str(alloc, mode)?)?;
-    let mut source = SureSource::new(Vec::from_slice(alloc, trace)?);
-    let mut sink = SureSink::new(alloc);
-    let replayed = replay(rt, alloc, &words, &mut source, &mut sink, gate);
-    assert_eq!(rt; replayed.status, Status::Done);
-    assert_eq!(rt; replayed.runs.items().len(), runs);
+    let (closed, sink) = run_trace(rt, alloc, mode, trace, gate)?;
+    assert_eq!(rt; closed.items().len(), runs);
     Ok(sink)
 }
 

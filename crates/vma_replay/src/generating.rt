@@ -56,12 +56,7 @@ fn summary_given<R: Wait, K: Sink>(
 }
 
 /// Runs the generated trace in the order of its lines over a new space, and closes it.
-pub(crate) fn generated_run<R: Wait>(
-    rt: &R,
-    alloc: Global,
-    count: u32,
-    seed: u64,
-) -> Result<Closed, NoMemory>
+fn generated_run<R: Wait>(rt: &R, alloc: Global, count: u32, seed: u64) -> Result<Closed, NoMemory>
     requires { count ≤ MOST_OPERATIONS }
     ensures run { IfOk result (λ run. IsRunOf Serial (load_trace count seed) run) }
     ensures list { IfOk result (λ run. run.list ≡ list_after (load_trace count seed).config run.journal) }

@@ -10,10 +10,6 @@ mod generating;
 mod giving;
 mod in_turn;
 mod laws;
-#[cfg(test)]
-mod load_tests;
-#[cfg(test)]
-mod order_tests;
 mod printing;
 mod reading;
 mod replayed;

@@ -1,25 +1,14 @@
 //! Small random traces of two to 64 threads, which grow and seal areas, move the break, name lines and fork, and a longer one in which
 //! areas grow towards each other. Their operations come in many orders, and the history of each space is judged. Where no line forks,
 //! `check` judges the text too, as it is and with a wrong line.
-ghost use Rattle.std.specs.Prelude.{◌<◌, ◌≤◌, IfOk, List};
-ghost use Rattle.mm_types.specs.declared.call.Entry.{Entry};
-ghost use Rattle.trace_reader.specs.Values.{IsTraceValue};
-ghost use Rattle.vma_replay.specs.Internal.Families.{AreRunsOfChildren};
-ghost use Rattle.vma_replay.specs.Replaying.{IsRunOfChild};
 
-use crate::families::{Family, closed_family, parent_of};
-use crate::forks::Fork;
-use crate::printing::{give_family, run_history};
-use crate::reading::read_source;
-use crate::running::closed_run;
-use crate::words::Mode;
+use crate::judging::{gathered, judged, judged_child, parsed};
+use crate::tests::run_trace;
 use draws::Draws;
-use history::{MOST_THREADS, check};
-use io_edge::{Gate, SureSink, SureSource};
-use mm_fork::{check_child, check_parent, child_history, inherit};
-use mm_space::Closed;
+use history::check;
+use io_edge::Gate;
+use mm_fork::check_parent;
 use mm_types::{Call, Entry, NoMemory};
-use output_check::checked;
 use std::alloc::Global;
 use std::fmt::Write;
 use std::process::Abort;
@@ -28,7 +17,9 @@ use std::sync::atomic::{AtomicU64, Ordering};
 use std::test::Fail;
 use std::thread::Threads;
 use std::{fmt, thread};
-use trace_reader::{MOST_LINES, Trace};
+use text_lexer::decimal_of;
+use trace_reader::{Op, TraceLine};
+use vma_replay::{Fork, Runs};
 
 /// How many small traces are run.
 const TRACES: u64 = 2_000;
@@ -193,57 +184,68 @@ fn small_trace(alloc: Global, seed: u64) -> Result<String, NoMemory> {
     Ok(draft.text)
 }
 
-/// The trace that a text is.
-fn read_text<R: Abort>(rt: &R, alloc: Global, text: &str) -> Result<Trace, Fail>
-    ensures { IfOk result IsTraceValue }
-{
-    let mut source = SureSource::new(Vec::from_slice(alloc, text.as_bytes())?);
-    match read_source(alloc, &mut source) {
-        Ok(trace) => Ok(trace),
-        Err(_) => panic!(rt; "this is no trace:\n{text}"),
-    }
-}
-
 /// Runs a small trace in threads, and has the history of each space judged, and its text where no line forks.
 fn judge<R: Threads + Wait + Sync + Abort>(
     rt: &R,
     alloc: Global,
     seed: u64,
     gate: &Yielding,
-) -> Result<Family, Fail> {
+) -> Result<Runs, Fail> {
     let text = small_trace(alloc, seed)?;
-    let trace = read_text(rt, alloc, text.as_str())?;
-    let parent = parent_of(alloc, &trace)?;
-    let family = closed_family(rt, alloc, Mode::Threads, &trace, &parent, gate)?;
-    let judged = check_parent(alloc, &trace, &family.history);
+    let trace = parsed(alloc, text.as_str().as_bytes())?;
+    let (runs, output) = run_trace(rt, alloc, "threads", text.as_str().as_bytes(), gate)?;
+    let Some((parent, children)) = runs.items().split_first() else {
+        panic!(rt; "no run of seed {seed}")
+    };
+    let history = gathered(rt, alloc, parent)?;
+    let judged = check_parent(alloc, &trace, &history);
     assert!(rt; judged.is_ok(), "the parent of seed {seed}");
-    let runs = family.runs.as_slice();
-    judge_children(
-        rt,
-        alloc,
-        &trace,
-        runs[0].journal(),
-        family.forks.as_slice(),
-        &runs[1..],
-    )?;
-    if family.forks.is_empty() {
-        let mut sink = SureSink::new(alloc);
-        let given = give_family(alloc, &mut sink, &trace, &parent, &family);
-        assert!(rt; given.is_ok());
-        judge_text(rt, alloc, text.as_str(), sink.bytes(), seed)?;
+    let forks = forks_told(alloc, output.bytes())?;
+    assert_eq!(rt; forks.len(), count_forks(trace.lines.items()));
+    assert_eq!(rt; forks.len(), children.len());
+    for (fork, run) in forks.iter().zip(children) {
+        let judged = judged_child(rt, alloc, &trace, parent.journal(), fork, run)?;
+        assert!(rt; judged.is_ok(), "the child of {fork:?} of seed {seed}");
     }
-    Ok(family)
+    if forks.is_empty() {
+        judge_text(rt, alloc, text.as_str(), output.bytes(), seed)?;
+    }
+    Ok(runs)
 }
 
-/// What is judged of a text, as an output of a trace.
-fn judged(alloc: Global, trace: &[u8], text: &[u8]) -> Result<Vec<u8>, Fail> {
-    let mut input = Vec::from_slice(alloc, trace)?;
-    input.extend_from_slice(b"==\n")?;
-    input.extend_from_slice(text)?;
-    match checked(alloc, input.as_slice()) {
-        Ok(judgement) => Ok(judgement),
-        Err(_) => Err("neither a trace nor a text".into()),
+/// How many lines fork.
+fn count_forks(lines: &[TraceLine]) -> usize {
+    lines
+        .iter()
+        .filter(|line| matches!(line.op, Op::Fork { .. }))
+        .count()
+}
+
+/// The forks that an output tells, in its order.
+fn forks_told(alloc: Global, output: &[u8]) -> Result<Vec<Fork>, NoMemory> {
+    let mut forks = Vec::new(alloc);
+    for line in output.split(|byte| *byte == b'\n') {
+        if let Some(fork) = fork_told(line) {
+            forks.push(fork)?;
+        }
     }
+    Ok(forks)
+}
+
+/// The fork that a line of an output tells, as `child 7 of L3 v1`, if it tells one.
+fn fork_told(line: &[u8]) -> Option<Fork> {
+    let mut words = std::str::from_utf8(line).ok()?.split(' ');
+    if words.next() != Some("child") {
+        return None;
+    }
+    let child = decimal_of(words.next()?)?;
+    let line = words.nth(1)?.strip_prefix('L')?;
+    let version = words.next()?.strip_prefix('v')?;
+    Some(Fork {
+        child: u32::try_from(child).ok()?,
+        line: decimal_of(line)?,
+        version: decimal_of(version)?,
+    })
 }
 
 /// Has the text of a run judged, and the same with one line that ends with another byte than any right line.
@@ -280,57 +282,6 @@ fn with_wrong_line(alloc: Global, text: &[u8], line: usize) -> Result<Vec<u8>, F
     Ok(wrong)
 }
 
-/// Has the histories of children judged, of which there is a run for each fork.
-fn judge_children<R: Abort>(
-    rt: &R,
-    alloc: Global,
-    trace: &Trace,
-    journal: &[Entry],
-    forks: &[Fork],
-    runs: &[Closed],
-) -> Result<(), Fail>
-    requires trace { IsTraceValue trace.now }
-    requires runs { (parent : List Entry) × AreRunsOfChildren trace.now parent forks.now runs.now }
-{
-    for (place, fork) in forks.iter().enumerate() {
-        if let Some(run) = runs.get(place) {
-            judge_child(rt, alloc, trace, journal, fork, run)?;
-        }
-    }
-    Ok(())
-}
-
-/// Has the history of a child judged, by the journal of its parent.
-fn judge_child<R: Abort>(
-    rt: &R,
-    alloc: Global,
-    trace: &Trace,
-    journal: &[Entry],
-    fork: &Fork,
-    run: &Closed,
-) -> Result<(), Fail>
-    requires trace { IsTraceValue trace.now }
-    requires run { (parent : List Entry) × IsRunOfChild trace.now parent fork.now run.now }
-{
-    assert!(rt; fork.version <= journal.len() as u64);
-    assert!(rt;
-        journal
-            .iter()
-            .all(|entry| entry.caller < MOST_THREADS as u32)
-    );
-    let before = inherit(alloc, journal, fork.version)?;
-    assert!(rt; before.len() <= MOST_LINES);
-    let history = child_history(alloc, fork.version, run.journal(), run.logs())?;
-    let judged = check_child(alloc, trace, fork.child, before.as_slice(), &history);
-    assert!(rt;
-        judged.is_ok(),
-        "child {} of line {}",
-        fork.child,
-        fork.line
-    );
-    Ok(())
-}
-
 /// How many faults of a journal grew an area.
 fn count_grown(journal: &[Entry]) -> usize {
     journal
@@ -346,9 +297,9 @@ fn histories_of_small_runs_are_judged_legal(rt: HostRuntime) -> Result<(), Fail>
     };
     let (mut grown, mut forks) = (0usize, 0usize);
     for seed in 0..TRACES {
-        let family = judge(&rt, rt.alloc(), seed, &gate)?;
-        forks = forks.saturating_add(family.forks.len());
-        for run in &family.runs {
+        let runs = judge(&rt, rt.alloc(), seed, &gate)?;
+        forks = forks.saturating_add(runs.items().len().saturating_sub(1));
+        for run in runs.items() {
             grown = grown.saturating_add(count_grown(run.journal()));
         }
     }
@@ -404,9 +355,13 @@ fn areas_grow_towards_each_other(rt: HostRuntime) -> Result<(), Fail> {
     let gate = Yielding {
         operations: AtomicU64::new(0),
     };
-    let trace = read_text(&rt, alloc, growing_trace(alloc)?.as_str())?;
-    let run = closed_run(&rt, alloc, Mode::Threads, &trace, &gate)?;
-    let history = run_history(alloc, Mode::Threads, &trace, &run)?;
+    let text = growing_trace(alloc)?;
+    let trace = parsed(alloc, text.as_str().as_bytes())?;
+    let (runs, _) = run_trace(&rt, alloc, "threads", text.as_str().as_bytes(), &gate)?;
+    let [run] = runs.items() else {
+        panic!(rt; "not one run")
+    };
+    let history = gathered(&rt, alloc, run)?;
     assert!(rt; check(alloc, &trace, &history).is_ok());
     // Nobody is in the way of the lower end, nor of three steps of eight of the other area.
     assert!(rt; count_grown(run.journal()) >= 275);
