@@ -9,13 +9,13 @@ use plain_space::PlainSpace;
 use std::process::Abort;
 use std::test::Fail;
 
-const READ: Prot = Prot {
+pub(crate) const READ: Prot = Prot {
     read: true,
     write: false,
     exec: false,
 };
 
-const READ_WRITE: Prot = Prot {
+pub(crate) const READ_WRITE: Prot = Prot {
     read: true,
     write: true,
     exec: false,
@@ -31,7 +31,7 @@ fn config(rt: &impl AllocGlobal, limit: u64, heap: u64) -> Config {
 }
 
 /// Private anonymous memory.
-fn map(addr: u64, len: u64, prot: Prot, flags: u32) -> Call {
+pub(crate) fn map(addr: u64, len: u64, prot: Prot, flags: u32) -> Call {
     Call::Mmap(MmapArgs {
         addr,
         len,
@@ -43,7 +43,7 @@ fn map(addr: u64, len: u64, prot: Prot, flags: u32) -> Call {
 }
 
 /// Makes calls one after another, each with its reply.
-fn makes(rt: &impl Abort, space: &mut PlainSpace<'_>, calls: &[(Call, Reply)]) {
+pub(crate) fn makes(rt: &impl Abort, space: &mut PlainSpace<'_>, calls: &[(Call, Reply)]) {
     for (call, reply) in calls {
         assert!(rt; space.counters().objects < u32::MAX);
         assert_eq!(rt; space.call(call), *reply, "{call:?}");

@@ -16,7 +16,7 @@ use std::test::Fail;
 const CALLS: u32 = 200;
 
 /// A file of two pages that may be read, and written as well or not.
-fn file(alloc: Global, fd: i32, write: bool) -> Result<FileRow, AllocError> {
+pub(crate) fn file(alloc: Global, fd: i32, write: bool) -> Result<FileRow, AllocError> {
     Ok(FileRow {
         fd,
         read: true,
