@@ -1,5 +1,5 @@
 -- For `OneLeaf::publish_entry`: the new tree is a leaf in the row that was taken, and each other row is free or was left.
-use Rattle.std.proofs.Common.{◌<◌, ◌∙◌, ◌+◌, ◌∷◌, ◌++◌, [], ℕ, refl, sym, ap, subst, arith, List, length, get_or-set_same}
+use Rattle.std.proofs.Common.{◌≡◌, ◌<◌, ◌∙◌, ◌+◌, ◌∷◌, ◌++◌, [], ℕ, refl, sym, ap, subst, arith, List, length, get_or-set_same}
 use Rattle.grace_core.specs.Core.{times}
 use Rattle.maple_node.specs.Levels.{at_of}
 use Rattle.node_slots.specs.declared.view.NodeView.{NodeView}
