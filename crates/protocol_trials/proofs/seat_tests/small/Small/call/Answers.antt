@@ -21,7 +21,7 @@ pub invariant_of-self : goal.invariant_of-self
 invariant_of-self g c =
     let stepped = c.in_ok-stepped.stepped in
     let entered = c.enter.ensures in
-    let entry : Entry = record { caller = c.args.seat.now.caller; call = c.args.call; reply = stepped.reply } in
+    let entry : Entry = record { caller = c.caller.result; call = c.args.call; reply = stepped.reply } in
     let space =
     small_after _ _ entry _ _ _ _ (outcome_of stepped) c.args.self.now.kept c.requires.config refl c.in_ok-stepped.ensures in
     record {
