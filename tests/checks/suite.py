@@ -1,7 +1,8 @@
 #!/usr/bin/env python3
 """Checks the conformance suite: each case is what its source says and has the program's output; each row of each table
-of docs/MODEL.md decides two cases or more; each test of the model, changed a little, is noticed by a case; and each
-case in which Linux answers otherwise has a row of docs/KERNEL.md.
+of docs/MODEL.md decides two cases or more; each test of the model, changed a little, is noticed by a case; the changes
+that no case has to notice are noticed by no random trace either; and each case in which Linux answers otherwise has a row
+of docs/KERNEL.md.
 
 Exit status: 0 where all is so, 1 where not, with a line for each, 2 on wrong use.
 """
@@ -12,7 +13,7 @@ import re
 import sys
 from collections import Counter
 from collections.abc import Iterator
-from concurrent.futures import ThreadPoolExecutor
+from concurrent.futures import ProcessPoolExecutor, ThreadPoolExecutor
 from pathlib import Path
 
 TOP = Path(__file__).resolve().parents[2]
@@ -21,11 +22,13 @@ sys.path[:0] = [str(TOP), str(TOP / "tools")]
 from dev.suite.__main__ import all_cases, differences, faults_of, written  # noqa: E402
 from dev.suite.cases import Case  # noqa: E402
 from dev.suite.linux import HEAD, PART, row_of  # noqa: E402
-from dev.suite.mutations import unnoticed  # noqa: E402
-from vmatools import coverage, traces  # noqa: E402
+from dev.suite.mutations import noticed_at_random, unnoticed  # noqa: E402
+from vmatools import coverage, traces, words  # noqa: E402
 
 SUITE = TOP / "suite"
 LEAST = 2  # cases that each row decides
+SEEDS = 60  # of random traces
+AT_ONCE = 100  # seeds of one process
 
 
 def check_files(program: Path, cases: list[Case]) -> Iterator[str]:
@@ -49,6 +52,13 @@ def check_coverage(cases: list[Case]) -> Iterator[str]:
 def check_changes(cases: list[Case]) -> Iterator[str]:
     """Changes of the model that no case notices: a boundary, an order of two tests or a merge that no case has."""
     yield from unnoticed([traces.read_trace(case.trace.encode()) for case in cases])
+
+
+def check_alike(seeds: int) -> Iterator[str]:
+    """Changes of the model that are said to change no answer, and that a random trace notices."""
+    parts = [range(first, min(first + AT_ONCE, seeds + 1)) for first in range(1, seeds + 1, AT_ONCE)]
+    with ProcessPoolExecutor() as pool:
+        yield from {fault: None for faults in pool.map(noticed_at_random, parts) for fault in faults}
 
 
 def check_linux() -> Iterator[str]:
@@ -75,9 +85,13 @@ def main() -> int:
         prog="tests/run suite", description=__doc__, formatter_class=argparse.RawDescriptionHelpFormatter
     )
     parser.add_argument("program", type=Path, help="the proved program")
+    parser.add_argument(
+        "--random", type=words.count, default=SEEDS, metavar="N", help=f"seeds, each of three random traces ({SEEDS})"
+    )
     options = parser.parse_args()
     cases = all_cases()
-    wrong = [*check_coverage(cases), *check_changes(cases), *check_linux(), *check_files(options.program, cases)]
+    wrong = [*check_coverage(cases), *check_changes(cases), *check_alike(options.random)]
+    wrong += [*check_linux(), *check_files(options.program, cases)]
     right = f"suite: {len(cases)} cases are as the program answers, each row decides {LEAST}, and each change is noticed"
     print("\n".join(wrong) if wrong else right)
     return 1 if wrong else 0

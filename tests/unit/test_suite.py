@@ -5,13 +5,14 @@ import inspect
 import sys
 import unittest
 from pathlib import Path
+from unittest import mock
 
 TOP = Path(__file__).resolve().parents[2]
 sys.path[:0] = [str(TOP), str(TOP / "tools"), str(TOP / "tests/checks")]
 
 import suite as check  # noqa: E402
 
-from dev.suite import mutations  # noqa: E402
+from dev.suite import drawn, mutations  # noqa: E402
 from dev.suite.__main__ import all_cases, faults_of  # noqa: E402
 from dev.suite.cases import Case, read_cases  # noqa: E402
 from vmatools import coverage, model  # noqa: E402
@@ -68,6 +69,25 @@ class Missing(unittest.TestCase):
             left = [pair for case, pair in zip(CASES, pairs) if case.name != name]
             self.assertTrue(mutations.is_noticed(by_where[where], pairs), where)
             self.assertFalse(mutations.is_noticed(by_where[where], left), where)
+
+    def test_a_change_said_to_change_no_answer_that_a_random_trace_notices(self) -> None:
+        where = "mprotect: `end * PAGE >= 2 ** 64` as `end * PAGE > 2 ** 64`"
+        self.addCleanup(mutations.changes_alike.cache_clear)
+        with mock.patch.dict(mutations.ALIKE, {"": (where,)}, clear=True):
+            mutations.changes_alike.cache_clear()
+            self.assertEqual(mutations.noticed_at_random(range(1, 41)), [f"{where}: a random trace notices it"])
+
+
+class Drawn(unittest.TestCase):
+    """The random traces."""
+
+    def test_each_is_a_trace_that_its_seed_gives_again(self) -> None:
+        for trace, again in zip(drawn.traces_of(range(1, 30)), drawn.traces_of(range(1, 30))):
+            self.assertEqual(read_trace(trace.text().encode()).text(), again.text())
+
+    def test_they_reach_most_rows(self) -> None:
+        rows = {row for trace in drawn.traces_of(range(1, 150)) for row in coverage.rows_of(trace)}
+        self.assertGreater(len(rows), 0.9 * len(coverage.ROWS))
 
 
 if __name__ == "__main__":
