@@ -3,8 +3,8 @@
 
 PROGRAM is crates/vma_main/out/vma_main by default, and LIVE crates/vma_live/out/vma_live. A client sends random lines one
 at a time, and each has to be answered before the next is sent. Then: the session that docs/TOUR.md shows, a client that
-reads late, one that closes its end, a line that comes in parts, one of a mebibyte, a million address spaces in the memory
-of one, an interruption, words behind the program's name, the clients of examples/live, the conformance suite by `vma conform
+reads late, one that closes its end, a line that comes in parts, one of 60 MiB, a million address spaces in the memory of
+one, an interruption, words behind the program's name, the clients of examples/live, the conformance suite by `vma conform
 --live`, and `vma compare --live`. It ends with status 1 at the first session that is not as it should be, and 2 on wrong use,
 or where a program is missing.
 """
@@ -38,6 +38,8 @@ OPERATIONS = 400  # of a trace
 SPACES = 1_000_000
 SECONDS = 20
 MIB = 2**20
+LONG = 60  # MiB of a line
+FEWEST = 1024  # bytes of a read, on average
 ASKED = re.compile(rb"vmatrace |new$|query |\d+ [a-z]")
 MAP = "0 mmap {0:#x} 4096 PROT_READ MAP_PRIVATE|MAP_ANONYMOUS|MAP_FIXED -1 0"
 
@@ -215,21 +217,48 @@ def check_parts(live: str) -> None:
     passed(name)
 
 
-def check_long(live: str) -> None:
-    name = "a line of a mebibyte"
-    with session(name, live) as client:
-        client.send(b"vmatrace 1\n" + b"#" * MIB + b"\n")
-        compare(name, client.line(), b"trace line 2 cause 2 TooLong\n")
-        client.send(b"0 maps\n")
-        compare(name, client.result(), b"L3 t0 v0 = maps 0\n")
-        compare(name, client.end(), b"maps 0\n")
-    passed(name)
+def number_in(client: Client, file: str, field: str) -> int:
+    """The number of a field of a file of /proc about the process of a session."""
+    text = Path(f"/proc/{client.process.pid}/{file}").read_text()
+    return int(re.findall(rf"{field}:\s+(\d+)", text)[0])
 
 
 def memory_of(client: Client) -> int:
     """The bytes of memory that the process of a session has at most had."""
-    status = Path(f"/proc/{client.process.pid}/status").read_text()
-    return int(re.findall(r"VmHWM:\s+(\d+) kB", status)[0]) * 1024
+    return number_in(client, "status", "VmHWM") * 1024
+
+
+def seconds_of(client: Client) -> float:
+    """The processor time that the process of a session has taken."""
+    fields = Path(f"/proc/{client.process.pid}/stat").read_text().rpartition(")")[2].split()
+    return (int(fields[11]) + int(fields[12])) / os.sysconf("SC_CLK_TCK")
+
+
+def check_long(live: str) -> None:
+    """A line of 60 MiB takes time in proportion to its bytes, the memory of one that is kept, and reads of many bytes."""
+    name, parts = f"a line of {LONG} MiB", []
+    with session(name, live) as client:
+        client.send(b"vmatrace 1\n" + b"#" * MIB)
+        first = memory_of(client)
+        for _ in range(2):
+            before = seconds_of(client)
+            for _ in range(LONG // 2):
+                client.send(b"#" * MIB)
+            parts.append(seconds_of(client) - before)
+        client.send(b"\n")
+        compare(name, client.line(), b"trace line 2 cause 2 TooLong\n")
+        if parts[1] > 3 * parts[0] + 1:
+            fail(name, f"its halves take {parts[0]:.2f} and {parts[1]:.2f} seconds")
+        if memory_of(client) > first + MIB:
+            fail(name, f"takes {memory_of(client)} bytes of memory, and {first} for the first mebibyte")
+        reads = number_in(client, "io", "syscr")
+        if reads > LONG * MIB // FEWEST:
+            fail(name, f"takes {reads} reads")
+        client.send(b"0 maps\n")
+        compare(name, client.result(), b"L3 t0 v0 = maps 0\n")
+        client.send(b"#" * MIB)
+        compare(name, client.end(), b"trace line 4 cause 2 TooLong\nmaps 0\n")
+    passed(name)
 
 
 def check_spaces(live: str, spaces: int) -> None:

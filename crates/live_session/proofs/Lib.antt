@@ -1,7 +1,11 @@
 pub mod Pieces
+pub mod Kept
+pub mod KeptPieces
 pub mod Newlines
 pub mod Shown
 pub mod Talks
+pub mod LinesAdded
 pub mod Reached
+pub mod Made
 pub mod Prefixes
 pub mod Lines

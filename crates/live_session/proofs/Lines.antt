@@ -1,5 +1,5 @@
 -- Serves `conversing.rt`: what answering a line and opening an address space take a session to.
-use Rattle.std.proofs.Common.{◌≡◌, ◌+◌, ◌^◌, ◌<◌, ◌∙◌, ℕ, List, [], ◌++◌, take, drop, Option, Some, None, Ok, Err, sym, ap, subst, arith}
+use Rattle.std.proofs.Common.{◌≡◌, ◌+◌, ◌^◌, ◌<◌, ◌∙◌, ℕ, List, [], ◌++◌, length, take, drop, Option, Some, None, Ok, Err, sym, ap, subst, arith}
 use Rattle.std.specs.Prelude.{IsErrAnd, Result}
 use Rattle.io_edge.specs.Edge.{SourceView, SinkView}
 use Rattle.mm_types.specs.Config.{IsValidConfig}
@@ -9,12 +9,13 @@ use Rattle.trace_reader.specs.Lines.{SoFar}
 use Rattle.live_session.specs.declared.answering.Stop.{Stop}
 use Rattle.live_session.specs.declared.answering.Stop.TheVariants as stops
 use Rattle.live_session.specs.declared.status.Status.{Status}
+use Rattle.live_session.specs.declared.status.Status.TheVariants as statuses
 use Rattle.live_session.specs.Conversing.{IsConversation}
 use Rattle.live_session.specs.Sessions.{Answer, Opened, Session, after_operation, answered, begun, operated, operation_text, opened_by}
 use Rattle.live_session.specs.Internal.Held.{HeldView, HasLine, without_turn}
 use Rattle.live_session.specs.Internal.Talking.{AnswersLine, Ends, Finds, Talked, status_of}
-use Rattle.live_session.proofs.Reached.{lined_config}
-use Rattle.live_session.proofs.Talks.{talked_line, talked_none}
+use Rattle.live_session.proofs.Reached.{lined_config, lined_count}
+use Rattle.live_session.proofs.Talks.{talked_line, talked_no_memory, talked_none}
 
 -- ---- a line was looked for
 
@@ -109,6 +110,13 @@ unopened_talked s s' k k' held piece count so_far opened line none talked =
     subst (λ (o : Option Opened). TalkedOf s s' k k' held piece (operated (record { count = count; so_far = so_far; opened = o }) line)) none talked
 
 -- ---- a session ends
+
+-- memory ran out at the end of the input: there was a line or a byte
+pub ended_no_memory : (s s' : SourceView) (k k' : SinkView) (held : HeldView) (piece : List ℕ) (session : Session) → Talked s s' k k' (without_turn held) piece session
+    → held.turns < 2 ^ 64 → 0 < session.count + length held.bytes → IsConversation statuses.NoMemory s s' k k'
+ended_no_memory s s' k k' held piece session talked small some =
+    talked_no_memory s s' k k' (without_turn held) piece session talked
+    (omega (arith, lined_count session talked.lines talked.now (omega (arith, talked.few, small)), talked.few, some))
 
 pub status_err : {T : Type 0} (s s' : SourceView) (k k' : SinkView) (result : Result T Status) (status : Status) → IsErrAnd result (λ error. error ≡ status)
     → IsConversation status s s' k k' → IsConversation (status_of result) s s' k k'

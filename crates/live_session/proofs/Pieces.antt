@@ -3,7 +3,7 @@ use Rattle.std.proofs.Common.{◌≡◌, ◌+◌, ◌-◌, ◌<◌, ◌∙◌, �
 use Rattle.std.proofs.lemmas.List.{drop_more, get_or-append_right}
 use Rattle.std.proofs.lemmas.List.Splits.{slice_split_at, slice_split_none, length-slice_split}
 use Rattle.text_lexer.specs.Lines.{is_newline}
-use Rattle.live_session.specs.Sessions.{Session, begun, pieces_of, whole_lines, last_piece, answered, answers, session_after, ending_text, answers_of, session_text}
+use Rattle.live_session.specs.Sessions.{Session, pieces_of, whole_lines, answered, answers, session_after}
 use Rattle.live_session.specs.Internal.Held.{HasLine, HasNoNewline}
 
 -- ---- answers to lines one after another
@@ -37,7 +37,7 @@ cut_whole lines ps some =
 pub some_pieces : (bytes : List ℕ) → 0 < length (pieces_of bytes)
 some_pieces bytes = omega (arith, length-slice_split is_newline bytes)
 
-last_of : (lines : List (List ℕ)) (rest : List ℕ) → get_or (lines ++ rest ∷ []) (length (lines ++ rest ∷ []) - 1) [] ≡ rest
+pub last_of : (lines : List (List ℕ)) (rest : List ℕ) → get_or (lines ++ rest ∷ []) (length (lines ++ rest ∷ []) - 1) [] ≡ rest
 last_of lines rest =
     let place : length (lines ++ rest ∷ []) - 1 ≡ length lines = omega (arith, length-append lines (rest ∷ [])) in
     let none : length lines - length lines ≡ 0 = omega arith in
@@ -63,43 +63,8 @@ line_cut bytes more len has =
 pub rest_cut : (bytes : List ℕ) → HasNoNewline bytes → pieces_of bytes ≡ bytes ∷ []
 rest_cut bytes none = slice_split_none is_newline bytes none
 
--- ---- what is given for an input, by its pieces
-
--- of an input that is cut so the answers to the lines come first
-pub answers_of-cut : (input : List ℕ) (lines : List (List ℕ)) (held : List ℕ) → pieces_of input ≡ lines ++ pieces_of held
-    → answers_of input ≡ answers begun lines ++ answers (session_after begun lines) (whole_lines held)
-unfolding answers_of whole_lines
-answers_of-cut input lines held cut =
-    ap (answers begun) (ap (λ (l : List (List ℕ)). take (length l - 1) l) cut ∙ cut_whole lines (pieces_of held) (some_pieces held))
-    ∙ answers-append begun lines (take (length (pieces_of held) - 1) (pieces_of held))
-
 -- where no line is left
 pub whole_lines-cut : (input : List ℕ) (lines : List (List ℕ)) (rest : List ℕ) → pieces_of input ≡ lines ++ rest ∷ [] → whole_lines input ≡ lines
 unfolding whole_lines
 whole_lines-cut input lines rest cut =
     ap (λ (l : List (List ℕ)). take (length l - 1) l) cut ∙ cut_whole lines (rest ∷ []) (omega arith) ∙ append-nil lines
-
-pub last_piece-cut : (input : List ℕ) (lines : List (List ℕ)) (rest : List ℕ) → pieces_of input ≡ lines ++ rest ∷ [] → last_piece input ≡ rest
-unfolding last_piece
-last_piece-cut input lines rest cut = ap (λ (l : List (List ℕ)). get_or l (length l - 1) []) cut ∙ last_of lines rest
-
-pub answers_of-whole : (input : List ℕ) (lines : List (List ℕ)) (rest : List ℕ) → pieces_of input ≡ lines ++ rest ∷ [] → answers_of input ≡ answers begun lines
-unfolding answers_of
-answers_of-whole input lines rest cut = ap (answers begun) (whole_lines-cut input lines rest cut)
-
-pub session_text-whole : (input : List ℕ) (lines : List (List ℕ)) (rest : List ℕ) → pieces_of input ≡ lines ++ rest ∷ []
-    → session_text input ≡ answers begun lines ++ ending_text (session_after begun lines) rest
-unfolding session_text
-session_text-whole input lines rest cut =
-    ap (λ (t : List ℕ). t ++ ending_text (session_after begun (whole_lines input)) (last_piece input)) (answers_of-whole input lines rest cut)
-    ∙ ap (λ (l : List (List ℕ)). answers begun lines ++ ending_text (session_after begun l) (last_piece input)) (whole_lines-cut input lines rest cut)
-    ∙ ap (λ (r : List ℕ). answers begun lines ++ ending_text (session_after begun lines) r) (last_piece-cut input lines rest cut)
-
--- what is given for an input begins with the answers to lines that it begins with
-pub session_text-front : (input : List ℕ) (lines : List (List ℕ)) (held : List ℕ) → pieces_of input ≡ lines ++ pieces_of held
-    → (rest : List ℕ) × (session_text input ≡ answers begun lines ++ rest)
-unfolding session_text
-session_text-front input lines held cut =
-    let ending : List ℕ = ending_text (session_after begun (whole_lines input)) (last_piece input) in
-    let more : List ℕ = answers (session_after begun lines) (whole_lines held) in
-    (more ++ ending, ap (λ (t : List ℕ). t ++ ending) (answers_of-cut input lines held cut) ∙ append_assoc (answers begun lines) more ending)

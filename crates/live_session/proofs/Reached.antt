@@ -1,31 +1,29 @@
 -- Serves `answering.rt` and `conversing.rt`: what holds of every session that lines lead to.
-use Rattle.std.proofs.Common.{◌≡◌, ◌+◌, ◌-◌, ◌^◌, ◌<◌, ◌≤◌, ◌&&◌, ◌⊎◌, ℕ, Bool, true, false, nat_eq, nat_lt, nat_le, List, [], ◌∷◌, ◌++◌, length, codes, bytes_eq, slice_get, Option, Some, None, unwrap_or, Result, Ok, Err, ok_or, IfOk, IfSome, if◌then◌else◌, refl, sym, subst, inl, inr, arith, length-append, lit≤}
+use Rattle.std.proofs.Common.{◌≡◌, ◌+◌, ◌-◌, ◌^◌, ◌<◌, ◌≤◌, ◌&&◌, ◌⊎◌, ℕ, true, nat_eq, nat_lt, List, [], ◌∷◌, length, codes, bytes_eq, slice_get, Option, Some, None, unwrap_or, Result, Ok, Err, ok_or, IfOk, IfSome, if◌then◌else◌, refl, sym, subst, inl, inr, arith, length-append, lit≤}
 use Rattle.std.proofs.lemmas.Bool.{cond_both, ltb-false}
 use Rattle.std.proofs.lemmas.Option.{slice_get_within}
 use Rattle.mm_types.specs.declared.config.Config.{Config}
 use Rattle.mm_types.specs.declared.config.TheConstants.{MOST_FILES, MOST_AREAS, DEFAULT_MIN, DEFAULT_TOP, ADDRESS_LIMIT, WIDE_LIMIT}
 use Rattle.mm_types.specs.declared.call.Call.{Call}
-use Rattle.mm_types.specs.declared.files.FileRow.{FileRow}
-use Rattle.mm_types.specs.Rows.{first_row}
 use Rattle.mm_types.specs.Config.{IsBound, IsValidConfig, default_config}
 use Rattle.area_rules.specs.Steps.{opening}
 use Rattle.area_rules.specs.Tables.{AddressSpace}
 use Rattle.area_rules.proofs.Stepping.{step_objects}
 use Rattle.text_lexer.specs.declared.error.Cause.{Cause}
-use Rattle.text_lexer.specs.declared.error.Cause.TheVariants.{Header, Word, Thread, Child, FileTwice, TooMany}
-use Rattle.text_lexer.specs.Causes.{◌>>=◌, unless}
+use Rattle.text_lexer.specs.declared.error.Cause.TheVariants.{Header, Thread, Child}
+use Rattle.text_lexer.specs.Causes.{◌>>=◌}
 use Rattle.text_lexer.specs.Lines.{RawLine, raw_line, text_of}
 use Rattle.text_lexer.specs.Numbers.{number}
-use Rattle.text_lexer.specs.Words.{words_of, is_comment, begins_with_digit, text_after_words}
+use Rattle.text_lexer.specs.Words.{words_of, is_comment, begins_with_digit}
 use Rattle.trace_reader.specs.declared.builder.Version.{Version}
 use Rattle.trace_reader.specs.declared.builder.Version.TheVariants.{Narrow, Wide}
 use Rattle.trace_reader.specs.declared.limits.TheConstants.{MOST_LINES}
+use Rattle.trace_reader.specs.declared.trace.Op.TheVariants.{Maps}
 use Rattle.trace_reader.specs.declared.trace.TraceLine.{TraceLine}
 use Rattle.trace_reader.specs.Fields.{thread_of}
 use Rattle.trace_reader.specs.Grammar.{nothing, address_limit, config_of}
-use Rattle.trace_reader.specs.Lines.{SoFar, version_of, with_header, with_one, with_line, once, with_limit, with_top, with_min, with_heap, with_file, has_descriptor, after_setting, after_words, after_line}
+use Rattle.trace_reader.specs.Lines.{SoFar, version_of, with_header, with_one, with_line, after_setting, after_words, after_line}
 use Rattle.trace_reader.specs.Operations.{line_of}
-use Rattle.trace_reader.specs.Settings.{limit_of, bound_of, file_of}
 use Rattle.trace_reader.specs.Values.{AreNumbered}
 use Rattle.trace_reader.proofs.LineAdded.{AreRead-later, AreRead-nil}
 use Rattle.trace_reader.proofs.TraceValues.{IsSoFar, after_line-good}
@@ -33,8 +31,9 @@ use Rattle.history.specs.Histories.{call_of, space_by, version_by}
 use Rattle.live_session.specs.declared.asking.Asked.{Asked}
 use Rattle.live_session.specs.declared.asking.Asked.TheVariants as asks
 use Rattle.live_session.specs.Asking.{added, areas_of, asked_by_words, asked_of, asked_of_new, is_new, own_line, own_operation, own_or, query_of}
-use Rattle.live_session.specs.Sessions.{Opened, Session, after_operation, answer_by, answer_read, answered, begun, opened_by, refused, session_after}
+use Rattle.live_session.specs.Sessions.{IsWithinLimits, Opened, Session, after_operation, answer_by, answer_read, answered, begun, opened_by, refused, session_after}
 use Rattle.live_session.specs.Internal.Talking.{HasRoom, IsReached}
+use Rattle.live_session.proofs.LinesAdded.{after_setting-lines, bind_holds, either, unless_holds}
 
 -- ---- no line takes lines away
 
@@ -42,78 +41,18 @@ use Rattle.live_session.specs.Internal.Talking.{HasRoom, IsReached}
 abbrev HasLines : ℕ → SoFar → Type 0
 HasLines count so_far = count ≤ length so_far.lines
 
-unless_holds : (P : SoFar → Type 0) (o : Option Cause) (r : Result SoFar Cause) → IfOk r P → IfOk (unless o r) P
-unless_holds P None r holds = holds
-unless_holds P (Some cause) r holds = tt
-
-bind_holds : {A : Type 0} (P : SoFar → Type 0) (r : Result A Cause) (f : A → Result SoFar Cause) → ((x : A) → IfOk (f x) P) → IfOk (r >>= f) P
-bind_holds P (Ok x) f holds = holds x
-bind_holds P (Err cause) f holds = tt
-
-once_holds : {A : Type 0} (P : SoFar → Type 0) (o : Option A) (r : Result SoFar Cause) → IfOk r P → IfOk (once o r) P
-once_holds P None r holds = holds
-once_holds P (Some x) r holds = tt
-
-either : (P : SoFar → Type 0) (test : Bool) (x y : Result SoFar Cause) → IfOk x P → IfOk y P → IfOk (if test then x else y) P
-either P test x y hx hy = cond_both test x y (λ r. IfOk r P) (λ _. hx) (λ _. hy)
-
 with_line-lines : (n : ℕ) (s : SoFar) (line : TraceLine) → HasLines n s → IfOk (with_line s line) (HasLines n)
 unfolding with_line with_one
 with_line-lines n s line some = unless_holds (HasLines n) _ (Ok (with_one s line)) (omega (arith, length-append s.lines (line ∷ [])))
-
-with_file-lines : (n : ℕ) (s : SoFar) (file : FileRow) → HasLines n s → IfOk (with_file s file) (HasLines n)
-unfolding with_file
-with_file-lines n s file some = unless_holds (HasLines n) (first_row ((has_descriptor s.files file.fd, FileTwice) ∷ (nat_le MOST_FILES (length s.files), TooMany) ∷ []))
-    (Ok (record s { files = s.files ++ file ∷ [] })) some
-
-with_limit-lines : (n : ℕ) (s : SoFar) (words : List (List ℕ)) → HasLines n s → IfOk (with_limit s words) (HasLines n)
-unfolding with_limit
-with_limit-lines n s words some = once_holds (HasLines n) s.areas (limit_of words >>= λ x. Ok (record s { areas = Some x }))
-    (bind_holds (HasLines n) (limit_of words) (λ x. Ok (record s { areas = Some x })) (λ x. some))
-
-with_top-lines : (n : ℕ) (s : SoFar) (words : List (List ℕ)) → HasLines n s → IfOk (with_top s words) (HasLines n)
-unfolding with_top
-with_top-lines n s words some = once_holds (HasLines n) s.top (bound_of words >>= λ x. Ok (record s { top = Some x }))
-    (bind_holds (HasLines n) (bound_of words) (λ x. Ok (record s { top = Some x })) (λ x. some))
-
-with_min-lines : (n : ℕ) (s : SoFar) (words : List (List ℕ)) → HasLines n s → IfOk (with_min s words) (HasLines n)
-unfolding with_min
-with_min-lines n s words some = once_holds (HasLines n) s.min (bound_of words >>= λ x. Ok (record s { min = Some x }))
-    (bind_holds (HasLines n) (bound_of words) (λ x. Ok (record s { min = Some x })) (λ x. some))
-
-with_heap-lines : (n : ℕ) (s : SoFar) (words : List (List ℕ)) → HasLines n s → IfOk (with_heap s words) (HasLines n)
-unfolding with_heap
-with_heap-lines n s words some = once_holds (HasLines n) s.heap (bound_of words >>= λ x. Ok (record s { heap = Some x }))
-    (bind_holds (HasLines n) (bound_of words) (λ x. Ok (record s { heap = Some x })) (λ x. some))
-
--- the first of six rows whose test holds, or else the last
-of_rows : (P : SoFar → Type 0) (a b c d e f : Bool) (ra rb rc rd re rf rest : Result SoFar Cause) → IfOk ra P → IfOk rb P → IfOk rc P → IfOk rd P → IfOk re P
-    → IfOk rf P → IfOk rest P → IfOk (if a then ra else (if b then rb else (if c then rc else (if d then rd else (if e then re else (if f then rf else rest)))))) P
-of_rows P true b c d e f ra rb rc rd re rf rest ha hb hc hd he hf h = ha
-of_rows P false true c d e f ra rb rc rd re rf rest ha hb hc hd he hf h = hb
-of_rows P false false true d e f ra rb rc rd re rf rest ha hb hc hd he hf h = hc
-of_rows P false false false true e f ra rb rc rd re rf rest ha hb hc hd he hf h = hd
-of_rows P false false false false true f ra rb rc rd re rf rest ha hb hc hd he hf h = he
-of_rows P false false false false false true ra rb rc rd re rf rest ha hb hc hd he hf h = hf
-of_rows P false false false false false false ra rb rc rd re rf rest ha hb hc hd he hf h = h
-
-after_setting-lines : (n : ℕ) (s : SoFar) (text first : List ℕ) (words : List (List ℕ)) → HasLines n s → IfOk (after_setting s text first words) (HasLines n)
-unfolding after_setting
-after_setting-lines n s text first words some =
-    of_rows (HasLines n) (nat_lt 0 (length s.lines)) (bytes_eq first (codes "limit")) (bytes_eq first (codes "top")) (bytes_eq first (codes "min"))
-    (bytes_eq first (codes "heap")) (bytes_eq first (codes "file")) (Err Word) (with_limit s words) (with_top s words) (with_min s words) (with_heap s words)
-    (file_of words (text_after_words 6 text) >>= λ file. with_file s file) (Err Word)
-    tt (with_limit-lines n s words some) (with_top-lines n s words some) (with_min-lines n s words some) (with_heap-lines n s words some)
-    (bind_holds (HasLines n) (file_of words (text_after_words 6 text)) (λ file. with_file s file) (λ file. with_file-lines n s file some)) tt
 
 after_words-lines : (n : ℕ) (s : SoFar) (number : ℕ) (text : List ℕ) (words : List (List ℕ)) → HasLines n s → IfOk (after_words s number text words) (HasLines n)
 unfolding after_words
 after_words-lines n s number text [] some = some
 after_words-lines n s number text (first ∷ words) some =
-    either (HasLines n) (is_comment first) (Ok s) _ some
-    (either (HasLines n) (begins_with_digit first) (line_of number first words >>= λ line. with_line s line) (after_setting s text first words)
-    (bind_holds (HasLines n) (line_of number first words) _ (λ line. with_line-lines n s line some))
-    (after_setting-lines n s text first words some))
+    either (HasLines n) (is_comment first) (Ok s) _ (λ _. some)
+    (λ _. either (HasLines n) (begins_with_digit first) (line_of number first words >>= λ line. with_line s line) (after_setting s text first words)
+    (λ _. bind_holds (HasLines n) (line_of number first words) _ (λ line. with_line-lines n s line some))
+    (λ _. after_setting-lines (λ lines. n ≤ length lines) s text first words some))
 
 with_header-lines : (n : ℕ) (s : SoFar) (words : List (List ℕ)) → HasLines n s → IfOk (with_header s words) (HasLines n)
 unfolding with_header
@@ -123,7 +62,7 @@ after_line-lines : (n : ℕ) (s : SoFar) (line : RawLine) → HasLines n s → I
 unfolding after_line
 after_line-lines n s line some = bind_holds (HasLines n) (text_of line) _
     (λ text. either (HasLines n) (nat_eq line.number 1) (with_header s (words_of text)) (after_words s line.number text (words_of text))
-    (with_header-lines n s (words_of text) some) (after_words-lines n s line.number text (words_of text) some))
+    (λ _. with_header-lines n s (words_of text) some) (λ _. after_words-lines n s line.number text (words_of text) some))
 
 -- ---- what a line that was read leaves
 
@@ -145,27 +84,31 @@ record IsGood (n : ℕ) (before : SoFar) (read : Asked × SoFar) : Type 0 where
   kept : HasLines (length before.lines) read.1
   more : (line : TraceLine) → read.0 ≡ asks.Operation line → length before.lines < length read.1.lines
 
--- an own line asks for no operation
-abbrev IsOwn : Asked → Type 0
-IsOwn asked = (line : TraceLine) → asked ≡ asks.Operation line → ⊥
+-- an own line asks for no operation, and where it reads the list it is `maps`
+abbrev pub IsOwn : Asked → Type 0
+IsOwn asks.Nothing = Unit {0}
+IsOwn (asks.Areas line) = line.op ≡ Maps
+IsOwn (asks.Operation line) = ⊥
+IsOwn (asks.Query address) = Unit {0}
+IsOwn asks.New = Unit {0}
 
-ok_holds : {A B : Type 0} (P : B → Type 0) (r : Result A Cause) (f : A → Result B Cause) → ((x : A) → IfOk (f x) P) → IfOk (r >>= f) P
+pub ok_holds : {A B : Type 0} (P : B → Type 0) (r : Result A Cause) (f : A → Result B Cause) → ((x : A) → IfOk (f x) P) → IfOk (r >>= f) P
 ok_holds P (Ok x) f holds = holds x
 ok_holds P (Err cause) f holds = tt
 
 -- what there is of an own line
-abbrev IsOwnLine : Option (Result Asked Cause) → Type 0
+abbrev pub IsOwnLine : Option (Result Asked Cause) → Type 0
 IsOwnLine own = IfSome own (λ r. IfOk r IsOwn)
 
 query_of-own : (words : List (List ℕ)) → IfOk (query_of words) IsOwn
 unfolding query_of
 query_of-own [] = tt
-query_of-own (address ∷ []) = ok_holds IsOwn (number address) _ (λ a line same. absurd cc)
+query_of-own (address ∷ []) = ok_holds IsOwn (number address) _ (λ a. tt)
 query_of-own (address ∷ next ∷ words) = tt
 
 areas_of-own : (line : ℕ) (thread : List ℕ) → IfOk (areas_of line thread) IsOwn
 unfolding areas_of
-areas_of-own line thread = ok_holds IsOwn (ok_or (thread_of thread) Thread) _ (λ t other same. absurd cc)
+areas_of-own line thread = ok_holds IsOwn (ok_or (thread_of thread) Thread) _ (λ t. refl)
 
 own_operation-own : (line : ℕ) (thread : List ℕ) (words : List (List ℕ)) → IsOwnLine (own_operation line thread words)
 unfolding own_operation
@@ -174,7 +117,7 @@ own_operation-own line thread (name ∷ rest) =
     cond_both (bytes_eq name (codes "fork")) (Some (Err Child)) _ IsOwnLine (λ _. tt)
     (λ _. cond_both (bytes_eq name (codes "maps") && nat_eq (length rest) 0) (Some (areas_of line thread)) None IsOwnLine (λ _. areas_of-own line thread) (λ _. tt))
 
-own_line-own : (line : ℕ) (words : List (List ℕ)) → IsOwnLine (own_line line words)
+pub own_line-own : (line : ℕ) (words : List (List ℕ)) → IsOwnLine (own_line line words)
 unfolding own_line
 own_line-own line [] = tt
 own_line-own line (first ∷ words) =
@@ -186,7 +129,7 @@ stays_good : (n : ℕ) (s : SoFar) (asked : Asked) → IsSoFar n s → IsOwn ask
 stays_good n s asked known own = record {
   known = later n s known;
   kept = omega arith;
-  more = λ line same. absurd (own line same);
+  more = λ line same. absurd (subst IsOwn same own);
 }
 
 new_line : (before after : SoFar) (found : Option TraceLine) → slice_get after.lines (length before.lines) ≡ found → (line : TraceLine)
@@ -222,7 +165,7 @@ asked_by_words-good : (n : ℕ) (s : SoFar) (line : RawLine) (words : List (List
 unfolding asked_by_words
 asked_by_words-good n s line words known numbered small =
     cond_both (is_new words) (Ok (asks.New, s)) _ (λ (r : Result (Asked × SoFar) Cause). IfOk r (IsGood n s))
-    (λ _. stays_good n s asks.New known (λ other same. absurd cc))
+    (λ _. stays_good n s asks.New known tt)
     (λ _. own_or-good n s (if nat_lt 1 line.number then own_line line.number words else None) (after_line s line) known
     (cond_both (nat_lt 1 line.number) (own_line line.number words) None IsOwnLine (λ _. own_line-own line.number words) (λ _. tt))
     (after_line-known n s line known numbered small))
@@ -385,6 +328,15 @@ pub lined_config : (session : Session) (lines : List (List ℕ)) → session ≡
 lined_config session lines now few =
     let sane = lined_sane session lines now few in
     config_known (session.count + 1) session.so_far sane.known
+
+-- of the lines each counts once at most
+pub lined_count : (session : Session) (lines : List (List ℕ)) → session ≡ session_after begun lines → length lines < 2 ^ 64 → session.count ≤ length lines
+lined_count session lines now few = (lined_sane session lines now few).few
+
+pub within_limits : (lines : List (List ℕ)) → length lines < 2 ^ 64 → IsWithinLimits (session_after begun lines)
+within_limits lines few =
+    let sane = lined_sane (session_after begun lines) lines refl few in
+    record { operations = sane.known.lines.few; files = sane.known.files; named = sane.known.lines.few_named }
 
 reached_sane : (session : Session) (reached : IsReached session) → IsSane (length reached.lines) session
 reached_sane session reached = lined_sane session reached.lines reached.now (omega (arith, reached.few))

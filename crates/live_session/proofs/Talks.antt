@@ -10,11 +10,13 @@ use Rattle.live_session.specs.declared.status.Status.{Status}
 use Rattle.live_session.specs.declared.status.Status.TheVariants as statuses
 use Rattle.live_session.specs.Statuses.{status_of_print}
 use Rattle.live_session.specs.Conversing.{IsConversation}
-use Rattle.live_session.specs.Sessions.{Session, begun, pieces_of, answered, answers, session_text, ending_text}
-use Rattle.live_session.specs.Internal.Held.{HeldView, HasLine, HasNoNewline, TakesMore, without_turn}
+use Rattle.live_session.specs.Sessions.{Answer, Session, begun, answered, answers, session_after, session_text, ending_text}
+use Rattle.live_session.specs.Internal.Held.{HeldView, HasLine, HasNoNewline, TakesMore, kept, kept_pieces, without_turn}
 use Rattle.live_session.specs.declared.answering.Stop.{Stop}
 use Rattle.live_session.specs.Internal.Talking.{Ends, EndsSpace, Finds, IsReached, IsTalking, Talked}
-use Rattle.live_session.proofs.Pieces.{answers-append, session_after-append, line_cut, rest_cut, answers_of-whole, session_text-whole, session_text-front}
+use Rattle.live_session.proofs.Pieces.{answers-append, session_after-append}
+use Rattle.live_session.proofs.Kept.{answered-kept, ending_text-kept, kept_pieces-kept, length-kept}
+use Rattle.live_session.proofs.KeptPieces.{answers_of-whole, line_kept, rest_kept, session_text-front, session_text-none, session_text-whole}
 
 -- ---- what may still be given
 
@@ -32,14 +34,24 @@ take_front : (xs ys : List ℕ) → take (length xs) (xs ++ ys) ≡ xs
 take_front [] ys = refl
 take_front (x ∷ xs) ys = ap (λ (l : List ℕ). x ∷ l) (take_front xs ys)
 
+-- where there are answers, a byte was taken
+pub told_some : (s s' : SourceView) (k k' : SinkView) (piece : List ℕ) (told : Told s s' k k' piece) → 0 < length piece → 0 < length told.taken
+told_some s s' k k' piece told some = by_taken told.taken told.whole
+  where
+    by_taken : (taken : List ℕ) → session_text taken ≡ told.given ++ (piece ++ told.rest) → 0 < length taken
+    by_taken [] whole = absurd (omega (arith, ap length (sym session_text-none ∙ whole), length-append told.given (piece ++ told.rest), length-append piece told.rest, some))
+    by_taken (c ∷ cs) whole = omega arith
+
 -- memory ran out
-pub told_no_memory : (s s' : SourceView) (k k' : SinkView) (piece : List ℕ) → Told s s' k k' piece → IsConversation statuses.NoMemory s s' k k'
-told_no_memory s s' k k' piece told = (
+pub told_no_memory : (s s' : SourceView) (k k' : SinkView) (piece : List ℕ) (told : Told s s' k k' piece) → 0 < length told.taken
+    → IsConversation statuses.NoMemory s s' k k'
+told_no_memory s s' k k' piece told some = (
   told.taken,
   told.moved,
   (
     told.calm,
     told.gave.calm,
+    some,
     length told.given,
     subst (λ (t : List ℕ). Appends k.written k'.written t)
         (sym (ap (take (length told.given)) told.whole ∙ take_front told.given (piece ++ told.rest))) told.gave.moved,
@@ -47,9 +59,9 @@ told_no_memory s s' k k' piece told = (
 )
 
 -- giving what the piece has ended early
-pub told_cut : (s s' : SourceView) (k k' k'' : SinkView) (piece held text : List ℕ) (error : PrintError) → Told s s' k k' piece → held ++ text ≡ piece
-    → IsCut k' k'' held text error → IsConversation (status_of_print error) s s' k k''
-told_cut s s' k k' k'' piece held text error told is cut =
+pub told_cut : (s s' : SourceView) (k k' k'' : SinkView) (piece held text : List ℕ) (error : PrintError) (told : Told s s' k k' piece) → 0 < length told.taken
+    → held ++ text ≡ piece → IsCut k' k'' held text error → IsConversation (status_of_print error) s s' k k''
+told_cut s s' k k' k'' piece held text error told some is cut =
     let given : List ℕ = told.given ++ cut.given in
     let more : List ℕ = cut.lost ++ told.rest in
     let whole : session_text told.taken ≡ given ++ more =
@@ -76,13 +88,13 @@ told_cut s s' k k' k'' piece held text error told is cut =
           subst (λ (e : PrintError). IsConversation (status_of_print e) s s' k k'') (sym wanted.0) (
             told.taken,
             told.moved,
-            (told.calm, wanted.1 ∙ told.gave.calm, length given, moved),
+            (told.calm, wanted.1 ∙ told.gave.calm, some, length given, moved),
           )
     ]
 
 -- ---- from how far a session is
 
-told_when : (s s' s'' : SourceView) (k k' : SinkView) (held : HeldView) (piece more : List ℕ) (session : Session) → Talked s s' k k' held piece session
+abbrev told_when : (s s' s'' : SourceView) (k k' : SinkView) (held : HeldView) (piece more : List ℕ) (session : Session) → Talked s s' k k' held piece session
     → Consumes s'.left s''.left more → s''.faults ≡ s'.faults → Told s s'' k k' piece
 told_when s s' s'' k k' held piece more session talked moved calm =
     let front = session_text-front (talked.taken ++ more) talked.lines (held.bytes ++ more) (talked.cut more) in
@@ -97,21 +109,22 @@ told_when s s' s'' k k' held piece more session talked moved calm =
     }
 
 -- what was answered is a beginning of what is given
-pub told_of : (s s' : SourceView) (k k' : SinkView) (held : HeldView) (piece : List ℕ) (session : Session) → Talked s s' k k' held piece session → Told s s' k k' piece
+abbrev pub told_of : (s s' : SourceView) (k k' : SinkView) (held : HeldView) (piece : List ℕ) (session : Session) → Talked s s' k k' held piece session → Told s s' k k' piece
 told_of s s' k k' held piece session talked = told_when s s' s' k k' held piece [] session talked (Consumes-nil s'.left) refl
 
 -- memory ran out once more bytes were taken
 pub told_later : (s s' s'' : SourceView) (k k' : SinkView) (held : HeldView) (piece more : List ℕ) (session : Session) → Talked s s' k k' held piece session
-    → Consumes s'.left s''.left more → s''.faults ≡ s'.faults → IsConversation statuses.NoMemory s s'' k k'
-told_later s s' s'' k k' held piece more session talked moved calm =
+    → Consumes s'.left s''.left more → s''.faults ≡ s'.faults → 0 < length more → IsConversation statuses.NoMemory s s'' k k'
+told_later s s' s'' k k' held piece more session talked moved calm some =
     told_no_memory s s'' k k' piece (told_when s s' s'' k k' held piece more session talked moved calm)
+    (omega (arith, length-append talked.taken more, some))
 
 -- the bytes that are held, and no others, are behind the lines
-cut_now : (taken : List ℕ) (lines : List (List ℕ)) (bytes : List ℕ) → ((more : List ℕ) → pieces_of (taken ++ more) ≡ lines ++ pieces_of (bytes ++ more))
-    → HasNoNewline bytes → pieces_of taken ≡ lines ++ bytes ∷ []
+cut_now : (taken : List ℕ) (lines : List (List ℕ)) (bytes : List ℕ) → ((more : List ℕ) → kept_pieces (taken ++ more) ≡ lines ++ kept_pieces (bytes ++ more))
+    → HasNoNewline bytes → kept_pieces taken ≡ lines ++ kept bytes ∷ []
 cut_now taken lines bytes cut none =
-    ap pieces_of (sym (append-nil taken)) ∙ cut [] ∙ ap (λ (b : List ℕ). lines ++ pieces_of b) (append-nil bytes)
-    ∙ ap (λ (l : List (List ℕ)). lines ++ l) (rest_cut bytes none)
+    ap kept_pieces (sym (append-nil taken)) ∙ cut [] ∙ ap (λ (b : List ℕ). lines ++ kept_pieces b) (append-nil bytes)
+    ∙ ap (λ (l : List (List ℕ)). lines ++ l) (rest_kept bytes none)
 
 -- the end was appended
 pub told_ending : (s s' : SourceView) (k k' : SinkView) (held : HeldView) (piece whole : List ℕ) (session : Session) → Talked s s' k k' held piece session
@@ -125,7 +138,8 @@ told_ending s s' k k' held piece whole session talked none is = (
     moved = talked.moved;
     calm = talked.calm;
     gave = talked.gave;
-    whole = session_text-whole talked.taken talked.lines held.bytes (cut_now talked.taken talked.lines held.bytes talked.cut none)
+    whole = session_text-whole talked.taken talked.lines (kept held.bytes) (cut_now talked.taken talked.lines held.bytes talked.cut none)
+        ∙ ap (λ (t : List ℕ). answers begun talked.lines ++ t) (ending_text-kept (session_after begun talked.lines) held.bytes)
         ∙ ap (λ (x : Session). answers begun talked.lines ++ ending_text x held.bytes) (sym talked.now)
         ∙ ap (λ (t : List ℕ). t ++ ending_text session held.bytes) (sym talked.split)
         ∙ append_assoc talked.given piece (ending_text session held.bytes)
@@ -153,15 +167,15 @@ told_done s s' k k' k'' whole told end gave = (
 -- a read failed once all answers were given
 pub talked_read_fault : (s s' s'' : SourceView) (k k' : SinkView) (held : HeldView) (session : Session) → Talked s s' k k' held [] session → HasNoNewline held.bytes
     → Keeps s'.left s''.left → s''.faults ≡ s'.faults + 1 → FailedLast s''.just_failed → IsConversation statuses.ReadFault s s'' k k'
-talked_read_fault s s' s'' k k' held session talked none kept counted last = (
+talked_read_fault s s' s'' k k' held session talked none keeps counted last = (
   talked.taken,
-  Consumes-kept s.left s'.left s''.left talked.taken talked.moved kept,
+  Consumes-kept s.left s'.left s''.left talked.taken talked.moved keeps,
   (
     counted ∙ ap (λ (n : ℕ). n + 1) talked.calm,
     last,
     talked.gave.calm,
     subst (λ (t : List ℕ). Appends k.written k'.written t)
-        (sym (answers_of-whole talked.taken talked.lines held.bytes (cut_now talked.taken talked.lines held.bytes talked.cut none)
+        (sym (answers_of-whole talked.taken talked.lines (kept held.bytes) (cut_now talked.taken talked.lines held.bytes talked.cut none)
         ∙ sym talked.split ∙ append-nil talked.given)) talked.gave.moved,
   ),
 )
@@ -176,7 +190,7 @@ talked_same s s' k k' held after piece session talked same turns = record {
   lines = talked.lines;
   given = talked.given;
   moved = talked.moved;
-  cut = λ more. talked.cut more ∙ ap (λ (b : List ℕ). talked.lines ++ pieces_of (b ++ more)) (sym same);
+  cut = λ more. talked.cut more ∙ ap (λ (b : List ℕ). talked.lines ++ kept_pieces (b ++ more)) (sym same);
   calm = talked.calm;
   gave = talked.gave;
   split = talked.split;
@@ -212,14 +226,31 @@ talked_taken s s' s'' k k' held piece more session talked moved calm some = reco
   lines = talked.lines;
   given = talked.given;
   moved = Consumes-trans s.left s'.left s''.left talked.taken more talked.moved moved;
-  cut = λ others. ap pieces_of (append_assoc talked.taken more others) ∙ talked.cut (more ++ others)
-      ∙ ap (λ (b : List ℕ). talked.lines ++ pieces_of b) (sym (append_assoc held.bytes more others));
+  cut = λ others. ap kept_pieces (append_assoc talked.taken more others) ∙ talked.cut (more ++ others)
+      ∙ ap (λ (b : List ℕ). talked.lines ++ kept_pieces b) (sym (append_assoc held.bytes more others));
   calm = calm ∙ talked.calm;
   gave = talked.gave;
   split = talked.split;
   now = talked.now;
   few = omega (arith, talked.few);
   paid = omega (arith, talked.paid, length-append held.bytes more, length-append talked.taken more, some);
+}
+
+-- of a line whose end was not read a front is kept
+pub talked_kept : (s s' : SourceView) (k k' : SinkView) (held : HeldView) (piece : List ℕ) (session : Session) → Talked s s' k k' held piece session
+    → HasNoNewline held.bytes → Talked s s' k k' (record { bytes = kept held.bytes; turns = held.turns }) piece session
+talked_kept s s' k k' held piece session talked none = record {
+  taken = talked.taken;
+  lines = talked.lines;
+  given = talked.given;
+  moved = talked.moved;
+  cut = λ more. talked.cut more ∙ ap (λ (l : List (List ℕ)). talked.lines ++ l) (kept_pieces-kept held.bytes more none);
+  calm = talked.calm;
+  gave = talked.gave;
+  split = talked.split;
+  now = talked.now;
+  few = talked.few;
+  paid = omega (arith, talked.paid, length-kept held.bytes);
 }
 
 -- of what the piece had some was given
@@ -250,21 +281,23 @@ pub talked_line : (s s' : SourceView) (k k' : SinkView) (held : HeldView) (piece
 talked_line s s' k k' held piece session len talked has some =
     let line : List ℕ = take len held.bytes in
     let text : List ℕ = (answered session line).text in
+    let alike : answered session line ≡ answered (session_after begun talked.lines) (kept line) =
+    ap (λ (x : Session). answered x line) talked.now ∙ sym (answered-kept (session_after begun talked.lines) line) in
     record {
       taken = talked.taken;
-      lines = talked.lines ++ line ∷ [];
+      lines = talked.lines ++ kept line ∷ [];
       given = talked.given;
       moved = talked.moved;
-      cut = λ more. talked.cut more ∙ ap (λ (l : List (List ℕ)). talked.lines ++ l) (line_cut held.bytes more len has)
-          ∙ sym (append_assoc talked.lines (line ∷ []) (pieces_of (drop (len + 1) held.bytes ++ more)));
+      cut = λ more. talked.cut more ∙ ap (λ (l : List (List ℕ)). talked.lines ++ l) (line_kept held.bytes more len has)
+          ∙ sym (append_assoc talked.lines (kept line ∷ []) (kept_pieces (drop (len + 1) held.bytes ++ more)));
       calm = talked.calm;
       gave = talked.gave;
       split = sym (append_assoc talked.given piece text) ∙ ap (λ (t : List ℕ). t ++ text) talked.split
           ∙ ap (λ (t : List ℕ). answers begun talked.lines ++ t) (sym (append-nil text))
-          ∙ ap (λ (x : Session). answers begun talked.lines ++ ((answered x line).text ++ [])) talked.now
-          ∙ sym (answers-append begun talked.lines (line ∷ []));
-      now = ap (λ (x : Session). (answered x line).session) talked.now ∙ sym (session_after-append begun talked.lines (line ∷ []));
-      few = omega (arith, length-append talked.lines (line ∷ []), talked.few);
+          ∙ ap (λ (a : Answer). answers begun talked.lines ++ (a.text ++ [])) alike
+          ∙ sym (answers-append begun talked.lines (kept line ∷ []));
+      now = ap (λ (a : Answer). a.session) alike ∙ sym (session_after-append begun talked.lines (kept line ∷ []));
+      few = omega (arith, length-append talked.lines (kept line ∷ []), talked.few);
       paid = omega (arith, talked.paid, length-drop (len + 1) held.bytes, has.within, some);
     }
 
@@ -292,7 +325,7 @@ pub talked_err : (status : Status) (s s' s'' : SourceView) (k k' : SinkView) (he
 talked_err statuses.ReadFault s s' s'' k k' held now after session talked none takes =
     talked_read_fault s s' s'' k k' held session talked none takes.0 takes.1 takes.2
 talked_err statuses.NoMemory s s' s'' k k' held now after session talked none takes =
-    told_later s s' s'' k k' held [] takes.0 session talked takes.1 takes.2
+    told_later s s' s'' k k' held [] takes.0 session talked takes.1 takes.2 takes.3
 talked_err statuses.Done s s' s'' k k' held now after session talked none takes = absurd takes
 talked_err statuses.TooMany s s' s'' k k' held now after session talked none takes = absurd takes
 talked_err statuses.WriteFault s s' s'' k k' held now after session talked none takes = absurd takes
@@ -331,25 +364,28 @@ talked_full_given s s' k k' k'' held piece holds session talked prints =
 
 -- giving them ended early
 pub talked_cut : (s s' : SourceView) (k k' k'' : SinkView) (held : HeldView) (piece : List ℕ) (session : Session) (error : PrintError) → Talked s s' k k' held piece session
-    → IsCut k' k'' [] piece error → IsConversation (status_of_print error) s s' k k''
-talked_cut s s' k k' k'' held piece session error talked cut =
-    told_cut s s' k k' k'' piece [] piece error (told_of s s' k k' held piece session talked) refl cut
+    → IsCut k' k'' [] piece error → 0 < length piece → IsConversation (status_of_print error) s s' k k''
+talked_cut s s' k k' k'' held piece session error talked cut some =
+    let told = told_of s s' k k' held piece session talked in
+    told_cut s s' k k' k'' piece [] piece error told (told_some s s' k k' piece told some) refl cut
 
 pub talked_full_cut : (s s' : SourceView) (k k' k'' : SinkView) (held : HeldView) (piece : List ℕ) (session : Session) (error : PrintError) → Talked s s' k k' held piece session
-    → IsCut k' k'' piece [] error → IsConversation (status_of_print error) s s' k k''
-talked_full_cut s s' k k' k'' held piece session error talked cut =
-    told_cut s s' k k' k'' piece piece [] error (told_of s s' k k' held piece session talked) (append-nil piece) cut
+    → 0 < held.turns → IsCut k' k'' piece [] error → IsConversation (status_of_print error) s s' k k''
+talked_full_cut s s' k k' k'' held piece session error talked some cut =
+    told_cut s s' k k' k'' piece piece [] error (told_of s s' k k' held piece session talked)
+    (omega (arith, length-append talked.taken [], talked.paid, some)) (append-nil piece) cut
 
--- memory ran out, or too many turns were made
+-- memory ran out where a turn was made or a byte is held, or too many turns were made
 pub talked_no_memory : (s s' : SourceView) (k k' : SinkView) (held : HeldView) (piece : List ℕ) (session : Session) → Talked s s' k k' held piece session
-    → IsConversation statuses.NoMemory s s' k k'
-talked_no_memory s s' k k' held piece session talked = told_no_memory s s' k k' piece (told_of s s' k k' held piece session talked)
+    → 0 < held.turns + length held.bytes → IsConversation statuses.NoMemory s s' k k'
+talked_no_memory s s' k k' held piece session talked some =
+    told_no_memory s s' k k' piece (told_of s s' k k' held piece session talked) (omega (arith, length-append talked.taken [], talked.paid, some))
 
 pub talked_too_many : (s s' : SourceView) (k k' : SinkView) (held : HeldView) (piece : List ℕ) (session : Session) → Talked s s' k k' held piece session
     → 2 ^ 64 - 1 ≤ held.turns → IsConversation statuses.TooMany s s' k k'
 talked_too_many s s' k k' held piece session talked many =
-    let cut : pieces_of talked.taken ≡ talked.lines ++ pieces_of held.bytes =
-    ap pieces_of (sym (append-nil talked.taken)) ∙ talked.cut [] ∙ ap (λ (b : List ℕ). talked.lines ++ pieces_of b) (append-nil held.bytes) in
+    let cut : kept_pieces talked.taken ≡ talked.lines ++ kept_pieces held.bytes =
+    ap kept_pieces (sym (append-nil talked.taken)) ∙ talked.cut [] ∙ ap (λ (b : List ℕ). talked.lines ++ kept_pieces b) (append-nil held.bytes) in
     let front = session_text-front talked.taken talked.lines held.bytes cut in
     let whole : session_text talked.taken ≡ talked.given ++ (piece ++ front.0) =
     front.1 ∙ ap (λ (t : List ℕ). t ++ front.0) (sym talked.split) ∙ append_assoc talked.given piece front.0 in (

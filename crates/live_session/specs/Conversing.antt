@@ -12,7 +12,8 @@ GivesFront count taken old new = Appends old.written new.written (take count (se
 
 -- Why a session ended so, and what was given for the bytes that were taken. It is done where the input ends, and then all was given. Where a
 -- read failed, the answers to the whole lines so far were given, and nothing else. Where a write failed, not all was given. Nothing failed
--- where memory ran out, and where there are too many lines and reads: a byte is paid for each, when it is taken or when it is answered.
+-- where memory ran out, which it does for no input without a byte, and where there are too many lines and reads: a byte is paid for each, when
+-- it is taken or when it is answered.
 abbrev pub EndsAs : Status → List ℕ → SourceView → SourceView → SinkView → SinkView → Type 0
 EndsAs statuses.Done taken source source' sink sink' = IsAtEnd source'.left × (source'.faults ≡ source.faults) × (sink'.faults ≡ sink.faults)
     × Appends sink.written sink'.written (session_text taken)
@@ -21,7 +22,7 @@ EndsAs statuses.ReadFault taken source source' sink sink' = (source'.faults ≡ 
 EndsAs statuses.WriteFault taken source source' sink sink' = (source'.faults ≡ source.faults) × (sink'.faults ≡ sink.faults + 1)
     × FailedLast sink'.just_failed × (count : ℕ) × (count < length (session_text taken)) × GivesFront count taken sink sink'
 EndsAs statuses.NoMemory taken source source' sink sink' = (source'.faults ≡ source.faults) × (sink'.faults ≡ sink.faults)
-    × (count : ℕ) × GivesFront count taken sink sink'
+    × (0 < length taken) × (count : ℕ) × GivesFront count taken sink sink'
 EndsAs statuses.TooMany taken source source' sink sink' = (source'.faults ≡ source.faults) × (sink'.faults ≡ sink.faults)
     × (2 ^ 64 - 1 ≤ 2 * length taken) × (count : ℕ) × GivesFront count taken sink sink'
 

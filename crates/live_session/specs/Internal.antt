@@ -1,3 +1,4 @@
 -- What no clause of a public function cites: it follows the code, and may change with it.
+pub mod Giving
 pub mod Held
 pub mod Talking

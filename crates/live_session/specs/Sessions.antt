@@ -1,15 +1,16 @@
 -- Sessions: what each line is answered by, and how the session goes on.
-use Rattle.std.specs.Prelude.{ℕ, ◌+◌, ◌-◌, ◌/◌, true, false, List, [], ◌∷◌, ◌++◌, length, take, get_or, find, codes, decimal, nat_eq, nat_lt, Option, Some, None, unwrap_or, Result, Ok, Err, if◌then◌else◌}
+use Rattle.std.specs.Prelude.{ℕ, ◌+◌, ◌-◌, ◌/◌, ◌≤◌, true, false, List, [], ◌∷◌, ◌++◌, length, take, get_or, find, codes, decimal, nat_eq, nat_lt, Option, Some, None, unwrap_or, Result, Ok, Err, if◌then◌else◌}
 use Rattle.std.specs.List.{slice_split}
 use Rattle.std.specs.Option.{option_map_or}
 use Rattle.mm_types.specs.declared.config.Config.{Config}
-use Rattle.mm_types.specs.declared.config.TheConstants.{PAGE_SIZE}
+use Rattle.mm_types.specs.declared.config.TheConstants.{MOST_FILES, PAGE_SIZE}
 use Rattle.mm_types.specs.MapsText.{area_text}
 use Rattle.area_rules.specs.Steps.{opening}
 use Rattle.area_rules.specs.Tables.{AddressSpace}
 use Rattle.text_lexer.specs.declared.error.Cause.{Cause}
 use Rattle.text_lexer.specs.Causes.{cause_number, cause_name}
 use Rattle.text_lexer.specs.Lines.{raw_line, is_newline, text_of}
+use Rattle.trace_reader.specs.declared.limits.TheConstants.{MOST_LINES, MOST_NAMED}
 use Rattle.trace_reader.specs.declared.trace.Op.{Op}
 use Rattle.trace_reader.specs.declared.trace.TraceLine.{TraceLine}
 use Rattle.trace_reader.specs.Grammar.{nothing, config_of}
@@ -117,9 +118,13 @@ abbrev pub answer_by : Session → Result (Asked × SoFar) Cause → Answer
 answer_by session (Ok read) = answer_read (record { count = session.count; so_far = read.1; opened = session.opened }) read.0
 answer_by session (Err cause) = refused session cause
 
+-- what a whole line asks for, without its newline, and what the lines say with it
+abbrev pub read_at : Session → List ℕ → Result (Asked × SoFar) Cause
+read_at session text = asked_of session.so_far (raw_line (session.count + 1) 0 text true)
+
 -- the answer to a whole line, without its newline
 unfoldable pub answered : Session → List ℕ → Answer
-answered session text = answer_by session (asked_of session.so_far (raw_line (session.count + 1) 0 text true))
+answered session text = answer_by session (read_at session text)
 
 -- a session after whole lines
 abbrev pub session_after : Session → List (List ℕ) → Session
@@ -130,6 +135,12 @@ session_after session (line ∷ lines) = session_after (answered session line).s
 abbrev pub answers : Session → List (List ℕ) → List ℕ
 answers session [] = []
 answers session (line ∷ lines) = (answered session line).text ++ answers (answered session line).session lines
+
+-- What a space keeps of its lines, however many there are: operations, files, and operations that name a line. One more is refused by TooMany.
+pub record IsWithinLimits (session : Session) : Type 0 where
+  pub operations : length session.so_far.lines ≤ MOST_LINES
+  pub files : length session.so_far.files ≤ MOST_FILES
+  pub named : session.so_far.named ≤ MOST_NAMED
 
 -- what is between the newlines of an input
 abbrev pub pieces_of : List ℕ → List (List ℕ)

@@ -1,9 +1,9 @@
 //! The answer to a line.
-ghost use Rattle.std.specs.Prelude.{◌≡◌, ◌<◌, ◌-◌, ◌^◌, ◌++◌, false, IfOk, IsSome, OnOk, unwrap_or};
+ghost use Rattle.std.specs.Prelude.{◌≡◌, ◌≢◌, ◌<◌, ◌+◌, ◌-◌, ◌^◌, ◌++◌, false, IfOk, IsErr, IsSome, OnOk, length, unwrap_or};
 ghost use Rattle.text_lexer.specs.Lines.{raw_line, text_of};
 ghost use Rattle.trace_reader.specs.Lines.{SoFar};
 ghost use Rattle.live_session.specs.Sessions.{answer_read, answered, areas_text, bad_counted, bad_text, closing_text, ending_text, found_text, opened_by, unended_text};
-ghost use Rattle.live_session.specs.Internal.Talking.{AnswersLine, HasRoom, IsReached, Operates, session_of};
+ghost use Rattle.live_session.specs.Internal.Talking.{AnswersLine, HasRoom, IsReached, Operates, as_called, session_of};
 
 use crate::asking::{Asked, Says};
 use crate::live_space::LiveSpace;
@@ -47,18 +47,29 @@ pub(crate) fn answer_line(
         start: 0,
         ended: true,
     };
-    match says.ask(alloc, &line) {
+    match asked_or_bad(says.ask(alloc, &line))? {
         Ok(asked) => answer(alloc, piece, says, space, asked),
-        Err(CallError::Bad(cause)) => {
+        Err(cause) => {
             says.count = bad_counted(says.count);
             push_bad(piece, number, cause)?;
             Ok(None)
         }
+    }
+}
+
+/// What a line asks for, or why it is bad. Fails exactly where memory ran out before.
+fn asked_or_bad(asked: Result<Asked, CallError>) -> Result<Result<Asked, Cause>, NoMemory>
+    ensures read { IfOk result (λ read. asked ≡ as_called read) }
+    ensures memory { IsErr result → asked ≡ Err CallError.NoMemory }
+{
+    match asked {
+        Ok(asked) => Ok(Ok(asked)),
+        Err(CallError::Bad(cause)) => Ok(Err(cause)),
         Err(CallError::NoMemory) => Err(NoMemory),
     }
 }
 
-/// Appends the answer to what a line asks for that was read, and counts the line.
+/// Appends the answer to what a line asks for that was read, and counts the line. A line that asks for nothing takes no memory.
 fn answer(
     alloc: Global,
     piece: &mut Vec<u8>,
@@ -71,6 +82,7 @@ fn answer(
     ensures answers { IfOk result (AnswersLine (answer_read (session_of says.old space.old) asked) piece.old.items piece.new.items
         (session_of says.new space.new)) }
     ensures open { IsSome space.old → IsSome space.new }
+    ensures memory { IsErr result → asked ≢ Asked.Nothing }
 {
     match asked {
         Asked::Nothing => {
@@ -157,7 +169,7 @@ fn push_found(
     }
 }
 
-/// Appends the last list of an address space, where a header came.
+/// Appends the last list of an address space, where a header came. Else it takes no memory.
 #[tactic(auto, unfolding(crate::specs::Sessions::closing_text))]
 pub(crate) fn push_closing(
     alloc: Global,
@@ -165,7 +177,8 @@ pub(crate) fn push_closing(
     says: &Says,
     space: &Option<LiveSpace<'_>>,
 ) -> Result<(), NoMemory>
-    ensures { OnOk result (piece.new.items ≡ piece.old.items ++ closing_text (session_of says.now space.now)) }
+    ensures text { OnOk result (piece.new.items ≡ piece.old.items ++ closing_text (session_of says.now space.now)) }
+    ensures memory { IsErr result → 0 < says.now.count }
 {
     if 0 < says.count {
         push_areas(alloc, piece, space)
@@ -174,7 +187,8 @@ pub(crate) fn push_closing(
     }
 }
 
-/// Appends the end of a session: the answer to what is behind the last newline, if it has a byte, and the last list.
+/// Appends the end of a session: the answer to what is behind the last newline, if it has a byte, and the last list. Without either it takes
+/// no memory.
 #[tactic(auto, unfolding(crate::specs::Sessions::ending_text))]
 pub(crate) fn push_ending(
     alloc: Global,
@@ -184,7 +198,8 @@ pub(crate) fn push_ending(
     rest: &[u8],
 ) -> Result<(), NoMemory>
     requires { says.now.count < 2 ^ 64 - 1 }
-    ensures { OnOk result (piece.new.items ≡ piece.old.items ++ ending_text (session_of says.now space.now) rest.now) }
+    ensures text { OnOk result (piece.new.items ≡ piece.old.items ++ ending_text (session_of says.now space.now) rest.now) }
+    ensures memory { IsErr result → 0 < says.now.count + length rest.now }
 {
     if !rest.is_empty() {
         push_unended(piece, says.count + 1, rest)?;

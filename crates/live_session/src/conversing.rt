@@ -1,5 +1,6 @@
 //! A session with a source and a sink.
-ghost use Rattle.std.specs.Prelude.{◌<◌, ◌-◌, ◌^◌, ◌++◌, None, IfOk, IsSome};
+ghost use Rattle.std.specs.Prelude.{◌≡◌, ◌<◌, ◌-◌, ◌^◌, ◌++◌, None, IfOk, IsSome};
+ghost use Rattle.std.specs.Option.{option_map};
 ghost use Rattle.io_edge.specs.Edge.{SinkView, SourceView};
 ghost use Rattle.live_session.specs.Conversing.{IsConversation};
 ghost use Rattle.live_session.specs.Sessions.{begun, operated};
@@ -8,16 +9,18 @@ ghost use Rattle.live_session.specs.Internal.Talking.{Ends, EndsSpace, IsTalking
 
 use crate::answering::{Stop, answer_line, push_ending};
 use crate::asking::Says;
+use crate::giving::give_answers;
 use crate::held::Held;
 use crate::live_space::{LiveSpace, Spare};
 use crate::status::Status;
 use io_edge::{Sink, Source};
-use output_print::{give_all, give_full};
+use output_print::give_full;
 use std::alloc::Global;
 use trace_reader::TraceLine;
 
 /// Holds a session with a source and a sink, up to the end of the input: each whole line is answered before more is read. `NoMemory` comes
-/// where memory ran out, `TooMany` where there were as many lines and reads as 64 bits count, and the others by their causes.
+/// where memory ran out once a byte was read, `TooMany` where there were as many lines and reads as 64 bits count, and the others by their
+/// causes. Of a line without an end no more is kept than shows that it is too long.
 pub fn converse<S: Source, K: Sink>(alloc: Global, source: &mut S, sink: &mut K) -> Status
     requires source_count_has_room { (S.seen source.old).faults < 2 ^ 64 - 1 }
     requires sink_count_has_room { (K.seen sink.old).faults < 2 ^ 64 - 1 }
@@ -85,7 +88,7 @@ fn answer_opened<S: Source, K: Sink>(
     says: &mut Says,
     line: &TraceLine,
 ) -> Result<bool, Status>
-    requires turns { held.old.turns < 2 ^ 64 }
+    requires turns { (0 < held.old.turns) × (held.old.turns < 2 ^ 64) }
     requires talking { IsTalking (S.seen source.old) (K.seen sink.old) held.old (piece.old.items ++ (operated (session_of says.old None) line.now).text)
         (operated (session_of says.old None) line.now).session }
     ensures ends { (s : SourceView) (k : SinkView) → Talked s (S.seen source.old) k (K.seen sink.old) held.old
@@ -108,7 +111,9 @@ fn answer_opened<S: Source, K: Sink>(
 }
 
 /// The memory of a space that ended, if one was open.
-fn spare_of(space: Option<LiveSpace<'_>>) -> Option<Spare> {
+fn spare_of(space: Option<LiveSpace<'_>>) -> Option<Spare>
+    ensures { result ≡ option_map (λ live. live.config.areas) space.entry }
+{
     match space {
         Some(live) => Some(live.into_spare()),
         None => None,
@@ -140,6 +145,6 @@ fn answer_lines<S: Source, K: Sink>(
         give_full(sink, piece)?;
     }
     push_ending(alloc, piece, says, space, held.bytes())?;
-    give_all(sink, piece.as_slice())?;
+    give_answers(sink, piece)?;
     Ok(Stop::End)
 }

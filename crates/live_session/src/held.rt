@@ -1,39 +1,46 @@
 //! Bytes that were read and not yet answered.
-ghost use Rattle.std.specs.Prelude.{◌≡◌, ◌<◌, ◌+◌, ◌-◌, ◌^◌, ◌++◌, [], IfOk, MatchOption, OnOk, drop, length};
+ghost use Rattle.std.specs.Prelude.{◌≡◌, ◌≤◌, ◌<◌, ◌+◌, ◌-◌, ◌^◌, ◌++◌, [], IfOk, MatchOption, OnOk, drop, length};
 ghost use Rattle.io_edge.specs.Edge.{SinkView, SourceView};
 ghost use Rattle.live_session.specs.Sessions.{Session};
-ghost use Rattle.live_session.specs.Internal.Held.{HasLine, HasNoNewline, TakesMore, Turns};
+ghost use Rattle.live_session.specs.Internal.Held.{HasLine, HasNoNewline, TakesMore, Turns, kept};
 ghost use Rattle.live_session.specs.Internal.Talking.{Finds, IsTalking, Talked};
 
+use crate::giving::give_answers;
 use crate::status::Status;
 use io_edge::{Failed, Sink, Source};
 use memchr::memchr;
 use mm_types::NoMemory;
-use output_print::give_all;
 use std::alloc::Global;
 use std::marker::Model;
+use text_lexer::LINE_LIMIT;
 
 /// How many bytes a read asks for at most.
 const PIECE: usize = 8_192;
 
-/// Bytes that were read and not yet answered. Contracts see them, and how many lines and reads there were.
+/// How many bytes of a line are kept while its end was not read: as many as show that it is too long.
+const MOST_KEPT: usize = LINE_LIMIT + 1;
+
+/// Bytes that were read and not yet answered: what is kept of a line whose end was not read, and one read more at most. Contracts see them,
+/// and how many lines and reads there were.
 #[derive(Drop)]
 pub(crate) struct Held {
     bytes: Vec<u8>,
     /// Where those begin that were not answered.
     at: usize,
+    /// How many of those were searched: none is a newline.
+    searched: usize,
     turns: u64,
 }
 
 impl Model for Held {
-    ghost use Rattle.std.specs.Prelude.{◌≤◌, drop, length};
-    ghost use Rattle.live_session.specs.Internal.Held.{HeldView};
+    ghost use Rattle.std.specs.Prelude.{drop};
+    ghost use Rattle.live_session.specs.Internal.Held.{HeldView, IsHeld};
 
     ghost Value = { HeldView };
 
     ghost view = { λ held. record { bytes = drop held.at held.bytes.items; turns = held.turns } };
 
-    ghost invariant = { λ held. held.at ≤ length held.bytes.items };
+    ghost invariant = { λ held. IsHeld held.bytes.items held.at held.searched };
 }
 
 impl Held {
@@ -44,6 +51,7 @@ impl Held {
         Held {
             bytes: Vec::new(alloc),
             at: 0,
+            searched: 0,
             turns: 0,
         }
     }
@@ -62,13 +70,17 @@ impl Held {
     {
         let line_end = self.at + len;
         self.at = line_end + 1;
+        self.searched = 0;
     }
 
-    /// The length of the first line, if a newline ends one.
+    /// The length of the first line, if a newline ends one. Only what was not searched yet is.
     fn line_len(&self) -> Option<usize>
         ensures { MatchOption result (HasNoNewline self.now.bytes) (HasLine self.now.bytes) }
     {
-        memchr(b'\n', self.bytes())
+        match memchr(b'\n', &self.bytes()[self.searched..]) {
+            Some(len) => Some(self.searched + len),
+            None => None,
+        }
     }
 
     /// Counts a turn.
@@ -79,37 +91,37 @@ impl Held {
         self.turns += 1;
     }
 
-    /// Drops what was answered from memory.
-    fn forget(&mut self)
-        ensures { self.new ≡ self.old }
+    /// Keeps of a line whose end was not read no more than shows that it is too long.
+    fn keep_front(&mut self)
+        requires { HasNoNewline self.old.bytes }
+        ensures { self.new ≡ record { bytes = kept self.old.bytes; turns = self.old.turns } }
     {
-        if self.at == self.bytes.len() {
-            self.bytes.clear();
-        } else {
-            self.bytes.rotate_left(self.at);
-            self.bytes.truncate(self.bytes.len() - self.at);
-        }
-        self.at = 0;
+        self.searched = MOST_KEPT.min(self.bytes().len());
+        self.bytes.truncate(self.at + self.searched);
     }
 
-    /// Appends bytes. Fails only where memory runs out.
+    /// Appends the bytes of a read. Fails only where memory runs out.
     fn append(&mut self, more: &[u8]) -> Result<(), NoMemory>
+        requires kept { length self.old.bytes ≤ MOST_KEPT }
+        requires read { length more.now ≤ PIECE }
         ensures { OnOk result (self.new ≡ record { bytes = self.old.bytes ++ more.now; turns = self.old.turns }) }
     {
+        drop_front(&mut self.bytes, self.at);
+        self.at = 0;
         self.bytes.extend_from_slice(more)?;
         Ok(())
     }
 
     /// Takes more bytes from a source, and tells whether there are any: there are none only at the end of the input.
     fn take_more<S: Source>(&mut self, source: &mut S) -> Result<bool, Status>
-        requires { (S.seen source.old).faults < 2 ^ 64 - 1 }
+        requires count_has_room { (S.seen source.old).faults < 2 ^ 64 - 1 }
+        requires kept { length self.old.bytes ≤ MOST_KEPT }
         ensures { TakesMore (S.seen source.old) (S.seen source.new) self.old self.new result }
     {
         let mut chunk = [0u8; PIECE];
         match source.take(&mut chunk) {
             Ok(0) => Ok(false),
             Ok(count) => {
-                self.forget();
                 self.append(&chunk[..count])?;
                 Ok(true)
             }
@@ -135,12 +147,26 @@ impl Held {
             if let Some(len) = self.line_len() {
                 return Ok(Some(len));
             }
-            give_all(sink, piece.as_slice())?;
-            piece.clear();
+            self.keep_front();
+            give_answers(sink, piece)?;
             if !self.take_more(source)? {
                 return Ok(None);
             }
         }
         Err(Status::TooMany)
+    }
+}
+
+/// Drops so many bytes from the front.
+fn drop_front(bytes: &mut Vec<u8>, count: usize)
+    requires { count ≤ length bytes.old.items }
+    ensures { bytes.new.items ≡ drop count bytes.old.items }
+{
+    let rest = bytes.len() - count;
+    if rest == 0 {
+        bytes.clear();
+    } else {
+        bytes.rotate_left(count);
+        bytes.truncate(rest);
     }
 }

@@ -9,6 +9,7 @@
 mod answering;
 mod asking;
 mod conversing;
+mod giving;
 mod held;
 mod laws;
 mod live_space;
@@ -16,5 +17,7 @@ mod own_lines;
 mod status;
 
 pub use conversing::converse;
-pub use laws::{answers_stay, session_gives_a_front};
+pub use laws::{
+    a_space_is_within_limits, answers_stay, operations_are_answered_by_items, session_gives_a_front,
+};
 pub use status::{Status, status_line, status_number};

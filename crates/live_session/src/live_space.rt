@@ -1,5 +1,5 @@
 //! An address space of a session, with its configuration and how many calls were made.
-ghost use Rattle.std.specs.Prelude.{◌≡◌, ◌≤◌, ◌<◌, ◌+◌, ◌-◌, ◌/◌, ◌^◌, ◌++◌, Some, IfOk, OnOk};
+ghost use Rattle.std.specs.Prelude.{◌≡◌, ◌≤◌, ◌<◌, ◌+◌, ◌-◌, ◌/◌, ◌^◌, ◌++◌, Some, IfOk, IsOk, IsSomeAnd, OnOk};
 ghost use Rattle.mm_types.specs.Config.{IsValidConfig};
 ghost use Rattle.area_rules.specs.Steps.{opening};
 ghost use Rattle.history.specs.Histories.{answer_of, read_of, space_after, space_by, answer_by, version_by};
@@ -31,10 +31,11 @@ impl Model for Spare {
     ghost invariant = { λ spare. spare.room ≡ spare.areas };
 }
 
-/// The memory of a space with this configuration: that of the space before it, where it is for as many areas. `NoMemory` where it cannot be
-/// had.
+/// The memory of a space with this configuration: that of the space before it, where it is for as many areas, and else more, with `NoMemory`
+/// where it cannot be had.
 fn room_for(alloc: Global, config: &Config, spare: Option<Spare>) -> Result<Room, NoMemory>
-    ensures { IfOk result (λ room. room ≡ config.now.areas) }
+    ensures areas { IfOk result (λ room. room ≡ config.now.areas) }
+    ensures spared { IsSomeAnd spare (λ spare. spare ≡ config.now.areas) → IsOk result }
 {
     if let Some(spare) = spare {
         if spare.areas == config.areas {
@@ -64,15 +65,16 @@ impl<'a> Model for LiveSpace<'a> {
 }
 
 impl<'a> LiveSpace<'a> {
-    /// A space of this configuration without an area, in the memory of the one before it, if that serves. `NoMemory` where the memory of its
-    /// calls cannot be had.
+    /// A space of this configuration without an area, in the memory of the one before it, if that is for as many areas. Else `NoMemory` where
+    /// the memory of its calls cannot be had.
     pub(crate) fn open(
         alloc: Global,
         config: &'a Config,
         spare: Option<Spare>,
     ) -> Result<LiveSpace<'a>, NoMemory>
         requires { IsValidConfig config.now }
-        ensures { IfOk result (λ live. live ≡ record { config = config.now; space = opening config.now; version = 0 }) }
+        ensures opened { IfOk result (λ live. live ≡ record { config = config.now; space = opening config.now; version = 0 }) }
+        ensures spared { IsSomeAnd spare (λ spare. spare ≡ config.now.areas) → IsOk result }
     {
         let room = room_for(alloc, config, spare)?;
         Ok(LiveSpace {
@@ -83,7 +85,9 @@ impl<'a> LiveSpace<'a> {
     }
 
     /// The memory of the space, which ends.
-    pub(crate) fn into_spare(self) -> Spare {
+    pub(crate) fn into_spare(self) -> Spare
+        ensures { result ≡ self.entry.config.areas }
+    {
         Spare {
             areas: self.config.areas,
             room: self.space.into_room(),

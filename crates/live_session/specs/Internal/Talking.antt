@@ -2,17 +2,21 @@
 use Rattle.std.specs.Prelude.{ℕ, ◌≡◌, ◌+◌, ◌-◌, ◌*◌, ◌^◌, ◌<◌, ◌≤◌, Bool, true, false, List, [], ◌++◌, length, Option, Some, None, Result, Ok, Err}
 use Rattle.std.specs.Io.KnownBytes.{Consumes, IsAtEnd}
 use Rattle.io_edge.specs.Edge.{SourceView, SinkView}
+use Rattle.text_lexer.specs.declared.error.CallError.{CallError}
+use Rattle.text_lexer.specs.declared.error.CallError.TheVariants as calls
+use Rattle.text_lexer.specs.declared.error.Cause.{Cause}
 use Rattle.trace_reader.specs.declared.trace.TraceLine.{TraceLine}
 use Rattle.trace_reader.specs.Reading.{so_far}
 use Rattle.output_print.specs.Giving.{Gave}
+use Rattle.live_session.specs.declared.asking.Asked.{Asked}
 use Rattle.live_session.specs.declared.asking.Says.{Says}
 use Rattle.live_session.specs.declared.answering.Stop.{Stop}
 use Rattle.live_session.specs.declared.answering.Stop.TheVariants as stops
 use Rattle.live_session.specs.declared.status.Status.{Status}
 use Rattle.live_session.specs.declared.status.Status.TheVariants as statuses
-use Rattle.live_session.specs.Sessions.{Opened, Answer, Session, begun, pieces_of, after_operation, operation_text, operated, answers, session_after}
+use Rattle.live_session.specs.Sessions.{Opened, Answer, Session, begun, after_operation, operation_text, operated, answers, session_after}
 use Rattle.live_session.specs.Conversing.{IsConversation}
-use Rattle.live_session.specs.Internal.Held.{HeldView, HasLine, HasNoNewline, without_turn}
+use Rattle.live_session.specs.Internal.Held.{HeldView, HasLine, HasNoNewline, kept_pieces, without_turn}
 
 -- the session of what the lines so far say and of the space that is open
 abbrev pub session_of : Says → Option Opened → Session
@@ -37,6 +41,11 @@ AnswersLine answer old new after (Some stops.New) = (new ≡ old ++ answer.text)
 AnswersLine answer old new after (Some (stops.Operation line)) = (new ≡ old) × (operated after line ≡ answer) × (after.opened ≡ None)
 AnswersLine answer old new after (Some stops.End) = ⊥
 
+-- what a line asks for, or why it is bad, as a call has it that takes memory
+abbrev pub as_called : Result Asked Cause → Result Asked CallError
+as_called (Ok asked) = Ok asked
+as_called (Err cause) = Err (calls.Bad cause)
+
 -- what making an operation in a space results in, where one is open
 abbrev pub Operates : Option Opened → Option Opened → TraceLine → List ℕ → List ℕ → Option Stop → Type 0
 Operates (Some now) after line old new None = (new ≡ old ++ operation_text now line) × (after ≡ Some (after_operation now line.op))
@@ -44,14 +53,14 @@ Operates None after line old new (Some stop) = (new ≡ old) × (after ≡ None)
 Operates (Some now) after line old new (Some stop) = ⊥
 Operates None after line old new None = ⊥
 
--- So far: of the bytes that were taken the whole lines were answered, and the rest is held, whatever comes behind it; of the answers some
--- were given, and the piece has the others. A turn was paid by a byte that was taken or by one that was answered.
+-- So far: of the bytes that were taken the whole lines were answered, and the rest is held, whatever comes behind it: of each line as much as
+-- is kept. Of the answers some were given, and the piece has the others. A turn was paid by a byte that was taken or by one that was answered.
 pub record Talked (source source' : SourceView) (sink sink' : SinkView) (held : HeldView) (piece : List ℕ) (session : Session) : Type 0 where
   pub taken : List ℕ
   pub lines : List (List ℕ)
   pub given : List ℕ
   pub moved : Consumes source.left source'.left taken
-  pub cut : (more : List ℕ) → pieces_of (taken ++ more) ≡ lines ++ pieces_of (held.bytes ++ more)
+  pub cut : (more : List ℕ) → kept_pieces (taken ++ more) ≡ lines ++ kept_pieces (held.bytes ++ more)
   pub calm : source'.faults ≡ source.faults
   pub gave : Gave sink sink' given
   pub split : given ++ piece ≡ answers begun lines

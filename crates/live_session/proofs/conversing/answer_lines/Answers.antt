@@ -6,8 +6,8 @@ use Rattle.live_session.specs.Sessions.{answered, ending_text}
 use Rattle.live_session.specs.Internal.Held.{HeldView, without_turn}
 use Rattle.live_session.specs.Internal.Talking.{AnswersLine, session_of}
 use Rattle.live_session.proofs.Reached.{reached_count}
-use Rattle.live_session.proofs.Talks.{ends_err, talked_full_cut, talked_full_given, talked_no_memory, talked_reached, talking_on, told_cut, told_done, told_ending}
-use Rattle.live_session.proofs.Lines.{end_found, line_answered, line_ends, line_found}
+use Rattle.live_session.proofs.Talks.{ends_err, talked_full_cut, talked_full_given, talked_no_memory, talked_reached, talking_on, told_cut, told_done, told_ending, told_some}
+use Rattle.live_session.proofs.Lines.{end_found, ended_no_memory, line_answered, line_ends, line_found}
 use Rattle.live_session.proofs.conversing.answer_lines.Goals as goal
 
 pub find_line-requires : goal.find_line-requires
@@ -43,7 +43,7 @@ returns-in_err-stop-clause-ends g c = λ s k t.
     (c.in_ok-len.ensures.found s k (session_of c.lines.says c.lines.space) (c.lines.invariant.talked s k t)) in
     ends_err s (g.S.Source.seen c.find_line.new.source) k (g.K.Sink.seen c.find_line.new.sink) c.find_line.new.self c.answer_line.new.piece.items (session_of c.answer_line.new.says c.answer_line.new.space) c.from_residual-in_err-stop.result _
     c.from_residual-in_err-stop.ensures.1
-    (talked_no_memory s (g.S.Source.seen c.find_line.new.source) k (g.K.Sink.seen c.find_line.new.sink) (without_turn c.find_line.new.self) c.find_line.new.piece.items (session_of c.lines.says c.lines.space) found.0)
+    (talked_no_memory s (g.S.Source.seen c.find_line.new.source) k (g.K.Sink.seen c.find_line.new.sink) (without_turn c.find_line.new.self) c.find_line.new.piece.items (session_of c.lines.says c.lines.space) found.0 (omega (arith, found.1.within)))
 
 pub pass-requires : goal.pass-requires
 pass-requires g c =
@@ -97,7 +97,7 @@ returns-in_err-give_full-clause-ends g c = λ s k t.
     (ap (λ (b : List ℕ). take c.in-Some.len b) c.bytes.ensures) c.pass.ensures
     (subst (λ (o : Option Stop). AnswersLine (answered (session_of c.lines.says c.lines.space) (take c.in-Some.len c.bytes.result.now)) c.find_line.new.piece.items
     c.answer_line.new.piece.items (session_of c.answer_line.new.says c.answer_line.new.space) o) c.in_default-stop.is c.in_ok-stop.ensures.answers))
-    c.in_err-give_full.ensures)
+    (omega (arith, found.2, ap (λ (h : HeldView). h.turns) c.pass.ensures)) c.in_err-give_full.ensures)
 
 pub push_ending-requires : goal.push_ending-requires
 push_ending-requires g c =
@@ -113,31 +113,33 @@ returns-in_err-push_ending-clause-ends g c = λ s k t.
     (c.in_ok-len.ensures.found s k (session_of c.lines.says c.lines.space) (c.lines.invariant.talked s k t)) in
     ends_err s (g.S.Source.seen c.find_line.new.source) k (g.K.Sink.seen c.find_line.new.sink) c.find_line.new.self c.push_ending.new.piece.items (session_of c.lines.says c.lines.space) c.from_residual-in_err-push_ending.result _
     c.from_residual-in_err-push_ending.ensures.1
-    (talked_no_memory s (g.S.Source.seen c.find_line.new.source) k (g.K.Sink.seen c.find_line.new.sink) (without_turn c.find_line.new.self) c.find_line.new.piece.items (session_of c.lines.says c.lines.space) ended.0)
+    (ended_no_memory s (g.S.Source.seen c.find_line.new.source) k (g.K.Sink.seen c.find_line.new.sink) c.find_line.new.self c.find_line.new.piece.items (session_of c.lines.says c.lines.space) ended.0
+    c.in_ok-len.ensures.turns.1 (omega (arith, c.in_err-push_ending.ensures.memory refl, ap length c.bytes-2.ensures)))
 
-pub give_all-requires : goal.give_all-requires
-give_all-requires g c =
+pub give_answers-requires : goal.give_answers-requires
+give_answers-requires g c =
     let q = c.requires in
     let ended = end_found q.source (g.S.Source.seen c.find_line.new.source) q.sink (g.K.Sink.seen c.find_line.new.sink) c.find_line.new.self c.find_line.new.piece.items (session_of c.lines.says c.lines.space) c.in_ok-len.field-0 c.in_default.is
     (c.in_ok-len.ensures.found q.source q.sink (session_of c.lines.says c.lines.space) (c.lines.invariant.talked q.source q.sink q.talked)) in
     omega (arith, ended.0.gave.calm, q.sink_room)
 
-pub returns-in_err-give_all-clause-ends : goal.returns-in_err-give_all-clause-ends
-returns-in_err-give_all-clause-ends g c = λ s k t.
+pub returns-in_err-give_answers-clause-ends : goal.returns-in_err-give_answers-clause-ends
+returns-in_err-give_answers-clause-ends g c = λ s k t.
     let ended = end_found s (g.S.Source.seen c.find_line.new.source) k (g.K.Sink.seen c.find_line.new.sink) c.find_line.new.self c.find_line.new.piece.items (session_of c.lines.says c.lines.space) c.in_ok-len.field-0 c.in_default.is
     (c.in_ok-len.ensures.found s k (session_of c.lines.says c.lines.space) (c.lines.invariant.talked s k t)) in
     let told = told_ending s (g.S.Source.seen c.find_line.new.source) k (g.K.Sink.seen c.find_line.new.sink) (without_turn c.find_line.new.self) c.find_line.new.piece.items c.push_ending.new.piece.items (session_of c.lines.says c.lines.space) ended.0 ended.3
-    (c.in_ok-push_ending.ensures ∙ ap (λ (b : List ℕ). c.find_line.new.piece.items ++ ending_text (session_of c.lines.says c.lines.space) b) c.bytes-2.ensures) in
-    ends_err s (g.S.Source.seen c.find_line.new.source) k (g.K.Sink.seen c.give_all.new.sink) c.find_line.new.self c.push_ending.new.piece.items (session_of c.lines.says c.lines.space) c.from_residual-in_err-give_all.result _
-    c.from_residual-in_err-give_all.ensures.1
-    (told_cut s (g.S.Source.seen c.find_line.new.source) k (g.K.Sink.seen c.find_line.new.sink) (g.K.Sink.seen c.give_all.new.sink) c.push_ending.new.piece.items [] c.push_ending.new.piece.items _ told.0 refl
-    (rw c.as_slice.ensures.value at c.in_err-give_all.ensures))
+    (c.in_ok-push_ending.ensures.text ∙ ap (λ (b : List ℕ). c.find_line.new.piece.items ++ ending_text (session_of c.lines.says c.lines.space) b) c.bytes-2.ensures) in
+    ends_err s (g.S.Source.seen c.find_line.new.source) k (g.K.Sink.seen c.give_answers.new.sink) c.find_line.new.self c.give_answers.new.piece.items (session_of c.lines.says c.lines.space) c.from_residual-in_err-give_answers.result _
+    c.from_residual-in_err-give_answers.ensures.1
+    (told_cut s (g.S.Source.seen c.find_line.new.source) k (g.K.Sink.seen c.find_line.new.sink) (g.K.Sink.seen c.give_answers.new.sink) c.push_ending.new.piece.items [] c.push_ending.new.piece.items _ told.0
+    (told_some s (g.S.Source.seen c.find_line.new.source) k (g.K.Sink.seen c.find_line.new.sink) c.push_ending.new.piece.items told.0 c.in_err-give_answers.ensures.1) refl
+    c.in_err-give_answers.ensures.0)
 
 pub returns-clause-ends : goal.returns-clause-ends
 returns-clause-ends g c = λ s k t.
     let ended = end_found s (g.S.Source.seen c.find_line.new.source) k (g.K.Sink.seen c.find_line.new.sink) c.find_line.new.self c.find_line.new.piece.items (session_of c.lines.says c.lines.space) c.in_ok-len.field-0 c.in_default.is
     (c.in_ok-len.ensures.found s k (session_of c.lines.says c.lines.space) (c.lines.invariant.talked s k t)) in
     let told = told_ending s (g.S.Source.seen c.find_line.new.source) k (g.K.Sink.seen c.find_line.new.sink) (without_turn c.find_line.new.self) c.find_line.new.piece.items c.push_ending.new.piece.items (session_of c.lines.says c.lines.space) ended.0 ended.3
-    (c.in_ok-push_ending.ensures ∙ ap (λ (b : List ℕ). c.find_line.new.piece.items ++ ending_text (session_of c.lines.says c.lines.space) b) c.bytes-2.ensures) in
-    told_done s (g.S.Source.seen c.find_line.new.source) k (g.K.Sink.seen c.find_line.new.sink) (g.K.Sink.seen c.give_all.new.sink) c.push_ending.new.piece.items told ended.2
-    (rw c.as_slice.ensures.value at c.in_ok-give_all.ensures)
+    (c.in_ok-push_ending.ensures.text ∙ ap (λ (b : List ℕ). c.find_line.new.piece.items ++ ending_text (session_of c.lines.says c.lines.space) b) c.bytes-2.ensures) in
+    told_done s (g.S.Source.seen c.find_line.new.source) k (g.K.Sink.seen c.find_line.new.sink) (g.K.Sink.seen c.give_answers.new.sink) c.push_ending.new.piece.items told ended.2
+    c.in_ok-give_answers.ensures.0

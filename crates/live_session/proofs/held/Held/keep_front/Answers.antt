@@ -1,0 +1,21 @@
+-- The proof of `keep_front`: the rest is cut to what is kept of it.
+use Rattle.std.proofs.Common.{◌∙◌, ℕ, List, ap, arith, length, min, subst, sym}
+use Rattle.live_session.specs.declared.held.TheConstants.{MOST_KEPT}
+use Rattle.live_session.specs.Internal.Held.{HeldView, HasNoNewline, kept}
+use Rattle.live_session.proofs.Newlines.{kept_held, kept_rest}
+use Rattle.live_session.proofs.held.Held.keep_front.Goals as goal
+
+abbrev with_bytes : List ℕ → ℕ → HeldView
+with_bytes bytes turns = record { bytes = bytes; turns = turns }
+
+pub invariant_of-self : goal.invariant_of-self
+invariant_of-self c =
+    kept_held c.self.inside.bytes.items c.truncate.new.self.items c.self.inside.at c.min-self-inside.result (omega (arith, c.self.invariant.within))
+    (c.min-self-inside.ensures ∙ ap (λ (b : List ℕ). min MOST_KEPT (length b)) (c.bytes.ensures ∙ sym (ap (λ (h : HeldView). h.bytes) c.self.view_is))) c.truncate.ensures.items (subst (λ (h : HeldView). HasNoNewline h.bytes) (sym c.self.view_is) c.requires) c.self.invariant.few
+
+pub returns : goal.returns
+returns c =
+    ap (λ (b : List ℕ). with_bytes b c.self.inside.turns)
+    (kept_rest c.self.inside.bytes.items c.truncate.new.self.items c.self.inside.at c.min-self-inside.result (omega (arith, c.self.invariant.within))
+    (c.min-self-inside.ensures ∙ ap (λ (b : List ℕ). min MOST_KEPT (length b)) (c.bytes.ensures ∙ sym (ap (λ (h : HeldView). h.bytes) c.self.view_is))) c.truncate.ensures.items)
+    ∙ ap (λ (h : HeldView). with_bytes (kept h.bytes) h.turns) c.self.view_is
