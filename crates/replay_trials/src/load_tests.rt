@@ -132,15 +132,20 @@ fn number_behind(summary: &[u8], name: &str) -> Option<u64> {
     None
 }
 
+/// What a run of the generated trace gives.
+fn generated<R: Threads + Wait + Sync + Abort>(rt: &R, alloc: Global) -> Result<SureSink, Fail> {
+    let words = words(alloc, &["generate", "2000", "1"])?;
+    let mut source = SureSource::new(Vec::new(alloc));
+    let mut sink = SureSink::new(alloc);
+    let replayed = replay(rt, alloc, &words, &mut source, &mut sink, &PlainGate);
+    assert_eq!(rt; replayed.status, Status::Done);
+    Ok(sink)
+}
+
 #[test]
 fn two_runs_of_a_generated_trace_are_equal(rt: HostRuntime) -> Result<(), Fail> {
-    let words = words(rt.alloc(), &["generate", "2000", "1"])?;
-    let (mut first, mut second) = (SureSink::new(rt.alloc()), SureSink::new(rt.alloc()));
-    for sink in [&mut first, &mut second] {
-        let mut source = SureSource::new(Vec::new(rt.alloc()));
-        let replayed = replay(&rt, rt.alloc(), &words, &mut source, sink, &PlainGate);
-        assert_eq!(rt; replayed.status, Status::Done);
-    }
+    let first = generated(&rt, rt.alloc())?;
+    let second = generated(&rt, rt.alloc())?;
     assert_eq!(rt; first.bytes(), second.bytes());
     let text = first.bytes();
     let (Some(calls), Some(faults)) = (number_behind(text, "calls"), number_behind(text, "faults"))

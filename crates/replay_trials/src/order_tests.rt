@@ -1,6 +1,7 @@
 //! Small random traces of two to 64 threads, which grow and seal areas, move the break, name lines and fork, and a longer one in which
 //! areas grow towards each other. Their operations come in many orders, and the history of each space is judged. Where no line forks,
 //! `check` judges the text too, as it is and with a wrong line.
+ghost use Rattle.std.specs.Prelude.{◌<◌};
 
 use crate::judging::{gathered, judged, judged_child, parsed};
 use crate::tests::run_trace;
