@@ -7,6 +7,7 @@ something is not, 2 on wrong use or where the program is missing, 130 on Ctrl-C.
 from __future__ import annotations
 
 import argparse
+import os
 import resource
 import signal
 import subprocess
@@ -17,6 +18,7 @@ from pathlib import Path
 from typing import Any, NoReturn
 
 TOP = Path(__file__).resolve().parents[2]
+LIVE = TOP / "crates/vma_live/out/vma_live"
 sys.dont_write_bytecode = True
 sys.path[:0] = [str(TOP / "tools"), str(TOP)]
 from vmatools import console, program as programs
@@ -66,6 +68,14 @@ def program_of(given: str | None = None) -> str:
     except console.Failure as failure:
         print(f"{TOOL}: {failure}", file=sys.stderr)
         sys.exit(failure.status)
+
+
+def live_of(given: Path) -> str:
+    """The path of diltzekun-live, or a failure that says how to build it."""
+    live = str(given.resolve())
+    if not os.access(live, os.X_OK):
+        fail("the program", f"{live} is missing; `(cd crates/vma_live && rt run)` proves and builds it")
+    return live
 
 
 # Report

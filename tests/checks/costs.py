@@ -1,11 +1,12 @@
 #!/usr/bin/env python3
 """Checks that what the program takes grows with its input and not faster: memory that it asks for and uses, and processor time.
 
-PROGRAM is crates/vma_main/out/vma_main by default. Each run gets an address space of so many MiB, some tenth more
-than it needs, and may have so many MiB of it resident, some fifth more than it has, of two sizes of most inputs. And
-the processor time of an input is compared with that of one of four times its size, the least of three runs each: it may
-take seven times as long, where linear work takes four to five and quadratic sixteen. A comparison that fails is made
-again. It ends with status 1 at the first run that takes more, and 2 on wrong use, or where the program is missing.
+PROGRAM is crates/vma_main/out/vma_main by default, and LIVE crates/vma_live/out/vma_live. Each run gets an address space of
+so many MiB, some tenth more than it needs, and may have so many MiB of it resident, some fifth more than it has, of two
+sizes of most inputs. And the processor time of an input is compared with that of one of four times its size, the least of
+three runs each: it may take seven times as long, where linear work takes four to five and quadratic sixteen. A comparison
+that fails is made again. It ends with status 1 at the first run that takes more, and 2 on wrong use, or where a program
+is missing.
 """
 from __future__ import annotations
 
@@ -14,9 +15,10 @@ import os
 import subprocess
 import sys
 from collections.abc import Callable
+from pathlib import Path
 from typing import Any, NamedTuple
 
-from checking import TOP, Words, answer, bytes_of, check_ended, fail, main, passed
+from checking import LIVE, TOP, Words, answer, bytes_of, check_ended, fail, live_of, main, passed
 
 MIB = 2**20
 PEAK = [sys.executable, "-IS", str(TOP / "tests/checks/peak.py")]
@@ -86,6 +88,11 @@ def reads(count: int) -> list[str]:
     return ["vmatrace 1", *made, *["0 maps"] * count]
 
 
+def spaces(count: int) -> list[str]:
+    """Address spaces of a session, each for as many areas as there may be."""
+    return ["vmatrace 1", f"0 mmap {place(0):#x} 4096 PROT_READ {ANONYMOUS} -1 0", "new"] * count
+
+
 def maps(count: int) -> list[str]:
     return [f"{place(area):08x}-{place(area) + 4096:08x} r--p 00000000 00:00 0 " for area in range(count)]
 
@@ -139,7 +146,14 @@ MEMORY: list[tuple[str, list[str], Input, tuple[Size, ...]]] = [
     ("a script", ["steps"], given(script), (Size(2_500, 8, 8), Size(9_996, 9, 9))),
 ]
 
-# the same, with the smaller of the two sizes
+# what makes the input of a session, and the same
+SESSIONS: list[tuple[str, Input, tuple[Size, ...]]] = [
+    ("calls of a session", given(calls), (Size(200_000, 54, 23), Size(800_000, 127, 83))),
+    ("reads of many areas in a session", given(reads), (Size(16, 43, 22), Size(64, 43, 22))),
+    ("spaces of a session", given(spaces), (Size(1, 30, 6), Size(1_000, 30, 6))),
+]
+
+# the same as of memory, with the smaller of the two sizes
 TIME: list[tuple[str, list[str], Input, int]] = [
     ("calls", ["serial"], given(calls), 100_000),
     ("faults", ["serial"], given(faults), 100_000),
@@ -196,12 +210,20 @@ def check_time(program: str, name: str, words: list[str], made: Input, count: in
 
 
 def check(options: argparse.Namespace) -> None:
+    live = live_of(options.live)
     for name, words, made, sizes in MEMORY:
         for size in sizes:
             check_memory(options.program, name, words, made(options.program, size.parts), size)
+    for name, made, sizes in SESSIONS:
+        for size in sizes:
+            check_memory(live, name, [], made(options.program, size.parts), size)
     for name, words, made, count in TIME:
         check_time(options.program, name, words, made, count)
 
 
+def arguments(parser: argparse.ArgumentParser) -> None:
+    parser.add_argument("--live", type=Path, default=LIVE, help="the other program (crates/vma_live/out/vma_live)")
+
+
 if __name__ == "__main__":
-    main(check)
+    main(check, arguments)

@@ -26,13 +26,12 @@ from collections.abc import Iterator
 from contextlib import contextmanager, suppress
 from pathlib import Path
 
-from checking import TOP, WAIT, answer, bytes_of, check_ended, compare, fail, main, passed, skipped
+from checking import LIVE, TOP, WAIT, answer, bytes_of, check_ended, compare, fail, live_of, main, passed, skipped
 from vmatools import conformance
 from vmatools.conformance import Verdict
 from vmatools.generator import PROFILES, Generator
 
 VMA = [sys.executable, str(TOP / "tools/vma")]
-LIVE = TOP / "crates/vma_live/out/vma_live"
 LINES = 10_000
 OPERATIONS = 400  # of a trace
 SPACES = 1_000_000
@@ -354,9 +353,7 @@ def check_comparison(program: str, live: str) -> None:
 
 
 def check(options: argparse.Namespace) -> None:
-    live = str(options.live.resolve())
-    if not os.access(live, os.X_OK):
-        fail("the program", f"{live} is missing; `(cd crates/vma_live && rt run)` proves and builds it")
+    live = live_of(options.live)
     check_lines(options.program, live)
     check_shown(live)
     check_late_reader(live)
