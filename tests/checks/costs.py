@@ -135,8 +135,8 @@ class Size(NamedTuple):
 # the words, what makes the input, and its sizes
 MEMORY: list[tuple[str, list[str], Input, tuple[Size, ...]]] = [
     ("a header alone", ["serial"], given(calls), (Size(0, 80, 52),)),
-    ("calls", ["serial"], given(calls), (Size(200_000, 150, 84), Size(800_000, 400, 222))),
-    ("faults", ["serial"], given(faults), (Size(200_000, 150, 76), Size(800_000, 400, 196))),
+    ("calls", ["serial"], given(calls), (Size(200_000, 150, 84), Size(800_000, 345, 222))),
+    ("faults", ["serial"], given(faults), (Size(200_000, 150, 76), Size(800_000, 345, 196))),
     ("areas that come and leave", ["serial"], given(leaving), (Size(32_000, 36, 22), Size(128_000, 120, 77))),
     ("reads of many areas", ["serial"], given(reads), (Size(16, 1000, 108), Size(64, 1000, 252))),
     ("a load", ["generate", "{}", "1"], nothing, (Size(100_000, 115, 65), Size(400_000, 225, 153))),
