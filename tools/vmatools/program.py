@@ -22,7 +22,7 @@ VARIABLE = "DILTZEKUN"
 ON_PATH = "diltzekun"
 MOST_OUTPUT = 64 * 1024 * 1024
 BUILDS = f"`(cd {TOP}/crates/vma_main && rt run -- serial < ../../examples/readme.trace)` proves and builds it"
-LIVE_BUILDS = f"`(cd {TOP}/crates/vma_live && rt run < ../../examples/readme.trace)` proves and builds it"
+LIVE_BUILDS = f"`(cd {TOP}/crates/vma_live && rt run < /dev/null)` proves and builds it"
 
 
 @dataclass(frozen=True)

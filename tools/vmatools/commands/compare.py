@@ -198,8 +198,8 @@ def add_arguments(parser: argparse.ArgumentParser) -> None:
     how.add_argument(
         "--live",
         metavar="PATH",
-        help="diltzekun-live, whose sessions answer traces without threads and forks in the program's place (the one that is "
-        "where the program is found, but with --program none)",
+        help="diltzekun-live, which without --threads answers the traces that do not fork, in the program's place (by default "
+        "the one found where the program is; with --program, none)",
     )
     beside.add_arguments(parser)
     program.add_arguments(parser)
