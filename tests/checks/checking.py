@@ -74,7 +74,7 @@ def live_of(given: Path) -> str:
     """The path of diltzekun-live, or a failure that says how to build it."""
     live = str(given.resolve())
     if not os.access(live, os.X_OK):
-        fail("the program", f"{live} is missing; `(cd crates/vma_live && rt run)` proves and builds it")
+        fail("the program", f"{live} is missing; `(cd crates/vma_live && rt run < /dev/null)` proves and builds it")
     return live
 
 
