@@ -1,6 +1,7 @@
 //! Sessions worked by hand, over memory.
+ghost use Rattle.std.specs.Prelude.{None};
 
-use io_edge::{MemSink, MemSource};
+use io_edge::{Failed, GiveError, MemSink, MemSource, Sink, Source, SureSource};
 use live_session::{Status, converse};
 use std::alloc::Global;
 use std::process::Abort;
@@ -71,5 +72,64 @@ fn lines_are_answered_before_the_next_read(rt: HostRuntime) -> Result<(), Fail> 
     let (found, status) = given(rt.alloc(), input.as_bytes(), 1)?;
     assert_eq!(rt; status, Status::ReadFault);
     assert_eq!(rt; found.as_slice(), b"".as_slice());
+    Ok(())
+}
+
+/// A source that keeps the lengths of the longest and of the shortest piece that it was asked to fill.
+#[derive(Drop)]
+struct NotingSource {
+    inner: SureSource,
+    longest: usize,
+    shortest: usize,
+}
+
+impl Source for NotingSource {
+    ghost seen = { λ _. record { left = None; faults = 0; just_failed = None } };
+
+    fn take(&mut self, into: &mut [u8]) -> Result<usize, Failed> {
+        self.longest = self.longest.max(into.len());
+        self.shortest = self.shortest.min(into.len());
+        self.inner.take(into)
+    }
+}
+
+/// A sink that takes what it is given, and keeps how long each piece was.
+#[derive(Drop)]
+struct NotingSink {
+    bytes: Vec<u8>,
+    pieces: Vec<usize>,
+}
+
+impl Sink for NotingSink {
+    ghost seen = { λ _. record { written = None; faults = 0; just_failed = None } };
+
+    fn give(&mut self, piece: &[u8]) -> Result<usize, GiveError> {
+        self.pieces.extend_from_slice(&[piece.len()])?;
+        self.bytes.extend_from_slice(piece)?;
+        Ok(piece.len())
+    }
+}
+
+/// The answers to the lines of one read are given at one call, and each read asks for 8,192 bytes.
+#[test]
+fn answers_to_a_read_are_given_together(rt: HostRuntime) -> Result<(), Fail> {
+    let mut input = Vec::from_slice(rt.alloc(), b"vmatrace 1\n")?;
+    for _line in 0..100 {
+        input.extend_from_slice(b"query 0\n")?;
+    }
+    let mut source = NotingSource {
+        inner: SureSource::new(input),
+        longest: 0,
+        shortest: usize::MAX,
+    };
+    let mut sink = NotingSink {
+        bytes: Vec::new(rt.alloc()),
+        pieces: Vec::new(rt.alloc()),
+    };
+    let status = converse(rt.alloc(), &mut source, &mut sink);
+    assert_eq!(rt; status, Status::Done);
+    assert_eq!(rt; (source.shortest, source.longest), (8_192, 8_192));
+    assert_eq!(rt; sink.pieces.as_slice(), [500, 7].as_slice());
+    assert!(rt; sink.bytes.as_slice().ends_with(b"maps 0\n"));
     Ok(())
 }
