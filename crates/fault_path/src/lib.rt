@@ -14,3 +14,6 @@ pub use held::Held;
 pub use notes::Note;
 pub use pass::{Pass, Rest, Unlocked};
 pub use view::FaultView;
+
+#[cfg(test)]
+mod tests;

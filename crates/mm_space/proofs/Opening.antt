@@ -56,7 +56,7 @@ pub ready : (name : SpaceId) (passes : List PassView) (viewed : ViewedTable) (st
     → viewed ≡ viewed_of name → state.table ≡ name.table → state.nodes ≡ name.nodes → state.config ≡ name.config → state.journal ≡ name.before
     → AreStrangers name.before → length name.operations ≤ 64
     → state.room ≡ length name.before + sum name.operations + 1 → length name.before + sum name.operations ≤ 16777216
-    → AreOpened name passes → logs ≡ 0 → length name.operations ≤ reserved → CanBeOpened viewed state passes logs reserved
+    → AreOpened name passes → logs ≡ 0 → reserved ≡ length name.operations → CanBeOpened viewed state passes logs reserved
 ready name passes viewed state logs reserved viewed_is table nodes config journal strangers callers room few opened empty reserve =
     let same : operations_of passes ≡ name.operations = operations_are _ _ _ opened.passes_are in
     let count = ap (λ (j : List Entry). length j) journal in
@@ -72,7 +72,7 @@ ready name passes viewed state logs reserved viewed_is table nodes config journa
       few = omega (arith, few, count, total);
       room = omega (arith, room, count, total);
       empty = empty;
-      reserve = subst (λ n. n ≤ reserved) (sym opened.passes_are.all) reserve;
+      reserve = reserve ∙ sym opened.passes_are.all;
     }
 
 -- fresh passes have seen nothing

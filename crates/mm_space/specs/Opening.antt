@@ -56,4 +56,4 @@ pub record CanBeOpened (viewed : ViewedTable) (state : StateView) (passes : List
   pub few : length state.journal + sum (operations_of passes) ≤ 16777216
   pub room : state.room ≡ length state.journal + sum (operations_of passes) + 1
   pub empty : logs ≡ 0
-  pub reserve : length passes ≤ reserved
+  pub reserve : reserved ≡ length passes

@@ -62,7 +62,7 @@ pub struct Space<N: SpaceName> {
     logs: Vec<Vec<Seen>>,
     ghost viewed: { IsViewOf N.name view },
     ghost empty: { vec_len logs ≡ 0 },
-    ghost room: { length N.name.operations ≤ vec_capacity logs },
+    ghost room: { vec_capacity logs ≡ length N.name.operations },
 }
 
 impl<N: SpaceName> Space<N> {

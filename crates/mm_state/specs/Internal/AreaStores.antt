@@ -204,7 +204,7 @@ pub record KeepsTree (store : AreaStore) : Type 0 where
   pub limit : store.areas.tree.limit ≡ page_of (config_of store.table).limit
   pub leaving : All (λ leaving. leaving.tree ≤ store.areas.tree.number) store.slots.left
   pub moved : store.moved.items ≡ []
-  pub spare : (config_of store.table).areas ≤ vec_capacity store.moved
+  pub spare : vec_capacity store.moved ≡ (config_of store.table).areas
 
 -- The tree is prepared, as many slots are free as some changes need, and nothing else changed. The pin of each reader was looked at in
 -- one scan or more, and in one alone where as many rows and slots were free already.

@@ -1,11 +1,6 @@
 -- Trees that the tests publish.
 use Rattle.std.specs.Prelude.{ℕ, zero, suc, ◌≡◌, ◌+◌, ◌*◌, true, false, List, [], ◌∷◌, ◌++◌}
 use Rattle.maple_node.specs.Trees.{Pair}
-use Rattle.node_slots.specs.declared.seats.NodeTable.{NodeTable}
-use Rattle.node_slots.specs.declared.seats.NodeWriter.{NodeWriter}
-use Rattle.node_slots.specs.declared.tree.Tree.{Tree}
-use Rattle.node_slots.specs.Seats.{Writes, sight, writer_state, row_count}
-use Rattle.node_slots.specs.Built.{IsWriters}
 use Rattle.span_tree.specs.SpanTrees.{SpanView}
 
 -- a tree of at most 4 pairs and 1,000 pages, at rest, with this number and these pairs
@@ -36,12 +31,3 @@ pub record IsRow (tree : SpanView) (count : ℕ) : Type 0 where
   pub wide : IsWide tree
   pub roomy : tree.roomy ≡ true
   pub pairs_are : tree.pairs ≡ row_pairs count
-
--- The writer is of the table, which has 1,000 rows and as many slots, and shows this tree, or nothing was built yet. The present
--- tree has this number.
-pub record IsBench (nodes : NodeTable) (writer : NodeWriter) (tree : Tree) (published : ℕ) : Type 0 where
-  pub table : Writes writer nodes
-  pub shows : IsWriters writer tree
-  pub rows : row_count writer ≡ 1000
-  pub slots : (sight writer).size.slots ≡ 1000
-  pub number : (writer_state writer).tree.number ≡ published

@@ -1,0 +1,23 @@
+//! A tree that is one leaf.
+ghost use Rattle.std.specs.Prelude.{◌≡◌, ◌<◌};
+ghost use Rattle.node_slots.specs.Seats.{Writes, writer_state};
+ghost use Rattle.node_slots.specs.Internal.Leaves.{IsOneLeaf};
+
+use maple_node::Layout;
+use mm_types::{Page, Row, Slot};
+use node_slots::{NodeTable, NodeWriter};
+
+/// Publishes a tree that pairs each page below an end with slot 0, in place of tree 0. None where no row is free.
+pub(super) fn publish_leaf(table: &NodeTable, writer: &mut NodeWriter, end: Page) -> Option<Row>
+    requires table { Writes writer.old table.now }
+    requires alone { IsOneLeaf writer.old 0 }
+    requires number { (writer_state writer.old).tree.number ≡ 0 }
+    requires end { 0 < end.0 }
+{
+    let row = table.take_row(writer)?;
+    let words = Layout::<16>::leaf_words(&[(end.0, Some(Slot(0)))]);
+    table.fill(writer, row, &words);
+    table.leave(writer, Row(0));
+    table.publish(writer, row, 1);
+    Some(row)
+}
