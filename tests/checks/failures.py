@@ -1,12 +1,12 @@
 #!/usr/bin/env python3
-"""Has reads and writes of the program fail, at each place where they can, and compares all that it answers.
+"""Has reads and writes of the programs fail, at each place where they can, and compares all that they answer.
 
-PROGRAM is crates/vma_main/out/vma_main by default. The system takes so many bytes of an output, for each number below
-its length: the run has to end with status 5, `write fault` on standard error, and exactly these bytes given. Where it
-takes all, the run ends with status 0 and nothing on standard error. The system gives so many bytes of an input before
-a read fails, for each number up to its length: status 4, `read fault`, and nothing given. A read or a write that
-would have to wait is refused in the same way. It ends with status 1 at the first run that differs, and 2 on wrong
-use, or where the program is missing.
+PROGRAM is crates/vma_main/out/vma_main by default, and LIVE crates/vma_live/out/vma_live. The system takes so many bytes
+of an output, for each number below its length: the run has to end with status 5, `write fault` on standard error, and
+exactly these bytes given. Where it takes all, the run ends with status 0 and nothing on standard error. The system gives
+so many bytes of an input before a read fails, for each number up to its length: status 4, `read fault`, and nothing
+given, or of a session the answers to all whole lines before. A read or a write that would have to wait is refused in the
+same way. It ends with status 1 at the first run that differs, and 2 on wrong use, or where a program is missing.
 """
 from __future__ import annotations
 
@@ -17,9 +17,11 @@ import signal
 import socket
 import tempfile
 from collections.abc import Sequence
+from pathlib import Path
 from typing import Any
 
-from checking import TOP, answer, bytes_of, check_ended, compare, fail, limit, main, passed
+from checking import LIVE, TOP, answer, bytes_of, check_ended, compare, fail, limit, live_of, main, passed
+import session_model
 
 SECONDS = 10
 PIECE = 65_536  # the program gives so many bytes at a time
@@ -46,6 +48,10 @@ RUNS = [
     (["check"], b"vmatrace 1\n==\nmaps 0\n"),
     (["generate", "2", "1"], b""),
 ]
+SESSION = (
+    b"vmatrace 1\nlimit areas 8\n0 mmap 0x10000 16384 PROT_READ MAP_PRIVATE|MAP_ANONYMOUS|MAP_FIXED -1 0\n0 mapp\n1 maps\n"
+    b"query 0x11000\nnew\nvmatrace 1\n0 munmap 0x10000 4096\n"
+)
 
 
 def long_trace() -> bytes:
@@ -57,9 +63,13 @@ def long_trace() -> bytes:
     return bytes_of(["vmatrace 1", "limit areas 2500", *lines])
 
 
+def called(words: list[str]) -> str:
+    return " ".join(words) or "a session"
+
+
 def check_writes(program: str, words: list[str], text: bytes, some: list[int] | None = None) -> None:
     """Writes fail behind each of these places of the output, or behind each place of all."""
-    name = f"{' '.join(words)}, a write that fails"
+    name = f"{called(words)}, a write that fails"
     done, _ = answer(name, [program, *words], SECONDS, input=text)
     check_ended(name, done, 0)
     whole = done.stdout
@@ -85,7 +95,7 @@ def end_files_at(place: int) -> None:
 
 def check_reads(program: str, words: list[str], text: bytes) -> None:
     """Reads fail behind each place of the input: the other end of the socket is gone, and what was sent to it unread."""
-    name = f"{' '.join(words)}, a read that fails"
+    name = f"{called(words)}, a read that fails"
     for place in range(len(text) + 1):
         here, there = socket.socketpair()
         with here, there:
@@ -95,7 +105,8 @@ def check_reads(program: str, words: list[str], text: bytes) -> None:
             done, _ = answer(name, [program, *words], SECONDS, stdin=here)
         at = f"{name} behind {place} bytes"
         check_ended(at, done, 4, b"read fault\n")
-        compare(f"{at}, standard output", done.stdout, b"")
+        given = b"" if words else session_model.answers(text[:place], has_end=False)
+        compare(f"{at}, standard output", done.stdout, given)
     passed(f"{name} behind {len(text) + 1} places")
 
 
@@ -153,9 +164,16 @@ def check(options: argparse.Namespace) -> None:
     check_writes(
         program, ["serial"], long_trace(), [0, PIECE - 1, PIECE, PIECE + 1, 2 * PIECE - 1, 2 * PIECE, 2 * PIECE + 1]
     )
+    session = live_of(options.live)
+    check_writes(session, [], SESSION)
+    check_reads(session, [], SESSION)
     check_waits(program)
     check_devices(program)
 
 
+def add_arguments(parser: argparse.ArgumentParser) -> None:
+    parser.add_argument("--live", type=Path, default=LIVE, help="the other program (crates/vma_live/out/vma_live)")
+
+
 if __name__ == "__main__":
-    main(check)
+    main(check, add_arguments)

@@ -228,7 +228,7 @@ def drawn_line(draw: random.Random, low: int, high: int) -> bytes:
         *device,
         draw.choice([7, 7, 0, 2**64 - 1]),
     )
-    return front.ljust(73) + draw.choice(NAMES)
+    return front.ljust(72) + b" " + draw.choice(NAMES)
 
 
 def drawn(draw: random.Random) -> bytes:

@@ -7,7 +7,7 @@ from pathlib import Path
 
 TOP = Path(__file__).resolve().parents[2]
 sys.path.insert(0, str(TOP / "tools"))
-from vmatools import explanations, maps_texts, traces
+from vmatools import explanations, maps_texts, serial, traces
 
 HEAD = "vmatrace 1\n"
 MMAP = "0 mmap {} 4096 PROT_READ {} -1 0\n"
@@ -40,7 +40,7 @@ GOOD = "00010000-00011000 rw-p 00000000 00:00 0 \n"
 MAPS = {
     GOOD + "00011000-00012000 rw-p 00000000 00:00 0 \n": (2, "would be one with the area above it"),
     "00001000-00002000 rw-p 00000000 00:00 0 \n": (1, "begins below 0x10000"),
-    GOOD + "ffffffffff600000-ffffffffff601000 --xp 00000000 00:00 0".ljust(73 + 19) + "[vsyscall]\n": (2, "column 73"),
+    GOOD + "ffffffffff600000-ffffffffff601000 --xp 00000000 00:00 0".ljust(73 + 19) + "[vsyscall]\n": (2, "column 74"),
     "00010000-00011000 rw-s 00000000 00:00 0 \n": (1, "a shared area has the name of what it maps"),
     "00010000-00011000 rw-p 00000000 00:00 0\n": (1, "one space behind the inode"),
     "00010000-00011000 rw-p 0 0\n": (1, "no line of a maps text"),
@@ -83,6 +83,13 @@ class MapsTexts(unittest.TestCase):
         text = (GOOD + "00011000-00012000 r--p 00000000 00:00 0 \n").encode()
         trace = traces.read_trace(maps_texts.traced(maps_texts.rows_of(text)))
         self.assertEqual([line.word for line in trace.lines], ["mmap", "mmap"])
+
+    def test_a_name_behind_column_74(self) -> None:
+        front = f"7fffffff5000-7fffffff6000 r--p 7fffffffffffe000 08:01 {2**64 - 1} "
+        trace = traces.read_trace(maps_texts.traced(maps_texts.rows_of(f"{front} /n\n".encode())))
+        self.assertEqual(serial.serial_output(trace).splitlines()[-1], f"{front} /n")
+        with self.assertRaises(maps_texts.Refused):
+            maps_texts.traced(maps_texts.rows_of(f"{front}/n\n".encode()))
 
     def test_what_seems_one(self) -> None:
         self.assertTrue(maps_texts.seems_one(GOOD.encode()))

@@ -152,8 +152,8 @@ def form_reasons(row: Row) -> Iterator[str]:
     if row.name is None and row.perms.endswith(b"s"):
         yield "a shared area has the name of what it maps in an output, as shared memory has /dev/zero (deleted)"
     front += b"%08x %02x:%02x %d " % (row.offset, row.major, row.minor, row.inode)
-    if row.name is not None and (row.raw != front.ljust(73) + row.name or row.name.startswith(b"\t")):
-        yield "an output has the name in column 73, and eight digits or more in an address"
+    if row.name is not None and (row.raw != front.ljust(72) + b" " + row.name or row.name.startswith(b"\t")):
+        yield "an output has the name in column 74, behind two spaces at least, and eight digits or more in an address"
 
 
 def place_reasons(row: Row) -> Iterator[str]:

@@ -470,7 +470,7 @@ class Space:
         else:
             major, minor, inode, name = 0, 0, 0, "[heap]" if area.heap else ""
         front = f"{permissions(area)} {area.offset * PAGE:08x} {major:02x}:{minor:02x} {inode} "
-        # A name begins at column 73, or after one more space where the line is that long already.
+        # A name begins in column 74, or after one more space where the line is longer than that already.
         return front + " " * max(73 - len(front), 1) + name if name else front
 
 

@@ -39,7 +39,7 @@ class Area(NamedTuple):
         """The line as /proc/PID/maps has it."""
         front = f"{self.lo:08x}-{self.hi:08x} {self.perms} {self.offset:08x} {self.major:02x}:{self.minor:02x} {self.inode} "
         name = self.name.replace("\n", "\\012")
-        return (front.ljust(73) if name else front) + name
+        return f"{front:<72} {name}" if name else front
 
     @property
     def is_shared_memory(self) -> bool:

@@ -1,0 +1,109 @@
+"""What diltzekun-live answers to an input.
+
+It is written from docs/diltzekun-live.1 alone, and has nothing of the program's code.
+"""
+from __future__ import annotations
+
+from vmatools import model, traces
+from vmatools.traces import BadLine, Line
+
+
+class Session:
+    """A session, which answers the lines of one address space after another."""
+
+    def __init__(self) -> None:
+        self.begin()
+
+    def begin(self) -> None:
+        """Before a header."""
+        self.reader = traces.Reader(b"")
+        self.number = 0  # of the last line; 0 until a header comes
+        self.opened: model.Space | None = None
+        self.version = 0
+
+    def space(self) -> model.Space:
+        return self.opened or model.Space(self.reader.trace)
+
+    def answer(self, raw: bytes, is_ended: bool = True) -> list[str]:
+        """The lines of the answer to a line."""
+        number, settings = self.number + 1, dict(self.reader.setting_lines)
+        try:
+            answer = self.answer_words(text_of(raw, is_ended), number)
+        except BadLine as bad:
+            self.reader.setting_lines = settings  # a bad line changes nothing but the number of the next
+            self.number += 1 if self.number else 0
+            bad.line = number
+            return [f"trace {bad}"]
+        return answer
+
+    def answer_words(self, text: str, number: int) -> list[str]:
+        words = traces.words_of(text)
+        if words == ["new"]:
+            answer = self.closing()
+            self.begin()
+            return answer
+        answer = self.answer_line(words, text, number)
+        self.number = number
+        return answer
+
+    def answer_line(self, words: list[str], text: str, number: int) -> list[str]:
+        is_operation = number > 1 and words and "0" <= words[0][0] <= "9"
+        if number > 1 and words[:1] == ["query"]:
+            return self.query(words[1:])
+        if is_operation and words[1:2] == ["fork"]:
+            raise BadLine("Child", "fork")
+        if is_operation and words[1:] == ["maps"]:
+            thread = traces.thread_of(words[0])
+            if thread is None:
+                raise BadLine("Thread", "thread")
+            return self.result(Line(number, thread, "maps", [], None))
+        self.reader.texts.number = number
+        line = self.reader.pass_line(text)
+        if line is None:
+            return []
+        self.opened = self.space()
+        return self.result(line)
+
+    def query(self, words: list[str]) -> list[str]:
+        if len(words) != 1:
+            raise BadLine("Arity", "query")
+        address = traces.number_of(words[0])
+        if address is None:
+            raise BadLine("Number", "query")
+        space = self.space()
+        place = model.first_above(space.areas, address // traces.PAGE)
+        return [space.maps_line(space.areas[place])] if place < len(space.areas) else ["none"]
+
+    def result(self, line: Line) -> list[str]:
+        result, is_call = model.answer(self.space(), line)
+        self.version += is_call
+        return [f"L{line.number} t{line.thread} v{self.version} = {result[0]}", *result[1:]]
+
+    def closing(self) -> list[str]:
+        return self.space().maps() if self.number else []
+
+
+def text_of(raw: bytes, is_ended: bool) -> str:
+    """The text of a line that passes the tests of its bytes."""
+    if len(raw) > traces.LIMITS["line"]:
+        raise BadLine("TooLong", "line")
+    if not is_ended:
+        raise BadLine("NoEnd", "end")
+    try:
+        return raw.decode()
+    except UnicodeDecodeError:
+        raise BadLine("Utf8", "bytes") from None
+
+
+def bytes_of(answer: list[str]) -> bytes:
+    return "".join(text + "\n" for text in answer).encode()
+
+
+def answers(data: bytes, has_end: bool = True) -> bytes:
+    """All that a session writes to an input, which ends, or whose next read fails."""
+    session = Session()
+    *lines, rest = data.split(b"\n")
+    written = b"".join(bytes_of(session.answer(line)) for line in lines)
+    if has_end and rest:
+        written += bytes_of(session.answer(rest, is_ended=False))
+    return written + bytes_of(session.closing()) if has_end else written
