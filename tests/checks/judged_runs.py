@@ -2,7 +2,7 @@
 """Runs `threads` on many small random traces, and has each output judged three times.
 
 N is 10,000 by default, S is 1, and FOLDER is judged-runs-failed. Trace K of a seed is always the same: 2 to 8
-threads, a few lines each, over few pages, with areas that grow, a heap, seals, and lines that name others. Every 50th
+threads, or T, a few lines each, over few pages, with areas that grow, a heap, seals, and lines that name others. Every 50th
 trace is run ten times, and it is told how many histories came of it: where there is more than one processor, of a
 third of these traces several have to come, as threads run at once. One judge is `vma judge`. Two are PROGRAM: its
 mode `check`, which has to name the same first wrong line; and its mode `serial` over the same lines in the order of
@@ -44,10 +44,11 @@ VERDICTS = ["SIGSEGV SEGV_MAPERR", "SIGSEGV SEGV_ACCERR", "SIGBUS BUS_ADRERR"]
 
 
 class Trace:
-    """Draws a trace."""
+    """Draws a trace, of so many threads if that is told."""
 
-    def __init__(self, seed: str) -> None:
+    def __init__(self, seed: str, threads: int | None = None) -> None:
         self.random = random.Random(seed)
+        self.threads = threads
         # Most pages of a trace lie close to each other: somewhere, or at a border.
         self.base = self.pick([0x100, 0x100, 0x100, 0xE, 0x2AAAAAAA9, 0x7FFFF7FF7, 0x7FFFFFFF6])
         self.files: list[int] = []
@@ -61,8 +62,9 @@ class Trace:
         return self.random.randrange(100) < percent
 
     def text(self) -> str:
-        threads = self.random.sample(range(64) if self.often(20) else range(8), self.random.randint(2, 8))
-        each = self.pick([2, 4, 8, 16, 30])
+        of, count = range(64) if self.often(20) else range(8), self.random.randint(2, 8)
+        threads = self.random.sample(range(64) if self.threads else of, self.threads or count)
+        each = self.pick([1, 2, 4] if self.threads else [2, 4, 8, 16, 30])
         settings = self.settings()
         operations = [(thread, self.operation()) for thread in threads for _ in range(self.random.randint(1, each))]
         self.random.shuffle(operations)
@@ -310,8 +312,8 @@ def judge_says(trace: str, output: str) -> tuple[int, str] | None:
 class Runs:
     """The runs of a seed, and what came of them."""
 
-    def __init__(self, program: Program, seed: int) -> None:
-        self.program, self.seed = program, seed
+    def __init__(self, program: Program, seed: int, threads: int | None = None) -> None:
+        self.program, self.seed, self.threads = program, seed, threads
         self.runs = self.lines = 0
         self.at = "", ""  # the trace and the output that are judged
         self.results: Counter[str] = Counter()
@@ -320,7 +322,7 @@ class Runs:
 
     def one(self, number: int) -> None:
         draw = random.Random(f"changes {self.seed} {number}")
-        trace = Trace(f"trace {self.seed} {number}").text()
+        trace = Trace(f"trace {self.seed} {number}", self.threads).text()
         self.at = trace, ""
         self.is_legal(trace, self.program.output("serial", trace), second=False)
         outputs: set[str] = set()
@@ -405,13 +407,14 @@ def keep(runs: Runs, why: Exception, folder: Path) -> None:
 def add_arguments(parser: argparse.ArgumentParser) -> None:
     parser.add_argument("--runs", type=int, default=10_000, metavar="N", help="how many runs (10,000)")
     parser.add_argument("--seed", type=int, default=1, metavar="S", help="the same seed gives the same traces (1)")
+    parser.add_argument("--threads", type=int, metavar="T", help="how many threads a trace has, up to 64 (2 to 8)")
     parser.add_argument(
         "--keep", type=Path, default="judged-runs-failed", metavar="FOLDER", help="where a run is left that is refused"
     )
 
 
 def check(options: argparse.Namespace) -> None:
-    runs, number = Runs(Program(options.program), options.seed), 0
+    runs, number = Runs(Program(options.program), options.seed, options.threads), 0
     # A trace that is run ten times counts as ten runs.
     while runs.runs < options.runs:
         try:
