@@ -79,6 +79,14 @@ class Maps(unittest.TestCase):
         self.assertEqual(done.returncode, 0, done.stderr)
         return "are these the areas of another program?" in done.stderr
 
+    def test_replies_that_are_no_numbers(self) -> None:
+        with tempfile.NamedTemporaryFile("w", suffix=".maps") as maps:
+            maps.write(self.AREA.format("/bin/a"))
+            maps.flush()
+            for reply in ("0x555555556000 x", "x", "0x"):
+                done = imported(f"{EXEC}7 brk(NULL) = {reply}\n7 {MMAP}\n", "--maps", maps.name)
+                self.assertEqual(done.returncode, 0, done.stderr)
+
     def test_a_name_with_the_ends_of_lines_of_other_systems(self) -> None:
         name = "/bin/a\x0b\x0c\x1c\x85\u2028"
         self.assertEqual([area.name for area in read_sections(self.AREA.format(name), "maps")[0].areas], [name])

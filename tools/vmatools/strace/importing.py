@@ -73,7 +73,7 @@ def known_files(processes: Processes, areas: list[Area]) -> dict[str, list[Openi
 def first_break(space: Space) -> int | None:
     for change in space.calls:
         if change.call.name == "brk":
-            return int(change.call.result, 16) if change.words and change.words[0] in ("NULL", "0") else None
+            return number_word(change.call.result) if change.words and change.words[0] in ("NULL", "0") else None
     return None
 
 

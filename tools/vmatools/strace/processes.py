@@ -136,7 +136,7 @@ class Processes:
             if made is None:
                 return False
             words, segment = made
-            space.attached[int(call.result, 16)] = segment.size or 0
+            space.attached[number_word(call.result) or 0] = segment.size or 0
             space.takes(Change(call._replace(name="mmap"), words, segment))
             return True
         address = number_word(call.text)

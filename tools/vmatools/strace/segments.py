@@ -44,7 +44,7 @@ class Segments:
         names += ["PROT_EXEC"] if flags & SHM_EXEC else []
         is_placed = words[1] in ("NULL", "0", "0x0")
         how = "MAP_SHARED" if is_placed else "MAP_SHARED|MAP_FIXED"
-        return ["NULL" if is_placed else call.result, str(segment.size), "|".join(names), how, "3", "0"], segment
+        return ["NULL" if is_placed else hex(place or 0), str(segment.size), "|".join(names), how, "3", "0"], segment
 
 
 def flags_of(word: str) -> int:
