@@ -1,5 +1,5 @@
 -- For `make`: the state and the passes are of one new table.
-use Rattle.std.proofs.Common.{◌≤◌, refl, [], ap, arith, rules}
+use Rattle.std.proofs.Common.{◌≤◌, refl, [], ap, arith}
 use Rattle.std.proofs.lemmas.List.Elements.{All-nil}
 use Rattle.mm_types.specs.declared.call.Entry.{Entry}
 use Rattle.mm_state.specs.States.{StateView}
@@ -26,4 +26,5 @@ invariant_of-result c =
     } in
     ready name _ _ _ _ _ viewed (ap (λ (s : StateView). s.table) made) (ap (λ (s : StateView). s.nodes) made)
     (ap (λ (s : StateView). s.config) made) (ap (λ (s : StateView). s.journal) made) (All-nil (λ (e : Entry). 64 ≤ e.caller)) c.requires.callers.1
-    (omega (arith, room, entries)) (omega (arith, few)) (opened_at_once name _ _ viewed refl c.in_ok-view.ensures.passes c.in_ok-view.ensures.unused) c.in_ok-logs.ensures.len (search rules)
+    (omega (arith, room, entries)) (omega (arith, few)) (opened_at_once name _ _ viewed refl c.in_ok-view.ensures.passes c.in_ok-view.ensures.unused) c.in_ok-logs.ensures.len
+    (omega (arith, c.in_ok-logs.ensures.exact))

@@ -1,5 +1,5 @@
 -- For `make_after`: the state has made the entries, and the passes have seen them.
-use Rattle.std.proofs.Common.{◌∙◌, sym, ap, arith, rules}
+use Rattle.std.proofs.Common.{◌∙◌, sym, ap, arith}
 use Rattle.std.proofs.lemmas.List.{take_at}
 use Rattle.mm_state.specs.States.{StateView}
 use Rattle.mm_space.specs.Names.{SpaceId, viewed_of}
@@ -52,7 +52,7 @@ invariant_of-result g c =
     (ap (λ (s : StateView). s.config) met ∙ config) (ap (λ (s : StateView). s.journal) met ∙ journal) c.requires.strangers c.requires.callers.1
     (omega (arith, room, total, few)) (omega (arith, few))
     (opened_as name _ _ _ (met_is name c.repeat.new.state _ table nodes config journal most) back c.meet_all.ensures.opened)
-    c.in_ok-logs.ensures.len (search rules)
+    c.in_ok-logs.ensures.len (omega (arith, c.in_ok-logs.ensures.exact))
 
 pub returns-clause-operations : goal.returns-clause-operations
 returns-clause-operations g c =

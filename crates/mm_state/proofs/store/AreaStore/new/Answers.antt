@@ -45,6 +45,6 @@ returns-clause-rest c =
         leaving = subst (λ (s : SlotSet). All (λ leaving. leaving.tree ≤ c.in_ok-new.field-0.tree.number) s.left) (sym made)
             (All-nil (λ (l : Leaving). l.tree ≤ c.in_ok-new.field-0.tree.number));
         moved = c.in_ok-with_capacity.ensures.items;
-        spare = omega (arith, areas, c.in_ok-with_capacity.ensures.capacity);
+        spare = omega (arith, areas, c.in_ok-with_capacity.ensures.exact);
       };
     }
