@@ -59,6 +59,13 @@ class Forms(unittest.TestCase):
             done = imported((LOGS / f"{name}.log").read_text(), "--hints", *more)
             self.assertEqual(done.stdout, (LOGS / f"{name}.trace").read_text())
 
+    def test_calls_of_another_form(self) -> None:
+        opened = ('openat(AT_FDCWD, "x") = 3', 'open("x") = 3', "ftruncate(3) = 0", "close_range(3) = 0")
+        calls = (*opened, "close(007) = 0", "clone() = 08")
+        stats = (f"fstat(3, {{st_dev=makedev({numbers}), st_ino=5}}) = 0" for numbers in ("08, 1", "x, y", "0x8, 0x1"))
+        done = imported(EXEC + "".join(f"7 {call}\n" for call in (*calls, *stats, MMAP)))
+        self.assertEqual((done.returncode, operations(done.stdout)), (0, OPERATIONS[:1]), done.stderr)
+
     def test_numbers_of_many_digits(self) -> None:
         calls = (f"mmap(NULL, {MANY}, PROT_READ, MAP_PRIVATE, 3, 0) = 0x7ffff7ffd000", f"munmap(0x1000, 1) = {MANY}")
         for call in (*calls, f"close_range({MANY}, {MANY}, 0) = 0", f'openat({MANY}, "x", O_RDONLY) = {MANY}'):

@@ -54,12 +54,17 @@ DESCRIPTOR = re.compile(
 )
 
 
+def number_in(digits: str) -> int:
+    """The number of these digits, which are hexadecimal behind `0x`, and else decimal, whatever zeros are in front."""
+    return int(digits, 16 if digits.startswith("0x") else 10)
+
+
 def descriptor_of(word: str) -> tuple[int | None, str | None]:
     """A descriptor's number, and its name where -y or -yy wrote one."""
     found = DESCRIPTOR.match(word)
     if found is None:
         return None, None
-    number = int(found[1], 0)
+    number = number_in(found[1])
     if found[1].startswith("0x") and number >= 2**31:  # as -e raw=all writes -1
         number = (number & 0xFFFFFFFF) - 2**32
     name = unescaped(found[2]) + (" (deleted)" if found[3] else "") if found[2] is not None else None
@@ -125,7 +130,7 @@ def opening_of(name: str, words: list[str]) -> Opening:
 
 def number_word(word: str) -> int | None:
     found = re.fullmatch("0x[0-9a-f]{1,16}|[0-9]{1,18}", word.split(" ")[0])
-    return int(found[0], 0) if found else None
+    return number_in(found[0]) if found else None
 
 
 def follow_descriptor(call: Call, files: Descriptors) -> None:
@@ -138,7 +143,7 @@ def follow_descriptor(call: Call, files: Descriptors) -> None:
     if name not in FOLLOWED:
         return
     words = split_arguments(call.text)
-    if not words:
+    if len(words) < FEWEST_WORDS.get(name, 1):
         return
     if name in OPENS:
         files.opened(call.result, opening_of(name, words))
@@ -160,6 +165,7 @@ def follow_descriptor(call: Call, files: Descriptors) -> None:
         learn_from_stat(files.at(words[0]), call.text)
 
 
+FEWEST_WORDS = {"open": 2, "openat": 3, "openat2": 3, "close_range": 2, "ftruncate": 2}
 FOLLOWED = OPENS | COPIES | {"fcntl", "close", "close_range", "ftruncate", "fstat", "fstat64", "newfstatat", "statx"}
 
 
@@ -175,7 +181,8 @@ def close_range(words: list[str], files: Descriptors) -> None:
 
 
 SIZE = re.compile(r"\bstx?_size=([0-9]{1,18})\b")
-DEVICE = re.compile(r"\bst_dev=makedev\((\w+), (\w+)\)|stx_dev_major=(\w+), stx_dev_minor=(\w+)")
+NUMBER = "(0x[0-9a-f]+|[0-9]+)"
+DEVICE = re.compile(rf"\bst_dev=makedev\({NUMBER}, {NUMBER}\)|stx_dev_major={NUMBER}, stx_dev_minor={NUMBER}\b")
 INODE = re.compile(r"\bstx?_ino=(\d+)")
 
 
@@ -187,5 +194,5 @@ def learn_from_stat(opening: Opening | None, text: str) -> None:
     if size:
         opening.learns_size(int(size[1]), "log")
     if device and inode:
-        major, minor = (int(word, 0) for word in device.groups() if word is not None)
+        major, minor = (number_in(word) for word in device.groups() if word is not None)
         opening.learns_identity((major, minor, int(inode[1])), "log")

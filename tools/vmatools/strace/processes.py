@@ -9,7 +9,7 @@ from typing import NamedTuple
 
 from ..console import Failure
 from .areas import Area
-from .files import Descriptors, Opening, follow_descriptor, number_word, quoted
+from .files import Descriptors, Opening, follow_descriptor, number_in, number_word, quoted
 from .log import FORKS, Call, Log, split_arguments
 from .segments import CALLS as OF_SEGMENTS, Segments
 
@@ -150,7 +150,7 @@ class Processes:
         found = CHILD.match(call.result)
         if not found:
             return
-        child, bits = int(found[0], 0), clone_bits(call)
+        child, bits = number_in(found[0]), clone_bits(call)
         parent, files = self.space_of[call.pid], self.files_of[call.pid]
         is_thread = bits & CLONE_THREAD
         self.leader_of[child] = self.leader_of.get(call.pid, call.pid) if is_thread else child
@@ -208,7 +208,7 @@ def clone_bits(call: Call) -> int:
     number = CLONE_BITS.search(call.text)
     if number is None and call.name == "clone":  # -e raw=all: the first word
         number = re.match("(0x[0-9a-f]+)", call.text)
-    return bits | (int(number[1], 0) if number else 0)
+    return bits | (number_in(number[1]) if number else 0)
 
 
 def is_anonymous(flags: str) -> bool:
