@@ -1,5 +1,5 @@
 /* Asks diltzekun-live what random calls give, makes each of them on this kernel too, and stops at the first difference.
- * cc -o client client.c && ./client path/to/vma_live [SEED] */
+ * cc -o client client.c && ./client path/to/diltzekun-live [SEED] */
 #include <errno.h>
 #include <stdio.h>
 #include <stdlib.h>
@@ -18,6 +18,7 @@ static void start(const char *program, FILE **ask, FILE **answer) {
         dup2(in[0], 0), dup2(out[1], 1);
         close(in[1]), close(out[0]);
         execl(program, program, (char *)NULL);
+        perror(program);
         _exit(127);
     }
     close(in[0]), close(out[1]);
@@ -46,7 +47,7 @@ static void call(char *line, char *result) {
 int main(int count, char **words) {
     char line[128], result[64], answer[256];
     FILE *ask, *answers;
-    if (count < 2) return 2;
+    if (count < 2) return fprintf(stderr, "usage: client path/to/diltzekun-live [SEED]\n"), 2;
     srand(count > 2 ? atoi(words[2]) : 1);
     start(words[1], &ask, &answers);
     fprintf(ask, "vmatrace 1\n");

@@ -1,5 +1,5 @@
 // Asks diltzekun-live what random calls give, makes each of them on this kernel too, and stops at the first difference.
-// go run client.go path/to/vma_live
+// go run client.go path/to/diltzekun-live
 package main
 
 import (
@@ -46,6 +46,10 @@ func call() (string, string) {
 }
 
 func main() {
+	if len(os.Args) != 2 {
+		fmt.Fprintln(os.Stderr, "usage: client path/to/diltzekun-live")
+		os.Exit(2)
+	}
 	oracle := exec.Command(os.Args[1])
 	ask, _ := oracle.StdinPipe()
 	answers, _ := oracle.StdoutPipe()

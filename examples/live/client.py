@@ -1,7 +1,7 @@
 #!/usr/bin/env python3
 """Asks diltzekun-live what random calls give, makes each of them on this kernel too, and stops at the first difference.
 
-Example: examples/live/client.py path/to/vma_live [SEED]
+Example: examples/live/client.py crates/vma_live/out/vma_live [SEED]
 """
 import ctypes
 import errno
@@ -37,9 +37,21 @@ def call() -> tuple[str, str]:
     return f"0 mprotect {at:#x} {size} PROT_NONE", reply(libc.mprotect(at, size, 0))
 
 
-def main() -> int:
-    random.seed(int(sys.argv[2]) if len(sys.argv) > 2 else 1)
-    with subprocess.Popen(sys.argv[1], stdin=subprocess.PIPE, stdout=subprocess.PIPE, text=True, bufsize=1) as oracle:
+def main(words: list[str]) -> int:
+    if len(words) not in (1, 2) or not all(word.isdigit() for word in words[1:]):
+        print("usage: client.py path/to/diltzekun-live [SEED]", file=sys.stderr)
+        return 2
+    random.seed(int(words[1]) if len(words) > 1 else 1)
+    try:
+        return compare(words[0])
+    except OSError as error:
+        print(f"{words[0]}: {error.strerror}", file=sys.stderr)
+        return 2
+
+
+def compare(program: str) -> int:
+    """Makes all calls on both sides. The status is 1 if an answer differs."""
+    with subprocess.Popen(program, stdin=subprocess.PIPE, stdout=subprocess.PIPE, text=True, bufsize=1) as oracle:
         assert oracle.stdin and oracle.stdout
         oracle.stdin.write("vmatrace 1\n")
         for _ in range(CALLS):
@@ -55,4 +67,4 @@ def main() -> int:
 
 
 if __name__ == "__main__":
-    sys.exit(main())
+    sys.exit(main(sys.argv[1:]))

@@ -95,7 +95,7 @@ def smallest_traces(text: str) -> list[tuple[str, list[str]]]:
 def wrong_report(name: str, status: int, text: str, pattern: str) -> str | None:
     """What is wrong with a report, if something is."""
     found = smallest_traces(text)
-    if status != 1 or not re.search(r"^\d+ traces, [1-9]\d* differ$", text, re.MULTILINE):
+    if status != 1 or not re.search(r"^\d+ traces?, ([1-9]\d* differ|1 differs)$", text, re.MULTILINE):
         return f"{name} is not found: status {status}\n{text[-2000:]}"
     if not any(re.fullmatch(pattern, title) for title, _ in found):
         return f"{name} is found as something else than {pattern}:\n{text[-4000:]}"

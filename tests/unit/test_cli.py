@@ -1,6 +1,7 @@
 """The command `vma`: its subcommands, how it finds the program, and how it ends."""
 from __future__ import annotations
 
+import contextlib
 import os
 import re
 import signal
@@ -9,6 +10,7 @@ import sys
 import tempfile
 import time
 import unittest
+from functools import partial
 from pathlib import Path
 from typing import Any
 from unittest import mock
@@ -16,6 +18,7 @@ from unittest import mock
 TOP = Path(__file__).resolve().parents[2]
 sys.path.insert(0, str(TOP / "tools"))
 from vmatools import cli, console, program
+from vmatools.systems import batch
 
 VMA = str(TOP / "tools/vma")
 TRACE = str(TOP / "examples/readme.trace")
@@ -33,7 +36,7 @@ class Commands(unittest.TestCase):
                 parser, module = cli.parser_of(command)
                 self.assertTrue(module.SUMMARY)
                 self.assertIn(f"vma {command.name}", parser.format_usage())
-                self.assertRegex(parser.format_help(), rf"\nexample:\n +vma {command.name} ")
+                self.assertRegex(parser.format_help(), rf"\nexample:\n +tools/vma {command.name} ")
 
     def test_help_has_each_command_once(self) -> None:
         text = cli.whole_help()
@@ -45,6 +48,16 @@ class Commands(unittest.TestCase):
         self.assertEqual(cli.unknown("frm-strace"), "'frm-strace' is no command; did you mean import?")
         self.assertEqual(cli.unknown("xyzzy"), "'xyzzy' is no command; `vma --help` lists them")
         self.assertEqual(run("expalin").returncode, console.WRONG_USE)
+
+    def test_help_of_a_command(self) -> None:
+        self.assertEqual(run("help", "judge").stdout, run("judge", "--help").stdout)
+        self.assertEqual(run("help", "nosuch").returncode, console.WRONG_USE)
+
+    def test_wrong_use_is_one_line(self) -> None:
+        for words, status in ((("compare", "--nosuch"), console.WRONG_USE), (("record", "--color", "x", "true"), 125)):
+            done = run(*words)
+            self.assertEqual((done.returncode, done.stdout), (status, ""), words)
+            self.assertRegex(done.stderr, rf"^vma {words[0]}: [^\n]*; `vma {words[0]} --help` lists the words\n$")
 
     def test_old_names_are_there(self) -> None:
         for old in ("compare", "draw", "explain", "judge", "on-kernel", "kernel-rows", "record", "from-strace"):
@@ -72,6 +85,36 @@ class Program(unittest.TestCase):
             program.find("/no/program")
         self.assertEqual(caught.exception.status, console.WRONG_USE)
         self.assertIn("rt run", str(caught.exception))
+
+    def test_a_command_that_is_not_there(self) -> None:
+        with tempfile.TemporaryDirectory() as folder:
+            plain = os.path.join(folder, "plain")
+            Path(plain).write_text("maps 0\n")
+            for word, why in (
+                (f"{folder}/none", "is not there"),
+                ("no-such-program", "is not on the PATH"),
+                (folder, "is a directory"),
+                (plain, f"is not executable; `chmod \\+x {plain}` makes it so"),
+            ):
+                with self.assertRaisesRegex(console.Failure, f"^COMMAND {word} {why}$"):
+                    program.check_command([word])
+            with contextlib.chdir(folder), self.assertRaisesRegex(console.Failure, r"on the PATH; did you mean \./plain\?"):
+                program.check_command(["plain"])
+
+    def test_a_command_that_is_no_program(self) -> None:
+        with tempfile.TemporaryDirectory() as folder:
+            for text, why in (
+                ("print('maps 0')\n", "Exec format error; a script begins with `#!` and the path of its interpreter"),
+                ("#!/no/such/python\n", "the interpreter that it names is not there"),
+            ):
+                script = Path(folder, "adapter")
+                script.write_text(text)
+                script.chmod(0o755)
+                told = f"^{script} cannot be run: {why}$"
+                with self.assertRaisesRegex(console.Failure, told):
+                    program.run([script], b"", 5)
+                with self.assertRaisesRegex(console.Failure, told):
+                    batch.Adapter([str(script)]).begin()
 
 
 class Ends(unittest.TestCase):
@@ -150,6 +193,30 @@ class Ends(unittest.TestCase):
                     process.send_signal(signal.SIGINT)
                     _, message = process.communicate(timeout=300)
         self.assertEqual((process.returncode, message), (console.INTERRUPTED, b"vma explain: interrupted\n"))
+
+    def test_a_trace_that_is_given_as_a_word(self) -> None:
+        done = run("kernel", TRACE, stdin=subprocess.DEVNULL)
+        self.assertEqual(done.stderr, f"vma kernel: the trace comes on standard input: `tools/vma kernel < {TRACE}`\n")
+        self.assertEqual(done.returncode, console.WRONG_USE)
+
+    def test_an_input_that_is_closed(self) -> None:
+        done = run("kernel", preexec_fn=partial(os.close, 0))
+        self.assertEqual((done.returncode, done.stderr), (console.WRONG_USE, "vma kernel: standard input: it is closed\n"))
+
+    def test_a_system_that_is_not_installed(self) -> None:
+        path = {**os.environ, "PATH": "/no/such/folder"}
+        done = run("kernel", "--system", "gvisor", stdin=subprocess.DEVNULL, env=path)
+        self.assertEqual((done.returncode, done.stdout), (5, ""))
+        self.assertEqual(done.stderr, "vma kernel: gvisor is not installed (Debian: apt-get install runsc)\n")
+
+    def test_a_folder_that_is_a_file(self) -> None:
+        with tempfile.NamedTemporaryFile() as file:
+            done = run("emit", "--runs", "1", file.name)
+        self.assertEqual(done.stderr, f"vma emit: {file.name}: it is a file, and has to be a folder\n")
+        self.assertEqual(done.returncode, console.WRONG_USE)
+
+    def test_a_row_of_nearly_this_name(self) -> None:
+        self.assertIn("no row has the name limit-jion; did you mean limit-join?", run("rows", "--here", "limit-jion").stderr)
 
     def test_a_file_that_cannot_be_read(self) -> None:
         for path, why in (("/no/trace", "No such file or directory"), ("/", "Is a directory")):

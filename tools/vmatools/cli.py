@@ -59,13 +59,12 @@ OLD_NAMES = {"from-strace": "import", "kernel-rows": "rows", "on-kernel": "kerne
 
 
 class Parser(argparse.ArgumentParser):
-    """A parser that ends wrong use with the status of its command."""
+    """A parser that ends wrong use with one line, and with the status of its command."""
 
     wrong_use = console.WRONG_USE
 
     def error(self, message: str) -> NoReturn:
-        self.print_usage(sys.stderr)
-        self.exit(self.wrong_use, f"{self.prog}: {message}\n")
+        self.exit(self.wrong_use, f"{self.prog}: {message}; `{self.prog} --help` lists the words\n")
 
 
 def whole_help() -> str:
@@ -94,12 +93,14 @@ def parser_of(command: Command) -> tuple[Parser, ModuleType]:
         "--color", choices=console.WHEN, default="auto", metavar="WHEN", help="auto (on a terminal), always or never"
     )
     module.add_arguments(parser)
-    parser.epilog = "\n\n".join([*([parser.epilog] if parser.epilog else []), f"example:\n    vma {command.example}"])
+    parser.epilog = "\n\n".join([*([parser.epilog] if parser.epilog else []), f"example:\n    tools/vma {command.example}"])
     return parser, module
 
 
 def dispatch(words: list[str]) -> int:
     """Runs the subcommand that these words name, and returns its exit status."""
+    if words[:1] == ["help"] and words[1:]:
+        words = [words[1], "--help"]
     if not words or words[0] in ("-h", "--help", "help"):
         print(whole_help(), file=sys.stdout if words else sys.stderr)
         return console.DONE if words else console.WRONG_USE

@@ -112,6 +112,8 @@ def make_folder(path: str | os.PathLike[str]) -> None:
     """A folder for what is written, with those above it, if it isn't there."""
     try:
         os.makedirs(path, exist_ok=True)
+    except FileExistsError:
+        raise Failure(f"{os.fspath(path)}: it is a file, and has to be a folder") from None
     except OSError as error:
         raise WriteFailure(error, os.fspath(path)) if error.errno == errno.ENOSPC else Failure(reason(error, path)) from None
 

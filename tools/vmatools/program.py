@@ -2,6 +2,7 @@
 from __future__ import annotations
 
 import argparse
+import errno
 import os
 import selectors
 import shutil
@@ -105,15 +106,49 @@ def existing(place: str | os.PathLike[str], builds: str = BUILDS) -> str:
     raise console.Failure(f"the program {path} {missing}; {builds}")
 
 
+def check_command(command: Sequence[str]) -> None:
+    """Ends a tool whose COMMAND, the system under test, is not there or is not executable."""
+    word = command[0]
+    if shutil.which(word):
+        return
+    if os.path.isdir(word):
+        why = "is a directory"
+    elif not os.path.exists(word):
+        why = "is not there" if os.path.dirname(word) else "is not on the PATH"
+    elif not os.path.dirname(word):
+        why = f"is not on the PATH; did you mean ./{word}?"
+    else:
+        why = f"is not executable; `chmod +x {word}` makes it so"
+    raise console.Failure(f"COMMAND {console.printable(word)} {why}")
+
+
+def why_not_run(name: str | os.PathLike[str], error: OSError) -> str:
+    """Why a file that is executable was not started."""
+    why = error.strerror or str(error)
+    if error.errno == errno.ENOEXEC:
+        why += "; a script begins with `#!` and the path of its interpreter"
+    elif error.errno == errno.ENOENT and os.path.exists(name):
+        why = "the interpreter that it names is not there"
+    return f"{os.fspath(name)} cannot be run: {why}"
+
+
+def begin(command: Sequence[str | os.PathLike[str]], source: IO[bytes]) -> subprocess.Popen[bytes]:
+    """Starts a command in a session of its own, with a file as its standard input."""
+    try:
+        return subprocess.Popen(
+            command, stdin=source, stdout=subprocess.PIPE, stderr=subprocess.PIPE, start_new_session=True
+        )
+    except OSError as error:
+        raise console.Failure(why_not_run(command[0], error)) from None
+
+
 def run(command: Sequence[str | os.PathLike[str]], text: bytes, seconds: float) -> Ran:
     """Runs a command over a text on its standard input, for so many seconds at most."""
     end = time.monotonic() + seconds
     with tempfile.TemporaryFile() as source:
         source.write(text)
         source.seek(0)
-        with subprocess.Popen(
-            command, stdin=source, stdout=subprocess.PIPE, stderr=subprocess.PIPE, start_new_session=True
-        ) as process:
+        with begin(command, source) as process:
             RUNNING.add(process)
             output, message, fault = read_both(process, end)
             status = None

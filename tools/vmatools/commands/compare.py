@@ -27,7 +27,6 @@ import difflib
 import fnmatch
 import os
 import shlex
-import shutil
 import sys
 from contextlib import ExitStack
 from pathlib import Path
@@ -111,7 +110,7 @@ def add_traces(parser: argparse.ArgumentParser) -> None:
         help="these profiles in turn (all but `wide`)",
     )
     parser.add_argument(
-        "--threads", type=thread_count, default=0, metavar="N", help="traces of N threads, which COMMAND runs at once"
+        "--threads", type=thread_count, default=0, metavar="N", help="traces of N threads that race"
     )
     told = "\n".join(f"  {name:8} {profile.says}" for name, profile in generator.PROFILES.items())
     parser.epilog = f"profiles:\n{told}"
@@ -286,7 +285,9 @@ def write_report(stream: TextIO, findings: Findings, has_coverage: bool, stopped
     if stopped:
         print(f"stopped by {stopped}", file=stream)
     known_alone = f", {findings.known_alone} of them in known ways alone" if findings.known_alone else ""
-    print(f"{findings.traces} traces, {findings.differing} differ{known_alone}", file=stream)
+    traces = "1 trace" if findings.traces == 1 else f"{findings.traces} traces"
+    differ = "1 differs" if findings.differing == 1 else f"{findings.differing} differ"
+    print(f"{traces}, {differ}{known_alone}", file=stream)
 
 
 def status_of(findings: Findings, is_strict: bool, stopped: Optional[str]) -> int:
@@ -410,8 +411,7 @@ def run(options: argparse.Namespace) -> int:
         return try_mutants(options)
     beside.take_system(options)
     if not options.command:
-        raise console.Failure("COMMAND is missing: the system under test stands behind --")
+        raise console.Failure("COMMAND is missing: give the system under test after --")
     take_program(options)
-    if shutil.which(options.command[0]) is None:
-        raise console.Failure(f"COMMAND {options.command[0]} is not there or cannot be run")
+    program.check_command(options.command)
     return compare(options)

@@ -156,8 +156,8 @@ def all_results(cases: Sequence[Case], options: argparse.Namespace) -> list[Resu
 
 def take_own_kernel(options: argparse.Namespace) -> None:
     """`tools/vma kernel` answers many traces in one process, which saves it a start for each."""
-    program, *words = options.command
-    if not options.batch and words[:1] == ["kernel"] and Path(shutil.which(program) or program).resolve() == Path(VMA[1]):
+    first, *words = options.command
+    if not options.batch and words[:1] == ["kernel"] and Path(shutil.which(first) or first).resolve() == Path(VMA[1]):
         options.command, options.batch = [*options.command, "--batch"], True
 
 
@@ -212,9 +212,8 @@ def run(options: argparse.Namespace) -> int:
     take_live(options)
     take_system(options)
     if not options.command:
-        raise console.Failure("no COMMAND: give the system under test behind --")
-    if not shutil.which(options.command[0]):
-        raise console.Failure(f"{options.command[0]} cannot be run")
+        raise console.Failure("COMMAND is missing: give the system under test after --")
+    program.check_command(options.command)
     take_own_kernel(options)
     with contextlib.ExitStack() as stack:
         forms = open_forms(options, stack)

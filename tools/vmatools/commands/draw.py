@@ -6,7 +6,7 @@ it; its colour is what may be done there. Gaps are folded, and so are areas that
 changed is outlined, what it unmapped is dashed, and a fault points to its address. What OUTPUT says otherwise than the model in
 vmatools is marked.
 
-OUTPUT is what `vma_main serial` or `threads` wrote for TRACE, or another system in this form. Without it, the model answers the
+OUTPUT is what `diltzekun serial` or `threads` wrote for TRACE, or another system in this form. Without it, the model answers the
 lines in their order. TRACE and OUTPUT are files, and one of them may be - for standard input.
 
 Exit status: 0 where OUTPUT is legal, as `vma judge` says it, 1 where it is not (the page is written all the same), and 2 on wrong

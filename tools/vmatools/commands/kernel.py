@@ -47,7 +47,7 @@ from pathlib import Path
 from typing import BinaryIO
 
 from .. import console
-from ..systems import batch, known, machines
+from ..systems import batch, known, machines, measuring
 from ..systems.adapter import Adapter
 from ..systems.places import Refused
 from ..systems.words import address_of, window_of
@@ -90,6 +90,7 @@ def add_arguments(parser: argparse.ArgumentParser) -> None:
         "--seconds", metavar="N", type=seconds_of, help="gives a trace so long (60, in a window 5, in a machine 20)"
     )
     parser.add_argument("--batch", action="store_true", help="answers many traces, one after the other")
+    parser.add_argument("files", nargs="*", help=argparse.SUPPRESS)  # by mistake: a trace comes on standard input
 
 
 def system_of(options: argparse.Namespace) -> known.System:
@@ -119,12 +120,20 @@ def folder_of(name: str | None) -> Path | None:
 
 def run(options: argparse.Namespace) -> int:
     """Answers a trace, or many."""
-    adapter = Adapter(system_of(options), options.batch, folder_of(options.folder))
-    with contextlib.closing(adapter):
+    if options.files:
+        raise Refused(2, f"the trace comes on standard input: `tools/vma kernel < {console.printable(options.files[0])}`")
+    system = system_of(options)
+    packages = measuring.missing(system) if system.packages else None
+    if packages:
+        raise Refused(5, f"{system.name} is not installed (Debian: apt-get install {packages})")
+    adapter = Adapter(system, options.batch, folder_of(options.folder))
+    with contextlib.closing(adapter), console.open_input("-") as traces:
         if options.batch:
-            return serve(adapter, sys.stdin.buffer, sys.stdout.buffer)
+            return serve(adapter, traces, sys.stdout.buffer)
+        with console.reading("-"):
+            data = traces.read(LIMITS["bytes"] + 1)
         try:
-            output = adapter.answer(sys.stdin.buffer.read(LIMITS["bytes"] + 1))
+            output = adapter.answer(data)
         except BadLine as bad:
             raise Refused(3, f"trace {bad}") from None
         except OSError as error:

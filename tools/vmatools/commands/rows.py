@@ -13,6 +13,7 @@ from __future__ import annotations
 
 import argparse
 import contextlib
+import difflib
 import os
 import shutil
 
@@ -67,7 +68,9 @@ def run(options: argparse.Namespace) -> int:
     head, known = rows.read_rows()
     unknown = [name for name in options.names if name not in {row.name for row in known}]
     if unknown:
-        raise console.Failure(f"no row has the name {unknown[0]}; examples/kernel-rows.txt has them")
+        near = difflib.get_close_matches(unknown[0], [row.name for row in known], 1)
+        hint = f"did you mean {near[0]}?" if near else "examples/kernel-rows.txt has them"
+        raise console.Failure(f"no row has the name {console.printable(unknown[0])}; {hint}")
     chosen = [row for row in known if not options.names or row.name in options.names]
     kernel = None if options.here else rows.Kernel(options.system)
     with contextlib.closing(kernel) if kernel else contextlib.nullcontext():

@@ -79,7 +79,11 @@ def read_sections(text: str, path: str) -> list[Section]:
             continue
         area = area_of(line)
         if area is None:
-            raise Failure(f"{path}: line {place} is no line of /proc/PID/maps: {printable(line.strip(), 80)}")
+            raise Failure(
+                f"{path}: line {place} is no line of /proc/PID/maps: {printable(line.strip(), 80)}"
+                if text
+                else f"{path}: the file is empty"
+            )
         sections[-1].areas.append(area)
     if not sections[0].areas:
         del sections[0]

@@ -17,6 +17,8 @@ from collections.abc import Iterator, Sequence
 from dataclasses import dataclass
 from typing import IO
 
+from ..console import Failure
+from ..program import why_not_run
 from .running import end_group, ended, read_some, write_all
 
 MOST_OUTPUT = 64 << 20
@@ -64,10 +66,15 @@ class Adapter:
         return answer_of(data[:last], data[last:].decode("utf-8", "replace").split(maxsplit=3))
 
     def begin(self) -> subprocess.Popen[bytes]:
-        self.errors = tempfile.TemporaryFile()
-        self.process = subprocess.Popen(
-            self.command, stdin=subprocess.PIPE, stdout=subprocess.PIPE, stderr=self.errors, start_new_session=True
-        )
+        errors = tempfile.TemporaryFile()
+        try:
+            self.process = subprocess.Popen(
+                self.command, stdin=subprocess.PIPE, stdout=subprocess.PIPE, stderr=errors, start_new_session=True
+            )
+        except OSError as error:
+            errors.close()
+            raise Failure(why_not_run(self.command[0], error)) from None
+        self.errors = errors
         return self.process
 
     def said(self) -> str:

@@ -67,7 +67,7 @@ def leaves(line: Line, low: int, high: int) -> bool:
     return any(not low <= address < high or high < end <= PAST_ALL for address, end in ends)
 
 
-NOT_EMPTY = "it leaves the place to the system, which is not empty outside of the window"
+NOT_EMPTY = "it leaves the place to the system, which is not empty outside the window; give it one, as with MAP_FIXED"
 
 
 def finds_place(line: Line) -> bool:
