@@ -1,4 +1,4 @@
--- For `read_plain`: a good line adds a child exactly where it forks, as its words say.
+-- For `plain_trace`: a good line adds a child exactly where it forks, as its words say.
 use Rattle.std.proofs.Common.{◌≡◌, ℕ, zero, suc, ◌+◌, ◌-◌, ◌<◌, ◌≤◌, Bool, true, false, not, ◌&&◌, cond, nat_eq, nat_lt, if◌then◌else◌, List, [], ◌∷◌, ◌++◌, length, take, codes, bytes_eq, Option, Some, None, is_some, Result, Ok, Err, ok_or, IfOk, IfSome, refl, sym, ap, subst, ◌∙◌, inl, inr, arith}
 use Rattle.std.specs.Prelude.{◌/◌, option_to_list, IfErr}
 use Rattle.std.specs.Str.{byte}
@@ -98,7 +98,7 @@ op_named-forks name words = elim (cases_Bool (bytes_eq name (codes "fork"))) [
 ]
 
 -- whether the first of the words behind a thread is `fork`
-abbrev names_fork : List (List ℕ) → Bool
+abbrev pub names_fork : List (List ℕ) → Bool
 names_fork [] = false
 names_fork (name ∷ words) = bytes_eq name (codes "fork")
 
@@ -228,7 +228,7 @@ comment_is [] is = refl
 comment_is (c ∷ word) is = let hash : c ≡ byte "#" = eqb-true c (byte "#") is in rw hash refl
 
 -- below a first word that begins with a digit, or not
-are_fork_words-is : (first : List ℕ) (words : List (List ℕ)) (digit : Bool) → begins_with_digit first ≡ digit
+pub are_fork_words-is : (first : List ℕ) (words : List (List ℕ)) (digit : Bool) → begins_with_digit first ≡ digit
     → are_fork_words (first ∷ words) ≡ (digit && names_fork words)
 unfolding are_fork_words
 are_fork_words-is first [] true is = refl

@@ -1,4 +1,5 @@
 mod Children
+mod ForkWords
 mod Forked
 pub mod Fronts
 pub mod Inputs

@@ -69,6 +69,7 @@ impl<'a> Given<'a> {
         requires room { self.old.line + length self.old.rest.now < 2 ^ 64 - 1 }
         ensures ok { (text before : List ℕ) → HasRead text before self.old → OnOk result (HasRead text (before ++ line.now) self.new) }
         ensures bad { (text before : List ℕ) → HasRead text before self.old → IfErr result (IsBadAt text (before ++ line.now)) }
+        ensures stop { IfErr result (λ stop. stop ≡ Stop.Bad (self.old.line + 1)) }
         ensures shrinks { Shrinks self.old self.new }
         ensures shorter { OnOk result (length self.new.rest.now < length self.old.rest.now) }
         ensures later { OnOk result (self.old.line < self.new.line) }

@@ -1,7 +1,8 @@
 //! The trace and the text that the bytes of a check are.
-ghost use Rattle.std.specs.Prelude.{◌≡◌, ◌+◌, ◌≤◌, true, length, IfOk, IfSome, IsErr, IsErrOf, IsOk, Result};
+ghost use Rattle.std.specs.Prelude.{◌≡◌, ◌+◌, ◌≤◌, true, length, IfSome, IsErrOf, Result};
 ghost use Rattle.text_lexer.specs.BadLines.{bad_line};
 ghost use Rattle.text_lexer.specs.Reading.{IsErrorOf};
+ghost use Rattle.trace_reader.specs.Grammar.{trace_of};
 ghost use Rattle.trace_reader.specs.Reading.{GivesTrace};
 ghost use Rattle.text_lexer.specs.declared.error.BadLine.{BadLine};
 ghost use Rattle.trace_reader.specs.declared.trace.Trace.{Trace};
@@ -10,7 +11,6 @@ ghost use Rattle.output_check.specs.Input.{after_trace, input_of, line_at, mark_
 ghost use Rattle.output_check.specs.Reading.{GivesInput};
 
 use crate::forks::first_fork;
-use mm_types::NoMemory;
 use std::alloc::Global;
 use text_lexer::{BadLine, Cause, ReadError};
 use trace_reader::{Trace, read};
@@ -34,8 +34,11 @@ pub(crate) fn read_input(alloc: Global, bytes: &[u8]) -> Result<Input<'_>, ReadE
     ensures { GivesInput result (input_of bytes.now) }
 {
     match mark_of(bytes) {
-        Some(place) => with_given(read_plain(alloc, &bytes[..place]), bytes, place),
-        None => Err(without_mark(read_plain(alloc, bytes), bytes)),
+        Some(place) => {
+            let front = &bytes[..place];
+            with_given(plain_trace(read(alloc, front), front), bytes, place)
+        }
+        None => Err(without_mark(plain_trace(read(alloc, bytes), bytes), bytes)),
     }
 }
 
@@ -98,24 +101,20 @@ fn bad_at(bytes: &[u8], offset: usize, cause: Cause) -> ReadError
     })
 }
 
-/// The trace that bytes are where no line forks, or the first bad line and its cause.
-fn read_plain(alloc: Global, bytes: &[u8]) -> Result<Trace, ReadError>
-    ensures { GivesTrace result (plain_trace_of bytes.now) }
+/// What was read of bytes as a trace, where no line of them may fork.
+fn plain_trace(trace: Result<Trace, ReadError>, bytes: &[u8]) -> Result<Trace, ReadError>
+    ensures trace { GivesTrace trace (trace_of bytes.now) → GivesTrace result (plain_trace_of bytes.now) }
+    ensures memory { IsErrOf result ReadError.NoMemory → IsErrOf trace ReadError.NoMemory }
 {
-    let fork = first_fork(alloc, bytes);
-    without_forks(read(alloc, bytes), fork)
+    without_forks(trace, first_fork(bytes))
 }
 
 /// What was read, where the first line that forks has this number: it is the first bad line unless one comes before it.
-fn without_forks(
-    read: Result<Trace, ReadError>,
-    fork: Result<Option<u64>, NoMemory>,
-) -> Result<Trace, ReadError>
-    ensures trace { IfOk fork (λ fork. (all : Result Trace BadLine) → GivesTrace read all → GivesTrace result (without_forks fork all)) }
-    ensures unknown { IsErr fork → IsErrOf result ReadError.NoMemory }
-    ensures memory { IsOk fork → IsErrOf result ReadError.NoMemory → IsErrOf read ReadError.NoMemory }
+fn without_forks(read: Result<Trace, ReadError>, fork: Option<u64>) -> Result<Trace, ReadError>
+    ensures trace { (all : Result Trace BadLine) → GivesTrace read all → GivesTrace result (without_forks fork all) }
+    ensures memory { IsErrOf result ReadError.NoMemory → IsErrOf read ReadError.NoMemory }
 {
-    let Some(line) = fork? else {
+    let Some(line) = fork else {
         return read;
     };
     match read {
