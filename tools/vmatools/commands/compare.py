@@ -1,24 +1,20 @@
-"""Compares a system of yours with the program, on random traces, and shows the smallest trace of each kind of
-difference.
+"""Compares your system with the program on random traces, and shows the smallest trace of each kind of difference.
 
-COMMAND is the system behind an adapter: it reads a trace on standard input and writes on standard output what `serial`
-writes for it, both in the form of docs/TRACE.md. docs/COMPARE.md shows an adapter, a session, and a run in a CI.
+COMMAND is your system's adapter. It reads a trace on standard input, makes its calls, and writes the results in the form of
+`diltzekun serial`. docs/TRACE.md has both forms; docs/COMPARE.md shows an adapter, a session, and a run in a CI.
 
-Differences are of one kind where they are of the same operation and the same pair of answers. Lists are of one kind
-where the same operation leaves them different in the same way. A COMMAND that ends by a signal or with a status other than
-0, that does not end in --seconds, or that writes more than 64 MiB is of a kind that says so. So is an output that is of
-another form (`a line of no known form`), that ends early, or that goes on. All differences of a trace are found: the line
-of each is taken out, and the rest is run again. Of each kind the shortest trace is made as small as it can be while it
-differs in the same way.
+Two differences are of one kind if the same operation has the same pair of answers, or leaves lists that differ in the same
+way. There are kinds for a COMMAND that ends by a signal or with a status other than 0, doesn't end within --seconds, or
+writes more than 64 MiB, and for an output with `a line of no known form`, one that ends early, and one that goes on. When a
+difference is found, its line is taken out and the rest of the trace runs again, so all differences of a trace are found. The
+shortest trace of each kind is then made as small as it can be while it still differs in the same way.
 
-A difference that is set aside, by --ignore or by --kernel, is counted. RULE is `list` (the lists at the end are not
-compared), `errors` (an error of the program and another one of yours), or a kind as it is printed,
-OPERATION/PROGRAM/YOURS, where `*` stands for anything. A --baseline has such kinds
-too, each with a reason; those are counted, and only others fail.
+What --ignore or --kernel sets aside is counted. RULE is `list` (don't compare the lists at the end), `errors` (both sides
+refuse, with different errors), or a kind as it is printed, OPERATION/PROGRAM/YOURS, where `*` stands for anything. A
+--baseline has such kinds, each with a reason: they are counted too, and only others make the run fail.
 
-Exit status: 0 where nothing differs that is not known, 1 where something does (with --strict also where a known
-difference does not come), 2 on wrong use, or where the program or COMMAND cannot be run; 130 and 143 where a signal
-ended the run, after its report.
+Exit status: 0 if nothing differs but what is known, 1 if something does (with --strict also if a known difference doesn't
+occur), 2 on wrong use, or if the program or COMMAND can't be run; 130 and 143 if a signal ended the run, after its report.
 """
 from __future__ import annotations
 

@@ -1,20 +1,18 @@
-"""Measures a system case by case: runs the conformance suite against it and prints a table by group, and each case
-that isn't as it should be.
+"""Measures a system case by case: runs the conformance suite on it, and prints a table by group and each case that fails.
 
-COMMAND is the system behind an adapter, as for `vma compare`: it reads a trace on standard input and writes what
-the system answers. Each case of suite/ is a trace of a few lines with the output that is right. A case with threads
-has several. A case on which COMMAND crashes or does not end is one failed case; one that it ends with status 4 is left
-out: the system can't run it.
+COMMAND is the system's adapter, as for `vma compare`: it reads a trace on standard input and writes what the system
+answers. Each case of suite/ is a trace of a few lines with the right output, or with several if threads race. If COMMAND
+crashes or doesn't end, that case fails, and the others go on. A case that COMMAND ends with status 4 is left out: the
+system can't run it.
 
-    vma conform -- ./my-adapter
-    vma conform --only mremap --only brk/raise -- ./my-adapter
-    vma conform --as linux --junit report.xml -- tools/vma kernel
-    vma conform --as linux --system native
-    vma conform --system qemu-x86_64
-    vma conform --live
+    tools/vma conform -- ./my-adapter
+    tools/vma conform --only mremap --only brk/raise -- ./my-adapter
+    tools/vma conform --as linux --junit report.xml -- tools/vma kernel
+    tools/vma conform --as linux --system native
+    tools/vma conform --system qemu-x86_64
+    tools/vma conform --live
 
-Exit status: 0 where all cases pass, 1 where one doesn't, 2 on wrong use, or where the suite or COMMAND can't be
-read or run.
+Exit status: 0 if all cases pass, 1 if one doesn't, 2 on wrong use, or if the suite or COMMAND can't be read or run.
 """
 from __future__ import annotations
 
@@ -44,7 +42,7 @@ from ..traces import read_trace
 from ..words import count, time_limit
 
 VMA = (sys.executable, str(TOP / "tools/vma"))
-SUMMARY = "measure a system case by case, by the conformance suite"
+SUMMARY = "measure a system case by case, with the conformance suite"
 FORMS: dict[str, Callable[[Sequence[Result]], Iterator[str]]] = {
     "tap": conformance.as_tap,
     "json": conformance.as_json,

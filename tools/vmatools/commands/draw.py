@@ -1,16 +1,15 @@
-"""Draws a run: a trace and its output, as a page for any browser, or as a picture.
+"""Draws a trace and its output, as a page for any browser or as a picture.
 
-Time goes down, by version. On the left stand the calls, faults and reads of the list, each in the lane of its thread; on the
-right the areas of the list, by address from left to right. A box is an area, from the version that makes it to the one that ends
-it; its colour is what may be done there. Gaps are folded, and so are areas that a run of versions leaves alone. What a call
-changed is outlined, what it unmapped is dashed, and a fault points to its address. What OUTPUT says otherwise than the model in
-vmatools is marked.
+Time goes down, by version. On the left is a lane for each thread, with its calls, faults and reads; on the right are the VMAs
+by address. A box goes from the version that made a VMA to the one that ended it. Its colour is the protection. Gaps are
+folded, and so are VMAs far from any change. What a call changed is outlined, what it unmapped is dashed, and a fault points
+to its address. Lines of OUTPUT that differ from the tools' model are marked.
 
-OUTPUT is what `diltzekun serial` or `threads` wrote for TRACE, or another system in this form. Without it, the model answers the
-lines in their order. TRACE and OUTPUT are files, and one of them may be - for standard input.
+OUTPUT is what `diltzekun serial` or `threads` wrote for TRACE, or another system in this form. Without it, the model's is
+drawn. TRACE and OUTPUT are files; one of them may be -, standard input.
 
-Exit status: 0 where OUTPUT is legal, as `vma judge` says it, 1 where it is not (the page is written all the same), and 2 on wrong
-use or where a file cannot be read.
+Exit status: 0 if OUTPUT is legal, as for `vma judge`, 1 if it isn't (the page is written all the same), 2 on wrong use, or
+if a file can't be read.
 """
 from __future__ import annotations
 

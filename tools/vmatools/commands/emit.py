@@ -1,9 +1,8 @@
-"""Writes random traces into a folder, for fuzzers and tests of others: those that `vma compare` runs, or those of the
-program's mode `generate`.
+"""Writes random traces into a folder, for other fuzzers and tests: those of `vma compare`, or those of `diltzekun generate`.
 
-Each trace is a file, PROFILE-SEED-NUMBER.trace, or generate-COUNT-SEED.trace. The same words give the same files.
+Each trace is a file, PROFILE-SEED-NUMBER.trace, or generate-COUNT-SEED.trace. The same options give the same files.
 
-Example: vma emit --runs 1000 --profile few,mremap seeds/
+Example: tools/vma emit --runs 1000 --profile few,mremap seeds/
 """
 from __future__ import annotations
 
@@ -16,7 +15,7 @@ from ..campaign import Settings, sources
 from ..words import count
 from .compare import add_traces
 
-SUMMARY = "write random traces into a folder, for fuzzers of others"
+SUMMARY = "write random traces into a folder, for other fuzzers"
 MOST_COUNT = 400_000  # operations of a generated trace
 
 
@@ -33,10 +32,10 @@ def add_arguments(parser: argparse.ArgumentParser) -> None:
         "--generate",
         type=generated_count,
         metavar="COUNT",
-        help="the traces of `generate COUNT SEED`, for as many seeds as --runs from --seed on, in place of those of profiles",
+        help="the traces of `diltzekun generate COUNT SEED`, for --runs seeds from --seed on, in place of those of profiles",
     )
     parser.add_argument(
-        "folder", type=Path, metavar="FOLDER", help="where the files come; it is made where it is not there"
+        "folder", type=Path, metavar="FOLDER", help="where the files come; it is made if it isn't there"
     )
 
 

@@ -1,11 +1,11 @@
-"""Says in a sentence what is wrong with a trace, prints the bad line, and marks the word.
+"""Says what is wrong with a trace, in a sentence, and marks the word.
 
-TRACE is a file, or - for standard input. The line and the cause are those of the program's own `trace line N cause K Name`,
-with which it ends with status 3; words are counted from 1, and the thread of an operation is the first. Of a maps text it
-says whether `retrace` takes it, and else why not.
+TRACE is a file, or - for standard input. The line and the cause are those that the program names, as `trace line N cause K
+Name`, when it ends with status 3. Words are counted from 1; the thread of an operation is the first. Of a maps text it says
+whether `diltzekun retrace` takes it, and if not, why.
 
-Exit status: 0 where TRACE is a trace, or a maps text that `retrace` takes, 1 where a line is bad, 2 on wrong use, or where TRACE
-cannot be read.
+Exit status: 0 if TRACE is a trace, or a maps text that `retrace` takes, 1 if a line is bad, 2 on wrong use, or if TRACE
+can't be read.
 """
 from __future__ import annotations
 
@@ -14,7 +14,7 @@ import argparse
 from .. import console, explanations, maps_texts, traces
 from ..checked_traces import Checker
 
-SUMMARY = "say in a sentence what is wrong with a trace, and mark the word"
+SUMMARY = "say what is wrong with a trace, and mark the word"
 WIDTH = 110  # a longer line is shown in part
 
 

@@ -1,11 +1,11 @@
-"""Judges an output of a system with threads: whether it is one of the legal ones for its trace.
+"""Judges the output of a system with threads: is it one of the legal outputs of its trace?
 
-It is written from docs/TRACE.md and docs/MODEL.md alone, and shares no code with the program. What `serial` writes is a legal
-output too. TRACE and OUTPUT are files, and one of them may be - for standard input.
+The tools' model judges. It was written from docs/TRACE.md and docs/MODEL.md, and shares no code with the program. An output
+of `diltzekun serial` is legal too. TRACE and OUTPUT are files; one of them may be -, standard input.
 
-Prints `legal`, or `not legal: line N: why`, for the first line of OUTPUT that is wrong.
+Prints `legal`, or `not legal: line N: why` for the first line of OUTPUT that is wrong.
 
-Exit status: 0 where OUTPUT is legal, 1 where it is not, 2 on wrong use, where a file cannot be read, and where TRACE is no trace.
+Exit status: 0 if OUTPUT is legal, 1 if it isn't, 2 on wrong use, if a file can't be read, and if TRACE is no trace.
 """
 from __future__ import annotations
 
@@ -13,7 +13,7 @@ import argparse
 
 from .. import console, explanations, judging
 
-SUMMARY = "say whether an output of a system with threads is a legal one for its trace"
+SUMMARY = "say whether the output of a system with threads is legal"
 
 
 def add_arguments(parser: argparse.ArgumentParser) -> None:

@@ -1,39 +1,38 @@
-"""Makes the calls of a trace for real on the running Linux, or on another system, and writes what was answered, in the
-form of `serial`.
+"""Makes the calls of a trace for real, on the running Linux or on another system, and writes what was answered, in the form
+of `diltzekun serial`.
 
-The trace is read from standard input; docs/TRACE.md has its form and that of the output. docs/KERNEL.md says where a
-kernel is known to differ from the program, and docs/SYSTEMS.md how emulators, sandboxes and machines of their own are
-put beside it. Nothing is put right here: where the system answers otherwise, the output says what it did, as `SIGSEGV
-SEGV_PKUERR`, an error that no page names, `hung`, or `killed by signal 11`.
+The trace comes on standard input. docs/TRACE.md has the form of both. docs/KERNEL.md lists where Linux differs from the
+program, and docs/SYSTEMS.md has emulators, sandboxes and other kernels. The output is what the system did, unchanged: it may
+have `SIGSEGV SEGV_PKUERR`, an error that the manual pages don't name, `hung`, or `killed by signal 11`.
 
-The calls are made by a small program, which a C compiler makes from tools/vmatools/systems/runner.c at first use into a
-cache (${XDG_CACHE_HOME:-~/.cache}/diltzekun, or a folder below that for temporary files where this cannot be written).
-It runs for this trace alone, with random addresses turned off; before the first line it unmaps all but itself. Lines
-run in their order, one after the other, whatever their threads; a fork is a real one, and the child runs its lines
-while the parent waits. Accesses are real too. Files are memory without contents, of the trace's sizes and opened in its
-modes; with --folder they are sparse files in that folder, so that its file system has its say. In the list, devices,
-inodes and names are put back to the trace's, and the inodes of shared anonymous memory to the numbers that the program
-gives.
+A small program makes the calls. At first use a C compiler makes it from tools/vmatools/systems/runner.c, in the cache
+${XDG_CACHE_HOME:-~/.cache}/diltzekun, or in a folder for temporary files if that can't be written. It runs for this trace
+alone, without address randomisation, and unmaps everything but itself before the first line. Lines run one after the other,
+whatever their threads. A fork is a real one; the child runs its lines while the parent waits. Accesses are real too. Files
+are memory without contents, of the trace's sizes and opened in its modes. With --folder they are sparse files there, so that
+its file system matters. The list shows the trace's devices, inodes and names, and for shared anonymous memory the inodes
+that the program gives it.
 
-What differs from a run of the program by the nature of the thing:
-- The addresses from 0x7fffff000000 to 0x7fffff200000 are this tool's, and where the trace has `limit areas`, those from
-  0x2aaa90000000 to 0x2aaaa0000000 too: they are filled with as many areas as leave that number for the trace.
-- `top` is reached by the stack limit, so from 0x155555556000 to 0x7ffff7fff000.
-- The lowest address is the machine's vm.mmap_min_addr, also for root. A `min` in the trace has to be that.
-- A trace of version 2 runs on a processor without addresses of 57 bits where no line goes past 47 bits.
-- An area may grow up to 8 MiB (RLIMIT_STACK).
+This can't be as in the program:
+- The addresses from 0x7fffff000000 to 0x7fffff200000 are this tool's. With `limit areas`, so are those from 0x2aaa90000000 to
+  0x2aaaa0000000: the tool fills the list there, until only that many VMAs are left for the trace.
+- `top` is set by the stack limit, so it is from 0x155555556000 to 0x7ffff7fff000.
+- The lowest address is the machine's vm.mmap_min_addr, for root too. A `min` in the trace has to be that.
+- A trace of version 2 runs on a processor without addresses of 57 bits if no line goes past 47 bits.
+- A stack may grow up to 8 MiB (RLIMIT_STACK).
 
-With --system, --under or --window all else in the system stays mapped, and the trace keeps to the addresses of a
+With --system, --under or --window, everything else in the system stays mapped, and the trace keeps to the addresses of a
 window. With --batch many traces are read, each between a line `trace N SECONDS` and a line `end N`, and answered the
-same way: `vma compare --batch` and docs/SYSTEMS.md have the protocol.
+same way: docs/SYSTEMS.md has the protocol.
 
 Exit statuses, each but 0 with a line on standard error:
   0  the output was written
-  2  wrong words, or the trace cannot be read
+  2  wrong use, or the trace can't be read
   3  the input is no trace: the first bad line and its cause, as the program names it
-  4  the trace asks for what this system cannot do: the line, and why
-  5  this system cannot run it at all: no compiler, another processor or system, an older kernel, a sandbox that forbids it
-  6  the system did not come to the trace
+  4  the trace asks for what this system can't do: the line, and why
+  5  this system can't run any trace: it isn't installed, or there is no compiler, another processor, an older kernel, a
+     sandbox that forbids it
+  6  the system didn't start the trace in time
 """
 from __future__ import annotations
 

@@ -1,12 +1,12 @@
-"""Compares the list of areas that a run leaves with the one that the kernel had.
+"""Compares the last list of a run with the kernel's, page by page.
 
-OUTPUT is what `serial` wrote for a trace that `vma import` made, and MAPS the list that `vma import` wrote beside it
-(--final, --all), or a saved /proc/PID/maps. The lists are compared page by page. What a log can't tell is said, and is
-no difference: borders between areas that look alike, which the kernel keeps by accounting, pages by which faults made a
-stack grow, and areas above user memory, as [vsyscall]. Names such as [stack] and [vdso] are those of plain memory. A
-file is compared by its name, and by device and inode where both lists have them.
+OUTPUT is what `diltzekun serial` wrote for a trace of `vma import`. MAPS is the list that `vma import` wrote beside the
+trace (--final, --all), or a saved /proc/PID/maps. What a log can't say is named, and doesn't count as a difference: borders
+that the kernel keeps between VMAs that look alike, pages by which faults expanded a stack, and VMAs above user memory, as
+[vsyscall]. Names such as [stack] and [vdso] are those of plain memory. Files are compared by name, and by device and inode
+if both lists have them.
 
-Exit status: 0 where nothing else differs, 1 where something does, 2 on wrong use, or where a file cannot be read.
+Exit status: 0 if nothing else differs, 1 if something does, 2 on wrong use, or if a file can't be read.
 """
 from __future__ import annotations
 
@@ -17,7 +17,7 @@ from ..strace.areas import Area, area_of, read_sections
 from ..strace.lists import compare
 from ..words import number
 
-SUMMARY = "compare the last list of a run with that of the kernel"
+SUMMARY = "compare the last list of a run with the kernel's"
 
 
 def add_arguments(parser: argparse.ArgumentParser) -> None:

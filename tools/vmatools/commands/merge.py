@@ -1,14 +1,12 @@
-"""Makes one report of the files that `vma compare --json FILE` has written on several machines, for the parts of one
-comparison.
+"""Makes one report of several parts of a comparison, as `vma compare --shard I/N --json FILE` has written them.
 
-Each part ran with --shard I/N. Kinds of differences are those of all parts, each with the smallest trace that one of
-them has found. A part that did not come to its end is named. A --baseline is that of the whole: what is known in the
-parts is looked up again.
+Kinds of differences are those of all parts, each with the smallest trace that a part has found. A part that is missing or
+didn't finish is named. --baseline is looked up again, for all parts.
 
-Exit status: 0 where nothing differs that is not known, 1 where something does, or where a part is missing or did not
-come to its end, 2 on wrong use, or where a file is none of `vma compare --json`.
+Exit status: 0 if nothing differs but what is known, 1 if something does, or if a part is missing or didn't finish, 2 on
+wrong use, or if a file wasn't written by `vma compare --json`.
 
-Example: vma merge --junit report.xml part-*.json
+Example: tools/vma merge --junit report.xml part-*.json
 """
 from __future__ import annotations
 
@@ -20,7 +18,7 @@ from .. import console, findings as found
 from ..findings import Baseline, Findings
 from .compare import status_of, write_report
 
-SUMMARY = "one report of the parts of a comparison that ran on several machines"
+SUMMARY = "make one report of the parts of a comparison, as from several machines"
 
 
 def add_arguments(parser: argparse.ArgumentParser) -> None:

@@ -1,13 +1,11 @@
-"""Repeats the rows of docs/KERNEL.md: a trace of a few lines for each, what the program answers, and what a kernel
-does.
+"""Repeats the rows of docs/KERNEL.md: for each a trace of a few lines, what the program answers, and what a kernel does.
 
-examples/kernel-rows.txt has the rows, each under its name: the trace, the program's output, and that of `vma kernel` on
-Linux 6.18. Without a NAME all rows are run again, and a line is printed for each that answers otherwise than it stands
-there; with names, these rows are shown: the trace, and the lines in which the program (-) and the running kernel (+)
-differ. A row that this machine cannot run, as one with another lowest address, is named and passed.
+examples/kernel-rows.txt has the rows by name: the trace, the program's output, and the one of `vma kernel` on Linux 6.18.
+Without a NAME all rows run again, and each that has another answer than in that file is named. With names, these rows are
+shown: the trace, and the lines in which the program (-) and the running kernel (+) differ. A row that this machine can't
+run, such as one with another lowest address, is named and passed over.
 
-Exit status: 0 where all rows are as they stand, 1 where one is not, 2 on wrong use, or where a run fails that should
-not.
+Exit status: 0 if all rows are as in the file, 1 if one isn't, 2 on wrong use, or if a run fails.
 """
 from __future__ import annotations
 
@@ -20,7 +18,7 @@ import shutil
 from .. import console, program
 from ..systems import rows
 
-SUMMARY = "repeat the rows in which a kernel answers otherwise"
+SUMMARY = "repeat the known differences of Linux, each on a few lines"
 
 
 def add_arguments(parser: argparse.ArgumentParser) -> None:

@@ -1,16 +1,14 @@
-"""Says which systems `vma kernel --system` and `vma compare --system` know, whether they are installed here, and how
-far each answers as the program does.
+"""Lists the systems that `vma kernel --system` and `vma compare --system` know, and says which are installed.
 
-With --table random traces are run on each that is installed, or on those that are named, and on the program: of each
-profile so many traces, fitted to what the system can run. The table has the share of equal replies and of equal lists
-in percent, raw: what a system answers differently by its documents counts as different, and so does what follows from
-that. The last column has the same beside the running Linux, in the same window. With --write the table replaces that in
-docs/SYSTEMS.md.
+With --table, random traces run on the program and on each system that is installed, or on those named, so many of each
+profile, fitted to what the system can run. The table has the shares of equal replies and of equal lists in percent. Nothing
+is set aside: differences that a system documents count, and so does everything that follows from one. The last column has
+the same beside the running Linux, in the same window. --write puts the table into docs/SYSTEMS.md.
 
-With --seen the traces of examples/systems run again: each is a bug of a system, with the version that was seen to have
-it. It says whether the version that is installed has it still.
+With --seen the traces of examples/systems run again. Each shows a bug of a system, in the version that was seen to have it;
+the output says whether the installed version has it still.
 
-Exit status: 0, or 2 on wrong use or where the program is missing. A system that cannot be run is named and left out.
+Exit status: 0, or 2 on wrong use, or if the program is missing. A system that can't be run is named and left out.
 """
 from __future__ import annotations
 
@@ -28,7 +26,7 @@ from ..systems import known, measuring, seen
 from ..systems.places import Refused
 from ..words import count, time_limit
 
-SUMMARY = "the systems that are known, and how far each answers as the program does"
+SUMMARY = "list the known systems, and measure how far each agrees with the program"
 PAGE = program.TOP / "docs/SYSTEMS.md"
 BEGIN, END = "<!-- made by tools/vma systems --table --write -->", "<!-- end -->"
 

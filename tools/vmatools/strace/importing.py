@@ -1,25 +1,22 @@
-"""Makes traces of the memory calls of a real program, from what strace wrote of it.
+"""Makes traces of the memory calls of a real program, from a log of strace.
 
-LOG is what `strace -f -e trace=memory,desc,process,shmget -o LOG COMMAND` writes (with -v and -y it tells more); `-`
-is standard input. `vma record` makes one, with the lists of areas that each program begins and ends with. The trace goes
-to standard output. It has the calls mmap, munmap, mprotect, mremap, brk and mseal of one address space, with a number
-for each opening of a file that is mapped and one for each thread. All that a trace has no word for is counted and
-named on standard error.
+LOG is what `strace -f -e trace=memory,desc,process,shmget -o LOG COMMAND` writes (with -v and -y it says more); `-` is
+standard input. `vma record` makes one, with the VMAs that each program begins and ends with. The trace goes to standard
+output. It has the calls mmap, munmap, mprotect, mremap, brk and mseal of one address space, a number for each opening of a
+file that is mapped, and one for each thread. What a trace can't have is counted and named on standard error.
 
-The calls are in the order in which they returned. Where calls of several threads ran at once, the log doesn't say
-which the kernel did first: there they are in an order in which the kernel answered what the model in vmatools does.
-Where no such order was found, that is said.
+Calls are in the order in which they returned. If calls of several threads ran at once, the log doesn't say which one the
+kernel did first. They are put in an order in which the tools' model gives the kernel's answers; if none is found, `import`
+says so.
 
-Each successful execve begins an address space, and these are numbered from 1 in the order of the log; number 0 is the
-one that was there before the first. A fork has a copy of its parent's. Up to eight forks become lines `fork`, with the
-calls of the child as its lines, where the child has one thread. Any other child has a trace of its own, which begins
-with the list of its parent: --fork N, or --all.
+Each successful execve begins an address space. They are numbered from 1 in the order of the log; 0 is the one that was
+there before. A fork copies its parent's. Up to eight forks become `fork` lines, with the child's calls as its lines, if the
+child has one thread. Any other child has a trace of its own, which begins with its parent's list: --fork N, or --all.
 
-Without LOG, --maps alone makes a trace of a list of areas, as of a process that runs: calls that are appended to it
-answer as in the process.
+Without LOG, --maps alone makes a trace of a list, such as that of a running process: calls that you append behave as in
+the process.
 
-The status is 0 where a trace was written, 1 where the log has no call for it, and 2 on wrong use or where a file
-cannot be read.
+Exit status: 0 if a trace was written, 1 if the log has no call for it, 2 on wrong use, or if a file can't be read.
 """
 from __future__ import annotations
 

@@ -1,24 +1,26 @@
-"""Runs a command under strace, and keeps its log together with the lists of areas of each program in it.
+"""Runs a command under strace, and keeps its log and the VMAs of each program in it.
 
-Writes three files. NAME.log is the log of strace, with the calls that `vma import` reads: of memory, of processes, and
-those that open files or tell their sizes. NAME.maps is /proc/PID/maps of the moment after the execve, before the first
-instruction. NAME.lists has the lists of all processes of the command: before each execve, when the new program begins,
-and before its end. Randomisation of addresses is off, and so the same command has the same addresses each time. NAME
-is the command's name. Then:
+It writes three files. NAME.log is the log of strace, with the calls that `vma import` reads: those of memory and of
+processes, and those that open files or give their sizes. NAME.maps is /proc/PID/maps right after the execve, before the
+first instruction. NAME.lists has the lists of all processes of the command: before each execve, when the new program
+begins, and before its end. Address randomisation is off, so the same command has the same addresses each time. NAME is the
+command's name. Then
 
     tools/vma import NAME.log --maps NAME.lists --all FOLDER
 
-makes a trace of each address space, or, of the first alone:
+makes a trace of each address space, and
 
     tools/vma import NAME.log --maps NAME.maps --replies NAME.kernel > NAME.trace
 
-The command has this terminal and this environment. The log has its words and the names of the files that it opens,
-but neither its environment nor what it reads. The lists are read while the command waits in a call, by a filter of
-seccomp(2): a command that has a listener of such filters itself, as a container's runtime may, needs --no-lists. Under
-strace, and by the filter, programs with a set-user-ID bit have no more rights than you.
+one of the first alone.
 
-The status is that of the command, or 128 and the number of the signal that ended it; 125 where strace is not there or
-may not trace, where what it keeps cannot be written, and on wrong use; 127 where the command is not there.
+The command has this terminal and this environment. The log has its words and the names of the files that it opens, but not
+its environment, nor what it reads. The lists are read while the command waits in a call, by a filter of seccomp(2). A
+command that listens to such filters itself, as a container's runtime may, needs --no-lists. Under strace and with the
+filter, programs with a set-user-ID bit have no more rights than you.
+
+Exit status: the command's, or 128 plus the number of the signal that ended it; 125 if strace isn't there or may not trace,
+if what it keeps can't be written, and on wrong use; 127 if the command isn't there.
 """
 from __future__ import annotations
 

@@ -103,7 +103,7 @@ def check_begun(ran: Ran) -> None:
     if first.startswith(("shift", "stop")):
         return
     if ran.ending == HUNG:
-        raise Refused(6, "the system does not begin in time")
+        raise Refused(6, "the system does not begin in time; `--seconds N` gives it more")
     if ran.ending == "killed by signal 31":
         raise Refused(5, "a sandbox ends the program that makes the calls, at a system call that it forbids")
     said = ran.message.strip() or first
