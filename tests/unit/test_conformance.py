@@ -17,6 +17,7 @@ from dev.suite import linux  # noqa: E402
 from vmatools import conformance  # noqa: E402
 from vmatools.commands import conform  # noqa: E402
 from vmatools.conformance import Case, Verdict  # noqa: E402
+from vmatools.console import Failure  # noqa: E402
 from vmatools.program import Ran  # noqa: E402
 
 TRACE = "vmatrace 1\n# It maps a page: mmap(2).\n0 mmap 0 4096 PROT_READ MAP_PRIVATE|MAP_ANONYMOUS -1 0\n"
@@ -38,7 +39,11 @@ class Cases(unittest.TestCase):
     def test_cases_are_taken_by_group_and_by_name(self) -> None:
         self.assertEqual(len(conformance.read_suite(self.top, ["mmap"])), 1)
         self.assertEqual(len(conformance.read_suite(self.top, ["mmap/page"])), 1)
-        self.assertEqual(conformance.read_suite(self.top, ["munmap"]), [])
+
+    def test_a_name_without_a_case_is_refused(self) -> None:
+        for name, hint in (("brk", r"`tools/vma conform --list` has them"), ("mmap/pgae", r"did you mean mmap/page\?")):
+            with self.assertRaisesRegex(Failure, f"^no case and no group has the name {name}; {hint}$"):
+                conformance.read_suite(self.top, ["mmap", name])
 
     def test_as_linux_its_own_output_is_right(self) -> None:
         (self.top / "mmap/page.linux").write_text("# grow-far: 6.18\nc\n")

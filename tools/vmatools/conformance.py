@@ -1,6 +1,7 @@
 """The conformance suite: its cases, how a system's answer to one is judged, and the table of what came of all."""
 from __future__ import annotations
 
+import difflib
 import json
 import re
 import xml.etree.ElementTree as ElementTree
@@ -10,6 +11,7 @@ from dataclasses import dataclass
 from enum import Enum
 from pathlib import Path
 
+from .console import Failure
 from .program import TOP, Ran
 
 SUITE = TOP / "suite"
@@ -93,13 +95,15 @@ def read_case(path: Path, as_linux: bool = False) -> Case:
 
 
 def read_suite(folder: Path = SUITE, names: Sequence[str] = (), as_linux: bool = False) -> list[Case]:
-    """The cases of a suite, of these groups and names alone where some are given."""
-    paths = [
-        path
-        for path in sorted(folder.glob("*/*.trace"))
-        if not names or {path.parent.name, f"{path.parent.name}/{path.stem}"} & set(names)
-    ]
-    return [read_case(path, as_linux) for path in paths]
+    """The cases of a suite, of these groups and names alone where some are given. Each name has to have a case."""
+    named = {path: {path.parent.name, f"{path.parent.name}/{path.stem}"} for path in sorted(folder.glob("*/*.trace"))}
+    known = {name for own in named.values() for name in own}
+    for name in names if named else ():
+        if name not in known:
+            near = difflib.get_close_matches(name, known, 1)
+            hint = f"did you mean {near[0]}?" if near else "`tools/vma conform --list` has them"
+            raise Failure(f"no case and no group has the name {name}; {hint}")
+    return [read_case(path, as_linux) for path, own in named.items() if not names or own & set(names)]
 
 
 def first_wrong(output: str, right: str) -> tuple[int, str, str]:

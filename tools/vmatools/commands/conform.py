@@ -203,7 +203,7 @@ def run(options: argparse.Namespace) -> int:
     """Runs the suite."""
     cases = conformance.read_suite(options.suite, options.only, options.profile == "linux")
     if not cases:
-        raise console.Failure(f"{options.suite} has no case{' of these names' if options.only else ''}")
+        raise console.Failure(f"{options.suite} has no case")
     if options.list:
         print("\n".join(f"{case.where}: {case.says}" for case in cases))
         return 0
