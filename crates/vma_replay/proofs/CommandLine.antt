@@ -1,6 +1,6 @@
 -- For `job_of`: what `clap` finds in words of which none begins with `-`, and that other words name no job.
 use Rattle.std.proofs.Common.{ℕ, ap, refl, codes, true, false, map, fold, List, Option, Some, None, [], ◌∷◌, ◌++◌, ◌≡◌, ◌∙◌, ◌==◌, ◌||◌, Bool, slice_index, string_bytes, sym, append_assoc, append-nil, inl, inr}
-use Rattle.std.specs.Prelude.{String, ◌&&◌, ◌⊎◌, length, nat_le, nat_lt, option_and_then, if◌then◌else◌}
+use Rattle.std.specs.Prelude.{String, ◌&&◌, ◌⊎◌, length, not, nat_le, nat_lt, option_and_then, if◌then◌else◌}
 use Rattle.std.specs.declared.alloc.Global.{Global}
 use Rattle.std.specs.List.{list_any}
 use Rattle.std.specs.Str.{bytes_eq}
@@ -15,7 +15,7 @@ use Rattle.clap.proofs.OnLiterals.{clap_on_literals}
 use Rattle.text_lexer.specs.Numbers.{decimal_of, digits_of, number_of}
 use Rattle.vma_replay.specs.declared.words.Job.{Job}
 use Rattle.vma_replay.specs.Jobs.{generate_words, job_of_words, named_job, operation_count, query_words}
-use Rattle.vma_replay.specs.Internal.CommandLine.{begins_with_dash, job_of_rows, words_command}
+use Rattle.vma_replay.specs.Internal.CommandLine.{are_tried, begin_with_mode, begins_with_dash, is_mode, job_of_rows, words_command}
 
 -- a text that does not begin with `-`
 abbrev Plain : Text → Type 0
@@ -109,7 +109,7 @@ unfolding clap_on_literals words_command job_of_rows
 no_words = refl
 
 -- the values name the job that the words name
-pub named_by_words : (words : List (String Global)) → list_any begins_with_dash words ≡ false
+named_by_words : (words : List (String Global)) → list_any begins_with_dash words ≡ false
     → job_of_rows (matches_of words_command (map string_bytes words)) ≡ job_of_words words
 named_by_words [] none = no_words
 named_by_words (w ∷ []) none =
@@ -170,7 +170,7 @@ none_of name = none_named (bytes_eq name (codes "serial")) (bytes_eq name (codes
     (bytes_eq name (codes "retrace")) (bytes_eq name (codes "check")) (bytes_eq name (codes "query")) (bytes_eq name (codes "generate"))
 
 -- words that `clap` refuses name no job
-pub refused : (words : List (String Global)) → list_any begins_with_dash words ≡ false
+refused : (words : List (String Global)) → list_any begins_with_dash words ≡ false
     → (takes words_command (map string_bytes words) ≡ true → ⊥) → job_of_words words ≡ None
 unfolding named_job
 refused [] none refuses = refl
@@ -255,7 +255,7 @@ dash_queried v [] dash = elim (either (begins_with_dash v) false dash) [
 ]
 dash_queried v (u ∷ ws) dash = refl
 
-pub dash_refused : (words : List (String Global)) → list_any begins_with_dash words ≡ true → job_of_words words ≡ None
+dash_refused : (words : List (String Global)) → list_any begins_with_dash words ≡ true → job_of_words words ≡ None
 unfolding named_job
 dash_refused [] dash = refl
 dash_refused (w ∷ []) dash = elim (either (begins_with_dash w) false dash) [
@@ -266,3 +266,53 @@ dash_refused (w ∷ v ∷ ws) dash = elim (either (begins_with_dash w) (list_any
   | inl first ↦ first_dash (string_bytes w) (map string_bytes (v ∷ ws)) first
   | inr later ↦ rw (dash_after v ws later, dash_queried v ws later) (none_of (string_bytes w) None refl)
 ]
+
+-- and words that begin with no mode
+no_mode_named : (a b c d e f g : Bool) (s t u v w x y : Option Job) → (a || b || c || d || e || f || g) ≡ false
+    → (if a then s else if b then t else if c then u else if d then v else if e then w else if f then x else if g then y else None) ≡ None
+no_mode_named true b c d e f g s t u v w x y none = absurd cc
+no_mode_named false true c d e f g s t u v w x y none = absurd cc
+no_mode_named false false true d e f g s t u v w x y none = absurd cc
+no_mode_named false false false true e f g s t u v w x y none = absurd cc
+no_mode_named false false false false true f g s t u v w x y none = absurd cc
+no_mode_named false false false false false true g s t u v w x y none = absurd cc
+no_mode_named false false false false false false true s t u v w x y none = absurd cc
+no_mode_named false false false false false false false s t u v w x y none = refl
+
+no_mode_refused : (words : List (String Global)) → begin_with_mode words ≡ false → job_of_words words ≡ None
+unfolding named_job is_mode
+no_mode_refused [] none = refl
+no_mode_refused (w ∷ ws) none =
+    let name = string_bytes w in
+    no_mode_named (bytes_eq name (codes "serial")) (bytes_eq name (codes "threads")) (bytes_eq name (codes "steps"))
+    (bytes_eq name (codes "retrace")) (bytes_eq name (codes "check")) (bytes_eq name (codes "query")) (bytes_eq name (codes "generate"))
+    _ _ _ _ _ _ _ none
+
+-- words that are not tried name no job
+pub untried : (words : List (String Global)) → are_tried words ≡ false → job_of_words words ≡ None
+untried words none = by_tests (begin_with_mode words) (list_any begins_with_dash words) refl refl none
+  where
+    by_tests : (mode dash : Bool) → begin_with_mode words ≡ mode → list_any begins_with_dash words ≡ dash → (mode && not dash) ≡ false
+        → job_of_words words ≡ None
+    by_tests false dash is_mode is_dash none = no_mode_refused words is_mode
+    by_tests true true is_mode is_dash none = dash_refused words is_dash
+    by_tests true false is_mode is_dash none = absurd cc
+
+-- and those that are have no word that begins with `-`
+none_dashed : (words : List (String Global)) → are_tried words ≡ true → list_any begins_with_dash words ≡ false
+none_dashed words all = by_tests (begin_with_mode words) (list_any begins_with_dash words) all
+  where
+    by_tests : (mode dash : Bool) → (mode && not dash) ≡ true → dash ≡ false
+    by_tests mode false all = refl
+    by_tests true true all = absurd cc
+    by_tests false true all = absurd cc
+
+-- so the values that `clap` finds name the job that they name
+pub tried_named : (words : List (String Global)) → are_tried words ≡ true
+    → job_of_rows (matches_of words_command (map string_bytes words)) ≡ job_of_words words
+tried_named words all = named_by_words words (none_dashed words all)
+
+-- and if it refuses them, they name none
+pub tried_refused : (words : List (String Global)) → are_tried words ≡ true
+    → (takes words_command (map string_bytes words) ≡ true → ⊥) → job_of_words words ≡ None
+tried_refused words all = refused words (none_dashed words all)

@@ -4,7 +4,7 @@ ghost use Rattle.trace_reader.specs.Grammar.{trace_of};
 ghost use Rattle.text_lexer.specs.Lines.{input_limit};
 ghost use Rattle.text_lexer.specs.Reading.{IsErrorOf};
 ghost use Rattle.trace_reader.specs.Values.{IsTraceValue};
-ghost use Rattle.vma_replay.specs.Internal.Reading.{IsChecking, IsReading, IsTaking, refused_as, taken_bytes};
+ghost use Rattle.vma_replay.specs.Internal.Reading.{IsChecking, IsReading, IsTaking, taken_bytes};
 ghost use Rattle.vma_replay.specs.Replaying.{converted, most_converted};
 
 use crate::status::Status;
@@ -32,10 +32,7 @@ pub(crate) fn read_source<S: Source>(alloc: Global, source: &mut S) -> Result<Tr
     ensures reading { IsReading trace_of input_limit (S.seen source.old) (S.seen source.new) result }
 {
     let bytes = take_bytes(alloc, source, INPUT_LIMIT)?;
-    match read(alloc, &bytes) {
-        Ok(trace) => Ok(trace),
-        Err(error) => Err(refused_as(error)),
-    }
+    Ok(read(alloc, &bytes)?)
 }
 
 /// Reads all of a source, and turns it into a text. A status says why it is none.
@@ -49,10 +46,7 @@ pub(crate) fn convert_source<S: Source>(
     ensures { IsReading (converted conversion) (most_converted conversion) (S.seen source.old) (S.seen source.new) (taken_bytes result) }
 {
     let bytes = take_bytes(alloc, source, INPUT_LIMIT)?;
-    match convert(alloc, conversion, &bytes) {
-        Ok(text) => Ok(text),
-        Err(error) => Err(refused_as(error)),
-    }
+    Ok(convert(alloc, conversion, &bytes)?)
 }
 
 /// The text that bytes are turned into. An error is their first bad line, or that memory ran out.
@@ -74,23 +68,7 @@ pub(crate) fn check_source<S: Source>(alloc: Global, source: &mut S) -> Result<V
     ensures { IsChecking (S.seen source.old) (S.seen source.new) (taken_bytes result) }
 {
     let bytes = take_bytes(alloc, source, CHECK_LIMIT)?;
-    match checked(alloc, &bytes) {
-        Ok(text) => Ok(text),
-        Err(error) => Err(refused_as(error)),
-    }
-}
-
-/// What bytes that were not read as they should be result in.
-fn refused_as(error: ReadError) -> Status
-    ensures { result ≡ refused_as error }
-{
-    match error {
-        ReadError::Bad(first) => Status::Trace {
-            line: first.line,
-            cause: first.cause,
-        },
-        ReadError::NoMemory => Status::NoMemory,
-    }
+    Ok(checked(alloc, &bytes)?)
 }
 
 /// Takes bytes from a source up to its end, or one more of them than so many.

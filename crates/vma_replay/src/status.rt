@@ -5,7 +5,7 @@ ghost use Rattle.vma_replay.specs.declared.status.Status.TheVariants.{NoMemory a
 use mm_types::{NoMemory, Text};
 use output_print::PrintError;
 use std::alloc::{AllocError, Global};
-use text_lexer::Cause;
+use text_lexer::{Cause, ReadError};
 
 /// What a run results in.
 #[derive(Clone, Copy, Debug, PartialEq, Eq)]
@@ -51,6 +51,23 @@ impl From<PrintError> for Status {
         match error {
             PrintError::WriteFault => Status::WriteFault,
             PrintError::NoMemory => Status::NoMemory,
+        }
+    }
+}
+
+impl From<ReadError> for Status {
+    ghost use Rattle.std.specs.Prelude.{◌≡◌};
+    ghost use Rattle.vma_replay.specs.Internal.Reading.{refused_as};
+
+    ghost from_gives = { λ error status. status ≡ refused_as error };
+
+    fn from(error: ReadError) -> Status {
+        match error {
+            ReadError::Bad(first) => Status::Trace {
+                line: first.line,
+                cause: first.cause,
+            },
+            ReadError::NoMemory => Status::NoMemory,
         }
     }
 }

@@ -2,7 +2,7 @@ ghost use Rattle.std.specs.Prelude.{◌≡◌, ◌≤◌, IfErr, IfOk, IfSome, E
 ghost use Rattle.std.specs.List.{list_any};
 ghost use Rattle.clap.specs.Words.{app_of, found_of, matches_of, rows_of, takes};
 ghost use Rattle.vma_replay.specs.Jobs.{alone, generate_job, generate_words, job_of_words, named_job, operation_count, query_words};
-ghost use Rattle.vma_replay.specs.Internal.CommandLine.{begins_with_dash, job_of_rows, words_command};
+ghost use Rattle.vma_replay.specs.Internal.CommandLine.{are_tried, begin_with_mode, begins_with_dash, is_mode, job_of_rows, words_command};
 ghost use Rattle.vma_replay.specs.Internal.Tallies.{IsInLimits};
 
 use clap::error::ErrorKind;
@@ -60,14 +60,16 @@ pub(crate) enum WordsError {
 }
 
 /// The job that words name: `serial`, `threads`, `steps`, `retrace` and `check`, each alone, `query` with an address, and `generate` with
-/// a count of operations and a seed name one. No word may begin with `-`, so there are no options and no `--`.
-#[tactic(auto, using(crate::proofs::CommandLine::named_by_words, crate::proofs::CommandLine::refused, crate::proofs::CommandLine::dash_refused))]
+/// a count of operations and a seed name one. No word may begin with `-`, so there are no options and no `--`. Words that begin with no
+/// mode, and words with an option, are refused before memory is taken.
+#[tactic(auto, using(crate::proofs::CommandLine::tried_named, crate::proofs::CommandLine::untried))]
 pub(crate) fn job_of(alloc: Global, words: &[String]) -> Result<Job, WordsError>
     ensures job { IfOk result (λ job. job_of_words words.now ≡ Some job) }
     ensures limits { IfOk result IsInLimits }
     ensures words { result ≡ Err WordsError.Words → job_of_words words.now ≡ None }
+    ensures memory { result ≡ Err WordsError.NoMemory → are_tried words.now ≡ true }
 {
-    if has_dash_word(words) {
+    if !are_tried(words) {
         return Err(WordsError::Words);
     }
     let matches = parse(alloc, words)?;
@@ -75,6 +77,34 @@ pub(crate) fn job_of(alloc: Global, words: &[String]) -> Result<Job, WordsError>
         Some(job) => Ok(job),
         None => Err(WordsError::Words),
     }
+}
+
+/// Whether words begin with a mode and have no option. No others name a job.
+fn are_tried(words: &[String]) -> bool
+    ensures { result ≡ are_tried words.now }
+{
+    begin_with_mode(words) && !has_dash_word(words)
+}
+
+/// Whether the first of the words is a mode.
+fn begin_with_mode(words: &[String]) -> bool
+    ensures { result ≡ begin_with_mode words.now }
+{
+    match words {
+        [first, ..] => is_mode(first.as_str()),
+        [] => false,
+    }
+}
+
+/// Whether a word is a mode: the first of an accepted list.
+#[tactic(auto, unfolding(crate::specs::Internal::CommandLine::is_mode))]
+fn is_mode(word: &str) -> bool
+    ensures { result ≡ is_mode word.now }
+{
+    matches!(
+        word,
+        "serial" | "threads" | "steps" | "retrace" | "check" | "query" | "generate"
+    )
 }
 
 /// Whether a word begins with `-`.
