@@ -215,6 +215,15 @@ class Ends(unittest.TestCase):
         self.assertEqual(done.stderr, f"vma emit: {file.name}: it is a file, and has to be a folder\n")
         self.assertEqual(done.returncode, console.WRONG_USE)
 
+    def test_a_time_in_which_no_trace_ends(self) -> None:
+        with tempfile.TemporaryDirectory() as folder:
+            slow = Path(folder, "slow")
+            slow.write_text("#!/bin/sh\nexec sleep 1\n")
+            slow.chmod(0o755)
+            done = run("compare", "--for", "0.1", "--jobs", "1", "--program", str(slow), "--", str(slow))
+        self.assertEqual((done.returncode, done.stdout), (console.WRONG_USE, "0 traces, 0 differ\n"))
+        self.assertEqual(done.stderr, "vma compare: no trace came to its end in 0.1 seconds: give it more by --for\n")
+
     def test_a_row_of_nearly_this_name(self) -> None:
         self.assertIn("no row has the name limit-jion; did you mean limit-join?", run("rows", "--here", "limit-jion").stderr)
 

@@ -156,6 +156,11 @@ class Campaign:
         limit = self.settings.for_seconds
         return self.stopped is not None or limit is not None and time.monotonic() - self.begin > limit
 
+    @property
+    def is_too_short(self) -> bool:
+        """Whether the time was over before a trace was."""
+        return self.stopped is None and not self.findings.traces and self.is_over
+
     # Going on
 
     def go_on(self, path: Path) -> None:

@@ -14,7 +14,8 @@ refuse, with different errors), or a kind as it is printed, OPERATION/PROGRAM/YO
 --baseline has such kinds, each with a reason: they are counted too, and only others make the run fail.
 
 Exit status: 0 if nothing differs but what is known, 1 if something does (with --strict also if a known difference doesn't
-occur), 2 on wrong use, or if the program or COMMAND can't be run; 130 and 143 if a signal ended the run, after its report.
+occur), 2 on wrong use, if the program or COMMAND can't be run, or if no trace came to its end within --for; 130 and 143 if a
+signal ended the run, after its report.
 """
 from __future__ import annotations
 
@@ -355,6 +356,9 @@ def compare_sides(options: argparse.Namespace, settings: Settings, sides: compar
         if campaign.stopped:
             program.end_all()
         status = status_of(findings, options.strict, campaign.stopped)
+        if campaign.is_too_short:
+            console.say(f"no trace came to its end in {settings.for_seconds:g} seconds: give it more by --for")
+            status = console.WRONG_USE
         if journal:
             journal.write(findings.end_event(status, campaign.stopped))
         if options.json != "-":
