@@ -8,4 +8,6 @@ pub mod LinesAdded
 pub mod Reached
 pub mod Made
 pub mod Prefixes
+pub mod OwnLines
+pub mod Whole
 pub mod Lines

@@ -31,17 +31,17 @@ end_found s s' k k' held piece session found is finds = subst (λ (o : Option �
 
 line_talked : (s s' : SourceView) (k k' : SinkView) (held now : HeldView) (piece text : List ℕ) (session : Session) (len : ℕ)
     → Talked s s' k k' (without_turn held) piece session → HasLine held.bytes len → 0 < held.turns → text ≡ take len held.bytes
-    → now ≡ record { bytes = drop (len + 1) held.bytes; turns = held.turns }
+    → now ≡ record { bytes = drop (len + 1) held.bytes; searched = 0; turns = held.turns }
     → Talked s s' k k' now (piece ++ (answered session text).text) (answered session text).session
 line_talked s s' k k' held now piece text session len talked has some is passed =
     subst (λ (h : HeldView). Talked s s' k k' h (piece ++ (answered session text).text) (answered session text).session) (sym passed)
-    (subst (λ (t : List ℕ). Talked s s' k k' (record { bytes = drop (len + 1) held.bytes; turns = held.turns }) (piece ++ (answered session t).text)
+    (subst (λ (t : List ℕ). Talked s s' k k' (record { bytes = drop (len + 1) held.bytes; searched = 0; turns = held.turns }) (piece ++ (answered session t).text)
     (answered session t).session) (sym is) (talked_line s s' k k' held piece session len talked has some))
 
 -- its answer was appended, and the session goes on
 pub line_answered : (s s' : SourceView) (k k' : SinkView) (held now : HeldView) (piece new text : List ℕ) (session after : Session) (len : ℕ)
     → Talked s s' k k' (without_turn held) piece session → HasLine held.bytes len → 0 < held.turns → text ≡ take len held.bytes
-    → now ≡ record { bytes = drop (len + 1) held.bytes; turns = held.turns } → AnswersLine (answered session text) piece new after None
+    → now ≡ record { bytes = drop (len + 1) held.bytes; searched = 0; turns = held.turns } → AnswersLine (answered session text) piece new after None
     → Talked s s' k k' now new after
 line_answered s s' k k' held now piece new text session after len talked has some is passed answers =
     subst (λ (a : Session). Talked s s' k k' now new a) (sym answers.1)
@@ -63,7 +63,7 @@ ends_by s s' k k' now piece new after answer stops.End talked answers = absurd a
 
 pub line_ends : (s s' : SourceView) (k k' : SinkView) (held now : HeldView) (piece new text : List ℕ) (session after : Session) (len : ℕ) (stop : Stop)
     → Talked s s' k k' (without_turn held) piece session → HasLine held.bytes len → 0 < held.turns → text ≡ take len held.bytes
-    → now ≡ record { bytes = drop (len + 1) held.bytes; turns = held.turns } → AnswersLine (answered session text) piece new after (Some stop)
+    → now ≡ record { bytes = drop (len + 1) held.bytes; searched = 0; turns = held.turns } → AnswersLine (answered session text) piece new after (Some stop)
     → Ends s s' k k' now new after (Ok stop)
 line_ends s s' k k' held now piece new text session after len stop talked has some is passed answers =
     ends_by s s' k k' now piece new after (answered session text) stop
@@ -128,8 +128,8 @@ status_err s s' k k' (Err error) status is ended = subst (λ (e : Status). IsCon
 pub begun_is : (count : ℕ) (so_far : SoFar) → count ≡ 0 → so_far ≡ nothing → record { count = count; so_far = so_far; opened = None } ≡ begun
 begun_is count so_far zero_lines none = ap (λ (n : ℕ). unopened n so_far) zero_lines ∙ ap (λ (x : SoFar). unopened 0 x) none
 
-pub talked_first : (s : SourceView) (k : SinkView) (held : HeldView) (piece : List ℕ) → held ≡ record { bytes = []; turns = 0 } → piece ≡ []
+pub talked_first : (s : SourceView) (k : SinkView) (held : HeldView) (piece : List ℕ) → held ≡ record { bytes = []; searched = 0; turns = 0 } → piece ≡ []
     → Talked s s k k held piece begun
 talked_first s k held piece is none =
     subst (λ (h : HeldView). Talked s s k k h piece begun) (sym is)
-    (subst (λ (p : List ℕ). Talked s s k k (record { bytes = []; turns = 0 }) p begun) (sym none) (talked_none s k))
+    (subst (λ (p : List ℕ). Talked s s k k (record { bytes = []; searched = 0; turns = 0 }) p begun) (sym none) (talked_none s k))

@@ -8,14 +8,12 @@ use Rattle.area_rules.specs.Tables.{AddressSpace}
 use Rattle.text_lexer.specs.declared.error.Cause.{Cause}
 use Rattle.text_lexer.specs.Lines.{RawLine, raw_line, text_of}
 use Rattle.text_lexer.specs.Words.{words_of}
-use Rattle.trace_reader.specs.declared.trace.Op.{Op}
-use Rattle.trace_reader.specs.declared.trace.Op.TheVariants.{Maps}
 use Rattle.trace_reader.specs.declared.trace.TraceLine.{TraceLine}
 use Rattle.trace_reader.specs.Grammar.{config_of}
 use Rattle.trace_reader.specs.Lines.{SoFar, after_line}
 use Rattle.history.specs.declared.items.Item.{Item}
-use Rattle.history.specs.Histories.{answer_of, call_of, caller_of, gather, items_from, serial_history, space_after, version_after}
-use Rattle.output_text.specs.Output.{content_text, item_text, start_text, maps_text}
+use Rattle.history.specs.Histories.{answer_of, caller_of, gather, items_from, serial_history, space_after, version_after}
+use Rattle.output_text.specs.Output.{item_text}
 use Rattle.live_session.specs.declared.asking.Asked.{Asked}
 use Rattle.live_session.specs.declared.asking.Asked.TheVariants as asks
 use Rattle.live_session.specs.Asking.{asked_by_words, asked_of, asked_of_new, is_new, own_line, own_or}
@@ -29,7 +27,6 @@ use Rattle.live_session.proofs.Reached.{IsOwn, IsOwnLine, ok_holds, own_line-own
 -- what a line that asks so leaves of what the lines say
 abbrev Leaves : SoFar → SoFar → Asked → Type 0
 Leaves before after asks.Nothing = (after.lines ≡ before.lines) × ((before.lines ≡ []) ⊎ (config_of after ≡ config_of before))
-Leaves before after (asks.Areas line) = (after ≡ before) × (line.op ≡ Maps)
 Leaves before after (asks.Operation line) = (after.lines ≡ before.lines ++ line ∷ []) × (config_of after ≡ config_of before)
 Leaves before after (asks.Query address) = after ≡ before
 Leaves before after asks.New = Unit {0}
@@ -39,13 +36,12 @@ IsRead before read = Leaves before read.1 read.0
 
 own_read : (s : SoFar) (asked : Asked) → IsOwn asked → IsRead s (asked, s)
 own_read s asks.Nothing own = (refl, inr refl)
-own_read s (asks.Areas line) own = (refl, own)
 own_read s (asks.Operation line) own = absurd own
 own_read s (asks.Query address) own = refl
 own_read s asks.New own = tt
 
 -- the element behind others
-slice_get_behind : {X : Type 0} (xs : List X) (x : X) (ys : List X) → slice_get (xs ++ x ∷ ys) (length xs) ≡ Some x
+pub slice_get_behind : {X : Type 0} (xs : List X) (x : X) (ys : List X) → slice_get (xs ++ x ∷ ys) (length xs) ≡ Some x
 slice_get_behind [] x ys = refl
 slice_get_behind (y ∷ xs) x ys = slice_get_behind xs x ys
 
@@ -69,8 +65,8 @@ unfolding asked_by_words
 asked_by_words-read s line words headed =
     cond_both (is_new words) (Ok (asks.New, s)) _ (λ (r : Result (Asked × SoFar) Cause). IfOk r (IsRead s))
     (λ _. tt)
-    (λ _. own_or-read s (if nat_lt 1 line.number then own_line line.number words else None) (after_line s line)
-    (cond_both (nat_lt 1 line.number) (own_line line.number words) None IsOwnLine (λ _. own_line-own line.number words) (λ _. tt))
+    (λ _. own_or-read s (if nat_lt 1 line.number then own_line words else None) (after_line s line)
+    (cond_both (nat_lt 1 line.number) (own_line words) None IsOwnLine (λ _. own_line-own words) (λ _. tt))
     (after_line-adds s line headed))
 
 asked_of-read : (s : SoFar) (line : RawLine) → (line.number ≡ 1 → s.lines ≡ []) → IfOk (asked_of s line) (IsRead s)
@@ -80,16 +76,16 @@ asked_of-read s line headed = ok_holds (IsRead s) (text_of line) _ (λ text. ask
 -- ---- a session has made its operations
 
 -- the space is that after the operations, none is open above the first, and no operation is above the header
-record Made (s : Session) : Type 0 where
-  space : space_of s ≡ after_operations (opened_by s.so_far) s.so_far.lines
-  unopened : s.so_far.lines ≡ [] → s.opened ≡ None
-  headed : s.count ≡ 0 → s.so_far.lines ≡ []
+pub record Made (s : Session) : Type 0 where
+  pub space : space_of s ≡ after_operations (opened_by s.so_far) s.so_far.lines
+  pub unopened : s.so_far.lines ≡ [] → s.opened ≡ None
+  pub headed : s.count ≡ 0 → s.so_far.lines ≡ []
 
-begun_made : Made begun
+pub begun_made : Made begun
 begun_made = record { space = refl; unopened = λ _. refl; headed = λ _. refl }
 
 -- the space of a configuration without an area
-abbrev opened_as : Config → Opened
+abbrev pub opened_as : Config → Opened
 opened_as config = record { config = config; space = opening config; version = 0 }
 
 -- one operation more
@@ -99,7 +95,7 @@ after_one_more now [] line = refl
 after_one_more now (x ∷ lines) line = after_one_more (after_operation now x.op) lines line
 
 -- of lines that say the same configuration the space is the same
-same_space : (opened : Option Opened) (before after : SoFar) → config_of after ≡ config_of before → unwrap_or opened (opened_by after) ≡ unwrap_or opened (opened_by before)
+pub same_space : (opened : Option Opened) (before after : SoFar) → config_of after ≡ config_of before → unwrap_or opened (opened_by after) ≡ unwrap_or opened (opened_by before)
 same_space opened before after same = ap (λ (c : Config). unwrap_or opened (opened_as c)) same
 
 -- a line that adds none
@@ -137,7 +133,6 @@ counted_made s after made same = nothing_made s after (s.count + 1) made (λ non
 read_made : (s : Session) (asked : Asked) (after : SoFar) → Made s → IsRead s.so_far (asked, after)
     → Made (answer_read (record { count = s.count; so_far = after; opened = s.opened }) asked).session
 read_made s asks.Nothing after made read = nothing_made s after (s.count + 1) made (λ none. absurd (omega (arith, none))) read.0 read.1
-read_made s (asks.Areas line) after made read = counted_made s after made read.0
 read_made s (asks.Operation line) after made read = operation_made s after line made read.0 read.1
 read_made s (asks.Query address) after made read = counted_made s after made read
 read_made s asks.New after made read = begun_made
@@ -152,7 +147,7 @@ refused_made s cause made =
 headed_next : (s : Session) → Made s → s.count + 1 ≡ 1 → s.so_far.lines ≡ []
 headed_next s made first = made.headed (omega (arith, first))
 
-answered_made : (s : Session) (text : List ℕ) → Made s → Made (answered s text).session
+pub answered_made : (s : Session) (text : List ℕ) → Made s → Made (answered s text).session
 unfolding answered
 answered_made s text made =
     by_reading (asked_of s.so_far (raw_line (s.count + 1) 0 text true)) (asked_of-read s.so_far (raw_line (s.count + 1) 0 text true) (headed_next s made))
@@ -172,7 +167,7 @@ space_made lines = (made_after begun lines begun_made).space
 -- ---- an operation is answered by its item
 
 -- the item of a line at a space
-abbrev item_at : List TraceLine → TraceLine → Config → Opened → Item
+abbrev pub item_at : List TraceLine → TraceLine → Config → Opened → Item
 item_at trace line config now =
     record { caller = caller_of trace line.thread; version = version_after config now.space now.version line.op; content = answer_of config now.space line.op }
 
@@ -183,7 +178,7 @@ items_behind config trace [] after line space version = refl
 items_behind config trace (x ∷ before) after line space version =
     items_behind config trace before after line (space_after config space x.op) (version_after config space version x.op)
 
-config_stays : (now : Opened) (lines : List TraceLine) → (after_operations now lines).config ≡ now.config
+pub config_stays : (now : Opened) (lines : List TraceLine) → (after_operations now lines).config ≡ now.config
 config_stays now [] = refl
 config_stays now (x ∷ lines) = config_stays (after_operation now x.op) lines
 
@@ -217,33 +212,11 @@ printed_of s text line after made is =
           (operation_printed (config_of after) s.so_far.lines line (unwrap_or s.opened (opened_by after)) now),
     )
 
--- a read of the list at this space
-maps_printed : (line : TraceLine) (now : Opened) → line.op ≡ Maps → start_text line now.version ++ maps_text now.config.files now.space.areas ≡ operation_text now line
-unfolding call_of content_text start_text
-maps_printed line now is = subst (λ (op : Op). start_text line now.version ++ maps_text now.config.files now.space.areas
-    ≡ item_text now.config.files (record { number = line.number; thread = line.thread; op = op; after = line.after })
-    (record { caller = 0; version = version_after now.config now.space now.version op; content = answer_of now.config now.space op })) (sym is) refl
-
-maps_printed_of : (s : Session) (text : List ℕ) (line : TraceLine) (after : SoFar) → Made s → read_at s text ≡ Ok (asks.Areas line, after)
-    → IsTextOfItem (config_of after) s.so_far.lines line (answered s text).text
-maps_printed_of s text line after made is =
-    let read = is_read s text (asks.Areas line, after) made is in
-    let now : unwrap_or s.opened (opened_by after) ≡ after_operations (opened_by after) s.so_far.lines =
-    ap (λ (x : SoFar). unwrap_or s.opened (opened_by x)) read.0 ∙ made.space ∙ ap (λ (x : SoFar). after_operations (opened_by x) s.so_far.lines) (sym read.0) in
-    subst (IsTextOfItem (config_of after) s.so_far.lines line)
-    (sym (answer_text s text (asks.Areas line, after) is ∙ maps_printed line (unwrap_or s.opened (opened_by after)) read.1))
-    (operation_printed (config_of after) s.so_far.lines line (unwrap_or s.opened (opened_by after)) now)
-
 pub operations_printed : (lines : List (List ℕ)) (text : List ℕ) (line : TraceLine) (after : SoFar)
     → read_at (session_after begun lines) text ≡ Ok (asks.Operation line, after)
     → (after.lines ≡ (session_after begun lines).so_far.lines ++ line ∷ [])
     × IsTextOfItem (config_of after) (session_after begun lines).so_far.lines line (answered (session_after begun lines) text).text
 operations_printed lines text line after is = printed_of (session_after begun lines) text line after (made_after begun lines begun_made) is
-
-pub lists_printed : (lines : List (List ℕ)) (text : List ℕ) (line : TraceLine) (after : SoFar)
-    → read_at (session_after begun lines) text ≡ Ok (asks.Areas line, after)
-    → IsTextOfItem (config_of after) (session_after begun lines).so_far.lines line (answered (session_after begun lines) text).text
-lists_printed lines text line after is = maps_printed_of (session_after begun lines) text line after (made_after begun lines begun_made) is
 
 -- `serial` has the same items
 pub gathered : (config : Config) (lines : List TraceLine) → serial_history config lines ≡ gather (items_made config lines)

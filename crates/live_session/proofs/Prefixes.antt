@@ -7,10 +7,10 @@ use Rattle.live_session.specs.Sessions.{begun, pieces_of, whole_lines, last_piec
 use Rattle.live_session.proofs.Pieces.{answers-append, cut_whole, some_pieces, whole_lines-cut}
 
 -- a list with an element is the first ones and a last one
-record IsEnded (xs : List (List ℕ)) : Type 0 where
-  front : List (List ℕ)
-  last : List ℕ
-  is : xs ≡ front ++ last ∷ []
+pub record IsEnded (xs : List (List ℕ)) : Type 0 where
+  pub front : List (List ℕ)
+  pub last : List ℕ
+  pub is : xs ≡ front ++ last ∷ []
 
 ended : (x : List ℕ) (xs : List (List ℕ)) → IsEnded (x ∷ xs)
 ended x [] = record { front = []; last = x; is = refl }
@@ -20,7 +20,7 @@ ended x (y ∷ ys) = let rest = ended y ys in record {
   is = ap (λ (l : List (List ℕ)). x ∷ l) rest.is;
 }
 
-ended_pieces : (xs : List (List ℕ)) → 0 < length xs → IsEnded xs
+pub ended_pieces : (xs : List (List ℕ)) → 0 < length xs → IsEnded xs
 ended_pieces [] some = absurd (omega arith)
 ended_pieces (x ∷ xs) some = ended x xs
 

@@ -1,5 +1,5 @@
 -- Serves `answering.rt` and `conversing.rt`: what holds of every session that lines lead to.
-use Rattle.std.proofs.Common.{◌≡◌, ◌+◌, ◌-◌, ◌^◌, ◌<◌, ◌≤◌, ◌&&◌, ◌⊎◌, ℕ, true, nat_eq, nat_lt, List, [], ◌∷◌, length, codes, bytes_eq, slice_get, Option, Some, None, unwrap_or, Result, Ok, Err, ok_or, IfOk, IfSome, if◌then◌else◌, refl, sym, subst, inl, inr, arith, length-append, lit≤}
+use Rattle.std.proofs.Common.{◌≡◌, ◌+◌, ◌-◌, ◌^◌, ◌<◌, ◌≤◌, ◌⊎◌, ℕ, true, nat_eq, nat_lt, List, [], ◌∷◌, length, codes, bytes_eq, slice_get, Option, Some, None, unwrap_or, Result, Ok, Err, ok_or, IfOk, IfSome, if◌then◌else◌, refl, sym, subst, inl, inr, arith, length-append, lit≤}
 use Rattle.std.proofs.lemmas.Bool.{cond_both, ltb-false}
 use Rattle.std.proofs.lemmas.Option.{slice_get_within}
 use Rattle.mm_types.specs.declared.config.Config.{Config}
@@ -10,7 +10,7 @@ use Rattle.area_rules.specs.Steps.{opening}
 use Rattle.area_rules.specs.Tables.{AddressSpace}
 use Rattle.area_rules.proofs.Stepping.{step_objects}
 use Rattle.text_lexer.specs.declared.error.Cause.{Cause}
-use Rattle.text_lexer.specs.declared.error.Cause.TheVariants.{Header, Thread, Child}
+use Rattle.text_lexer.specs.declared.error.Cause.TheVariants.{Header, Child}
 use Rattle.text_lexer.specs.Causes.{◌>>=◌}
 use Rattle.text_lexer.specs.Lines.{RawLine, raw_line, text_of}
 use Rattle.text_lexer.specs.Numbers.{number}
@@ -18,9 +18,7 @@ use Rattle.text_lexer.specs.Words.{words_of, is_comment, begins_with_digit}
 use Rattle.trace_reader.specs.declared.builder.Version.{Version}
 use Rattle.trace_reader.specs.declared.builder.Version.TheVariants.{Narrow, Wide}
 use Rattle.trace_reader.specs.declared.limits.TheConstants.{MOST_LINES}
-use Rattle.trace_reader.specs.declared.trace.Op.TheVariants.{Maps}
 use Rattle.trace_reader.specs.declared.trace.TraceLine.{TraceLine}
-use Rattle.trace_reader.specs.Fields.{thread_of}
 use Rattle.trace_reader.specs.Grammar.{nothing, address_limit, config_of}
 use Rattle.trace_reader.specs.Lines.{SoFar, version_of, with_header, with_one, with_line, after_setting, after_words, after_line}
 use Rattle.trace_reader.specs.Operations.{line_of}
@@ -30,7 +28,7 @@ use Rattle.trace_reader.proofs.TraceValues.{IsSoFar, after_line-good}
 use Rattle.history.specs.Histories.{call_of, space_by, version_by}
 use Rattle.live_session.specs.declared.asking.Asked.{Asked}
 use Rattle.live_session.specs.declared.asking.Asked.TheVariants as asks
-use Rattle.live_session.specs.Asking.{added, areas_of, asked_by_words, asked_of, asked_of_new, is_new, own_line, own_operation, own_or, query_of}
+use Rattle.live_session.specs.Asking.{added, asked_by_words, asked_of, asked_of_new, is_new, own_line, own_operation, own_or, query_of}
 use Rattle.live_session.specs.Sessions.{IsWithinLimits, Opened, Session, after_operation, answer_by, answer_read, answered, begun, opened_by, refused, session_after}
 use Rattle.live_session.specs.Internal.Talking.{HasRoom, IsReached}
 use Rattle.live_session.proofs.LinesAdded.{after_setting-lines, bind_holds, either, unless_holds}
@@ -84,10 +82,9 @@ record IsGood (n : ℕ) (before : SoFar) (read : Asked × SoFar) : Type 0 where
   kept : HasLines (length before.lines) read.1
   more : (line : TraceLine) → read.0 ≡ asks.Operation line → length before.lines < length read.1.lines
 
--- an own line asks for no operation, and where it reads the list it is `maps`
+-- an own line asks for no operation
 abbrev pub IsOwn : Asked → Type 0
 IsOwn asks.Nothing = Unit {0}
-IsOwn (asks.Areas line) = line.op ≡ Maps
 IsOwn (asks.Operation line) = ⊥
 IsOwn (asks.Query address) = Unit {0}
 IsOwn asks.New = Unit {0}
@@ -106,23 +103,17 @@ query_of-own [] = tt
 query_of-own (address ∷ []) = ok_holds IsOwn (number address) _ (λ a. tt)
 query_of-own (address ∷ next ∷ words) = tt
 
-areas_of-own : (line : ℕ) (thread : List ℕ) → IfOk (areas_of line thread) IsOwn
-unfolding areas_of
-areas_of-own line thread = ok_holds IsOwn (ok_or (thread_of thread) Thread) _ (λ t. refl)
-
-own_operation-own : (line : ℕ) (thread : List ℕ) (words : List (List ℕ)) → IsOwnLine (own_operation line thread words)
+own_operation-own : (words : List (List ℕ)) → IsOwnLine (own_operation words)
 unfolding own_operation
-own_operation-own line thread [] = tt
-own_operation-own line thread (name ∷ rest) =
-    cond_both (bytes_eq name (codes "fork")) (Some (Err Child)) _ IsOwnLine (λ _. tt)
-    (λ _. cond_both (bytes_eq name (codes "maps") && nat_eq (length rest) 0) (Some (areas_of line thread)) None IsOwnLine (λ _. areas_of-own line thread) (λ _. tt))
+own_operation-own [] = tt
+own_operation-own (name ∷ rest) = cond_both (bytes_eq name (codes "fork")) (Some (Err Child)) None IsOwnLine (λ _. tt) (λ _. tt)
 
-pub own_line-own : (line : ℕ) (words : List (List ℕ)) → IsOwnLine (own_line line words)
+pub own_line-own : (words : List (List ℕ)) → IsOwnLine (own_line words)
 unfolding own_line
-own_line-own line [] = tt
-own_line-own line (first ∷ words) =
+own_line-own [] = tt
+own_line-own (first ∷ words) =
     cond_both (bytes_eq first (codes "query")) (Some (query_of words)) _ IsOwnLine (λ _. query_of-own words)
-    (λ _. cond_both (begins_with_digit first) (own_operation line first words) None IsOwnLine (λ _. own_operation-own line first words) (λ _. tt))
+    (λ _. cond_both (begins_with_digit first) (own_operation words) None IsOwnLine (λ _. own_operation-own words) (λ _. tt))
 
 -- an own line leaves the lines as they are
 stays_good : (n : ℕ) (s : SoFar) (asked : Asked) → IsSoFar n s → IsOwn asked → IsGood n s (asked, s)
@@ -166,8 +157,8 @@ unfolding asked_by_words
 asked_by_words-good n s line words known numbered small =
     cond_both (is_new words) (Ok (asks.New, s)) _ (λ (r : Result (Asked × SoFar) Cause). IfOk r (IsGood n s))
     (λ _. stays_good n s asks.New known tt)
-    (λ _. own_or-good n s (if nat_lt 1 line.number then own_line line.number words else None) (after_line s line) known
-    (cond_both (nat_lt 1 line.number) (own_line line.number words) None IsOwnLine (λ _. own_line-own line.number words) (λ _. tt))
+    (λ _. own_or-good n s (if nat_lt 1 line.number then own_line words else None) (after_line s line) known
+    (cond_both (nat_lt 1 line.number) (own_line words) None IsOwnLine (λ _. own_line-own words) (λ _. tt))
     (after_line-known n s line known numbered small))
 
 asked_of-good : (n : ℕ) (s : SoFar) (line : RawLine) → IsSoFar n s → line.number ≡ n → n < 2 ^ 64 → IfOk (asked_of s line) (IsGood n s)
@@ -271,11 +262,6 @@ read_sane n session asks.Nothing after sane good = record {
   few = omega (arith, sane.few);
   small = small_kept session.so_far after session.opened sane.small good.kept;
 }
-read_sane n session (asks.Areas line) after sane good = record {
-  known = good.known;
-  few = omega (arith, sane.few);
-  small = small_kept session.so_far after session.opened sane.small good.kept;
-}
 read_sane n session (asks.Query address) after sane good = record {
   known = good.known;
   few = omega (arith, sane.few);
@@ -336,7 +322,7 @@ lined_count session lines now few = (lined_sane session lines now few).few
 pub within_limits : (lines : List (List ℕ)) → length lines < 2 ^ 64 → IsWithinLimits (session_after begun lines)
 within_limits lines few =
     let sane = lined_sane (session_after begun lines) lines refl few in
-    record { operations = sane.known.lines.few; files = sane.known.files; named = sane.known.lines.few_named }
+    record { operations = sane.known.lines.few; maps = sane.known.lines.few_reads; files = sane.known.files; named = sane.known.lines.few_named }
 
 reached_sane : (session : Session) (reached : IsReached session) → IsSane (length reached.lines) session
 reached_sane session reached = lined_sane session reached.lines reached.now (omega (arith, reached.few))

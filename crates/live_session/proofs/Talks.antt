@@ -220,7 +220,7 @@ talked_read s s' s'' k k' held piece session talked moved calm = record {
 -- a turn more, and more bytes were taken
 pub talked_taken : (s s' s'' : SourceView) (k k' : SinkView) (held : HeldView) (piece more : List ℕ) (session : Session) → Talked s s' k k' held piece session
     → Consumes s'.left s''.left more → s''.faults ≡ s'.faults → 0 < length more
-    → Talked s s'' k k' (record { bytes = held.bytes ++ more; turns = held.turns + 1 }) piece session
+    → Talked s s'' k k' (record { bytes = held.bytes ++ more; searched = held.searched; turns = held.turns + 1 }) piece session
 talked_taken s s' s'' k k' held piece more session talked moved calm some = record {
   taken = talked.taken ++ more;
   lines = talked.lines;
@@ -238,7 +238,7 @@ talked_taken s s' s'' k k' held piece more session talked moved calm some = reco
 
 -- of a line whose end was not read a front is kept
 pub talked_kept : (s s' : SourceView) (k k' : SinkView) (held : HeldView) (piece : List ℕ) (session : Session) → Talked s s' k k' held piece session
-    → HasNoNewline held.bytes → Talked s s' k k' (record { bytes = kept held.bytes; turns = held.turns }) piece session
+    → HasNoNewline held.bytes → Talked s s' k k' (record { bytes = kept held.bytes; searched = length (kept held.bytes); turns = held.turns }) piece session
 talked_kept s s' k k' held piece session talked none = record {
   taken = talked.taken;
   lines = talked.lines;
@@ -276,7 +276,7 @@ talked_given s s' k k' k'' held piece given holds session talked gave is = recor
 -- a line was answered
 pub talked_line : (s s' : SourceView) (k k' : SinkView) (held : HeldView) (piece : List ℕ) (session : Session) (len : ℕ) → Talked s s' k k' (without_turn held) piece session
     → HasLine held.bytes len → 0 < held.turns
-    → Talked s s' k k' (record { bytes = drop (len + 1) held.bytes; turns = held.turns }) (piece ++ (answered session (take len held.bytes)).text)
+    → Talked s s' k k' (record { bytes = drop (len + 1) held.bytes; searched = 0; turns = held.turns }) (piece ++ (answered session (take len held.bytes)).text)
     (answered session (take len held.bytes)).session
 talked_line s s' k k' held piece session len talked has some =
     let line : List ℕ = take len held.bytes in
@@ -302,7 +302,7 @@ talked_line s s' k k' held piece session len talked has some =
     }
 
 -- before the first read
-pub talked_none : (s : SourceView) (k : SinkView) → Talked s s k k (record { bytes = []; turns = 0 }) [] begun
+pub talked_none : (s : SourceView) (k : SinkView) → Talked s s k k (record { bytes = []; searched = 0; turns = 0 }) [] begun
 talked_none s k = record {
   taken = [];
   lines = [];
@@ -332,16 +332,16 @@ talked_err statuses.WriteFault s s' s'' k k' held now after session talked none 
 
 -- more bytes came
 pub talked_more : (s s' s'' : SourceView) (k k' : SinkView) (held now after : HeldView) (piece : List ℕ) (session : Session) → Talked s s' k k' held piece session
-    → now ≡ record { bytes = held.bytes; turns = held.turns + 1 } → TakesMore s' s'' now after (Ok true) → Talked s s'' k k' after piece session
+    → now ≡ record { bytes = held.bytes; searched = held.searched; turns = held.turns + 1 } → TakesMore s' s'' now after (Ok true) → Talked s s'' k k' after piece session
 talked_more s s' s'' k k' held now after piece session talked is takes =
-    talked_same s s'' k k' (record { bytes = held.bytes ++ takes.0; turns = held.turns + 1 }) after piece session
+    talked_same s s'' k k' (record { bytes = held.bytes ++ takes.0; searched = held.searched; turns = held.turns + 1 }) after piece session
     (talked_taken s s' s'' k k' held piece takes.0 session talked takes.1 takes.2 takes.4)
     (ap (λ (h : HeldView). h.bytes) takes.3 ∙ ap (λ (h : HeldView). h.bytes ++ takes.0) is)
     (ap (λ (h : HeldView). h.turns) takes.3 ∙ ap (λ (h : HeldView). h.turns) is)
 
 -- the input ended
 pub talked_end : (s s' s'' : SourceView) (k k' : SinkView) (held now after : HeldView) (piece : List ℕ) (session : Session) → Talked s s' k k' held piece session
-    → now ≡ record { bytes = held.bytes; turns = held.turns + 1 } → TakesMore s' s'' now after (Ok false)
+    → now ≡ record { bytes = held.bytes; searched = held.searched; turns = held.turns + 1 } → TakesMore s' s'' now after (Ok false)
     → Talked s s'' k k' (without_turn after) piece session
 talked_end s s' s'' k k' held now after piece session talked is takes =
     talked_same s s'' k k' held (without_turn after) piece session (talked_read s s' s'' k k' held piece session talked takes.1 takes.2)

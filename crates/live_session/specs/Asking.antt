@@ -1,14 +1,12 @@
 -- What a line of a session asks for.
-use Rattle.std.specs.Prelude.{ℕ, Bool, false, ◌&&◌, List, [], ◌∷◌, length, codes, bytes_eq, nat_eq, nat_lt, Option, Some, None, slice_get, Result, Ok, Err, ok_or, if◌then◌else◌}
+use Rattle.std.specs.Prelude.{ℕ, Bool, false, List, [], ◌∷◌, length, codes, bytes_eq, nat_lt, Option, Some, None, slice_get, Result, Ok, Err, if◌then◌else◌}
 use Rattle.text_lexer.specs.declared.error.Cause.{Cause}
 use Rattle.text_lexer.specs.declared.error.Cause.TheVariants as causes
 use Rattle.text_lexer.specs.Causes.{◌>>=◌}
 use Rattle.text_lexer.specs.Lines.{RawLine, text_of}
 use Rattle.text_lexer.specs.Numbers.{number}
 use Rattle.text_lexer.specs.Words.{words_of, begins_with_digit}
-use Rattle.trace_reader.specs.declared.trace.Op.TheVariants.{Maps}
 use Rattle.trace_reader.specs.declared.trace.TraceLine.{TraceLine}
-use Rattle.trace_reader.specs.Fields.{thread_of}
 use Rattle.trace_reader.specs.Lines.{SoFar, after_line}
 use Rattle.live_session.specs.declared.asking.Asked.{Asked}
 use Rattle.live_session.specs.declared.asking.Asked.TheVariants as asks
@@ -23,22 +21,16 @@ unfoldable pub query_of : List (List ℕ) → Result Asked Cause
 query_of (address ∷ []) = number address >>= λ a. Ok (asks.Query a)
 query_of _ = Err causes.Arity
 
--- the read of the list by this thread, on the line of this number
-unfoldable pub areas_of : ℕ → List ℕ → Result Asked Cause
-areas_of line thread = ok_or (thread_of thread) causes.Thread >>= λ t.
-    Ok (asks.Areas (record { number = line; thread = t; op = Maps; after = None }))
-
--- an operation that a session answers in its own way: `maps` alone, which it never counts, and `fork`, which it refuses
-unfoldable pub own_operation : ℕ → List ℕ → List (List ℕ) → Option (Result Asked Cause)
-own_operation line thread [] = None
-own_operation line thread (name ∷ rest) = if bytes_eq name (codes "fork") then Some (Err causes.Child)
-    else (if bytes_eq name (codes "maps") && nat_eq (length rest) 0 then Some (areas_of line thread) else None)
+-- an operation that a session answers in its own way, from the words after its thread: it refuses `fork`
+unfoldable pub own_operation : List (List ℕ) → Option (Result Asked Cause)
+own_operation [] = None
+own_operation (name ∷ rest) = if bytes_eq name (codes "fork") then Some (Err causes.Child) else None
 
 -- the words of a line below the header that is no line of a trace, or that a session answers in its own way
-unfoldable pub own_line : ℕ → List (List ℕ) → Option (Result Asked Cause)
-own_line line [] = None
-own_line line (first ∷ words) = if bytes_eq first (codes "query") then Some (query_of words)
-    else (if begins_with_digit first then own_operation line first words else None)
+unfoldable pub own_line : List (List ℕ) → Option (Result Asked Cause)
+own_line [] = None
+own_line (first ∷ words) = if bytes_eq first (codes "query") then Some (query_of words)
+    else (if begins_with_digit first then own_operation words else None)
 
 -- what a line of a trace asks for: the operation that it adds, if it adds one
 abbrev pub asked_of_new : Option TraceLine → Asked
@@ -57,7 +49,7 @@ own_or None so_far read = read >>= λ after. Ok (added so_far after)
 -- what a line with these words asks for behind the lines so far, and what they say with it; no own line but `new` stands before the header
 unfoldable pub asked_by_words : SoFar → RawLine → List (List ℕ) → Result (Asked × SoFar) Cause
 asked_by_words so_far line words = if is_new words then Ok (asks.New, so_far)
-    else own_or (if nat_lt 1 line.number then own_line line.number words else None) so_far (after_line so_far line)
+    else own_or (if nat_lt 1 line.number then own_line words else None) so_far (after_line so_far line)
 
 -- what a line asks for behind the lines so far, and what they say with it, or the first test that it fails
 unfoldable pub asked_of : SoFar → RawLine → Result (Asked × SoFar) Cause

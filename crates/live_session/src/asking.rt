@@ -16,8 +16,6 @@ use trace_reader::{TraceBuilder, TraceLine};
 pub(crate) enum Asked {
     /// Nothing: it is a header, a setting, a comment or blank.
     Nothing,
-    /// The list of areas, which the line reads.
-    Areas(TraceLine),
     /// An operation.
     Operation(TraceLine),
     /// The first area that ends above an address, in bytes.
@@ -62,7 +60,7 @@ impl Says {
             return Ok(Asked::New);
         }
         if 1 < line.number {
-            if let Some(own) = own_line(line.number, words.as_slice()) {
+            if let Some(own) = own_line(words.as_slice()) {
                 return Ok(own?);
             }
         }

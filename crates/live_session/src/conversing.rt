@@ -1,5 +1,5 @@
 //! A session with a source and a sink.
-ghost use Rattle.std.specs.Prelude.{◌≡◌, ◌<◌, ◌-◌, ◌^◌, ◌++◌, None, IfOk, IsSome};
+ghost use Rattle.std.specs.Prelude.{◌≡◌, ◌<◌, ◌-◌, ◌^◌, ◌++◌, true, None, IfOk, IsSome};
 ghost use Rattle.std.specs.Option.{option_map};
 ghost use Rattle.io_edge.specs.Edge.{SinkView, SourceView};
 ghost use Rattle.live_session.specs.Conversing.{IsConversation};
@@ -52,7 +52,7 @@ fn answer_spaces<S: Source, K: Sink>(
     Ok(())
 }
 
-/// Answers the lines of an address space, and tells whether another begins behind it.
+/// Answers the lines of an address space, and tells whether another begins behind it. Then there is memory to spare, if there was.
 fn answer_space<S: Source, K: Sink>(
     alloc: Global,
     source: &mut S,
@@ -65,6 +65,7 @@ fn answer_space<S: Source, K: Sink>(
     ensures ends { (s : SourceView) (k : SinkView) → Talked s (S.seen source.old) k (K.seen sink.old) held.old piece.old.items begun
         → EndsSpace s (S.seen source.new) k (K.seen sink.new) held.new piece.new.items result }
     ensures turns { IfOk result (λ more. Turns held.old held.new) }
+    ensures spared { IfOk result (λ more. more ≡ true → IsSome spare.old → IsSome spare.new) }
 {
     let mut says = Says::new(alloc);
     let mut space = None;
@@ -77,7 +78,8 @@ fn answer_space<S: Source, K: Sink>(
     }
 }
 
-/// Opens an address space by an operation, answers that and the lines behind it, and tells whether another space begins behind them.
+/// Opens an address space by an operation, answers that and the lines behind it, and tells whether another space begins behind them, which has
+/// the memory of this one to spare.
 fn answer_opened<S: Source, K: Sink>(
     alloc: Global,
     source: &mut S,
@@ -95,6 +97,7 @@ fn answer_opened<S: Source, K: Sink>(
         (piece.old.items ++ (operated (session_of says.old None) line.now).text) (operated (session_of says.old None) line.now).session
         → EndsSpace s (S.seen source.new) k (K.seen sink.new) held.new piece.new.items result }
     ensures turns { IfOk result (λ more. Turns held.old held.new) }
+    ensures spared { IfOk result (λ more. more ≡ true → IsSome spare.new) }
 {
     let config = says.builder.config(alloc)?;
     let mut live = LiveSpace::open(alloc, &config, spare.take())?;

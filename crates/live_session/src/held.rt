@@ -21,7 +21,7 @@ const PIECE: usize = 8_192;
 const MOST_KEPT: usize = LINE_LIMIT + 1;
 
 /// Bytes that were read and not yet answered: what is kept of a line whose end was not read, and one read more at most. Contracts see them,
-/// and how many lines and reads there were.
+/// how many of them were searched, and how many lines and reads there were.
 #[derive(Drop)]
 pub(crate) struct Held {
     bytes: Vec<u8>,
@@ -38,7 +38,7 @@ impl Model for Held {
 
     ghost Value = { HeldView };
 
-    ghost view = { λ held. record { bytes = drop held.at held.bytes.items; turns = held.turns } };
+    ghost view = { λ held. record { bytes = drop held.at held.bytes.items; searched = held.searched; turns = held.turns } };
 
     ghost invariant = { λ held. IsHeld held.bytes.items held.at held.searched };
 }
@@ -46,7 +46,7 @@ impl Model for Held {
 impl Held {
     /// No byte, before the first read.
     pub(crate) fn new(alloc: Global) -> Held
-        ensures { result ≡ record { bytes = []; turns = 0 } }
+        ensures { result ≡ record { bytes = []; searched = 0; turns = 0 } }
     {
         Held {
             bytes: Vec::new(alloc),
@@ -66,7 +66,7 @@ impl Held {
     /// Takes a line of so many bytes and its newline off the front.
     pub(crate) fn pass(&mut self, len: usize)
         requires { len < length self.old.bytes }
-        ensures { self.new ≡ record { bytes = drop (len + 1) self.old.bytes; turns = self.old.turns } }
+        ensures { self.new ≡ record { bytes = drop (len + 1) self.old.bytes; searched = 0; turns = self.old.turns } }
     {
         let line_end = self.at + len;
         self.at = line_end + 1;
@@ -86,25 +86,25 @@ impl Held {
     /// Counts a turn.
     fn turn(&mut self)
         requires { self.old.turns < 2 ^ 64 - 1 }
-        ensures { self.new ≡ record { bytes = self.old.bytes; turns = self.old.turns + 1 } }
+        ensures { self.new ≡ record { bytes = self.old.bytes; searched = self.old.searched; turns = self.old.turns + 1 } }
     {
         self.turns += 1;
     }
 
-    /// Keeps of a line whose end was not read no more than shows that it is too long.
+    /// Keeps of a line whose end was not read no more than shows that it is too long. All of that was searched.
     fn keep_front(&mut self)
         requires { HasNoNewline self.old.bytes }
-        ensures { self.new ≡ record { bytes = kept self.old.bytes; turns = self.old.turns } }
+        ensures { self.new ≡ record { bytes = kept self.old.bytes; searched = length (kept self.old.bytes); turns = self.old.turns } }
     {
         self.searched = MOST_KEPT.min(self.bytes().len());
         self.bytes.truncate(self.at + self.searched);
     }
 
-    /// Appends the bytes of a read. Fails only where memory runs out.
+    /// Appends the bytes of a read, none of which was searched. Fails only where memory runs out.
     fn append(&mut self, more: &[u8]) -> Result<(), NoMemory>
         requires kept { length self.old.bytes ≤ MOST_KEPT }
         requires read { length more.now ≤ PIECE }
-        ensures { OnOk result (self.new ≡ record { bytes = self.old.bytes ++ more.now; turns = self.old.turns }) }
+        ensures { OnOk result (self.new ≡ record { bytes = self.old.bytes ++ more.now; searched = self.old.searched; turns = self.old.turns }) }
     {
         drop_front(&mut self.bytes, self.at);
         self.at = 0;

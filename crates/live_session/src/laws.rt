@@ -1,11 +1,15 @@
 //! Laws of the definitions. Nothing runs here.
 ghost use Rattle.std.specs.Prelude.{◌≡◌, ◌<◌, ◌^◌, ◌∷◌, ◌++◌, [], ℕ, List, Ok, length};
 ghost use Rattle.mm_types.specs.declared.config.Config.{Config};
-ghost use Rattle.trace_reader.specs.Grammar.{config_of};
+ghost use Rattle.area_rules.specs.Steps.{opening};
+ghost use Rattle.trace_reader.specs.Grammar.{config_of, trace_of};
 ghost use Rattle.trace_reader.specs.Lines.{SoFar};
+ghost use Rattle.trace_reader.specs.Values.{children_of};
+ghost use Rattle.trace_reader.specs.declared.trace.Trace.{Trace};
 ghost use Rattle.trace_reader.specs.declared.trace.TraceLine.{TraceLine};
-ghost use Rattle.history.specs.Histories.{gather, serial_history};
-ghost use Rattle.live_session.specs.Items.{IsTextOfItem, after_operations, items_made};
+ghost use Rattle.history.specs.Histories.{gather, serial_history, space_after_all};
+ghost use Rattle.output_text.specs.Output.{listed_text, serial_output};
+ghost use Rattle.live_session.specs.Items.{IsTextOfItem, after_operations, items_made, output_in_turn};
 ghost use Rattle.live_session.specs.Sessions.{IsWithinLimits, answered, answers_of, begun, opened_by, read_at, session_after, session_text, space_of};
 
 use crate::asking::Asked;
@@ -20,9 +24,20 @@ pub fn session_gives_a_front()
     ensures { (input : List ℕ) → (rest : List ℕ) × (session_text input ≡ answers_of input ++ rest) }
 {}
 
+/// An input that is a trace in which no line forks is answered by the text of the item of each operation, in the order of the lines, and then
+/// the list after all of them. `serial` prints these items, of each version the reads by ascending thread, and the same list. Where that is the
+/// order of the lines, both texts are equal.
+pub fn a_trace_is_answered_by_its_items()
+    ensures session { (input : List ℕ) (trace : Trace) → trace_of input ≡ Ok trace → children_of trace.lines ≡ []
+        → session_text input ≡ output_in_turn trace }
+    ensures serial { (trace : Trace) → serial_output trace ≡ listed_text trace.config.files trace.lines (gather (items_made trace.config trace.lines))
+        (space_after_all trace.config (opening trace.config) trace.lines).areas }
+    ensures equal { (input : List ℕ) (trace : Trace) → trace_of input ≡ Ok trace → children_of trace.lines ≡ []
+        → gather (items_made trace.config trace.lines) ≡ items_made trace.config trace.lines → session_text input ≡ serial_output trace }
+{}
+
 /// Whatever the lines of a session, its space is that of the model after the operations since the last `new`, and the answer to an operation
-/// is the text of its item. `serial` prints the same items: `gather` only sorts the reads of each version. `maps` alone is answered as one that
-/// counts would be.
+/// is the text of its item.
 pub fn operations_are_answered_by_items()
     ensures spaces { (lines : List (List ℕ)) → space_of (session_after begun lines)
         ≡ after_operations (opened_by (session_after begun lines).so_far) (session_after begun lines).so_far.lines }
@@ -30,13 +45,10 @@ pub fn operations_are_answered_by_items()
         → read_at (session_after begun lines) text ≡ Ok (Asked.Operation line, after)
         → (after.lines ≡ (session_after begun lines).so_far.lines ++ line ∷ [])
         × IsTextOfItem (config_of after) (session_after begun lines).so_far.lines line (answered (session_after begun lines) text).text }
-    ensures lists { (lines : List (List ℕ)) (text : List ℕ) (line : TraceLine) (after : SoFar)
-        → read_at (session_after begun lines) text ≡ Ok (Asked.Areas line, after)
-        → IsTextOfItem (config_of after) (session_after begun lines).so_far.lines line (answered (session_after begun lines) text).text }
     ensures gathered { (config : Config) (lines : List TraceLine) → serial_history config lines ≡ gather (items_made config lines) }
 {}
 
-/// However long a session is, a space of it keeps no more than one of a trace.
+/// However long a session is, a space of it has no more operations and files than a trace.
 pub fn a_space_is_within_limits()
     ensures { (lines : List (List ℕ)) → length lines < 2 ^ 64 → IsWithinLimits (session_after begun lines) }
 {}

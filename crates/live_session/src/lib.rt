@@ -18,6 +18,7 @@ mod status;
 
 pub use conversing::converse;
 pub use laws::{
-    a_space_is_within_limits, answers_stay, operations_are_answered_by_items, session_gives_a_front,
+    a_space_is_within_limits, a_trace_is_answered_by_its_items, answers_stay,
+    operations_are_answered_by_items, session_gives_a_front,
 };
 pub use status::{Status, status_line, status_number};

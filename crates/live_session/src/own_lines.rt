@@ -1,11 +1,10 @@
 //! The lines that no trace has, or that a session answers in its own way.
 ghost use Rattle.std.specs.Prelude.{◌≡◌, map};
 ghost use Rattle.text_lexer.specs.Reading.{Reads};
-ghost use Rattle.live_session.specs.Asking.{areas_of, is_new, own_line, own_operation, query_of};
+ghost use Rattle.live_session.specs.Asking.{is_new, own_line, own_operation, query_of};
 
 use crate::asking::Asked;
 use text_lexer::{Cause, begins_with_digit, number};
-use trace_reader::{Op, TraceLine, thread_of};
 
 /// Whether words are `new` alone.
 #[tactic(auto, unfolding(crate::specs::Asking::is_new))]
@@ -20,8 +19,8 @@ pub(crate) fn is_new(words: &[&str]) -> bool
 
 /// What a line below the header asks for that is no line of a trace, or that a session answers in its own way.
 #[tactic(auto, unfolding(crate::specs::Asking::own_line))]
-pub(crate) fn own_line(line: u64, words: &[&str]) -> Option<Result<Asked, Cause>>
-    ensures { result ≡ own_line line (map (λ word. word.now) words.now) }
+pub(crate) fn own_line(words: &[&str]) -> Option<Result<Asked, Cause>>
+    ensures { result ≡ own_line (map (λ word. word.now) words.now) }
 {
     let [first, rest @ ..] = words else {
         return None;
@@ -30,7 +29,7 @@ pub(crate) fn own_line(line: u64, words: &[&str]) -> Option<Result<Asked, Cause>
         return Some(query_of(rest));
     }
     if begins_with_digit(first) {
-        own_operation(line, first, rest)
+        own_operation(rest)
     } else {
         None
     }
@@ -48,35 +47,17 @@ fn query_of(words: &[&str]) -> Result<Asked, Cause>
     Ok(Asked::Query(address))
 }
 
-/// What an operation asks for that a session answers in its own way: `maps` alone, and `fork`.
+/// What an operation asks for that a session answers in its own way, by the words after its thread: `fork` is refused.
 #[tactic(auto, unfolding(crate::specs::Asking::own_operation))]
-fn own_operation(line: u64, thread: &str, words: &[&str]) -> Option<Result<Asked, Cause>>
-    ensures { result ≡ own_operation line thread.now (map (λ word. word.now) words.now) }
+fn own_operation(words: &[&str]) -> Option<Result<Asked, Cause>>
+    ensures { result ≡ own_operation (map (λ word. word.now) words.now) }
 {
-    let [name, rest @ ..] = words else {
+    let [name, ..] = words else {
         return None;
     };
     if *name == "fork" {
-        return Some(Err(Cause::Child));
+        Some(Err(Cause::Child))
+    } else {
+        None
     }
-    if *name == "maps" && rest.is_empty() {
-        return Some(areas_of(line, thread));
-    }
-    None
-}
-
-/// A read of the list by a thread, on the line of this number.
-#[tactic(auto, unfolding(crate::specs::Asking::areas_of))]
-fn areas_of(line: u64, thread: &str) -> Result<Asked, Cause>
-    ensures { result ≡ areas_of line thread.now }
-{
-    let Some(thread) = thread_of(thread) else {
-        return Err(Cause::Thread);
-    };
-    Ok(Asked::Areas(TraceLine {
-        number: line,
-        thread,
-        op: Op::Maps,
-        after: None,
-    }))
 }

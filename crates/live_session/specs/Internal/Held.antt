@@ -8,9 +8,10 @@ use Rattle.live_session.specs.declared.status.Status.{Status}
 use Rattle.live_session.specs.declared.status.Status.TheVariants as statuses
 use Rattle.live_session.specs.Sessions.{pieces_of}
 
--- the bytes, and how many lines and reads there were
+-- the bytes, how many of them were searched, of which none is a newline, and how many lines and reads there were
 pub record HeldView : Type 0 where
   pub bytes : List ℕ
+  pub searched : ℕ
   pub turns : ℕ
 
 -- more turns were made, still as few as 64 bits count
@@ -19,7 +20,7 @@ Turns old new = (old.turns < new.turns) × (new.turns < 2 ^ 64)
 
 -- one turn less: the last is that of the line which is at the front, or of the read which found the end
 abbrev pub without_turn : HeldView → HeldView
-without_turn held = record { bytes = held.bytes; turns = held.turns - 1 }
+without_turn held = record { bytes = held.bytes; searched = held.searched; turns = held.turns - 1 }
 
 -- what is kept of a line: all of one that is not too long, and of a longer one as much as shows that
 abbrev pub kept : List ℕ → List ℕ
@@ -46,10 +47,10 @@ pub record IsHeld (bytes : List ℕ) (at searched : ℕ) : Type 0 where
   pub none : HasNoNewline (take searched (drop at bytes))
   pub few : length bytes ≤ MOST_KEPT + PIECE
 
--- what reading more results in: more bytes behind the others, or the end; or the source failed, or memory ran out once bytes were taken
+-- what reading more results in: more bytes behind the others, of which none was searched, or the end; or the source failed, or memory ran out once bytes were taken
 abbrev pub TakesMore : SourceView → SourceView → HeldView → HeldView → Result Bool Status → Type 0
 TakesMore old new held after (Ok true) = (more : List ℕ) × Consumes old.left new.left more × (new.faults ≡ old.faults)
-    × (after ≡ record { bytes = held.bytes ++ more; turns = held.turns }) × (0 < length more)
+    × (after ≡ record { bytes = held.bytes ++ more; searched = held.searched; turns = held.turns }) × (0 < length more)
 TakesMore old new held after (Ok false) = IsAtEnd new.left × Consumes old.left new.left [] × (new.faults ≡ old.faults) × (after ≡ held)
 TakesMore old new held after (Err statuses.ReadFault) = Keeps old.left new.left × (new.faults ≡ old.faults + 1) × FailedLast new.just_failed
 TakesMore old new held after (Err statuses.NoMemory) = (more : List ℕ) × Consumes old.left new.left more × (new.faults ≡ old.faults)

@@ -9,9 +9,10 @@ use Rattle.live_session.proofs.Talks.{found_err, talked_all_given, talked_cut, t
 use Rattle.live_session.proofs.held.Held.find_line.Goals as goal
 
 -- a turn was made, and a front is kept
-turned : (now turn held : HeldView) → now ≡ record { bytes = kept turn.bytes; turns = turn.turns } → turn ≡ record { bytes = held.bytes; turns = held.turns + 1 }
-    → now ≡ record { bytes = kept held.bytes; turns = held.turns + 1 }
-turned now turn held is made = is ∙ ap (λ (h : HeldView). record { bytes = kept h.bytes; turns = h.turns }) made
+turned : (now turn held : HeldView) → now ≡ record { bytes = kept turn.bytes; searched = length (kept turn.bytes); turns = turn.turns }
+    → turn ≡ record { bytes = held.bytes; searched = held.searched; turns = held.turns + 1 }
+    → now ≡ record { bytes = kept held.bytes; searched = length (kept held.bytes); turns = held.turns + 1 }
+turned now turn held is made = is ∙ ap (λ (h : HeldView). record { bytes = kept h.bytes; searched = length (kept h.bytes); turns = h.turns }) made
 
 pub give_answers-requires : goal.give_answers-requires
 give_answers-requires g c =
@@ -49,7 +50,7 @@ returns-in_err-take_more-clause-found g c = λ s k session t.
 pub returns-then-not-branch-clause-found : goal.returns-then-not-branch-clause-found
 returns-then-not-branch-clause-found g c = λ s k session t.
     let none : HasNoNewline c.turns.self.bytes = subst (λ (h : HeldView). HasNoNewline h.bytes) c.turn.ensures c.in_default.ensures in
-    let now : HeldView = record { bytes = kept c.turns.self.bytes; turns = c.turns.self.turns } in
+    let now : HeldView = record { bytes = kept c.turns.self.bytes; searched = length (kept c.turns.self.bytes); turns = c.turns.self.turns } in
     let is = turned c.keep_front.new.self c.turn.new.self c.turns.self c.keep_front.ensures c.turn.ensures in
     let given = talked_kept s (g.S.Source.seen c.turns.source) k (g.K.Sink.seen c.give_answers.new.sink) c.turns.self [] session
     (talked_all_given s (g.S.Source.seen c.turns.source) k (g.K.Sink.seen c.turns.sink) (g.K.Sink.seen c.give_answers.new.sink) c.turns.self
@@ -69,7 +70,7 @@ returns-then-not-branch-clause-found g c = λ s k session t.
 pub turns-preserved : goal.turns-preserved
 turns-preserved g c =
     let none : HasNoNewline c.turns.self.bytes = subst (λ (h : HeldView). HasNoNewline h.bytes) c.turn.ensures c.in_default.ensures in
-    let now : HeldView = record { bytes = kept c.turns.self.bytes; turns = c.turns.self.turns } in
+    let now : HeldView = record { bytes = kept c.turns.self.bytes; searched = length (kept c.turns.self.bytes); turns = c.turns.self.turns } in
     let is = turned c.keep_front.new.self c.turn.new.self c.turns.self c.keep_front.ensures c.turn.ensures in
     let more : TakesMore (g.S.Source.seen c.turns.source) (g.S.Source.seen c.take_more.new.source) c.keep_front.new.self c.take_more.new.self (Ok true) =
     subst (λ (b : Bool). TakesMore (g.S.Source.seen c.turns.source) (g.S.Source.seen c.take_more.new.source) c.keep_front.new.self c.take_more.new.self (Ok b))

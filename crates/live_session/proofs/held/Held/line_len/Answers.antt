@@ -7,7 +7,7 @@ use Rattle.live_session.proofs.Newlines.{found_behind}
 use Rattle.live_session.proofs.held.Held.line_len.Goals as goal
 
 -- what was searched is a front of the bytes
-front : (held : HeldView) (bytes : List ℕ) (turns searched : ℕ) → record { bytes = bytes; turns = turns } ≡ held → HasNoNewline (take searched bytes)
+front : (held : HeldView) (bytes : List ℕ) (turns searched : ℕ) → record { bytes = bytes; searched = searched; turns = turns } ≡ held → HasNoNewline (take searched bytes)
     → HasNoNewline (take searched held.bytes)
 front held bytes turns searched is none = subst (λ (h : HeldView). HasNoNewline (take searched h.bytes)) is none
 
