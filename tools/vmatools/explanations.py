@@ -163,6 +163,10 @@ def not_text(bad: BadLine) -> str:
 # One sentence for each cause
 
 
+OF_STRACE = re.compile(r" *([0-9]+ +)?[a-z][a-z0-9_]*\(")
+IMPORT = "this is a line of strace: `tools/vma import` makes a trace of its log"
+
+
 def header(bad: BadLine, text: str, words: list[str], word: str) -> str:
     wanted = "line 1 is exactly the words `vmatrace` and the version, `1` or `2`"
     kind = kind_of_file(bad.raw)
@@ -179,11 +183,13 @@ def header(bad: BadLine, text: str, words: list[str], word: str) -> str:
     if text.endswith("\r") and words_of(text.rstrip("\r")) in (["vmatrace", "1"], ["vmatrace", "2"]):
         return f"a carriage return stands at the end, and is part of the last word: {CARRIAGE_RETURNS}"
     if words[:1] == ["vmasteps"]:
-        return "this is the header of a script, which `vma_main steps` reads, and not that of a trace"
+        return "this is the header of a script, which `diltzekun steps` reads, and not that of a trace"
     if words[:1] == ["vmatrace"]:
         return f"{shown(' '.join(words[1:])) or 'nothing'} is no version of a trace: {wanted}"
     if words and words[0].startswith("#"):
         return f"a comment stands where the header has to: {wanted}"
+    if OF_STRACE.match(text):
+        return f"{IMPORT}; {wanted}"
     return f"the header is missing: {wanted}{nearest(words[0], ['vmatrace']) if words else ''}"
 
 
@@ -218,6 +224,8 @@ def wrong_word(bad: BadLine, text: str, words: list[str], word: str) -> str:
         return setting_below(bad.facts["first"], text, word)
     if bad.about == "setting twice":
         return f"`{shown(word)}` is set a second time: line {bad.facts['above']} has it already"
+    if bad.about in ("setting", "operation") and OF_STRACE.match(text):
+        return IMPORT
     if bad.about == "setting":
         return no_setting(text, word)
     if bad.about == "operation":
