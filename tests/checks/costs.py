@@ -3,7 +3,9 @@
 
 PROGRAM is crates/vma_main/out/vma_main by default, and LIVE crates/vma_live/out/vma_live. Each run gets an address space of
 so many MiB, some tenth more than it needs, and may have so many MiB of it resident, some fifth more than it has, of two
-sizes of most inputs. And the processor time of an input is compared with that of one of four times its size, the least of
+sizes of most inputs. What a space takes for each area that it may have is worked out from runs of two limits. A caller that
+waits for the lock takes no processor time: callers on one processor may take four times what one caller does. And the
+processor time of an input is compared with that of one of four times its size, the least of
 three runs each: it may take seven times as long, where linear work takes four to five and quadratic sixteen. A comparison
 that fails is made again. It ends with status 1 at the first run that takes more, and 2 on wrong use, or where a program
 is missing.
@@ -18,7 +20,7 @@ from collections.abc import Callable
 from pathlib import Path
 from typing import Any, NamedTuple
 
-from checking import LIVE, TOP, Words, answer, bytes_of, check_ended, fail, live_of, main, passed
+from checking import LIVE, TOP, Done, Words, answer, bytes_of, check_ended, fail, live_of, main, passed
 
 MIB = 2**20
 PEAK = [sys.executable, "-IS", str(TOP / "tests/checks/peak.py")]
@@ -26,6 +28,10 @@ SECONDS = 60
 TRIES = 5
 MOST_TIMES = 7
 MOST_AREAS = 65_530
+SOME_AREAS = 16_384
+MOST_ADDRESSES = 512 * MIB
+CALLERS = 64
+WAITING_TIMES = 4
 ANONYMOUS = "MAP_PRIVATE|MAP_ANONYMOUS|MAP_FIXED"
 
 Made = Callable[[int], list[str]]  # the lines of an input of a size
@@ -88,6 +94,22 @@ def reads(count: int) -> list[str]:
     return ["vmatrace 1", *made, *["0 maps"] * count]
 
 
+def small_reads(count: int) -> list[str]:
+    """One area, and reads of the list."""
+    return ["vmatrace 1", f"0 mmap {place(0):#x} 4096 PROT_READ {ANONYMOUS} -1 0", *["0 maps"] * count]
+
+
+def opened(areas: int) -> list[str]:
+    """A space for so many areas, which has one."""
+    return ["vmatrace 1", f"limit areas {areas}", f"0 mmap {place(0):#x} 4096 PROT_READ {ANONYMOUS} -1 0"]
+
+
+def together(count: int) -> list[str]:
+    """Calls of all callers, each of which maps a page and unmaps it again."""
+    both = (f"{{0}} mmap {{1:#x}} 4096 PROT_READ {ANONYMOUS} -1 0", "{0} munmap {1:#x} 4096")
+    return ["vmatrace 1", *(both[line % 2].format(line // 2 % CALLERS, place(line // 2 % 8)) for line in range(count))]
+
+
 def spaces(count: int) -> list[str]:
     """Address spaces of a session, each for as many areas as there may be."""
     return ["vmatrace 1", f"0 mmap {place(0):#x} 4096 PROT_READ {ANONYMOUS} -1 0", "new"] * count
@@ -139,6 +161,7 @@ MEMORY: list[tuple[str, list[str], Input, tuple[Size, ...]]] = [
     ("faults", ["serial"], given(faults), (Size(200_000, 150, 76), Size(800_000, 345, 196))),
     ("areas that come and leave", ["serial"], given(leaving), (Size(32_000, 36, 22), Size(128_000, 120, 77))),
     ("reads of many areas", ["serial"], given(reads), (Size(16, 1000, 108), Size(64, 1000, 252))),
+    ("reads of one area", ["serial"], given(small_reads), (Size(16, 80, 52), Size(64, 80, 52))),
     ("a load", ["generate", "{}", "1"], nothing, (Size(100_000, 115, 65), Size(400_000, 225, 153))),
     ("a text of calls", ["check"], judged(calls), (Size(200_000, 75, 50), Size(800_000, 205, 166))),
     ("an address in a list", ["query", "0x10000000"], given(maps), (Size(250_000, 44, 34), Size(1_000_000, 158, 132))),
@@ -172,16 +195,63 @@ def words_of(words: list[str], count: int) -> list[str]:
     return [word.format(count) for word in words]
 
 
-def resident(name: str, command: Words, text: bytes, addresses: int) -> float:
-    """The most MiB that a run has resident, which has to end well in so many MiB of address space."""
+def run_within(name: str, command: Words, text: bytes, most: int) -> tuple[Done, int]:
+    """A run in so many bytes of address space, and the most KiB that it has resident."""
     told, writer = os.pipe()
     with open(told, "rb") as told_by:
         with open(writer, "wb") as kept:
-            around = [*PEAK, str(kept.fileno()), str(addresses * MIB)]
+            around = [*PEAK, str(kept.fileno()), str(most)]
             ends: dict[str, Any] = {"stdout": subprocess.DEVNULL, "pass_fds": [kept.fileno()]}
             done, _ = answer(name, [*around, *command], SECONDS, input=text, **ends)
-        check_ended(name, done, 0)
-        return int(told_by.read()) / 1024
+        return done, int(told_by.read())
+
+
+def resident(name: str, command: Words, text: bytes, addresses: int) -> float:
+    """The most MiB that a run has resident, which has to end well in so many MiB of address space."""
+    done, most = run_within(name, command, text, addresses * MIB)
+    check_ended(name, done, 0)
+    return most / 1024
+
+
+def room_of(name: str, command: Words, text: bytes) -> tuple[int, int]:
+    """The bytes of address space that a run needs, some 64 KiB too many at most, and those that it has resident."""
+    short, enough = 0, MOST_ADDRESSES
+    while enough - short > 2**16:
+        middle = (short + enough) // 2
+        done, _ = run_within(name, command, text, middle)
+        short, enough = (short, middle) if done.returncode == 0 else (middle, enough)
+    return enough, round(resident(name, command, text, MOST_ADDRESSES // MIB) * MIB)
+
+
+def check_room(name: str, command: Words, addresses: int, most_resident: int) -> None:
+    """A space takes at most so many bytes of address space, and of resident memory, for each area that it may have."""
+    rooms = [room_of(name, command, bytes_of(opened(areas))) for areas in (SOME_AREAS, MOST_AREAS)]
+    each = [(large - small) / (MOST_AREAS - SOME_AREAS) for small, large in zip(*rooms)]
+    for what, bytes_each, most in zip(("address space", "resident memory"), each, (addresses, most_resident)):
+        if bytes_each > most:
+            fail(name, f"an area takes {bytes_each:.0f} bytes of {what}, and not at most {most}")
+    room, touched = each
+    passed(f"{name}: an area takes {room:.0f} bytes, of {addresses}, of which {touched:.0f} are resident, of {most_resident}")
+
+
+def check_waiting(program: str, count: int) -> None:
+    """Callers that wait for the lock take no processor time, of which there is one."""
+    name, text = "callers on one processor", bytes_of(together(count))
+    processor = min(os.sched_getaffinity(0))
+
+    def stay() -> None:
+        os.sched_setaffinity(0, {processor})
+
+    def least(mode: str) -> float:
+        runs = [answer(name, [program, mode], SECONDS, stay, input=text) for _ in range(3)]
+        for done, _ in runs:
+            check_ended(name, done, 0)
+        return min(took for _, took in runs)
+
+    alone, all_of_them = least("serial"), least("threads")
+    if all_of_them > WAITING_TIMES * alone:
+        fail(name, f"{CALLERS} callers take {all_of_them:.2f} seconds, and one takes {alone:.2f}")
+    passed(f"{name}, {CALLERS} in {all_of_them:.2f} seconds and one in {alone:.2f}")
 
 
 def check_memory(program: str, name: str, words: list[str], text: bytes, size: Size) -> None:
@@ -217,6 +287,9 @@ def check(options: argparse.Namespace) -> None:
     for name, made, sizes in SESSIONS:
         for size in sizes:
             check_memory(live, name, [], made(options.program, size.parts), size)
+    check_room("a space", [options.program, "serial"], 1090, 672)
+    check_room("a space of a session", [live], 390, 16)
+    check_waiting(options.program, 40_000)
     for name, words, made, count in TIME:
         check_time(options.program, name, words, made, count)
 
