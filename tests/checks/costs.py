@@ -100,8 +100,8 @@ def small_reads(count: int) -> list[str]:
 
 
 def opened(areas: int) -> list[str]:
-    """A space for so many areas, which has one."""
-    return ["vmatrace 1", f"limit areas {areas}", f"0 mmap {place(0):#x} 4096 PROT_READ {ANONYMOUS} -1 0"]
+    """A space for so many areas, which has one, and a read of its list."""
+    return ["vmatrace 1", f"limit areas {areas}", f"0 mmap {place(0):#x} 4096 PROT_READ {ANONYMOUS} -1 0", "0 maps"]
 
 
 def together(count: int) -> list[str]:
