@@ -4,14 +4,16 @@ ghost use Rattle.node_slots.specs.Seats as trees;
 
 use super::bench::{Bench, Caller, Walker, config};
 use crate::settings::READ;
-use mm_types::{Call, MAP_ANONYMOUS, MAP_FIXED, MAP_PRIVATE, MmapArgs};
+use mm_types::{Call, MAP_ANONYMOUS, MAP_FIXED, MAP_PRIVATE, MmapArgs, NoMemory};
+use std::process::Abort;
 use std::sync::Wait;
 use std::sync::atomic::{AtomicU64, Ordering};
 use std::test::Fail;
 use std::thread;
 use std::thread::{Threads, join};
 
-/// How many calls are made. While a reader is inside, there are slots for the first 40 of them.
+/// How many calls are made. While a reader is inside, there are slots for the first 40 of those that need slots, and rows for some 70
+/// of those that need rows.
 const CALLS: u64 = 100;
 
 /// How often a reader sees that no call was made, before it takes the writer to wait for it.
@@ -20,30 +22,52 @@ const LOOKS: u32 = 1_000_000;
 /// The page that is mapped.
 const ADDR: u64 = 0x2_0000;
 
-/// Maps a page, or unmaps it.
-fn call_of(number: u64) -> Call {
-    if number % 2 == 0 {
-        Call::Mmap(MmapArgs {
+/// The page above it.
+const ABOVE: u64 = 0x2_1000;
+
+/// What the calls need again, which a reader inside keeps from them.
+#[derive(Clone, Copy)]
+enum Needs {
+    /// A slot for each area that comes.
+    Slots,
+    /// Rows of the tree alone: an area that stays where it is gets a page more, and loses it.
+    Rows,
+}
+
+/// Maps a page of private anonymous memory.
+fn mapping(addr: u64) -> Call {
+    Call::Mmap(MmapArgs {
+        addr,
+        len: 4096,
+        prot: READ,
+        flags: MAP_PRIVATE | MAP_ANONYMOUS | MAP_FIXED,
+        fd: -1,
+        offset: 0,
+    })
+}
+
+/// Maps a page, or unmaps it: the only one, or the one above it once that is mapped.
+fn call_of(needs: Needs, number: u64) -> Call {
+    match needs {
+        Needs::Slots if number % 2 == 0 => mapping(ADDR),
+        Needs::Slots => Call::Munmap {
             addr: ADDR,
             len: 4096,
-            prot: READ,
-            flags: MAP_PRIVATE | MAP_ANONYMOUS | MAP_FIXED,
-            fd: -1,
-            offset: 0,
-        })
-    } else {
-        Call::Munmap {
-            addr: ADDR,
+        },
+        Needs::Rows if number == 0 => mapping(ADDR),
+        Needs::Rows if number % 2 == 1 => mapping(ABOVE),
+        Needs::Rows => Call::Munmap {
+            addr: ABOVE,
             len: 4096,
-        }
+        },
     }
 }
 
 /// Makes the calls, and counts them.
-fn call_all<R: Wait>(rt: &R, caller: Caller, made: &AtomicU64) {
+fn call_all<R: Wait>(rt: &R, needs: Needs, caller: Caller, made: &AtomicU64) {
     let mut caller = caller;
     for number in 0..CALLS {
-        if caller.call(rt, &call_of(number)).is_some() {
+        if caller.call(rt, &call_of(needs, number)).is_some() {
             made.fetch_add(1, Ordering::SeqCst);
         }
     }
@@ -73,7 +97,13 @@ fn stay_inside(walker: Walker, made: &AtomicU64)
 }
 
 /// Both at once.
-fn run<R: Threads + Wait + Sync>(rt: &R, caller: Caller, walker: Walker, made: &AtomicU64)
+fn run<R: Threads + Wait + Sync>(
+    rt: &R,
+    needs: Needs,
+    caller: Caller,
+    walker: Walker,
+    made: &AtomicU64,
+)
     requires { trees.IsClosed walker.seat }
 {
     join(
@@ -81,22 +111,37 @@ fn run<R: Threads + Wait + Sync>(rt: &R, caller: Caller, walker: Walker, made: &
         || -> ()
             requires { trees.IsClosed walker.seat }
         { stay_inside(walker, made) },
-        || call_all(rt, caller, made),
+        || call_all(rt, needs, caller, made),
     );
+}
+
+/// All calls are made beside a reader that stays inside until one of them waits for it.
+fn call_beside_a_reader<R: Threads + Wait + Sync + AllocGlobal + Abort>(
+    rt: &R,
+    needs: Needs,
+) -> Result<(), NoMemory> {
+    let settings = config(rt.alloc())?;
+    assert!(rt; settings.valid());
+    let Some(bench) = Bench::open(rt.alloc(), settings)? else {
+        panic!(rt; "there is no reader")
+    };
+    let made = AtomicU64::new(0);
+    let (caller, walker) = bench.part();
+    run(rt, needs, caller, walker, &made);
+    assert_eq!(rt; made.load(Ordering::SeqCst), CALLS);
+    Ok(())
 }
 
 /// A reader stays inside over 40 publishes, until the writer has no slot left and waits for it. Once it leaves, all calls are made.
 #[test]
 fn a_writer_waits_for_a_reader_inside(rt: HostRuntime) -> Result<(), Fail> {
-    let alloc = rt.alloc();
-    let settings = config(alloc)?;
-    assert!(rt; settings.valid());
-    let Some(bench) = Bench::open(alloc, settings)? else {
-        panic!(rt; "there is no reader")
-    };
-    let made = AtomicU64::new(0);
-    let (caller, walker) = bench.part();
-    run(&rt, caller, walker, &made);
-    assert_eq!(rt; made.load(Ordering::SeqCst), CALLS);
+    call_beside_a_reader(&rt, Needs::Slots)?;
+    Ok(())
+}
+
+/// The same where it has slots, and too few rows are left for the nodes of another tree.
+#[test]
+fn a_writer_waits_for_the_rows_of_a_reader_inside(rt: HostRuntime) -> Result<(), Fail> {
+    call_beside_a_reader(&rt, Needs::Rows)?;
     Ok(())
 }
