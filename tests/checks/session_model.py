@@ -52,17 +52,22 @@ class Session:
             return self.query(words[1:])
         if is_operation and words[1:2] == ["fork"]:
             raise BadLine("Child", "fork")
-        if is_operation and words[1:] == ["maps"]:
-            thread = traces.thread_of(words[0])
-            if thread is None:
-                raise BadLine("Thread", "thread")
-            return self.result(Line(number, thread, "maps", [], None))
-        self.reader.texts.number = number
-        line = self.reader.pass_line(text)
+        line = self.read(words, text, number)
         if line is None:
             return []
         self.opened = self.space()
         return self.result(line)
+
+    def read(self, words: list[str], text: str, number: int) -> Line | None:
+        """The operation that a line is, if it is one."""
+        self.reader.texts.number = number
+        try:
+            return self.reader.pass_line(text)
+        except BadLine as bad:
+            thread = traces.thread_of(words[0])
+            if bad.cause != "TooMany" or words[1:] != ["maps"] or thread is None:
+                raise
+            return Line(number, thread, "maps", [], None)  # more than a trace may have, answered all the same
 
     def query(self, words: list[str]) -> list[str]:
         if len(words) != 1:
