@@ -8,25 +8,28 @@ use Rattle.area_rules.specs.Tables.{AddressSpace}
 use Rattle.text_lexer.specs.declared.error.Cause.{Cause}
 use Rattle.text_lexer.specs.Lines.{RawLine, raw_line, text_of}
 use Rattle.text_lexer.specs.Words.{words_of}
+use Rattle.trace_reader.specs.declared.trace.Op.{Op}
+use Rattle.trace_reader.specs.declared.trace.Op.TheVariants.{Maps}
 use Rattle.trace_reader.specs.declared.trace.TraceLine.{TraceLine}
 use Rattle.trace_reader.specs.Grammar.{config_of}
 use Rattle.trace_reader.specs.Lines.{SoFar, after_line}
 use Rattle.history.specs.declared.items.Item.{Item}
-use Rattle.history.specs.Histories.{answer_of, caller_of, gather, items_from, serial_history, space_after, version_after}
-use Rattle.output_text.specs.Output.{item_text}
+use Rattle.history.specs.Histories.{answer_of, call_of, caller_of, gather, items_from, serial_history, space_after, version_after}
+use Rattle.output_text.specs.Output.{content_text, item_text, start_text, maps_text}
 use Rattle.live_session.specs.declared.asking.Asked.{Asked}
 use Rattle.live_session.specs.declared.asking.Asked.TheVariants as asks
-use Rattle.live_session.specs.Asking.{asked_by_words, asked_of, asked_of_new, is_new, own_line, own_or}
+use Rattle.live_session.specs.Asking.{asked_by_words, asked_of, asked_of_new, is_new, list_read, own_line, own_or}
 use Rattle.live_session.specs.Items.{IsTextOfItem, after_operations, items_made}
 use Rattle.live_session.specs.Sessions.{Opened, Session, after_operation, answer_by, answer_read, answered, begun, opened_by, operation_text, read_at, refused, session_after, space_of}
 use Rattle.live_session.proofs.LinesAdded.{Adds, after_line-adds}
-use Rattle.live_session.proofs.Reached.{IsOwn, IsOwnLine, ok_holds, own_line-own}
+use Rattle.live_session.proofs.Reached.{IsOwn, IsOwnLine, beyond_holds, list_read-own, ok_holds, own_line-own}
 
 -- ---- what a line that was read adds
 
 -- what a line that asks so leaves of what the lines say
 abbrev Leaves : SoFar → SoFar → Asked → Type 0
 Leaves before after asks.Nothing = (after.lines ≡ before.lines) × ((before.lines ≡ []) ⊎ (config_of after ≡ config_of before))
+Leaves before after (asks.Areas line) = (after ≡ before) × (line.op ≡ Maps)
 Leaves before after (asks.Operation line) = (after.lines ≡ before.lines ++ line ∷ []) × (config_of after ≡ config_of before)
 Leaves before after (asks.Query address) = after ≡ before
 Leaves before after asks.New = Unit {0}
@@ -36,6 +39,7 @@ IsRead before read = Leaves before read.1 read.0
 
 own_read : (s : SoFar) (asked : Asked) → IsOwn asked → IsRead s (asked, s)
 own_read s asks.Nothing own = (refl, inr refl)
+own_read s (asks.Areas line) own = (refl, own)
 own_read s (asks.Operation line) own = absurd own
 own_read s (asks.Query address) own = refl
 own_read s asks.New own = tt
@@ -53,20 +57,21 @@ added_read s after (inr none) =
     subst (λ (o : Option TraceLine). Leaves s after (asked_of_new o))
     (sym (ap (λ (l : List TraceLine). slice_get l (length s.lines)) none.0 ∙ slice_get_past s.lines (length s.lines) (omega arith))) none
 
-own_or-read : (s : SoFar) (own : Option (Result Asked Cause)) (read : Result SoFar Cause) → IsOwnLine own → IfOk read (Adds s)
-    → IfOk (own_or own s read) (IsRead s)
-own_or-read s (Some (Ok asked)) read own adds = own_read s asked own
-own_or-read s (Some (Err cause)) read own adds = tt
-own_or-read s None (Ok after) own adds = added_read s after adds
-own_or-read s None (Err cause) own adds = tt
+own_or-read : (s : SoFar) (own list : Option (Result Asked Cause)) (read : Result SoFar Cause) → IsOwnLine own → IsOwnLine list → IfOk read (Adds s)
+    → IfOk (own_or own list s read) (IsRead s)
+own_or-read s (Some (Ok asked)) list read own listed adds = own_read s asked own
+own_or-read s (Some (Err cause)) list read own listed adds = tt
+own_or-read s None list (Ok after) own listed adds = added_read s after adds
+own_or-read s None list (Err cause) own listed adds =
+    beyond_holds (IsRead s) s cause list listed (λ asked mine. own_read s asked mine)
 
 asked_by_words-read : (s : SoFar) (line : RawLine) (words : List (List ℕ)) → (line.number ≡ 1 → s.lines ≡ []) → IfOk (asked_by_words s line words) (IsRead s)
 unfolding asked_by_words
 asked_by_words-read s line words headed =
     cond_both (is_new words) (Ok (asks.New, s)) _ (λ (r : Result (Asked × SoFar) Cause). IfOk r (IsRead s))
     (λ _. tt)
-    (λ _. own_or-read s (if nat_lt 1 line.number then own_line words else None) (after_line s line)
-    (cond_both (nat_lt 1 line.number) (own_line words) None IsOwnLine (λ _. own_line-own words) (λ _. tt))
+    (λ _. own_or-read s (if nat_lt 1 line.number then own_line words else None) (list_read line.number words) (after_line s line)
+    (cond_both (nat_lt 1 line.number) (own_line words) None IsOwnLine (λ _. own_line-own words) (λ _. tt)) (list_read-own line.number words)
     (after_line-adds s line headed))
 
 asked_of-read : (s : SoFar) (line : RawLine) → (line.number ≡ 1 → s.lines ≡ []) → IfOk (asked_of s line) (IsRead s)
@@ -133,6 +138,7 @@ counted_made s after made same = nothing_made s after (s.count + 1) made (λ non
 read_made : (s : Session) (asked : Asked) (after : SoFar) → Made s → IsRead s.so_far (asked, after)
     → Made (answer_read (record { count = s.count; so_far = after; opened = s.opened }) asked).session
 read_made s asks.Nothing after made read = nothing_made s after (s.count + 1) made (λ none. absurd (omega (arith, none))) read.0 read.1
+read_made s (asks.Areas line) after made read = counted_made s after made read.0
 read_made s (asks.Operation line) after made read = operation_made s after line made read.0 read.1
 read_made s (asks.Query address) after made read = counted_made s after made read
 read_made s asks.New after made read = begun_made
@@ -212,11 +218,33 @@ printed_of s text line after made is =
           (operation_printed (config_of after) s.so_far.lines line (unwrap_or s.opened (opened_by after)) now),
     )
 
+-- a read of the list at this space
+maps_printed : (line : TraceLine) (now : Opened) → line.op ≡ Maps → start_text line now.version ++ maps_text now.config.files now.space.areas ≡ operation_text now line
+unfolding call_of content_text start_text
+maps_printed line now is = subst (λ (op : Op). start_text line now.version ++ maps_text now.config.files now.space.areas
+    ≡ item_text now.config.files (record { number = line.number; thread = line.thread; op = op; after = line.after })
+    (record { caller = 0; version = version_after now.config now.space now.version op; content = answer_of now.config now.space op })) (sym is) refl
+
+maps_printed_of : (s : Session) (text : List ℕ) (line : TraceLine) (after : SoFar) → Made s → read_at s text ≡ Ok (asks.Areas line, after)
+    → IsTextOfItem (config_of after) s.so_far.lines line (answered s text).text
+maps_printed_of s text line after made is =
+    let read = is_read s text (asks.Areas line, after) made is in
+    let now : unwrap_or s.opened (opened_by after) ≡ after_operations (opened_by after) s.so_far.lines =
+    ap (λ (x : SoFar). unwrap_or s.opened (opened_by x)) read.0 ∙ made.space ∙ ap (λ (x : SoFar). after_operations (opened_by x) s.so_far.lines) (sym read.0) in
+    subst (IsTextOfItem (config_of after) s.so_far.lines line)
+    (sym (answer_text s text (asks.Areas line, after) is ∙ maps_printed line (unwrap_or s.opened (opened_by after)) read.1))
+    (operation_printed (config_of after) s.so_far.lines line (unwrap_or s.opened (opened_by after)) now)
+
 pub operations_printed : (lines : List (List ℕ)) (text : List ℕ) (line : TraceLine) (after : SoFar)
     → read_at (session_after begun lines) text ≡ Ok (asks.Operation line, after)
     → (after.lines ≡ (session_after begun lines).so_far.lines ++ line ∷ [])
     × IsTextOfItem (config_of after) (session_after begun lines).so_far.lines line (answered (session_after begun lines) text).text
 operations_printed lines text line after is = printed_of (session_after begun lines) text line after (made_after begun lines begun_made) is
+
+pub lists_printed : (lines : List (List ℕ)) (text : List ℕ) (line : TraceLine) (after : SoFar)
+    → read_at (session_after begun lines) text ≡ Ok (asks.Areas line, after)
+    → IsTextOfItem (config_of after) (session_after begun lines).so_far.lines line (answered (session_after begun lines) text).text
+lists_printed lines text line after is = maps_printed_of (session_after begun lines) text line after (made_after begun lines begun_made) is
 
 -- `serial` has the same items
 pub gathered : (config : Config) (lines : List TraceLine) → serial_history config lines ≡ gather (items_made config lines)

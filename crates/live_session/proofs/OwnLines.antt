@@ -22,7 +22,7 @@ use Rattle.trace_reader.specs.Operations.{fork_of, op_named, op_of, note_of, wit
 use Rattle.trace_reader.specs.Values.{child_of, children_of}
 use Rattle.live_session.specs.declared.asking.Asked.{Asked}
 use Rattle.live_session.specs.declared.asking.Asked.TheVariants as asks
-use Rattle.live_session.specs.Asking.{added, asked_by_words, asked_of, is_new, own_line, own_operation, own_or, query_of}
+use Rattle.live_session.specs.Asking.{added, asked_by_words, asked_of, is_new, list_read, own_line, own_operation, own_or, query_of}
 
 -- ---- the text of a line does not depend on where it stands
 
@@ -259,7 +259,8 @@ asked_as_read s after number start text is none =
     let no = no_own_words s after number text (words_of text) parts.1 none in
     let read : after_line s line ≡ Ok after = ap (λ (r : Result (List ℕ) Cause). r >>= λ t. after_text s number t (words_of t)) parts.0 ∙ parts.1 in
     let own : Option (Result Asked Cause) = if nat_lt 1 number then own_line (words_of text) else None in
+    let list : Option (Result Asked Cause) = list_read number (words_of text) in
     ap (λ (r : Result (List ℕ) Cause). r >>= λ t. asked_by_words s line (words_of t)) parts.0
-    ∙ ap (λ (b : Bool). if b then Ok (asks.New, s) else own_or own s (after_line s line)) no.0
-    ∙ ap (λ (o : Option (Result Asked Cause)). own_or o s (after_line s line)) no.1
-    ∙ ap (own_or None s) read
+    ∙ ap (λ (b : Bool). if b then Ok (asks.New, s) else own_or own list s (after_line s line)) no.0
+    ∙ ap (λ (o : Option (Result Asked Cause)). own_or o list s (after_line s line)) no.1
+    ∙ ap (own_or None list s) read

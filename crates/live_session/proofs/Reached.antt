@@ -10,7 +10,7 @@ use Rattle.area_rules.specs.Steps.{opening}
 use Rattle.area_rules.specs.Tables.{AddressSpace}
 use Rattle.area_rules.proofs.Stepping.{step_objects}
 use Rattle.text_lexer.specs.declared.error.Cause.{Cause}
-use Rattle.text_lexer.specs.declared.error.Cause.TheVariants.{Header, Child}
+use Rattle.text_lexer.specs.declared.error.Cause.TheVariants.{Header, Thread, TooMany, Child}
 use Rattle.text_lexer.specs.Causes.{◌>>=◌}
 use Rattle.text_lexer.specs.Lines.{RawLine, raw_line, text_of}
 use Rattle.text_lexer.specs.Numbers.{number}
@@ -18,7 +18,9 @@ use Rattle.text_lexer.specs.Words.{words_of, is_comment, begins_with_digit}
 use Rattle.trace_reader.specs.declared.builder.Version.{Version}
 use Rattle.trace_reader.specs.declared.builder.Version.TheVariants.{Narrow, Wide}
 use Rattle.trace_reader.specs.declared.limits.TheConstants.{MOST_LINES}
+use Rattle.trace_reader.specs.declared.trace.Op.TheVariants.{Maps}
 use Rattle.trace_reader.specs.declared.trace.TraceLine.{TraceLine}
+use Rattle.trace_reader.specs.Fields.{thread_of}
 use Rattle.trace_reader.specs.Grammar.{nothing, address_limit, config_of}
 use Rattle.trace_reader.specs.Lines.{SoFar, version_of, with_header, with_one, with_line, after_setting, after_words, after_line}
 use Rattle.trace_reader.specs.Operations.{line_of}
@@ -28,7 +30,7 @@ use Rattle.trace_reader.proofs.TraceValues.{IsSoFar, after_line-good}
 use Rattle.history.specs.Histories.{call_of, space_by, version_by}
 use Rattle.live_session.specs.declared.asking.Asked.{Asked}
 use Rattle.live_session.specs.declared.asking.Asked.TheVariants as asks
-use Rattle.live_session.specs.Asking.{added, asked_by_words, asked_of, asked_of_new, is_new, own_line, own_operation, own_or, query_of}
+use Rattle.live_session.specs.Asking.{added, areas_of, asked_by_words, asked_of, asked_of_new, beyond, is_new, list_read, own_line, own_operation, own_or, query_of}
 use Rattle.live_session.specs.Sessions.{IsWithinLimits, Opened, Session, after_operation, answer_by, answer_read, answered, begun, opened_by, refused, session_after}
 use Rattle.live_session.specs.Internal.Talking.{HasRoom, IsReached}
 use Rattle.live_session.proofs.LinesAdded.{after_setting-lines, bind_holds, either, unless_holds}
@@ -82,9 +84,10 @@ record IsGood (n : ℕ) (before : SoFar) (read : Asked × SoFar) : Type 0 where
   kept : HasLines (length before.lines) read.1
   more : (line : TraceLine) → read.0 ≡ asks.Operation line → length before.lines < length read.1.lines
 
--- an own line asks for no operation
+-- an own line asks for no operation, and where it reads the list it is `maps`
 abbrev pub IsOwn : Asked → Type 0
 IsOwn asks.Nothing = Unit {0}
+IsOwn (asks.Areas line) = line.op ≡ Maps
 IsOwn (asks.Operation line) = ⊥
 IsOwn (asks.Query address) = Unit {0}
 IsOwn asks.New = Unit {0}
@@ -115,6 +118,32 @@ own_line-own (first ∷ words) =
     cond_both (bytes_eq first (codes "query")) (Some (query_of words)) _ IsOwnLine (λ _. query_of-own words)
     (λ _. cond_both (begins_with_digit first) (own_operation words) None IsOwnLine (λ _. own_operation-own words) (λ _. tt))
 
+areas_of-own : (line : ℕ) (thread : List ℕ) → IfOk (areas_of line thread) IsOwn
+unfolding areas_of
+areas_of-own line thread = ok_holds IsOwn (ok_or (thread_of thread) Thread) _ (λ t. refl)
+
+pub list_read-own : (line : ℕ) (words : List (List ℕ)) → IsOwnLine (list_read line words)
+unfolding list_read
+list_read-own line [] = tt
+list_read-own line (thread ∷ []) = tt
+list_read-own line (thread ∷ name ∷ []) =
+    cond_both (bytes_eq name (codes "maps")) (Some (areas_of line thread)) None IsOwnLine (λ _. areas_of-own line thread) (λ _. tt)
+list_read-own line (thread ∷ name ∷ next ∷ words) = tt
+
+beyond-own : (cause : Cause) (list : Option (Result Asked Cause)) → IsOwnLine list → IfOk (beyond cause list) IsOwn
+beyond-own TooMany (Some list) own = own
+beyond-own _ _ own = tt
+
+own_bound : (P : Asked × SoFar → Type 0) (s : SoFar) (r : Result Asked Cause) → IfOk r IsOwn → ((asked : Asked) → IsOwn asked → P (asked, s))
+    → IfOk (r >>= λ asked. Ok (asked, s)) P
+own_bound P s (Ok asked) own holds = holds asked own
+own_bound P s (Err cause) own holds = tt
+
+-- so does a read of the list for which a trace has no room
+pub beyond_holds : (P : Asked × SoFar → Type 0) (s : SoFar) (cause : Cause) (list : Option (Result Asked Cause)) → IsOwnLine list
+    → ((asked : Asked) → IsOwn asked → P (asked, s)) → IfOk (beyond cause list >>= λ asked. Ok (asked, s)) P
+beyond_holds P s cause list own holds = own_bound P s (beyond cause list) (beyond-own cause list own) holds
+
 -- an own line leaves the lines as they are
 stays_good : (n : ℕ) (s : SoFar) (asked : Asked) → IsSoFar n s → IsOwn asked → IsGood n s (asked, s)
 stays_good n s asked known own = record {
@@ -135,12 +164,13 @@ added_good n before after known kept = record {
   more = λ line same. new_line before after (slice_get after.lines (length before.lines)) refl line same;
 }
 
-own_or-good : (n : ℕ) (s : SoFar) (own : Option (Result Asked Cause)) (read : Result SoFar Cause) → IsSoFar n s → IsOwnLine own
-    → IfOk read (λ after. IsSoFar (n + 1) after × HasLines (length s.lines) after) → IfOk (own_or own s read) (IsGood n s)
-own_or-good n s (Some (Ok asked)) read known own good = stays_good n s asked known own
-own_or-good n s (Some (Err cause)) read known own good = tt
-own_or-good n s None (Ok after) known own good = added_good n s after good.0 good.1
-own_or-good n s None (Err cause) known own good = tt
+own_or-good : (n : ℕ) (s : SoFar) (own list : Option (Result Asked Cause)) (read : Result SoFar Cause) → IsSoFar n s → IsOwnLine own → IsOwnLine list
+    → IfOk read (λ after. IsSoFar (n + 1) after × HasLines (length s.lines) after) → IfOk (own_or own list s read) (IsGood n s)
+own_or-good n s (Some (Ok asked)) list read known own listed good = stays_good n s asked known own
+own_or-good n s (Some (Err cause)) list read known own listed good = tt
+own_or-good n s None list (Ok after) known own listed good = added_good n s after good.0 good.1
+own_or-good n s None list (Err cause) known own listed good =
+    beyond_holds (IsGood n s) s cause list listed (λ asked mine. stays_good n s asked known mine)
 
 after_line-known : (n : ℕ) (s : SoFar) (line : RawLine) → IsSoFar n s → line.number ≡ n → n < 2 ^ 64
     → IfOk (after_line s line) (λ after. IsSoFar (n + 1) after × HasLines (length s.lines) after)
@@ -157,8 +187,8 @@ unfolding asked_by_words
 asked_by_words-good n s line words known numbered small =
     cond_both (is_new words) (Ok (asks.New, s)) _ (λ (r : Result (Asked × SoFar) Cause). IfOk r (IsGood n s))
     (λ _. stays_good n s asks.New known tt)
-    (λ _. own_or-good n s (if nat_lt 1 line.number then own_line words else None) (after_line s line) known
-    (cond_both (nat_lt 1 line.number) (own_line words) None IsOwnLine (λ _. own_line-own words) (λ _. tt))
+    (λ _. own_or-good n s (if nat_lt 1 line.number then own_line words else None) (list_read line.number words) (after_line s line) known
+    (cond_both (nat_lt 1 line.number) (own_line words) None IsOwnLine (λ _. own_line-own words) (λ _. tt)) (list_read-own line.number words)
     (after_line-known n s line known numbered small))
 
 asked_of-good : (n : ℕ) (s : SoFar) (line : RawLine) → IsSoFar n s → line.number ≡ n → n < 2 ^ 64 → IfOk (asked_of s line) (IsGood n s)
@@ -258,6 +288,11 @@ begun_sane n = record { known = nothing_known; few = omega arith; small = tt }
 read_sane : (n : ℕ) (session : Session) (asked : Asked) (after : SoFar) → IsSane n session → IsGood (session.count + 1) session.so_far (asked, after)
     → IsSane (n + 1) (answer_read (record { count = session.count; so_far = after; opened = session.opened }) asked).session
 read_sane n session asks.Nothing after sane good = record {
+  known = good.known;
+  few = omega (arith, sane.few);
+  small = small_kept session.so_far after session.opened sane.small good.kept;
+}
+read_sane n session (asks.Areas line) after sane good = record {
   known = good.known;
   few = omega (arith, sane.few);
   small = small_kept session.so_far after session.opened sane.small good.kept;

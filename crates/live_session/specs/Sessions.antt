@@ -16,7 +16,7 @@ use Rattle.trace_reader.specs.declared.trace.TraceLine.{TraceLine}
 use Rattle.trace_reader.specs.Grammar.{nothing, config_of}
 use Rattle.trace_reader.specs.Lines.{SoFar}
 use Rattle.history.specs.Histories.{answer_of, space_after, version_after}
-use Rattle.output_text.specs.Output.{item_text, maps_text}
+use Rattle.output_text.specs.Output.{item_text, maps_text, start_text}
 use Rattle.live_session.specs.declared.asking.Asked.{Asked}
 use Rattle.live_session.specs.declared.asking.Asked.TheVariants as asks
 use Rattle.live_session.specs.Asking.{asked_of}
@@ -97,6 +97,7 @@ counted session = record { count = session.count + 1; so_far = session.so_far; o
 -- `new` is none of the lines of the address space that it ends.
 abbrev pub answer_read : Session → Asked → Answer
 answer_read session asks.Nothing = record { session = counted session; text = [] }
+answer_read session (asks.Areas line) = record { session = counted session; text = start_text line (space_of session).version ++ areas_text (space_of session) }
 answer_read session (asks.Operation line) = operated (counted session) line
 answer_read session (asks.Query address) = record { session = counted session; text = found_text (space_of session) address }
 answer_read session asks.New = record { session = begun; text = closing_text session }
@@ -136,7 +137,7 @@ answers session [] = []
 answers session (line ∷ lines) = (answered session line).text ++ answers (answered session line).session lines
 
 -- What a space has of its lines, however many there are: operations, those of them that are `maps` or name a line, and files. One more is refused
--- by TooMany.
+-- by TooMany, but for a read of the list, which is answered and not kept.
 pub record IsWithinLimits (session : Session) : Type 0 where
   pub operations : length session.so_far.lines ≤ MOST_LINES
   pub maps : session.so_far.maps ≤ MOST_MAPS

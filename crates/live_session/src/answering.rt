@@ -8,7 +8,7 @@ ghost use Rattle.live_session.specs.Internal.Talking.{AnswersLine, HasRoom, IsRe
 use crate::asking::{Asked, Says};
 use crate::live_space::LiveSpace;
 use mm_types::NoMemory;
-use output_text::push_count;
+use output_text::{push_count, push_start};
 use std::alloc::Global;
 use std::io::Write;
 use text_lexer::{CallError, Cause, RawLine, text_of};
@@ -89,6 +89,12 @@ fn answer(
             says.count += 1;
             Ok(None)
         }
+        Asked::Areas(line) => {
+            says.count += 1;
+            push_start(piece, &line, version(space))?;
+            push_areas(alloc, piece, space)?;
+            Ok(None)
+        }
         Asked::Operation(line) => {
             says.count += 1;
             operate(alloc, piece, space, line)
@@ -122,6 +128,16 @@ fn operate(
             Ok(None)
         }
         None => Ok(Some(Stop::Operation(line))),
+    }
+}
+
+/// How many calls were made in the space, if one is open.
+fn version(space: &Option<LiveSpace<'_>>) -> u64
+    ensures { (so_far : SoFar) → result ≡ (unwrap_or space.now (opened_by so_far)).version }
+{
+    match space {
+        Some(live) => live.version(),
+        None => 0,
     }
 }
 

@@ -1,12 +1,12 @@
 //! What a line of a session asks for.
-ghost use Rattle.std.specs.Prelude.{◌≡◌, ◌+◌};
+ghost use Rattle.std.specs.Prelude.{◌≡◌, ◌+◌, slice_get};
 ghost use Rattle.text_lexer.specs.Reading.{Gives, line_view};
 ghost use Rattle.trace_reader.specs.Grammar.{nothing};
 ghost use Rattle.trace_reader.specs.Reading.{StaysIfBad, so_far};
 ghost use Rattle.trace_reader.specs.Values.{AreNumbered};
-ghost use Rattle.live_session.specs.Asking.{asked_of};
+ghost use Rattle.live_session.specs.Asking.{asked_of, asked_of_new};
 
-use crate::own_lines::{is_new, own_line};
+use crate::own_lines::{beyond, is_new, list_read, own_line};
 use std::alloc::Global;
 use text_lexer::{CallError, RawLine, text_of, words_of};
 use trace_reader::{TraceBuilder, TraceLine};
@@ -16,6 +16,8 @@ use trace_reader::{TraceBuilder, TraceLine};
 pub(crate) enum Asked {
     /// Nothing: it is a header, a setting, a comment or blank.
     Nothing,
+    /// The list of areas, for which the lines of the trace have no room.
+    Areas(TraceLine),
     /// An operation.
     Operation(TraceLine),
     /// The first area that ends above an address, in bytes.
@@ -64,11 +66,21 @@ impl Says {
                 return Ok(own?);
             }
         }
+        let list = list_read(line.number, words.as_slice());
         let before = self.builder.lines().len();
-        self.builder.add(alloc, &mut words, line)?;
+        match self.builder.add(alloc, &mut words, line) {
+            Ok(()) => Ok(self.added(before)),
+            Err(CallError::Bad(cause)) => Ok(beyond(cause, list)?),
+            Err(CallError::NoMemory) => Err(CallError::NoMemory),
+        }
+    }
+    /// What a line asked for behind this many operations: the one that it added, if it added one.
+    fn added(&self, before: usize) -> Asked
+        ensures { result ≡ asked_of_new (slice_get (so_far self.now.builder).lines before) }
+    {
         match self.builder.lines().get(before) {
-            Some(line) => Ok(Asked::Operation(*line)),
-            None => Ok(Asked::Nothing),
+            Some(line) => Asked::Operation(*line),
+            None => Asked::Nothing,
         }
     }
 }

@@ -37,7 +37,7 @@ pub fn a_trace_is_answered_by_its_items()
 {}
 
 /// Whatever the lines of a session, its space is that of the model after the operations since the last `new`, and the answer to an operation
-/// is the text of its item.
+/// is the text of its item. So is that to a read of the list for which the lines have no room.
 pub fn operations_are_answered_by_items()
     ensures spaces { (lines : List (List ℕ)) → space_of (session_after begun lines)
         ≡ after_operations (opened_by (session_after begun lines).so_far) (session_after begun lines).so_far.lines }
@@ -45,6 +45,9 @@ pub fn operations_are_answered_by_items()
         → read_at (session_after begun lines) text ≡ Ok (Asked.Operation line, after)
         → (after.lines ≡ (session_after begun lines).so_far.lines ++ line ∷ [])
         × IsTextOfItem (config_of after) (session_after begun lines).so_far.lines line (answered (session_after begun lines) text).text }
+    ensures lists { (lines : List (List ℕ)) (text : List ℕ) (line : TraceLine) (after : SoFar)
+        → read_at (session_after begun lines) text ≡ Ok (Asked.Areas line, after)
+        → IsTextOfItem (config_of after) (session_after begun lines).so_far.lines line (answered (session_after begun lines) text).text }
     ensures gathered { (config : Config) (lines : List TraceLine) → serial_history config lines ≡ gather (items_made config lines) }
 {}
 

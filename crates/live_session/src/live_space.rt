@@ -94,6 +94,13 @@ impl<'a> LiveSpace<'a> {
         }
     }
 
+    /// How many calls were made.
+    pub(crate) fn version(&self) -> u64
+        ensures { result ≡ self.now.version }
+    {
+        self.version
+    }
+
     /// Makes an operation, and appends its answer. Fails only where memory runs out.
     pub(crate) fn operate(
         &mut self,

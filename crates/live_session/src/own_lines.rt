@@ -1,10 +1,11 @@
 //! The lines that no trace has, or that a session answers in its own way.
 ghost use Rattle.std.specs.Prelude.{◌≡◌, map};
 ghost use Rattle.text_lexer.specs.Reading.{Reads};
-ghost use Rattle.live_session.specs.Asking.{is_new, own_line, own_operation, query_of};
+ghost use Rattle.live_session.specs.Asking.{areas_of, beyond, is_new, list_read, own_line, own_operation, query_of};
 
 use crate::asking::Asked;
 use text_lexer::{Cause, begins_with_digit, number};
+use trace_reader::{Op, TraceLine, thread_of};
 
 /// Whether words are `new` alone.
 #[tactic(auto, unfolding(crate::specs::Asking::is_new))]
@@ -59,5 +60,43 @@ fn own_operation(words: &[&str]) -> Option<Result<Asked, Cause>>
         Some(Err(Cause::Child))
     } else {
         None
+    }
+}
+
+/// The read of the list that words are, on the line of this number: a thread, and `maps` alone.
+#[tactic(auto, unfolding(crate::specs::Asking::list_read))]
+pub(crate) fn list_read(line: u64, words: &[&str]) -> Option<Result<Asked, Cause>>
+    ensures { result ≡ list_read line (map (λ word. word.now) words.now) }
+{
+    match words {
+        [thread, name] if *name == "maps" => Some(areas_of(line, thread)),
+        _ => None,
+    }
+}
+
+/// A read of the list by a thread, on the line of this number.
+#[tactic(auto, unfolding(crate::specs::Asking::areas_of))]
+fn areas_of(line: u64, thread: &str) -> Result<Asked, Cause>
+    ensures { result ≡ areas_of line thread.now }
+{
+    let Some(thread) = thread_of(thread) else {
+        return Err(Cause::Thread);
+    };
+    Ok(Asked::Areas(TraceLine {
+        number: line,
+        thread,
+        op: Op::Maps,
+        after: None,
+    }))
+}
+
+/// What a line asks for that is refused as one of a trace by this cause: a read of the list for which a trace has no room is answered all the
+/// same.
+pub(crate) fn beyond(cause: Cause, list: Option<Result<Asked, Cause>>) -> Result<Asked, Cause>
+    ensures { result ≡ beyond cause list }
+{
+    match (cause, list) {
+        (Cause::TooMany, Some(list)) => list,
+        (cause, _) => Err(cause),
     }
 }

@@ -49,6 +49,22 @@ fn bad_lines_change_nothing(rt: HostRuntime) -> Result<(), Fail> {
     )
 }
 
+/// A read of the list opens the address space as any other operation. The 65th, for which a trace has no room, is answered too.
+#[test]
+fn the_list_is_read_as_often_as_asked(rt: HostRuntime) -> Result<(), Fail> {
+    let mut input = Vec::from_slice(rt.alloc(), b"vmatrace 1\n0 maps\nlimit areas 2\n")?;
+    for _read in 0..64 {
+        input.extend_from_slice(b"1 maps\n")?;
+    }
+    let (found, status) = given(rt.alloc(), &input, u64::MAX)?;
+    assert_eq!(rt; status, Status::Done);
+    assert!(rt;
+        found.starts_with(b"L2 t0 v0 = maps 0\ntrace line 3 cause 3 Word\nL4 t1 v0 = maps 0\n")
+    );
+    assert!(rt; found.ends_with(b"\nL66 t1 v0 = maps 0\nL67 t1 v0 = maps 0\nmaps 0\n"));
+    Ok(())
+}
+
 #[test]
 fn new_begins_another_space(rt: HostRuntime) -> Result<(), Fail> {
     gives(
