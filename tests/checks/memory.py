@@ -1,11 +1,11 @@
 #!/usr/bin/env python3
-"""Runs the program on small inputs with each request for memory refused in turn, and says what it answers.
+"""Runs the programs on small inputs with each request for memory refused in turn, and says what they answer.
 
-PROGRAM is crates/vma_main/out/vma_main by default, as `rt run` leaves it. A small library, which cc compiles and the
-loader puts before the C library, makes the Nth malloc or realloc of a run fail, for N from 1 up to the number that a
-whole run makes. Each such run has to end with status 6, `no memory` on standard error and a beginning of the output,
-or as a run does of which nothing is refused (in `threads`, an output of the same lines). It is no part of the gate.
-Where cc is missing, a line says so.
+PROGRAM is crates/vma_main/out/vma_main by default, and LIVE crates/vma_live/out/vma_live, as `rt run` leaves them. A small
+library, which cc compiles and the loader puts before the C library, makes the Nth malloc or realloc of a run fail, for N from
+1 up to the number that a whole run makes. Each such run has to end with status 6, `no memory` on standard error and a
+beginning of the output, or as a run does of which nothing is refused (in `threads`, an output of the same lines). It is no
+part of the gate. Where cc is missing, a line says so.
 """
 from __future__ import annotations
 
@@ -16,8 +16,9 @@ import subprocess
 import sys
 import tempfile
 from collections import Counter
+from pathlib import Path
 
-from checking import Done, fail, main, passed, skipped
+from checking import LIVE, Done, fail, live_of, main, passed, skipped
 
 LIBRARY = r"""
 #define _GNU_SOURCE
@@ -79,6 +80,7 @@ L3 t0 v1 = 0x10000
 maps 1
 00010000-00012000 r--p 00000000 00:00 0 
 """
+SESSION = TRACE + b"query 0x11000\n0 mapp\nnew\n" + TRACE.replace(b"areas 8", b"areas 9")
 RUNS = [
     (["serial"], TRACE),
     (["threads"], TRACE),
@@ -119,6 +121,7 @@ def check(options: argparse.Namespace) -> None:
     program: str = options.program
     if shutil.which("cc") is None:
         return skipped("all", "there is no `cc`, which compiles the library that refuses")
+    session = live_of(options.live)
     with tempfile.TemporaryDirectory() as folder:
         source, library, counted = (os.path.join(folder, name) for name in ("refuse.c", "refuse.so", "made"))
         with open(source, "w") as file:
@@ -126,11 +129,12 @@ def check(options: argparse.Namespace) -> None:
         subprocess.run(["cc", "-shared", "-fPIC", "-O1", "-o", library, source, "-ldl"], check=True)
         for words, text in RUNS:
             check_mode(program, words, text, library, counted)
+        check_mode(session, [], SESSION, library, counted)
 
 
 def check_mode(program: str, words: list[str], text: bytes, library: str, counted: str) -> None:
     """One mode, with each of its requests refused in turn."""
-    name = " ".join(words)
+    name = " ".join(words) or "a session"
     whole, made = run(program, words, text, library, 0, counted)
     if whole.returncode:
         fail(name, f"has status {whole.returncode} with nothing refused")
@@ -145,5 +149,9 @@ def check_mode(program: str, words: list[str], text: bytes, library: str, counte
     passed(f"{name}: {made} requests, each refused in turn: {told}")
 
 
+def add_arguments(parser: argparse.ArgumentParser) -> None:
+    parser.add_argument("--live", type=Path, default=LIVE, help="the other program (crates/vma_live/out/vma_live)")
+
+
 if __name__ == "__main__":
-    main(check)
+    main(check, add_arguments)

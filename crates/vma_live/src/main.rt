@@ -32,11 +32,15 @@ fn report<R: Eprint>(rt: &R, status: Status) {
 }
 
 fn main(rt: HostRuntime) -> ExitCode {
-    if !matches!(has_words(&rt), Ok(false)) {
-        let _ = eprintln!(rt; "words");
-        return ExitCode::from(WORDS);
-    }
-    let status = run(&rt);
+    let status = match has_words(&rt) {
+        Ok(false) => run(&rt),
+        Err(error) if error.kind() == io::ErrorKind::OutOfMemory => Status::NoMemory,
+        // A word that is no text is a word too.
+        Ok(true) | Err(_) => {
+            let _ = eprintln!(rt; "words");
+            return ExitCode::from(WORDS);
+        }
+    };
     report(&rt, status);
     ExitCode::from(status_number(status))
 }
