@@ -32,6 +32,7 @@ SOME_AREAS = 16_384
 MOST_ADDRESSES = 512 * MIB
 CALLERS = 64
 WAITING_TIMES = 4
+CHILDREN = 8
 ANONYMOUS = "MAP_PRIVATE|MAP_ANONYMOUS|MAP_FIXED"
 
 Made = Callable[[int], list[str]]  # the lines of an input of a size
@@ -46,6 +47,12 @@ def calls(count: int) -> list[str]:
     """Calls that map a page and unmap it again."""
     both = (f"0 mmap {{0:#x}} 4096 PROT_READ {ANONYMOUS} -1 0", "0 munmap {0:#x} 4096")
     return ["vmatrace 1", *(both[line % 2].format(place(line // 2 % 8)) for line in range(count))]
+
+
+def shared(count: int) -> list[str]:
+    """The same calls by as many threads as there may be, in turn."""
+    head, *lines = calls(count)
+    return [head, *(f"{at % CALLERS}{line[1:]}" for at, line in enumerate(lines))]
 
 
 def faults(count: int) -> list[str]:
@@ -119,6 +126,18 @@ def maps(count: int) -> list[str]:
     return [f"{place(area):08x}-{place(area) + 4096:08x} r--p 00000000 00:00 0 " for area in range(count)]
 
 
+def files(count: int) -> list[str]:
+    """Areas that map a file each."""
+    fronts = (f"{place(file):08x}-{place(file) + 4096:08x} r--p 00000000 08:02 {file + 1} " for file in range(count))
+    return [f"{front:<73}/usr/lib/lib{file}.so" for file, front in enumerate(fronts)]
+
+
+def children(count: int) -> list[str]:
+    """Calls, and as many children as there may be behind them, each of which reads its list."""
+    forks = [f"0 fork {child}" for child in range(1, CHILDREN + 1)]
+    return [*calls(count), *forks, *(f"{child} maps" for child in range(1, CHILDREN + 1))]
+
+
 def script(count: int) -> list[str]:
     return [
         "vmasteps 1",
@@ -159,13 +178,18 @@ MEMORY: list[tuple[str, list[str], Input, tuple[Size, ...]]] = [
     ("a header alone", ["serial"], given(calls), (Size(0, 80, 52),)),
     ("calls", ["serial"], given(calls), (Size(200_000, 150, 84), Size(800_000, 345, 222))),
     ("faults", ["serial"], given(faults), (Size(200_000, 150, 76), Size(800_000, 345, 196))),
+    ("calls in threads", ["threads"], given(calls), (Size(0, 78, 52), Size(200_000, 147, 95), Size(800_000, 415, 316))),
+    ("faults in threads", ["threads"], given(faults), (Size(200_000, 156, 106), Size(800_000, 533, 418))),
+    ("children", ["serial"], given(children), (Size(50_000, 188, 160), Size(100_000, 276, 233))),
     ("areas that come and leave", ["serial"], given(leaving), (Size(32_000, 36, 22), Size(128_000, 120, 77))),
     ("reads of many areas", ["serial"], given(reads), (Size(16, 1000, 108), Size(64, 1000, 252))),
     ("reads of one area", ["serial"], given(small_reads), (Size(16, 80, 52), Size(64, 80, 52))),
     ("a load", ["generate", "{}", "1"], nothing, (Size(100_000, 115, 65), Size(400_000, 225, 153))),
     ("a text of calls", ["check"], judged(calls), (Size(200_000, 75, 50), Size(800_000, 205, 166))),
+    ("a text of calls of many threads", ["check"], judged(shared), (Size(200_000, 75, 50),)),
     ("an address in a list", ["query", "0x10000000"], given(maps), (Size(250_000, 44, 34), Size(1_000_000, 158, 132))),
     ("a list", ["retrace"], given(maps), (Size(16_000, 12, 8), Size(64_000, 24, 20))),
+    ("a list of files", ["retrace"], given(files), (Size(256, 4, 6), Size(1_024, 5, 6))),
     ("a script", ["steps"], given(script), (Size(2_500, 8, 8), Size(9_996, 9, 9))),
 ]
 
@@ -188,6 +212,14 @@ TIME: list[tuple[str, list[str], Input, int]] = [
     ("a text of areas that come and leave", ["check"], judged(leaving), 32_000),
     ("a text of areas that name no place", ["check"], judged(placed), 16_000),
     ("an address in a list", ["query", "0x10000000"], given(maps), 250_000),
+    ("calls in threads", ["threads"], given(calls), 100_000),
+    ("a list", ["retrace"], given(maps), 16_000),
+]
+
+# the same of sessions
+SESSION_TIME: list[tuple[str, Input, int]] = [
+    ("calls of a session", given(calls), 100_000),
+    ("areas that come and leave in a session", given(leaving), 32_000),
 ]
 
 
@@ -292,6 +324,8 @@ def check(options: argparse.Namespace) -> None:
     check_waiting(options.program, 40_000)
     for name, words, made, count in TIME:
         check_time(options.program, name, words, made, count)
+    for name, made, count in SESSION_TIME:
+        check_time(live, name, [], made, count)
 
 
 def arguments(parser: argparse.ArgumentParser) -> None:

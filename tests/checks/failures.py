@@ -6,7 +6,8 @@ of an output, for each number below its length: the run has to end with status 5
 exactly these bytes given. Where it takes all, the run ends with status 0 and nothing on standard error. The system gives
 so many bytes of an input before a read fails, for each number up to its length: status 4, `read fault`, and nothing
 given, or of a session the answers to all whole lines before. A read or a write that would have to wait is refused in the
-same way. It ends with status 1 at the first run that differs, and 2 on wrong use, or where a program is missing.
+same way. In too little address space a run ends with status 6, `no memory`, and nothing given. It ends with status 1 at
+the first run that differs, and 2 on wrong use, or where a program is missing.
 """
 from __future__ import annotations
 
@@ -25,6 +26,9 @@ import session_model
 
 SECONDS = 10
 PIECE = 65_536  # the program gives so many bytes at a time
+MIB = 2**20
+MOST_AREAS = 65_530
+MOST_LISTS = 64  # that a trace may read
 
 TRACE = b"""vmatrace 1
 limit areas 8
@@ -65,6 +69,21 @@ def long_trace() -> bytes:
 
 def called(words: list[str]) -> str:
     return " ".join(words) or "a session"
+
+
+def long_maps() -> bytes:
+    """A maps text of nearly as many lines as there may be areas."""
+    places = (0x10000000 + 8192 * area for area in range(60_000))
+    return bytes_of(f"{place:08x}-{place + 4096:08x} r--p 00000000 00:00 0 " for place in places)
+
+
+def long_lists() -> bytes:
+    """Two threads that read a list of as many areas as there may be, as often as they may."""
+    made = (
+        f"0 mmap {0x10000000 + 8192 * area:#x} 4096 PROT_READ MAP_PRIVATE|MAP_ANONYMOUS|MAP_FIXED -1 0"
+        for area in range(MOST_AREAS)
+    )
+    return bytes_of(["vmatrace 1", *made, *["0 maps", "1 maps"] * (MOST_LISTS // 2)])
 
 
 def check_writes(program: str, words: list[str], text: bytes, some: list[int] | None = None) -> None:
@@ -155,6 +174,29 @@ def check_devices(program: str) -> None:
     passed("a folder, and /dev/full")
 
 
+def check_memory(program: str, session: str) -> None:
+    """Memory runs out before a run, and in the midst of one."""
+    short, maps, lists = b"vmatrace 1\n0 munmap 0x10000 4096\n", long_maps(), long_lists()
+    runs: list[tuple[list[str], bytes, int]] = [
+        ([], short, 12),
+        (["serial"], short, 24),
+        (["threads"], short, 24),
+        (["check"], short + b"==\nL2 t0 v1 = 0\nmaps 0\n", 12),
+        (["generate", "50000", "1"], b"", 48),
+        (["query", "0"], maps, 5),
+        (["retrace"], maps, 8),
+        (["serial"], lists, 200),
+        (["threads"], lists, 200),
+    ]
+    for words, text, mebibytes in runs:
+        name = f"{called(words)} over {len(text)} bytes in {mebibytes} MiB"
+        command, most = [program if words else session, *words], mebibytes * MIB
+        done, _ = answer(name, command, SECONDS, lambda: limit(resource.RLIMIT_AS, most), input=text)
+        check_ended(name, done, 6, b"no memory\n")
+        compare(f"{name}, standard output", done.stdout, b"")
+        passed(name)
+
+
 def check(options: argparse.Namespace) -> None:
     program: str = options.program
     for words, text in RUNS:
@@ -169,6 +211,7 @@ def check(options: argparse.Namespace) -> None:
     check_reads(session, [], SESSION)
     check_waits(program)
     check_devices(program)
+    check_memory(program, session)
 
 
 def add_arguments(parser: argparse.ArgumentParser) -> None:

@@ -316,8 +316,10 @@ def check_clients(live: str) -> None:
 
 
 def check_words(live: str) -> None:
-    done, _ = answer("a word", [live, "serial"], SECONDS, input=b"")
-    check_ended("a word", done, 2, b"words\n")
+    words: tuple[str | bytes, ...] = ("serial", "", b"\xff")
+    for word in words:
+        done, _ = answer(f"the word {word!r}", [live, word], SECONDS, input=b"")
+        check_ended(f"the word {word!r}", done, 2, b"words\n")
     passed("words behind the name are refused")
 
 
