@@ -91,6 +91,17 @@ fn lines_are_answered_before_the_next_read(rt: HostRuntime) -> Result<(), Fail> 
     Ok(())
 }
 
+/// The end of the input is asked for once, so that nobody has to end it twice at a terminal.
+#[test]
+fn the_end_is_asked_for_once(rt: HostRuntime) -> Result<(), Fail> {
+    for (input, calls, wanted) in [("", 1, ""), ("vmatrace 1\n", 2, "maps 0\n")] {
+        let (found, status) = given(rt.alloc(), input.as_bytes(), calls)?;
+        assert_eq!(rt; status, Status::Done);
+        assert_eq!(rt; found.as_slice(), wanted.as_bytes(), "{input}");
+    }
+    Ok(())
+}
+
 /// A source that keeps the lengths of the longest and of the shortest piece that it was asked to fill.
 #[derive(Drop)]
 struct NotingSource {
