@@ -225,7 +225,8 @@ class Ends(unittest.TestCase):
         self.assertEqual(done.stderr, "vma compare: no trace came to its end in 0.1 seconds: give it more by --for\n")
 
     def test_a_row_of_nearly_this_name(self) -> None:
-        self.assertIn("no row has the name limit-jion; did you mean limit-join?", run("rows", "--here", "limit-jion").stderr)
+        done = run("rows", "--here", "--program", sys.executable, "limit-jion")
+        self.assertIn("no row has the name limit-jion; did you mean limit-join?", done.stderr)
 
     def test_a_file_that_cannot_be_read(self) -> None:
         for path, why in (("/no/trace", "No such file or directory"), ("/", "Is a directory")):
