@@ -64,8 +64,8 @@ class Session:
         try:
             return self.reader.pass_line(text)
         except BadLine as bad:
-            thread = traces.thread_of(words[0])
-            if bad.cause != "TooMany" or words[1:] != ["maps"] or thread is None:
+            thread = traces.thread_of(words[0]) if words[1:] == ["maps"] else None
+            if bad.cause != "TooMany" or thread is None:
                 raise
             return Line(number, thread, "maps", [], None)  # more than a trace may have, answered all the same
 
