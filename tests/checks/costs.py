@@ -196,7 +196,7 @@ MEMORY: list[tuple[str, list[str], Input, tuple[Size, ...]]] = [
 # what makes the input of a session, and the same
 SESSIONS: list[tuple[str, Input, tuple[Size, ...]]] = [
     ("calls of a session", given(calls), (Size(200_000, 54, 23), Size(800_000, 127, 83))),
-    ("reads of many areas in a session", given(reads), (Size(16, 43, 22), Size(64, 43, 22))),
+    ("reads of many areas in a session", given(reads), (Size(16, 48, 22), Size(64, 48, 22))),
     ("spaces of a session", given(spaces), (Size(1, 30, 6), Size(1_000, 30, 6))),
 ]
 
