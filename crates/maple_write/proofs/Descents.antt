@@ -101,9 +101,9 @@ descent_kept at after low descent agree is = record {
 }
 
 pub descent_above : (old : Table) (after : ℕ → List ℕ) (state : WriteState) (end : ℕ) → Partly old (level_in state)
-    → state.level < state.descent.tree.height → state.lo ≤ end
+    → state.level < state.descent.now.tree.height → state.lo ≤ end
     → ((row : ℕ) → gone old row + times row (rows_between state.lo end (old_nodes old (level_in state))) ≡ 0 → after row ≡ at_of old.rows row)
-    → IsDescent (at_of old.rows) (state.level + 1) state.descent → IsDescent after (state.level + 1 + 1) state.descent
+    → IsDescent (at_of old.rows) (state.level + 1) state.descent.now → IsDescent after (state.level + 1 + 1) state.descent.now
 descent_above old after state end partly less order kept is =
-    descent_high after (state.level + 1) (state.level + 1 + 1) state.descent (omega arith)
-    (descent_kept (at_of old.rows) after (state.level + 1) state.descent (framed old after (level_in state) end partly less order kept).above is)
+    descent_high after (state.level + 1) (state.level + 1 + 1) state.descent.now (omega arith)
+    (descent_kept (at_of old.rows) after (state.level + 1) state.descent.now (framed old after (level_in state) end partly less order kept).above is)

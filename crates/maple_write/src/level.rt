@@ -47,9 +47,9 @@ pub(crate) fn leave_block(writer: &mut NodeWriter, descent: &Descent, level: u32
 
 /// Leaves the one node where a level begins to change, in its row.
 fn leave_one(writer: &mut NodeWriter, state: &WriteState, left: Place, row: Row)
-    requires limit { 0 < state.now.descent.tree.top.end }
-    requires tower { IsUpper (words_at writer.old) state.now.descent.tree (state.now.level + 1) }
-    requires left { HasPage (words_at writer.old) state.now.descent.tree (state.now.level + 1) state.now.lo left }
+    requires limit { 0 < state.now.descent.now.tree.top.end }
+    requires tower { IsUpper (words_at writer.old) state.now.descent.now.tree (state.now.level + 1) }
+    requires left { HasPage (words_at writer.old) state.now.descent.now.tree (state.now.level + 1) state.now.lo left }
     requires row { row.0 ≡ left.item.word }
     requires apart { AreInUse writer.old (rows_between state.now.lo left.item.end (old_nodes (table_at writer.old) (level_in state.now))) }
     ensures { LeavesRows writer.old writer.new (rows_between state.now.lo left.item.end (old_nodes (table_at writer.old) (level_in state.now))) }
@@ -81,8 +81,8 @@ fn joined(writer: &NodeWriter, state: &WriteState, left: u64, right: u64, items:
 /// The node where the new items end, of which the one where they begin is given. Most end in it.
 fn last(writer: &NodeWriter, state: &WriteState, left: Place) -> Place
     requires writing { IsWriting writer.now state.now }
-    requires below { state.now.level < state.now.descent.tree.height }
-    requires left { HasPage (words_at writer.now) state.now.descent.tree (state.now.level + 1) state.now.lo left }
+    requires below { state.now.level < state.now.descent.now.tree.height }
+    requires left { HasPage (words_at writer.now) state.now.descent.now.tree (state.now.level + 1) state.now.lo left }
     ensures { item_at (state.now.replacement.end - 1) (old_nodes (table_at writer.now) (level_in state.now)) ≡ Some result.item }
 {
     if state.replacement.end <= left.item.end {
@@ -90,7 +90,7 @@ fn last(writer: &NodeWriter, state: &WriteState, left: Place) -> Place
     } else {
         find(
             writer,
-            &state.descent,
+            state.descent,
             state.level + 1,
             state.replacement.end - 1,
         )
@@ -101,11 +101,11 @@ fn last(writer: &NodeWriter, state: &WriteState, left: Place) -> Place
 /// end, and answers these pages.
 fn cut(writer: &NodeWriter, state: &WriteState, items: &mut ItemList) -> Edges
     requires writing { IsWriting writer.now state.now }
-    requires below { state.now.level < state.now.descent.tree.height }
+    requires below { state.now.level < state.now.descent.now.tree.height }
     requires none { items.old.items ≡ [] }
     ensures { Cut (table_at writer.now) (level_in state.now) result.begin result.end items.new.items }
 {
-    let left = find(writer, &state.descent, state.level + 1, state.lo);
+    let left = find(writer, state.descent, state.level + 1, state.lo);
     let right = last(writer, state, left);
     joined(writer, state, left.item.word, right.item.word, items);
     Edges {
@@ -118,15 +118,15 @@ fn cut(writer: &NodeWriter, state: &WriteState, items: &mut ItemList) -> Edges
 /// The same, with the whole of the next node where they are too few for a node of their own.
 fn rebalanced(writer: &NodeWriter, state: &WriteState, items: &mut ItemList) -> Edges
     requires writing { IsWriting writer.now state.now }
-    requires below { state.now.level < state.now.descent.tree.height }
+    requires below { state.now.level < state.now.descent.now.tree.height }
     requires none { items.old.items ≡ [] }
     ensures cut { Cut (table_at writer.now) (level_in state.now) result.begin result.end items.new.items }
-    ensures least { result.end < state.now.descent.tree.top.end → least (is_leaf state.now.level) ≤ length items.new.items }
+    ensures least { result.end < state.now.descent.now.tree.top.end → least (is_leaf state.now.level) ≤ length items.new.items }
 {
     let leaf = state.level == 0;
     let mut edges = cut(writer, state, items);
     if items.len() < least(leaf) && edges.end < state.descent.tree.top.end {
-        let next = find(writer, &state.descent, state.level + 1, edges.end);
+        let next = find(writer, state.descent, state.level + 1, edges.end);
         let next_words = words(writer, next.item.word);
         push_part(items, Part::Whole, leaf, next_words);
         edges.end = next.item.end;
@@ -137,7 +137,7 @@ fn rebalanced(writer: &NodeWriter, state: &WriteState, items: &mut ItemList) -> 
 /// Leaves the nodes of a level where items of it are replaced, and packs their items anew.
 fn rebuild_by_list(writer: &mut NodeWriter, state: &mut WriteState)
     requires writing { IsWriting writer.old state.old }
-    requires below { state.old.level < state.old.descent.tree.height }
+    requires below { state.old.level < state.old.descent.now.tree.height }
     ensures { RebuildsLevel writer.old writer.new state.old state.new }
 {
     let leaf = state.level == 0;
@@ -147,7 +147,7 @@ fn rebuild_by_list(writer: &mut NodeWriter, state: &mut WriteState)
         lo: state.lo,
         hi: edges.end,
     };
-    leave_block(writer, &state.descent, state.level + 1, span);
+    leave_block(writer, state.descent, state.level + 1, span);
     let items = pack(writer, edges.first, leaf, edges.begin, list.as_slice());
     state.level += 1;
     state.replacement = Replacement {
@@ -161,8 +161,8 @@ fn rebuild_by_list(writer: &mut NodeWriter, state: &mut WriteState)
 /// where they end in another node, or where it must be split or joined with another one.
 fn renewed(writer: &NodeWriter, state: &WriteState, left: Place, made: &mut NodeWords) -> bool
     requires writing { IsWriting writer.now state.now }
-    requires below { state.now.level < state.now.descent.tree.height }
-    requires left { HasPage (words_at writer.now) state.now.descent.tree (state.now.level + 1) state.now.lo left }
+    requires below { state.now.level < state.now.descent.now.tree.height }
+    requires left { HasPage (words_at writer.now) state.now.descent.now.tree (state.now.level + 1) state.now.lo left }
     requires none { made.old ≡ [] }
     ensures { result ≡ true → IsRenewed (table_at writer.now) (level_in state.now) left (padded made.new) }
 {
@@ -197,10 +197,10 @@ fn swapped(
     words: &mut [u64; 32],
 ) -> Option<u64>
     requires writing { IsWriting writer.now state.now }
-    requires below { state.now.level < state.now.descent.tree.height }
+    requires below { state.now.level < state.now.descent.now.tree.height }
     requires inner { 0 < state.now.level }
     requires one { length state.now.replacement.items.items ≡ 1 }
-    requires left { HasPage (words_at writer.now) state.now.descent.tree (state.now.level + 1) state.now.lo left }
+    requires left { HasPage (words_at writer.now) state.now.descent.now.tree (state.now.level + 1) state.now.lo left }
     requires words { words.old ≡ words_at writer.now left.item.word }
     ensures renewed { IfSome result (λ gap. IsRenewed (table_at writer.now) (level_in state.now) left words.new) }
     ensures gap { IfSome result (λ gap. gap ≡ gap_of (is_leaf state.now.level) left.start (items_of (is_leaf state.now.level) words.new)) }
@@ -226,10 +226,10 @@ fn rebuild_by_words(
     gap: u64,
 )
     requires writing { IsWriting writer.old state.old }
-    requires below { state.old.level < state.old.descent.tree.height }
+    requires below { state.old.level < state.old.descent.now.tree.height }
     requires renewed { IsRenewed (table_at writer.old) (level_in state.old) left words.now }
     requires gap { gap ≡ gap_of (is_leaf state.old.level) left.start (items_of (is_leaf state.old.level) words.now) }
-    requires left { HasPage (words_at writer.old) state.old.descent.tree (state.old.level + 1) state.old.lo left }
+    requires left { HasPage (words_at writer.old) state.old.descent.now.tree (state.old.level + 1) state.old.lo left }
     requires there { left.item.word < row_count writer.old }
     ensures { RebuildsLevel writer.old writer.new state.old state.new }
 {
@@ -247,10 +247,10 @@ fn rebuild_by_words(
 /// free at once, and is taken again. The store is then a level higher, where the items that stand for the new nodes are new.
 pub(crate) fn rebuild_level(writer: &mut NodeWriter, state: &mut WriteState)
     requires writing { IsWriting writer.old state.old }
-    requires below { state.old.level < state.old.descent.tree.height }
+    requires below { state.old.level < state.old.descent.now.tree.height }
     ensures { RebuildsLevel writer.old writer.new state.old state.new }
 {
-    let left = find(writer, &state.descent, state.level + 1, state.lo);
+    let left = find(writer, state.descent, state.level + 1, state.lo);
     if state.level > 0 && state.replacement.items.len() == 1 {
         let mut words = *words(writer, left.item.word);
         if let Some(gap) = swapped(writer, state, left, &mut words) {

@@ -14,8 +14,8 @@ pub(crate) struct Replacement {
 /// A store at a level, which is counted from the entries up: the way down the old tree, the first page of the store, and what replaces
 /// the level's items from there on.
 #[derive(Drop)]
-pub(crate) struct WriteState {
-    pub(crate) descent: Descent,
+pub(crate) struct WriteState<'a> {
+    pub(crate) descent: &'a Descent,
     pub(crate) level: u32,
     pub(crate) lo: u64,
     pub(crate) replacement: Replacement,

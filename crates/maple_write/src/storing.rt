@@ -151,11 +151,11 @@ fn overwrite(writer: &mut NodeWriter, old: Rooted, span: Span, word: u64) -> Roo
     };
     descent.descend(writer);
     if word != 0 {
-        return replace(writer, descent, span, word);
+        return replace(writer, &descent, span, word);
     }
     let lo = gap_begin(writer, &descent, span.lo);
     let hi = gap_end(writer, &descent, span.hi);
-    replace(writer, descent, Span { lo, hi }, 0)
+    replace(writer, &descent, Span { lo, hi }, 0)
 }
 
 /// The entries of a tree whose pages were one gap up to `limit`, with one entry in a span.

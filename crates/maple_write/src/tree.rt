@@ -58,7 +58,7 @@ fn is_whole(new: &Replacement, limit: u64) -> bool
 /// Leaves the nodes of the old tree above the level of a store.
 fn leave_upper(writer: &mut NodeWriter, state: &WriteState)
     requires { IsWriting writer.old state.now }
-    ensures { LeavesRows writer.old writer.new (upper_rows (words_at writer.old) state.now.descent.tree state.now.level) }
+    ensures { LeavesRows writer.old writer.new (upper_rows (words_at writer.old) state.now.descent.now.tree state.now.level) }
 {
     let tree = state.descent.tree;
     let all = Span {
@@ -68,7 +68,7 @@ fn leave_upper(writer: &mut NodeWriter, state: &WriteState)
     let mut next = state.level;
     while next < tree.height {
         next += 1;
-        leave_block(writer, &state.descent, next, all);
+        leave_block(writer, state.descent, next, all);
     }
 }
 
@@ -103,23 +103,23 @@ fn new_root(writer: &mut NodeWriter, level: u32, items: &FewItems) -> Rooted
 }
 
 /// Builds the tree of a descent anew with one entry in the place of what it has in a span.
-pub(crate) fn replace(writer: &mut NodeWriter, descent: Descent, span: Span, word: u64) -> Rooted
-    requires shaped { IsShaped (table_at writer.old) (tree_under descent.tree) }
-    requires descent { IsDescent (words_at writer.old) 0 descent }
-    requires free { 4 * descent.tree.height + 4 ≤ length (free_of writer.old) }
+pub(crate) fn replace(writer: &mut NodeWriter, descent: &Descent, span: Span, word: u64) -> Rooted
+    requires shaped { IsShaped (table_at writer.old) (tree_under descent.now.tree) }
+    requires descent { IsDescent (words_at writer.old) 0 descent.now }
+    requires free { 4 * descent.now.tree.height + 4 ≤ length (free_of writer.old) }
     requires some { span.lo < span.hi }
-    requires limit { span.hi ≤ descent.tree.top.end }
-    requires fits { descent.tree.height < 2 ^ 31 }
+    requires limit { span.hi ≤ descent.now.tree.top.end }
+    requires fits { descent.now.tree.height < 2 ^ 31 }
     ensures same { FillsRows writer.old writer.new }
     ensures shaped { IsShaped (table_at writer.new) (tree_under result) }
     ensures entries { entries_of (words_at writer.new) (tree_under result)
-        ≡ overwrite span.lo span.hi word (entries_of (words_at writer.old) (tree_under descent.tree)) }
-    ensures limit { result.top.end ≡ descent.tree.top.end }
-    ensures height { result.height ≤ descent.tree.height + 1 }
-    ensures free { length (free_of writer.old) ≤ length (free_of writer.new) + 3 * descent.tree.height + 1 }
+        ≡ overwrite span.lo span.hi word (entries_of (words_at writer.old) (tree_under descent.now.tree)) }
+    ensures limit { result.top.end ≡ descent.now.tree.top.end }
+    ensures height { result.height ≤ descent.now.tree.height + 1 }
+    ensures free { length (free_of writer.old) ≤ length (free_of writer.new) + 3 * descent.now.tree.height + 1 }
 {
     let tree = descent.tree;
-    let place = find(writer, &descent, 0, span.lo);
+    let place = find(writer, descent, 0, span.lo);
     let mut state = WriteState {
         descent,
         level: 0,

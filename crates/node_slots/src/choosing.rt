@@ -111,13 +111,18 @@ impl NodeWriter {
     }
 
     /// The place in the free list of the row that is taken for the next version of a row's node: that row, or the one that it
-    /// replaced, where it is free and was taken before; else that of a fresh row where one is wanted, or of a spare one.
+    /// replaced, where it is free and was taken before; else that of a fresh row where one is wanted, or of a spare one. A row that
+    /// was taken since the last publish and has just been left is the last.
     pub(crate) fn place_for(&mut self, row: Row) -> usize
         requires some { 0 < length self.old.free.items }
         ensures chosen { IsChosen self.old row.0 result }
         ensures same { (self.new.writer_state ≡ self.old.writer_state) × (self.new.free ≡ self.old.free) × (self.new.left ≡ self.old.left)
             × (self.new.notes ≡ self.old.notes) × (self.new.fresh ≡ self.old.fresh) }
     {
+        let last = self.free.len() - 1;
+        if self.stands_at(row, last) {
+            return last;
+        }
         if let Some(place) = self.place_of(row) {
             return place;
         }

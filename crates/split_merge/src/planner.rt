@@ -276,9 +276,9 @@ impl Planner {
     }
 
     /// Comes to the end of the list.
-    pub(crate) fn finish(mut self, plan: &mut Plan)
-        requires { length plan.old.changes + held self ≤ plan.old.room }
-        ensures { plan.new ≡ record plan.old { changes = plan.old.changes ++ planned self [] } }
+    pub(crate) fn finish(&mut self, plan: &mut Plan)
+        requires { length plan.old.changes + held self.old ≤ plan.old.room }
+        ensures { plan.new ≡ record plan.old { changes = plan.old.changes ++ planned self.old [] } }
     {
         if let Some(new) = self.coming {
             self.lay(&new, plan);

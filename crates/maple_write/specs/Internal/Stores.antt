@@ -40,7 +40,7 @@ pub record Level : Type 0 where
 -- the level where a store is
 abbrev pub level_in : WriteState → Level
 level_in state = record {
-  tree = state.descent.tree;
+  tree = state.descent.now.tree;
   height = state.level;
   lo = state.lo;
   hi = state.replacement.end;
@@ -166,8 +166,8 @@ pub record IsDescent (at : ℕ → List ℕ) (low : ℕ) (descent : Descent) : T
 -- a store is at a level: the table is partly built, and the descent keeps the levels above
 pub record IsWriting (writer : NodeWriter) (state : WriteState) : Type 0 where
   pub partly : Partly (table_at writer) (level_in state)
-  pub descent : IsDescent (words_at writer) (state.level + 1) state.descent
-  pub fits : state.descent.tree.height < 2 ^ 31
+  pub descent : IsDescent (words_at writer) (state.level + 1) state.descent.now
+  pub fits : state.descent.now.tree.height < 2 ^ 31
 
 -- A level was built anew: the new items of the next one stand for its nodes, which list the level as it was to be. At most three
 -- rows were taken.

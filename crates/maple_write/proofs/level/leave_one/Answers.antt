@@ -14,7 +14,7 @@ pub leave-requires : goal.leave-requires
 leave-requires c =
     let writer = c.args.writer.now in
     let state = c.args.state.now in
-    let is = full (table_at writer) state.descent.tree (state.level + 1) c.requires.tower c.requires.limit in
+    let is = full (table_at writer) state.descent.now.tree (state.level + 1) c.requires.tower c.requires.limit in
     let one = leaves_one (old_nodes (table_at writer) (level_in state)) state.lo c.args.left.item (gone (table_at writer)) (row_count writer)
     is.ascends c.requires.left.item c.requires.apart in
     let row = c.requires.row in
@@ -25,7 +25,7 @@ pub returns : goal.returns
 returns c =
     let writer = c.args.writer.now in
     let state = c.args.state.now in
-    let is = full (table_at writer) state.descent.tree (state.level + 1) c.requires.tower c.requires.limit in
+    let is = full (table_at writer) state.descent.now.tree (state.level + 1) c.requires.tower c.requires.limit in
     let one = leaves_one (old_nodes (table_at writer) (level_in state)) state.lo c.args.left.item (gone (table_at writer)) (row_count writer)
     is.ascends c.requires.left.item c.requires.apart in
     record {

@@ -17,7 +17,7 @@ told view = record { rows = view.known.writer_state.words; free = []; left = [] 
 
 pub leave_block-requires-clause-tower : goal.leave_block-requires-clause-tower
 leave_block-requires-clause-tower c =
-    let tree = c.args.state.now.descent.tree in
+    let tree = c.args.state.now.descent.now.tree in
     let next = c.loop-next.next in
     let is = c.loop-next.invariant in
     let order = is.order in
@@ -29,7 +29,7 @@ leave_block-requires-clause-tower c =
 
 pub leave_block-requires-clause-edge : goal.leave_block-requires-clause-edge
 leave_block-requires-clause-edge c =
-    let tree = c.args.state.now.descent.tree in
+    let tree = c.args.state.now.descent.now.tree in
     let next = c.loop-next.next in
     let is = c.loop-next.invariant in
     let order = is.order in
@@ -41,7 +41,7 @@ leave_block-requires-clause-edge c =
 
 pub leave_block-requires-clause-apart : goal.leave_block-requires-clause-apart
 leave_block-requires-clause-apart c row =
-    let tree = c.args.state.now.descent.tree in
+    let tree = c.args.state.now.descent.now.tree in
     let next = c.loop-next.next in
     let is = c.loop-next.invariant in
     let order = is.order in
@@ -59,7 +59,7 @@ leave_block-requires-clause-apart c row =
 
 pub loop-next-preserved : goal.loop-next-preserved
 loop-next-preserved c =
-    let tree = c.args.state.now.descent.tree in
+    let tree = c.args.state.now.descent.now.tree in
     let next = c.loop-next.next in
     let is = c.loop-next.invariant in
     let order = is.order in
@@ -95,6 +95,6 @@ returns c =
       waits = is.waits;
       gone_are = λ row.
           let a = is.gone_are row in
-          let b = no_rows_above (words_at c.args.writer.now) row c.loop-next.next c.args.state.now.descent.tree c.loop-next-test.false in
+          let b = no_rows_above (words_at c.args.writer.now) row c.loop-next.next c.args.state.now.descent.now.tree c.loop-next-test.false in
           omega arith;
     }

@@ -10,15 +10,15 @@ use Rattle.maple_write.proofs.tree.leave_upper.Given as goal
 abbrev pub invariant-loop-next : goal.invariant-loop-next
 invariant-loop-next l = record {
   order : l.state.level ≤ l.next;
-  high : l.next ≤ l.state.descent.tree.height;
+  high : l.next ≤ l.state.descent.now.tree.height;
   table : StaysAt l.fn.writer l.writer;
   view : sight l.writer ≡ sight l.fn.writer;
   free : length (free_of l.fn.writer) ≤ length (free_of l.writer);
   waits : (row : ℕ) → is_waiting l.writer row ≡ is_waiting l.fn.writer row;
   gone_are : (row : ℕ) → gone (table_at l.writer) row
-      + times row (upper_rows (words_at l.fn.writer) l.state.descent.tree l.next)
+      + times row (upper_rows (words_at l.fn.writer) l.state.descent.now.tree l.next)
       ≡ gone (table_at l.fn.writer) row
-      + times row (upper_rows (words_at l.fn.writer) l.state.descent.tree l.state.level);
+      + times row (upper_rows (words_at l.fn.writer) l.state.descent.now.tree l.state.level);
 }
 
 abbrev pub decreases-loop-next : goal.decreases-loop-next

@@ -24,7 +24,7 @@ all_pages c =
     let state = loop.state in
     let is = loop.invariant in
     let table = table_at loop.writer in
-    let tree = state.descent.tree in
+    let tree = state.descent.now.tree in
     let same = is.tree in
     let limit = ap (λ (t : Rooted). t.top.end) same in
     let height = ap (λ (t : Rooted). t.height) same in
@@ -41,7 +41,7 @@ all_pages c =
 pub loop-state-init : goal.loop-state-init
 loop-state-init c =
     let writer = c.args.writer.now in
-    let tree = c.args.descent.tree in
+    let tree = c.args.descent.now.tree in
     let span = c.args.span in
     let first = c.first.result in
     record {
@@ -49,7 +49,7 @@ loop-state-init c =
       writing = record {
         partly = begins_as (table_at writer) tree span.lo span.hi c.args.word first.end c.find-place.result first.items.items c.requires.shaped
             c.requires.some c.requires.limit c.requires.free c.find-place.ensures c.first.ensures.end c.first.ensures.items;
-        descent = descent_high (words_at writer) 0 1 c.args.descent (omega arith) c.requires.descent;
+        descent = descent_high (words_at writer) 0 1 c.args.descent.now (omega arith) c.requires.descent;
         fits = c.requires.fits;
       };
       tree = refl;
@@ -71,9 +71,9 @@ loop-state-preserved c =
     let level = ap (λ (s : WriteState). s.level) built.up in
     let made = new_level (table_at after) (level_in state) in
     let was = new_level (table_at loop.writer) (level_in loop.state) in
-    let starts : state.replacement.begin ≡ end_of 0 (ending_by state.lo (old_level (table_at after) state.descent.tree state.level)) =
-    built.begin ∙ sym (ap (λ (s : WriteState). end_of 0 (ending_by s.lo (old_level (table_at after) s.descent.tree s.level))) built.up) in
-    let same = ap (λ (s : WriteState). s.descent.tree) built.up ∙ is.tree in
+    let starts : state.replacement.begin ≡ end_of 0 (ending_by state.lo (old_level (table_at after) state.descent.now.tree state.level)) =
+    built.begin ∙ sym (ap (λ (s : WriteState). end_of 0 (ending_by s.lo (old_level (table_at after) s.descent.now.tree s.level))) built.up) in
+    let same = ap (λ (s : WriteState). s.descent.now.tree) built.up ∙ is.tree in
     record {
       same = fills_both c.args.writer.now loop.writer after is.same built.fills;
       writing = built.writing;

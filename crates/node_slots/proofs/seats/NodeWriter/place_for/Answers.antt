@@ -5,6 +5,9 @@ use Rattle.node_slots.specs.Choosing.{is_free_again}
 use Rattle.node_slots.proofs.Chosen.{chosen_own, chosen_replaced, chosen_fresh, chosen_spare}
 use Rattle.node_slots.proofs.seats.NodeWriter.place_for.Goals as goal
 
+pub returns-then-stands_at-clause-chosen : goal.returns-then-stands_at-clause-chosen
+returns-then-stands_at-clause-chosen c = chosen_own c.args.self.now c.args.row.0 _ (c.stands_at.ensures.yes c.if-stands_at.true)
+
 pub returns-in-Some-clause-chosen : goal.returns-in-Some-clause-chosen
 returns-in-Some-clause-chosen c = chosen_own c.args.self.now c.args.row.0 c.in-Some.place c.in-Some.ensures.found
 

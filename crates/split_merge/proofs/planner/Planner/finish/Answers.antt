@@ -8,10 +8,10 @@ pub settle-requires : goal.settle-requires
 settle-requires c = elim c.match-self.branch [
   | in-Some w ↦ omega (
     arith,
-    last_room c.args.self c.match-self.self w.in-Some.new c.args.plan.now c.match-self.plan w.in-Some.is
+    last_room c.args.self.now c.match-self.self w.in-Some.new c.args.plan.now c.match-self.plan w.in-Some.is
         (w.self-is ∙ w.lay.ensures.planner) (w.plan-is ∙ w.lay.ensures.plan) c.requires,
   )
-  | in_default w ↦ omega (arith, same_room c.args.self c.match-self.self c.args.plan.now c.match-self.plan w.self-is w.plan-is c.requires)
+  | in_default w ↦ omega (arith, same_room c.args.self.now c.match-self.self c.args.plan.now c.match-self.plan w.self-is w.plan-is c.requires)
 ]
 
 pub close-requires : goal.close-requires
@@ -21,9 +21,9 @@ close-requires c = omega (
       (elim c.match-self.branch [
         | in-Some w ↦ omega (
           arith,
-          last_room c.args.self c.match-self.self w.in-Some.new c.args.plan.now c.match-self.plan w.in-Some.is
+          last_room c.args.self.now c.match-self.self w.in-Some.new c.args.plan.now c.match-self.plan w.in-Some.is
               (w.self-is ∙ w.lay.ensures.planner) (w.plan-is ∙ w.lay.ensures.plan) c.requires,
         )
-        | in_default w ↦ omega (arith, same_room c.args.self c.match-self.self c.args.plan.now c.match-self.plan w.self-is w.plan-is c.requires)
+        | in_default w ↦ omega (arith, same_room c.args.self.now c.match-self.self c.args.plan.now c.match-self.plan w.self-is w.plan-is c.requires)
       ]),
 )
