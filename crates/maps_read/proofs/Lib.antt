@@ -1,5 +1,6 @@
 pub mod Words
 pub mod LineRead
+pub mod FirstLine
 pub mod Ordered
 pub mod Bytes
 pub mod Answers

@@ -1,10 +1,13 @@
 //! What is printed for an address.
 
-ghost use Rattle.std.specs.Prelude.{◌≡◌, ◌<◌, IfOk, IfErr, IfSome, Ok, length, slice_get};
+ghost use Rattle.std.specs.Prelude.{◌≡◌, ◌<◌, IfOk, IfErr, IfSome, Ok, Err, length, slice_get};
 ghost use Rattle.text_lexer.specs.Lines.{raw_lines};
+ghost use Rattle.text_lexer.specs.declared.error.BadLine.{BadLine};
+ghost use Rattle.maps_read.specs.Maps.{maps_of};
 ghost use Rattle.maps_read.specs.Query.{query_answer, query_text, without_spaces_after};
 ghost use Rattle.text_lexer.specs.Reading.{IsErrorOf};
 
+use crate::maps::MapsText;
 use crate::querying::query;
 use crate::reading::read_maps;
 use mm_types::{NoMemory, Steps};
@@ -18,13 +21,30 @@ struct Comparisons;
 /// without the spaces at its end, and a newline; or `none` and a newline where no line does.
 ///
 /// `ReadError::Bad` comes exactly where the bytes are no maps text, with their first bad line and its cause, as `read_maps` has
-/// it. `ReadError::NoMemory` comes where memory runs out.
-#[tactic(auto, unfolding(crate::specs::Query::query_answer))]
+/// it. `ReadError::NoMemory` comes where memory runs out: not where line 1 is bad.
 pub fn answer_of(alloc: Global, bytes: &[u8], address: u64) -> Result<Vec<u8>, ReadError>
     ensures text { IfOk result (λ text. query_answer address bytes.now ≡ Ok text.items) }
     ensures bad { IfErr result (λ error. IsErrorOf error (query_answer address bytes.now)) }
+    ensures first { (first : BadLine) → maps_of bytes.now ≡ Err first → first.line ≡ 1 → result ≡ Err (ReadError.Bad first) }
 {
-    let maps = read_maps(alloc, bytes)?;
+    answered(alloc, bytes, read_maps(alloc, bytes), address)
+}
+
+/// What is printed for an address, where the bytes were read as this maps text; else why they were not.
+#[tactic(auto, unfolding(crate::specs::Query::query_answer))]
+fn answered(
+    alloc: Global,
+    bytes: &[u8],
+    read: Result<MapsText, ReadError>,
+    address: u64,
+) -> Result<Vec<u8>, ReadError>
+    requires maps { IfOk read (λ maps. maps_of bytes.now ≡ Ok maps) }
+    requires bad { IfErr read (λ error. IsErrorOf error (maps_of bytes.now)) }
+    ensures text { IfOk result (λ text. query_answer address bytes.now ≡ Ok text.items) }
+    ensures bad { IfErr result (λ error. IsErrorOf error (query_answer address bytes.now)) }
+    ensures unread { IfErr read (λ error. result ≡ Err error) }
+{
+    let maps = read?;
     let mut steps = Steps::<Comparisons>::new();
     let place = query(&maps, address, &mut steps);
     Ok(query_text(alloc, bytes, place)?)

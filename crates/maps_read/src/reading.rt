@@ -1,6 +1,7 @@
 //! Which maps text bytes are.
 
-ghost use Rattle.std.specs.Prelude.{◌≡◌, ◌&&◌, nat_le, nat_lt, IfOk, IfErr, Ok};
+ghost use Rattle.std.specs.Prelude.{◌≡◌, ◌&&◌, length, nat_le, nat_lt, IfOk, IfErr, IsOk, Ok, Err};
+ghost use Rattle.text_lexer.specs.declared.error.BadLine.{BadLine};
 ghost use Rattle.text_lexer.specs.Reading.{GivesTested, IsErrorOf, Reads, line_view};
 ghost use Rattle.maps_read.specs.Fields.{with_name};
 ghost use Rattle.maps_read.specs.Maps.{maps_of, after_line, end_of, next_line};
@@ -19,11 +20,13 @@ pub const MAPS_LINE_LIMIT: usize = 8192;
 /// Reads bytes as a maps text.
 ///
 /// `ReadError::Bad` comes exactly where the bytes are none, with their first bad line and its cause: `TooLong`, `NoEnd`, `Utf8`,
-/// `MapsLine` or `MapsOrder`. `ReadError::NoMemory` comes where memory runs out.
+/// `MapsLine` or `MapsOrder`. `ReadError::NoMemory` comes where memory runs out: no bytes take none, nor does line 1 where it is bad.
 #[tactic(auto, unfolding(crate::specs::Maps::maps_of))]
 pub fn read_maps(alloc: Global, bytes: &[u8]) -> Result<MapsText, ReadError>
     ensures maps { IfOk result (λ maps. maps_of bytes.now ≡ Ok maps) }
     ensures bad { IfErr result (λ error. IsErrorOf error (maps_of bytes.now)) }
+    ensures empty { length bytes.now ≡ 0 → IsOk result }
+    ensures first { (first : BadLine) → maps_of bytes.now ≡ Err first → first.line ≡ 1 → result ≡ Err (ReadError.Bad first) }
 {
     let mut lines = Vec::new(alloc);
     let mut rest = bytes;

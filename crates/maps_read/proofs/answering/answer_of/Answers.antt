@@ -1,6 +1,6 @@
 -- For `answer_of`: its goals.
-use Rattle.maps_read.proofs.Answers.{found_within}
+use Rattle.maps_read.proofs.FirstLine.{error_handed_on}
 use Rattle.maps_read.proofs.answering.answer_of.Goals as goal
 
-pub query_text-requires : goal.query_text-requires
-query_text-requires c = rw c.query-place.ensures.first (found_within c.args.address c.args.bytes.now c.in_ok-maps.maps c.in_ok-maps.ensures.maps)
+pub returns-clause-first : goal.returns-clause-first
+returns-clause-first c = λ first is one. error_handed_on c.read_maps.result c.answered.result _ c.answered.ensures.unread (c.read_maps.ensures.first first is one)
