@@ -15,7 +15,8 @@ use Rattle.clap.proofs.OnLiterals.{clap_on_literals}
 use Rattle.text_lexer.specs.Numbers.{decimal_of, digits_of, number_of}
 use Rattle.vma_replay.specs.declared.words.Job.{Job}
 use Rattle.vma_replay.specs.Jobs.{generate_words, job_of_words, named_job, operation_count, query_words}
-use Rattle.vma_replay.specs.Internal.CommandLine.{are_tried, begin_with_mode, begins_with_dash, is_mode, job_of_rows, words_command}
+use Rattle.vma_replay.specs.Jobs.{are_tried, begin_with_mode, begins_with_dash, is_mode}
+use Rattle.vma_replay.specs.Internal.CommandLine.{job_of_rows, words_command}
 
 -- a text that does not begin with `-`
 abbrev Plain : Text → Type 0

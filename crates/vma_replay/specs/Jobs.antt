@@ -1,6 +1,7 @@
 -- What the words after the program's name ask for.
-use Rattle.std.specs.Prelude.{ℕ, Bool, List, [], ◌∷◌, map, codes, bytes_eq, string_bytes, String, Option, Some, None, is_some, option_and_then, nat_le, if◌then◌else◌}
+use Rattle.std.specs.Prelude.{ℕ, ◌==◌, ◌||◌, ◌&&◌, Bool, false, not, List, [], ◌∷◌, map, codes, bytes_eq, slice_index, string_bytes, String, Option, Some, None, is_some, option_and_then, nat_le, if◌then◌else◌}
 use Rattle.std.specs.declared.alloc.Global.{Global}
+use Rattle.std.specs.List.{list_any}
 use Rattle.text_lexer.specs.Numbers.{decimal_of, number_of}
 use Rattle.gen_load.specs.declared.loading.TheConstants.{MOST_OPERATIONS}
 use Rattle.vma_replay.specs.declared.words.Conversion.TheVariants as conversions
@@ -51,3 +52,25 @@ job_of_words (word ∷ words) = named_job (string_bytes word) (map string_bytes 
 -- whether the words are an accepted list
 abbrev pub are_accepted : List (String Global) → Bool
 are_accepted words = is_some (job_of_words words)
+
+-- the character `-`
+abbrev pub dash : ℕ
+dash = 45
+
+-- the word begins with `-`
+abbrev pub begins_with_dash : String Global → Bool
+begins_with_dash word = slice_index (string_bytes word) 0 == dash
+
+-- a word that is a mode: the first of an accepted list
+unfoldable pub is_mode : List ℕ → Bool
+is_mode word = bytes_eq word (codes "serial") || bytes_eq word (codes "threads") || bytes_eq word (codes "steps")
+    || bytes_eq word (codes "retrace") || bytes_eq word (codes "check") || bytes_eq word (codes "query") || bytes_eq word (codes "generate")
+
+-- the first of the words is one
+abbrev pub begin_with_mode : List (String Global) → Bool
+begin_with_mode [] = false
+begin_with_mode (word ∷ words) = is_mode (string_bytes word)
+
+-- words that begin with a mode, of which none begins with `-`
+abbrev pub are_tried : List (String Global) → Bool
+are_tried words = begin_with_mode words && not (list_any begins_with_dash words)

@@ -4,7 +4,7 @@ ghost use Rattle.text_lexer.specs.declared.error.Cause.{Cause};
 ghost use Rattle.io_edge.specs.Edge.{FailedLast};
 ghost use Rattle.mm_space.specs.Closing.{ClosedView};
 ghost use Rattle.vma_replay.specs.declared.words.Mode.TheVariants.{Serial};
-ghost use Rattle.vma_replay.specs.Jobs.{are_accepted, job_of_words};
+ghost use Rattle.vma_replay.specs.Jobs.{are_accepted, are_tried, job_of_words};
 ghost use Rattle.vma_replay.specs.Replaying.{mode_of_words, most_of_words, opens_a_space, reads_the_source, work_of};
 ghost use Rattle.vma_replay.specs.Replaying.{status_of, ReadsEnough};
 ghost use Rattle.vma_replay.specs.Replaying.{GivesAll, GivesSerialOutput, GivesBeginning, GivesNothing, GivesProperBeginning};
@@ -32,7 +32,8 @@ use std::thread::Threads;
 /// source is left as it is.
 ///
 /// On `Words`, `Trace` and `ReadFault` nothing is given to the sink. On `WriteFault` what was given is a beginning of an
-/// output, and not all of it; on `NoMemory` a beginning. Words that are not accepted leave the source untouched too.
+/// output, and not all of it; on `NoMemory` a beginning. Words that are not accepted leave the source untouched too. Words that begin with
+/// no mode, or of which one begins with `-`, are answered `Words` whatever the memory.
 /// On `Done` the closed runs are handed out where a trace was run, the parent's first and then those of its children by ascending number,
 /// and else none.
 pub fn replay<R: Threads + Wait + Sync, S: Source, K: Sink, G: Gate>(
@@ -69,6 +70,7 @@ pub fn replay<R: Threads + Wait + Sync, S: Source, K: Sink, G: Gate>(
     // When each other answer comes.
     ensures words { result.status ≡ Status.Words → are_accepted words.now ≡ false }
     ensures words_refused { are_accepted words.now ≡ false → (result.status ≡ Status.Words) ⊎ (result.status ≡ Status.NoMemory) }
+    ensures words_untried { are_tried words.now ≡ false → result.status ≡ Status.Words }
     ensures words_refused_untouched { are_accepted words.now ≡ false → (source.new ≡ source.old) × (sink.new ≡ sink.old) }
     ensures trace { (line : ℕ) (cause : Cause) → result.status ≡ Status.Trace line cause → (reads_the_source words.now ≡ true)
         × ((S.seen source.new).faults ≡ (S.seen source.old).faults)

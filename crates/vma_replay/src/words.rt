@@ -2,7 +2,8 @@ ghost use Rattle.std.specs.Prelude.{◌≡◌, ◌≤◌, IfErr, IfOk, IfSome, E
 ghost use Rattle.std.specs.List.{list_any};
 ghost use Rattle.clap.specs.Words.{app_of, found_of, matches_of, rows_of, takes};
 ghost use Rattle.vma_replay.specs.Jobs.{alone, generate_job, generate_words, job_of_words, named_job, operation_count, query_words};
-ghost use Rattle.vma_replay.specs.Internal.CommandLine.{are_tried, begin_with_mode, begins_with_dash, is_mode, job_of_rows, words_command};
+ghost use Rattle.vma_replay.specs.Jobs.{are_tried, begin_with_mode, begins_with_dash, is_mode};
+ghost use Rattle.vma_replay.specs.Internal.CommandLine.{job_of_rows, words_command};
 ghost use Rattle.vma_replay.specs.Internal.Tallies.{IsInLimits};
 
 use clap::error::ErrorKind;
@@ -66,6 +67,7 @@ pub(crate) enum WordsError {
 pub(crate) fn job_of(alloc: Global, words: &[String]) -> Result<Job, WordsError>
     ensures job { IfOk result (λ job. job_of_words words.now ≡ Some job) }
     ensures limits { IfOk result IsInLimits }
+    ensures tried { IfOk result (λ _. are_tried words.now ≡ true) }
     ensures words { result ≡ Err WordsError.Words → job_of_words words.now ≡ None }
     ensures memory { result ≡ Err WordsError.NoMemory → are_tried words.now ≡ true }
 {
@@ -97,7 +99,7 @@ fn begin_with_mode(words: &[String]) -> bool
 }
 
 /// Whether a word is a mode: the first of an accepted list.
-#[tactic(auto, unfolding(crate::specs::Internal::CommandLine::is_mode))]
+#[tactic(auto, unfolding(crate::specs::Jobs::is_mode))]
 fn is_mode(word: &str) -> bool
     ensures { result ≡ is_mode word.now }
 {
