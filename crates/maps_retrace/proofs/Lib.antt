@@ -6,6 +6,8 @@ pub mod FileReading
 pub mod RawMaps
 pub mod Texts
 pub mod Kept
+pub mod TakenMemory
+pub mod Answered
 pub mod Following
 pub mod Walks
 pub mod Traces

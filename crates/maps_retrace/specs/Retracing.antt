@@ -61,11 +61,14 @@ may_follow areas area = is_valid area && (nat_le area.span.hi (page_of ADDRESS_L
 abbrev pub is_text_of : List FileRow → MapsLine → List ℕ → Bool
 is_text_of files line text = bytes_eq (area_text files (area_of (length files) line)) (text ++ codes "\n")
 
+-- whether a line may be mapped behind areas, as that of an object: its area may follow, and it does not begin below the minimum
+abbrev pub may_map : List Record → ℕ → MapsLine → Bool
+may_map areas object line = may_follow areas (area_of object line) && nat_le DEFAULT_MIN line.lo
+
 -- Whether a line that shows these files, none or one, is ours, as the area of an object behind others: its bytes are those of a maps
--- text, its area may follow, and it does not begin below the minimum.
+-- text, and it may be mapped.
 unfoldable pub is_ours : List Record → List FileRow → ℕ → MapsLine → List ℕ → Bool
-is_ours areas files object line text = is_text_of files line text
-    && (may_follow areas (area_of object line) && nat_le DEFAULT_MIN line.lo)
+is_ours areas files object line text = is_text_of files line text && may_map areas object line
 
 -- the areas, and behind them that of a line that shows these files
 unfoldable pub areas_with : List Record → List FileRow → ℕ → MapsLine → List ℕ → Result (List Record) Cause

@@ -1,12 +1,14 @@
 //! The areas that the lines of a maps text show.
 
 ghost use Rattle.std.specs.Prelude.{◌≡◌, ◌<◌, ◌≤◌, IfOk, length};
-ghost use Rattle.maps_retrace.specs.Retracing.{area_of, may_follow, is_text_of};
+ghost use Rattle.maps_retrace.specs.Retracing.{area_of, may_follow, may_map, is_text_of};
 
 use area_list::{joins, page_of};
 use maps_print::print_line;
 use maps_read::MapsLine;
-use mm_types::{ADDRESS_LIMIT, Attr, Files, MOST_AREAS, NoMemory, Prot, Record, Span, is_valid};
+use mm_types::{
+    ADDRESS_LIMIT, Attr, DEFAULT_MIN, Files, MOST_AREAS, NoMemory, Prot, Record, Span, is_valid,
+};
 use std::alloc::Global;
 
 /// All accesses: so much may be allowed later of each mapping that a trace of ours makes.
@@ -41,7 +43,7 @@ pub(crate) fn area_of(object: u32, line: &MapsLine) -> Record
 
 /// Whether an area may follow others in a sound list of the default configuration.
 #[tactic(auto, unfolding(crate::specs::Retracing::may_follow))]
-pub(crate) fn may_follow(areas: &[Record], area: &Record) -> bool
+fn may_follow(areas: &[Record], area: &Record) -> bool
     ensures { result ≡ may_follow areas.now area.now }
 {
     is_valid(area)
@@ -50,6 +52,14 @@ pub(crate) fn may_follow(areas: &[Record], area: &Record) -> bool
         && areas
             .last()
             .is_none_or(|last| last.span.hi <= area.span.lo && !joins(last, area))
+}
+
+/// Whether a line may be mapped behind areas, as that of an object: its area may follow, and it does not begin below the minimum of the
+/// default configuration.
+pub(crate) fn may_map(areas: &[Record], object: u32, line: &MapsLine) -> bool
+    ensures { result ≡ may_map areas.now object line.now }
+{
+    may_follow(areas, &area_of(object, line)) && DEFAULT_MIN <= line.lo
 }
 
 /// Whether a text is that of the line of an area that maps nothing or the one of these files.

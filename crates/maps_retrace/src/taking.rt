@@ -1,15 +1,16 @@
 //! What is taken of a maps text, line by line.
 
-ghost use Rattle.std.specs.Prelude.{◌≡◌, ◌≤◌, ◌<◌, length, Err};
+ghost use Rattle.std.specs.Prelude.{◌≡◌, ◌≤◌, ◌<◌, true, length, Err, IsOk, IsSome};
 ghost use Rattle.text_lexer.specs.Reading.{Gives};
 ghost use Rattle.mm_types.specs.declared.config.TheConstants.{MOST_FILES};
-ghost use Rattle.maps_retrace.specs.Retracing.{nothing_taken, areas_with, with_next_file, with_file, with_line};
-ghost use Rattle.maps_retrace.specs.Internal.Taking.{IsTaken, what_taken};
+ghost use Rattle.maps_retrace.specs.FileLines.{file_place};
+ghost use Rattle.maps_retrace.specs.Retracing.{nothing_taken, may_map, areas_with, with_next_file, with_file, with_line};
+ghost use Rattle.maps_retrace.specs.Internal.Taking.{IsTaken, may_take, what_taken};
 
-use crate::areas::{area_of, is_text_of, may_follow};
+use crate::areas::{area_of, is_text_of, may_map};
 use crate::file_lines::{FIRST_DESCRIPTOR, are_one_file, file_place, files_opened};
 use maps_read::MapsLine;
-use mm_types::{DEFAULT_MIN, Files, MOST_FILES, NoMemory, Record};
+use mm_types::{Files, MOST_FILES, NoMemory, Record};
 use std::alloc::Global;
 use text_lexer::{CallError, Cause};
 
@@ -36,7 +37,8 @@ impl<'a> Taken<'a> {
         }
     }
 
-    /// Takes a line, which has this text, or says that it is not ours.
+    /// Takes a line, which has this text, or says that it is not ours. Memory may run out only where the line may be mapped, or its file
+    /// is one more.
     #[tactic(auto, unfolding(crate::specs::Retracing::with_line))]
     pub(crate) fn add(
         &mut self,
@@ -45,7 +47,8 @@ impl<'a> Taken<'a> {
         text: &[u8],
     ) -> Result<(), CallError>
         requires { IsTaken (what_taken self.old) }
-        ensures { Gives (λ _. what_taken self.new) result (with_line (what_taken self.old) line.now text.now) }
+        ensures line { Gives (λ _. what_taken self.new) result (with_line (what_taken self.old) line.now text.now) }
+        ensures memory { result ≡ Err CallError.NoMemory → may_take (what_taken self.old) line.now ≡ true }
     {
         if line.name.as_str().is_empty() {
             let none = Files::of(Vec::new(alloc));
@@ -63,13 +66,14 @@ impl<'a> Taken<'a> {
         )
     }
 
-    /// The place of the file of a line, which is taken where the line shows it first. Where there is no room for one more, memory does
-    /// not run out.
+    /// The place of the file of a line, which is taken where the line shows it first. Memory does not run out for a file of a line so
+    /// far, nor where there is no room for one more.
     #[tactic(auto, unfolding(crate::specs::Retracing::with_file))]
     fn place_of(&mut self, alloc: Global, line: &'a MapsLine) -> Result<usize, CallError>
         requires { IsTaken (what_taken self.old) }
         ensures place { Gives (λ place. (what_taken self.new, place)) result (with_file (what_taken self.old) line.now) }
         ensures memory { result ≡ Err CallError.NoMemory → length self.old.named.items < MOST_FILES }
+        ensures known { IsSome (file_place (what_taken self.old).named line.now) → IsOk result }
     {
         match file_place(&self.named, line) {
             Some(place) => Ok(place),
@@ -108,7 +112,8 @@ impl<'a> Taken<'a> {
     }
 }
 
-/// Appends the area of a line that shows these files, none or one, or says that the line is not ours.
+/// Appends the area of a line that shows these files, none or one, or says that the line is not ours. Only a line that may be mapped
+/// takes memory.
 #[tactic(auto, unfolding(crate::specs::Retracing::areas_with, crate::specs::Retracing::is_ours))]
 fn push_area(
     alloc: Global,
@@ -120,15 +125,18 @@ fn push_area(
 ) -> Result<(), CallError>
     requires files { length files.now ≤ 1 }
     requires object { object ≤ MOST_FILES }
-    ensures { Gives (λ _. areas.new.items) result (areas_with areas.old.items files.now object line.now text.now) }
+    ensures area { Gives (λ _. areas.new.items) result (areas_with areas.old.items files.now object line.now text.now) }
+    ensures memory { result ≡ Err CallError.NoMemory → may_map areas.old.items object line.now ≡ true }
 {
+    if !may_map(areas, object, line) {
+        return Err(CallError::Bad(Cause::NotOurs));
+    }
     let shows = match is_text_of(alloc, files, line, text) {
         Ok(shows) => shows,
         Err(NoMemory) => return Err(CallError::NoMemory),
     };
-    let area = area_of(object, line);
-    if shows && may_follow(areas, &area) && DEFAULT_MIN <= line.lo {
-        areas.push(area)?;
+    if shows {
+        areas.push(area_of(object, line))?;
         Ok(())
     } else {
         Err(CallError::Bad(Cause::NotOurs))

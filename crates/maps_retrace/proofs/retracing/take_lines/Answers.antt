@@ -40,8 +40,8 @@ loop-line-preserved c =
     omega (arith, c.first_line.ensures.shorter, c.loop-line.invariant.within) in
     record {
       taken = ap (λ (n : ℕ). with_lines after (lines_from (number + 1) n more) (drop (c.loop-line.line-index + 1) c.args.lines.now)) (sym start)
-          ∙ take_more before after _ _ raw c.line-item.result _ _ _ c.loop-line.invariant.taken c.first_line.ensures.line is c.in_default.ensures;
-      right = line_kept before after c.line-item.result c.first_line.result.0.text.now c.loop-line.invariant.right c.in_default.ensures;
+          ∙ take_more before after _ _ raw c.line-item.result _ _ _ c.loop-line.invariant.taken c.first_line.ensures.line is c.in_default.ensures.line;
+      right = line_kept before after c.line-item.result c.first_line.result.0.text.now c.loop-line.invariant.right c.in_default.ensures.line;
       read = subst (λ (n : ℕ). AreReadAs (lines_from (number + 1) n more) (drop (c.loop-line.line-index + 1) c.args.lines.now)) start
           (read_more _ _ raw c.line-item.result _ _ c.loop-line.invariant.read c.first_line.ensures.line is);
       within = omega (arith, c.first_line.ensures.shorter, c.loop-line.invariant.within);
@@ -50,3 +50,6 @@ loop-line-preserved c =
 
 pub returns-clause-taken : goal.returns-clause-taken
 returns-clause-taken c = all_taken (what_taken c.loop-line.taken) _ c.args.lines.now c.loop-line.line-index _ c.loop-line.invariant.taken c.loop-line-test.false
+
+pub returns-in-Err-clause-empty : goal.returns-in-Err-clause-empty
+returns-in-Err-clause-empty c = λ none. absurd (omega arith)

@@ -1,5 +1,5 @@
 -- For `place_of`: its goals.
-use Rattle.std.proofs.Common.{◌≡◌, ◌∙◌, ℕ, Some, None, Ok, position, length, sym, ap, arith}
+use Rattle.std.proofs.Common.{◌≡◌, ◌∙◌, ℕ, Some, None, is_some, Ok, position, length, sym, ap, arith}
 use Rattle.maps_read.specs.declared.maps.MapsLine.{MapsLine}
 use Rattle.maps_retrace.specs.FileLines.{same_file, file_place}
 use Rattle.maps_retrace.specs.Internal.Taking.{what_taken}
@@ -29,3 +29,10 @@ returns-in-Err-clause-place c =
     position_map (λ (other : MapsLine). same_file other c.args.line.now) (λ line. line.now) c.args.self.now.named.items
     ∙ ap (position (λ other. same_file other.now c.args.line.now)) (sym c.deref.ensures.value) ∙ sym c.file_place.ensures ∙ c.in-None.is in
     file_fails (what_taken c.args.self.now) c.args.line.now c.in-Err.error at c.in-Err.ensures.file
+
+pub returns-in-Err-clause-known : goal.returns-in-Err-clause-known
+returns-in-Err-clause-known c =
+    let at : file_place (what_taken c.args.self.now).named c.args.line.now ≡ None =
+    position_map (λ (other : MapsLine). same_file other c.args.line.now) (λ line. line.now) c.args.self.now.named.items
+    ∙ ap (position (λ other. same_file other.now c.args.line.now)) (sym c.deref.ensures.value) ∙ sym c.file_place.ensures ∙ c.in-None.is in
+    λ known. absurd (cc (sym (ap is_some at) ∙ known))
