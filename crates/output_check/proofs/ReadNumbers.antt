@@ -1,20 +1,23 @@
--- For `number_at`: the number that an item's line tells is read as it was printed.
-use Rattle.std.proofs.Common.{ℕ, zero, suc, ◌≡◌, ◌/◌, ◌%◌, ◌^◌, ◌<◌, ◌==◌, ◌∙◌, refl, sym, ap, subst, Bool, true, false, not, ◌&&◌, nat_eq, nat_lt, List, [], ◌∷◌, ◌++◌, append_assoc, length, length-append, take, codes, Option, Some, None, position, arith, inl, inr}
+-- For `number_at`: the number that an item's line tells is read as it was printed, and each that is read is told.
+use Rattle.std.proofs.Common.{ℕ, zero, suc, ◌≡◌, ◌/◌, ◌%◌, ◌^◌, ◌<◌, ◌==◌, ◌∙◌, refl, sym, ap, subst, Bool, true, false, not, ◌&&◌, nat_eq, nat_lt, List, [], ◌∷◌, ◌++◌, append_assoc, length, length-append, take, drop, drop-cons, get_or, codes, Option, Some, None, IfSome, position, arith, inl, inr}
 use Rattle.std.proofs.Math.Seq.{take-append_seam}
 use Rattle.std.specs.Char.{is_digit, digit_value}
 use Rattle.std.specs.Fmt.{digits, digits_onto, digit_glyph, decimal}
 use Rattle.std.specs.List.{list_all, position_or_len}
 use Rattle.std.specs.Str.Parse.{AllDigits, digits_value}
-use Rattle.std.proofs.lemmas.Bool.{cases_Bool, and_from, lt-ltb, le-leb, cond-true}
+use Rattle.std.proofs.lemmas.Bool.{cases_Bool, and_from, eqb-true, lt-ltb, le-leb, cond-true}
 use Rattle.std.proofs.lemmas.Bool.Decides.{nat_tests}
 use Rattle.std.proofs.lemmas.Fmt.{decimal_is_IsNumeral, length-decimal-le}
 use Rattle.std.proofs.lemmas.Fmt.{IsAscii-decimal}
 use Rattle.std.proofs.lemmas.Option.{none-some, same_Some}
+use Rattle.std.proofs.lemmas.List.{take-append-drop}
+use Rattle.std.proofs.lemmas.List.Quantifiers.{position-Some}
 use Rattle.std.proofs.lemmas.Str.{IsUtf8-from_ascii}
 use Rattle.std.specs.Str.{IsUtf8}
 use Rattle.trace_reader.specs.declared.trace.TraceLine.{TraceLine}
 use Rattle.text_lexer.specs.Numbers.{digits_of, decimal_of}
 use Rattle.output_text.specs.Output.{start_text}
+use Rattle.output_check.specs.Internal.Judging.{TellsNumber}
 
 -- what an item begins with: its number, between `L` and a space
 pub number_between : (line : TraceLine) (version : ℕ) (rest text : List ℕ) → text ≡ start_text line version ++ rest
@@ -119,3 +122,28 @@ word_is n behind digits word end is at cut =
 -- and it is text
 pub decimal_utf8 : (n : ℕ) (word : List ℕ) → n < 2 ^ 64 → word ≡ decimal n → IsUtf8 word
 decimal_utf8 n word fits is = subst (λ (w : List ℕ). IsUtf8 w) (sym is) (IsUtf8-from_ascii (decimal n) (IsAscii-decimal n fits))
+
+-- ---- what is read is told
+
+-- what stands before the first space behind the letter
+pub told_between : (text digits word : List ℕ) (end number : ℕ) → text ≡ 76 ∷ digits → position is_space digits ≡ Some end
+    → word ≡ take end digits → decimal_of word ≡ Some number → TellsNumber text number
+told_between text digits word end number split found cut read =
+    let at = position-Some is_space digits end 0 found in
+    let space : get_or digits end 0 ≡ 32 = eqb-true (get_or digits end 0) 32 at.1 in
+    let behind : List ℕ = drop (suc end) digits in
+    let parted : digits ≡ word ++ (32 ∷ behind) =
+    sym (take-append-drop end digits) ∙ ap (λ (t : List ℕ). take end digits ++ t) (drop-cons digits end 0 at.0)
+    ∙ ap (λ (c : ℕ). take end digits ++ (c ∷ behind)) space ∙ ap (λ (w : List ℕ). w ++ (32 ∷ behind)) (sym cut) in
+    record { digits = word; behind = behind; begins = split ∙ ap (λ (t : List ℕ). 76 ∷ t) parted; is = read }
+
+-- where that is a number
+pub told_at : (text digits word : List ℕ) (end : ℕ) (found : Option ℕ) → text ≡ 76 ∷ digits → position is_space digits ≡ Some end
+    → word ≡ take end digits → IfSome found (λ number. decimal_of word ≡ Some number) → IfSome found (TellsNumber text)
+told_at text digits word end None split at cut read = tt
+told_at text digits word end (Some number) split at cut read = told_between text digits word end number split at cut read
+
+-- what is found is what is read
+pub read_is : (found read : Option ℕ) → found ≡ read → IfSome found (λ number. read ≡ Some number)
+read_is None read is = tt
+read_is (Some number) read is = sym is

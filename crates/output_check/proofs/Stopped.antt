@@ -1,11 +1,13 @@
 -- Where a walk stops: at a line that differs, where no item can come, and where the text ends.
-use Rattle.std.proofs.Common.{ℕ, ◌≡◌, ◌+◌, ◌<◌, ◌≤◌, ◌∙◌, refl, sym, ap, subst, cond, Bool, false, List, [], ◌∷◌, ◌++◌, append_assoc, length, get_or, take, Option, arith}
-use Rattle.std.specs.Prelude.{Result, Ok, Err, IfErr, OnOk}
+use Rattle.std.proofs.Common.{ℕ, ◌≡◌, ◌+◌, ◌<◌, ◌≤◌, ◌==◌, ◌∙◌, refl, sym, ap, subst, cond, Bool, true, false, List, [], ◌∷◌, ◌++◌, append_assoc, length, get_or, take, eqb-true, Option, arith}
+use Rattle.std.specs.Prelude.{Result, Ok, Err, IfErr, IfOk, OnOk}
 use Rattle.std.specs.Result.{IsErrAnd}
+use Rattle.std.proofs.lemmas.Bool.{false≢true}
 use Rattle.std.proofs.lemmas.List.{take_all}
 use Rattle.mm_types.specs.declared.area.Record.{Record}
 use Rattle.mm_types.specs.declared.config.Config.{Config}
 use Rattle.mm_types.specs.declared.files.FileRow.{FileRow}
+use Rattle.mm_types.specs.declared.memory.NoMemory.{NoMemory}
 use Rattle.mm_types.specs.MapsText.{area_text, list_text}
 use Rattle.trace_reader.specs.declared.trace.Trace.{Trace}
 use Rattle.trace_reader.specs.declared.trace.TraceLine.{TraceLine}
@@ -17,13 +19,14 @@ use Rattle.history.specs.Histories.{caller_of, journal_of, is_call, answer_of}
 use Rattle.output_text.specs.Output.{item_text, maps_text, result_text}
 use Rattle.output_check.specs.declared.answers.Answer.{Answer}
 use Rattle.output_check.specs.declared.given.Given.{Given}
+use Rattle.output_check.specs.declared.judgement.Judgement.{Judgement}
 use Rattle.output_check.specs.declared.judging.Walk.{Walk}
 use Rattle.output_check.specs.declared.stop.Stop.{Stop}
 use Rattle.output_check.specs.declared.stop.Stop.TheVariants as stops
-use Rattle.output_check.specs.Judgements.{items_text, IsFirstBad, IsLegalText}
-use Rattle.output_check.specs.Internal.Judging.{IsLeft, IsEnded, NoneComes, TheOneComes, HasRead, Differs, IsBadAt, IsWalked, IsToldRightly}
+use Rattle.output_check.specs.Judgements.{items_text, IsFirstBad, IsJudged, IsLegalText}
+use Rattle.output_check.specs.Internal.Judging.{IsLeft, IsEnded, NoneComes, TellsGoodItem, TheOneComes, HasRead, Differs, IsBadAt, IsWalked, IsToldRightly, end_told, judgement_of}
 use Rattle.output_check.specs.Internal.Printed.{shown, IsLine, first_text, more_text}
-use Rattle.output_check.proofs.Answered.{same_line}
+use Rattle.output_check.proofs.Answered.{answers_it, item_good, same_line}
 use Rattle.output_check.proofs.Plain.{area_line}
 use Rattle.output_check.proofs.Compared.{areas_more, differs_more, differs_areas}
 use Rattle.output_check.proofs.Judged.{known_begins, no_item, cut_short, bad_item, bad_list, bad_end, legal_end}
@@ -106,6 +109,21 @@ stop_item trace text walk walked value left some line caller version areas answe
     walked.progress (left walked.items walked.progress) some value.numbered
     (ran_item trace text walk walked value line caller version areas answer comes ran) comes.tells differs
 stop_item trace text walk walked value left some line caller version areas answer comes ran stops.NoMemory differs = tt
+
+-- and it tells the line of that item, which is good
+pub tells_item : (trace : Trace) (text : List ℕ) (walk : Walk) (walked : IsWalked trace text walk) → IsTraceValue trace
+    → (line : TraceLine) (caller version : ℕ) (areas : List Record) (answer : Answer)
+    → TheOneComes trace.lines walked.items walk.given.rest.now line caller → Ran trace walk line caller version areas answer
+    → TellsGoodItem trace walked.items walk.given.rest.now
+tells_item trace text walk walked value line caller version areas answer comes ran =
+    let is = ran_item trace text walk walked value line caller version areas answer comes ran in
+    record {
+      line = line;
+      item = item_with caller version areas answer;
+      number = comes.number;
+      answers = answers_it trace.config trace.lines walked.items line (item_with caller version areas answer) is;
+      good = item_good trace.config trace.lines walked.items line (item_with caller version areas answer) is;
+    }
 
 -- the text ends where a line of the trace is left
 pub stop_short : (trace : Trace) (text : List ℕ) (walk : Walk) → IsWalked trace text walk → IsLeft trace walk → walk.given.rest.now ≡ []
@@ -225,3 +243,47 @@ item_parts files child content start more is =
 pub none_long : (text : List ℕ) → length text ≡ 0 → text ≡ []
 none_long [] long = refl
 none_long (c ∷ text) long = absurd (omega arith)
+
+-- what is told of the text behind the final list is right
+pub end_right : (trace : Trace) (text : List ℕ) (walk : Walk) (walked : IsWalked trace text walk) → IsEnded trace walk
+    → (new : Given) (listed result : Result (Unit {0}) Stop)
+    → OnOk listed (HasRead text (items_text trace walked.items ++ maps_text trace.config.files walk.space.space.areas) new)
+    → IfErr listed (IsBadAt text (items_text trace walked.items ++ maps_text trace.config.files walk.space.space.areas))
+    → OnOk listed (walk.given.line ≤ new.line) → result ≡ end_told new listed
+    → OnOk result (IsLegalText trace text) × IfErr result (IsToldRightly trace text)
+end_right trace text walk walked ended new listed result read bad later is =
+    subst (λ (r : Result (Unit {0}) Stop). OnOk r (IsLegalText trace text) × IfErr r (IsToldRightly trace text)) (sym is)
+    (told listed read bad later)
+  where
+    by_end : (done : Unit {0}) (empty : Bool) → (length new.rest.now == 0) ≡ empty
+        → HasRead text (items_text trace walked.items ++ maps_text trace.config.files walk.space.space.areas) new → walk.given.line ≤ new.line
+        → OnOk (cond empty (Ok done) (Err (stops.Bad (new.line + 1)))) (IsLegalText trace text)
+        × IfErr (cond empty (Ok done) (Err (stops.Bad (new.line + 1)))) (IsToldRightly trace text)
+    by_end done true is read later =
+        (ends_whole trace text walk walked ended new read (none_long new.rest.now (eqb-true (length new.rest.now) 0 is)), tt)
+    by_end done false is read later = (
+      tt,
+      stop_behind trace text walk walked ended new read later
+          (λ none. false≢true (sym is ∙ ap (λ (bytes : List ℕ). length bytes == 0) none)),
+    )
+
+    told : (listed : Result (Unit {0}) Stop)
+        → OnOk listed (HasRead text (items_text trace walked.items ++ maps_text trace.config.files walk.space.space.areas) new)
+        → IfErr listed (IsBadAt text (items_text trace walked.items ++ maps_text trace.config.files walk.space.space.areas))
+        → OnOk listed (walk.given.line ≤ new.line)
+        → OnOk (end_told new listed) (IsLegalText trace text) × IfErr (end_told new listed) (IsToldRightly trace text)
+    told (Err stop) read bad later = (tt, stop_list trace text walk walked ended stop bad)
+    told (Ok done) read bad later = by_end done (length new.rest.now == 0) refl read later
+
+-- and so is what is judged of the whole text
+pub judged_right : (trace : Trace) (text : List ℕ) (walked : Result (Unit {0}) Stop) (result : Result Judgement NoMemory)
+    → OnOk walked (IsLegalText trace text) → IfErr walked (IsToldRightly trace text) → result ≡ judgement_of walked
+    → IfOk result (IsJudged trace text)
+judged_right trace text walked result legal told is =
+    subst (λ (r : Result Judgement NoMemory). IfOk r (IsJudged trace text)) (sym is) (judged walked legal told)
+  where
+    judged : (walked : Result (Unit {0}) Stop) → OnOk walked (IsLegalText trace text) → IfErr walked (IsToldRightly trace text)
+        → IfOk (judgement_of walked) (IsJudged trace text)
+    judged (Ok done) legal told = legal
+    judged (Err (stops.Bad line)) legal told = told
+    judged (Err stops.NoMemory) legal told = tt

@@ -1,13 +1,14 @@
 //! A text that is compared, line by line, with what it should be.
-ghost use Rattle.std.specs.Prelude.{ℕ, ◌≡◌, ◌+◌, ◌-◌, ◌^◌, ◌<◌, ◌≤◌, ◌==◌, ◌++◌, List, [], length, decimal, OnOk, IfErr, if◌then◌else◌};
+ghost use Rattle.std.specs.Prelude.{ℕ, ◌≡◌, ◌+◌, ◌-◌, ◌^◌, ◌<◌, ◌≤◌, ◌==◌, ◌++◌, List, [], length, decimal, OnOk, IfErr, IfSome, if◌then◌else◌};
 ghost use Rattle.mm_types.specs.MapsText.{list_text};
 ghost use Rattle.mm_types.specs.declared.area.Record.{Record};
 ghost use Rattle.mm_types.specs.declared.files.FileRow.{FileRow};
+ghost use Rattle.text_lexer.specs.Numbers.{decimal_of};
 ghost use Rattle.trace_reader.specs.declared.trace.TraceLine.{TraceLine};
 ghost use Rattle.trace_reader.specs.Values.{child_of};
 ghost use Rattle.output_text.specs.Output.{maps_text, start_text, result_text};
 ghost use Rattle.output_check.specs.Internal.Printed.{first_text, more_text, shown, IsLine};
-ghost use Rattle.output_check.specs.Internal.Judging.{HasRead, IsBadAt, Shrinks};
+ghost use Rattle.output_check.specs.Internal.Judging.{HasRead, IsBadAt, Shrinks, TellsNumber, end_told};
 
 use crate::answers::{Answer, area_count};
 use crate::stop::Stop;
@@ -55,10 +56,23 @@ impl<'a> Given<'a> {
         Stop::Bad(self.line + 1)
     }
 
+    /// What is told of a text whose last lines were compared: what was told of these, and else whether it ends behind them.
+    pub(crate) fn expect_end(&self, compared: Result<(), Stop>) -> Result<(), Stop>
+        requires room { self.now.line < 2 ^ 64 - 1 }
+        ensures { result ≡ end_told self.now compared }
+    {
+        match compared {
+            Ok(()) if self.is_at_end() => Ok(()),
+            Ok(()) => Err(self.bad()),
+            Err(stop) => Err(stop),
+        }
+    }
+
     /// The number that the next line tells, if it begins as an item does: a number between `L` and a space.
     pub(crate) fn number(&self) -> Option<u64>
-        ensures { (line : TraceLine) (version : ℕ) (rest : List ℕ) → line.number < 2 ^ 64
+        ensures printed { (line : TraceLine) (version : ℕ) (rest : List ℕ) → line.number < 2 ^ 64
             → self.now.rest.now ≡ start_text line version ++ rest → result ≡ Some line.number }
+        ensures told { IfSome result (TellsNumber self.now.rest.now) }
     {
         number_at(self.rest)
     }
@@ -188,8 +202,9 @@ impl<'a> Given<'a> {
 
 /// The number between `L` and a space with which a text begins, if it begins so.
 fn number_at(text: &[u8]) -> Option<u64>
-    ensures { (line : TraceLine) (version : ℕ) (rest : List ℕ) → line.number < 2 ^ 64
+    ensures printed { (line : TraceLine) (version : ℕ) (rest : List ℕ) → line.number < 2 ^ 64
         → text.now ≡ start_text line version ++ rest → result ≡ Some line.number }
+    ensures told { IfSome result (TellsNumber text.now) }
 {
     let digits = text.strip_prefix(b"L")?;
     let end = digits.iter().position(|byte| *byte == b' ')?;
@@ -198,7 +213,8 @@ fn number_at(text: &[u8]) -> Option<u64>
 
 /// The number that a word of decimal digits is, if it is one.
 fn decimal_of_bytes(word: &[u8]) -> Option<u64>
-    ensures { (number : ℕ) → number < 2 ^ 64 → word.now ≡ decimal number → result ≡ Some number }
+    ensures printed { (number : ℕ) → number < 2 ^ 64 → word.now ≡ decimal number → result ≡ Some number }
+    ensures told { IfSome result (λ number. decimal_of word.now ≡ Some number) }
 {
     match str::from_utf8(word) {
         Ok(text) => decimal_of(text),

@@ -1,8 +1,8 @@
 //! Whether a text is a legal output of a trace, found in one pass over the text.
-ghost use Rattle.std.specs.Prelude.{ℕ, ◌≡◌, ◌<◌, List, IfOk, OnOk, IfErr, MatchOption, length};
+ghost use Rattle.std.specs.Prelude.{ℕ, ◌≡◌, ◌<◌, List, IfOk, OnOk, IfErr, IsErrOf, MatchOption, length};
 ghost use Rattle.trace_reader.specs.Values.{IsTraceValue};
 ghost use Rattle.output_check.specs.Judgements.{IsJudged, IsLegalText};
-ghost use Rattle.output_check.specs.Internal.Judging.{IsEnded, IsLeft, IsToldRightly, IsWalked, NoneComes, TheOneComes};
+ghost use Rattle.output_check.specs.Internal.Judging.{IsEnded, IsLeft, IsToldRightly, IsWalked, NoneComes, TellsGoodItem, TheOneComes, judgement_of};
 
 use crate::answers::run_op;
 use crate::given::Given;
@@ -34,7 +34,14 @@ pub fn judge_output(alloc: Global, trace: &Trace, text: &[u8]) -> Result<Judgeme
     ensures { IfOk result (IsJudged trace.now text.now) }
 {
     let mut walk = Walk::new(alloc, trace, text)?;
-    match walk.judge(alloc, trace) {
+    judgement_of(walk.judge(alloc, trace))
+}
+
+/// What is judged of a text that was walked over.
+fn judgement_of(walked: Result<(), Stop>) -> Result<Judgement, NoMemory>
+    ensures { result ≡ judgement_of walked }
+{
+    match walked {
         Ok(()) => Ok(Judgement::Legal),
         Err(Stop::Bad(line)) => Ok(Judgement::Bad { line }),
         Err(Stop::NoMemory) => Err(NoMemory),
@@ -68,13 +75,16 @@ impl<'a> Walk<'a> {
         self.end(alloc, trace)
     }
 
-    /// Compares the next item, where a line of the trace is left.
+    /// Compares the next item, where a line of the trace is left. Memory is taken only where the text tells the line of an item that is
+    /// good next.
     fn item(&mut self, alloc: Global, trace: &Trace) -> Result<(), Stop>
         requires trace { IsTraceValue trace.now }
         requires walked { (text : List ℕ) × IsWalked trace.now text self.old }
         requires left { IsLeft trace.now self.old }
         ensures ok { (text : List ℕ) → IsWalked trace.now text self.old → OnOk result (IsWalked trace.now text self.new) }
         ensures bad { (text : List ℕ) → IsWalked trace.now text self.old → IfErr result (IsToldRightly trace.now text) }
+        ensures memory { IsErrOf result Stop.NoMemory → (text : List ℕ) (walked : IsWalked trace.now text self.old)
+            → TellsGoodItem trace.now walked.items self.old.given.rest.now }
         ensures shorter { OnOk result (length self.new.given.rest.now < length self.old.given.rest.now) }
     {
         if self.given.is_at_end() {
@@ -120,12 +130,9 @@ impl<'a> Walk<'a> {
         ensures ok { (text : List ℕ) → IsWalked trace.now text self.old → OnOk result (IsLegalText trace.now text) }
         ensures bad { (text : List ℕ) → IsWalked trace.now text self.old → IfErr result (IsToldRightly trace.now text) }
     {
-        self.given
-            .expect_maps(alloc, &mut self.line, &trace.config.files, &self.space)?;
-        if self.given.is_at_end() {
-            Ok(())
-        } else {
-            Err(self.given.bad())
-        }
+        let listed = self
+            .given
+            .expect_maps(alloc, &mut self.line, &trace.config.files, &self.space);
+        self.given.expect_end(listed)
     }
 }

@@ -1,14 +1,18 @@
 -- What a walk over a text keeps from item to item.
-use Rattle.std.specs.Prelude.{ℕ, ◌≡◌, ◌<◌, ◌≤◌, ◌+◌, ◌-◌, ◌^◌, List, [], ◌++◌, length, take, Some, IfSome}
+use Rattle.std.specs.Prelude.{ℕ, ◌≡◌, ◌<◌, ◌≤◌, ◌+◌, ◌-◌, ◌^◌, ◌==◌, List, [], ◌++◌, length, take, codes, Some, IfSome, Result, Ok, Err, if◌then◌else◌}
+use Rattle.mm_types.specs.declared.memory.NoMemory.{NoMemory}
+use Rattle.text_lexer.specs.Numbers.{decimal_of}
 use Rattle.trace_reader.specs.declared.trace.Trace.{Trace}
 use Rattle.trace_reader.specs.declared.trace.TraceLine.{TraceLine}
 use Rattle.area_rules.specs.Steps.{after}
 use Rattle.history.specs.declared.items.Item.{Item}
-use Rattle.history.specs.Histories.{caller_of, journal_of, StandsAmong}
-use Rattle.history.specs.Checking.{AreGood, next_line}
+use Rattle.history.specs.Histories.{caller_of, journal_of, line_of, StandsAmong}
+use Rattle.history.specs.Checking.{AreGood, IsGood, next_line}
 use Rattle.history.specs.Coming.{IsProgress, HasNoneLeft}
 use Rattle.output_text.specs.Output.{start_text}
 use Rattle.output_check.specs.declared.given.Given.{Given}
+use Rattle.output_check.specs.declared.judgement.Judgement.{Judgement}
+use Rattle.output_check.specs.declared.judgement.Judgement.TheVariants.{Legal, Bad}
 use Rattle.output_check.specs.declared.judging.Walk.{Walk}
 use Rattle.output_check.specs.declared.stop.Stop.{Stop}
 use Rattle.output_check.specs.declared.stop.Stop.TheVariants as stops
@@ -35,6 +39,11 @@ IsBadAt text wanted stops.NoMemory = Unit {0}
 abbrev pub Shrinks : Given → Given → Type 0
 Shrinks old new = new.line + length new.rest.now ≤ old.line + length old.rest.now
 
+-- what is told of a text whose last lines were compared: what was told of these, and else whether it ends behind them
+abbrev pub end_told : Given → Result (Unit {0}) Stop → Result (Unit {0}) Stop
+end_told given (Ok done) = if length given.rest.now == 0 then Ok done else Err (stops.Bad (given.line + 1))
+end_told given (Err stop) = Err stop
+
 -- A walk has compared the text of some good items, and each right text that agrees up to here begins with these items.
 pub record IsWalked (trace : Trace) (text : List ℕ) (walk : Walk) : Type 0 where
   pub items : List Item
@@ -56,6 +65,21 @@ IsLeft trace walk = (items : List Item) → IsProgress trace.lines items walk.pr
 abbrev pub IsEnded : Trace → Walk → Type 0
 IsEnded trace walk = (items : List Item) → IsProgress trace.lines items walk.progress → HasNoneLeft trace.lines items
 
+-- a text begins with `L`, the digits of a number, and a space
+pub record TellsNumber (text : List ℕ) (number : ℕ) : Type 0 where
+  pub digits : List ℕ
+  pub behind : List ℕ
+  pub begins : text ≡ codes "L" ++ (digits ++ (codes " " ++ behind))
+  pub is : decimal_of digits ≡ Some number
+
+-- a text tells the line of an item that is good next
+pub record TellsGoodItem (trace : Trace) (before : List Item) (rest : List ℕ) : Type 0 where
+  pub line : TraceLine
+  pub item : Item
+  pub number : TellsNumber rest line.number
+  pub answers : line_of trace.lines before item ≡ Some line
+  pub good : IsGood trace.config [] trace.lines before item
+
 -- a line can come next, and the text goes on as its item begins
 pub record Begins (lines : List TraceLine) (before : List Item) (rest : List ℕ) (line : TraceLine) (caller : ℕ) : Type 0 where
   pub next : next_line lines before caller ≡ Some line
@@ -74,9 +98,16 @@ pub record TheOneComes (lines : List TraceLine) (before : List Item) (rest : Lis
   pub next : next_line lines before caller ≡ Some line
   pub owned : caller ≡ caller_of lines line.thread
   pub told : IfSome line.after (StandsAmong lines before)
+  pub number : TellsNumber rest line.number
   pub tells : (other : TraceLine) (teller : ℕ) → Begins lines before rest other teller → other.number ≡ line.number
 
 -- the first bad line was told, or memory ran out
 abbrev pub IsToldRightly : Trace → List ℕ → Stop → Type 0
 IsToldRightly trace text (stops.Bad line) = IsFirstBad trace text line
 IsToldRightly trace text stops.NoMemory = Unit {0}
+
+-- what is judged of a text that was walked over
+abbrev pub judgement_of : Result (Unit {0}) Stop → Result Judgement NoMemory
+judgement_of (Ok done) = Ok Legal
+judgement_of (Err (stops.Bad line)) = Ok (Bad line)
+judgement_of (Err stops.NoMemory) = Err (record {})

@@ -5,7 +5,7 @@ use Rattle.output_check.specs.declared.stop.Stop.{Stop}
 use Rattle.output_check.specs.Judgements.{items_text}
 use Rattle.output_check.specs.Internal.Judging.{IsToldRightly}
 use Rattle.output_check.proofs.Walked.{walked_room, counts_room, walked_more}
-use Rattle.output_check.proofs.Stopped.{stop_short, stop_none, stop_order, stop_item, ran_from, passed_version, passed_lowest, none_long, err_is, called_no}
+use Rattle.output_check.proofs.Stopped.{stop_short, stop_none, stop_order, stop_item, tells_item, ran_from, passed_version, passed_lowest, none_long, err_is, called_no}
 use Rattle.output_check.proofs.judging.Walk.item.Goals as goal
 
 pub returns-then-is_at_end-clause-bad : goal.returns-then-is_at_end-clause-bad
@@ -47,6 +47,14 @@ returns-in_err-expect_item-clause-bad c = λ text walked.
     c.run_op-answer.result c.is_call-is_call.result c.run_op-answer.ensures.answer
     c.is_call-is_call.ensures c.version_with-version.ensures (c.if-not-is_in_order.ensures.0 refl))
     c.in_err-expect_item.field-0.0 (c.in_err-expect_item.ensures.bad text (items_text c.args.trace.now walked.items) walked.read))
+
+pub returns-in_err-expect_item-clause-memory : goal.returns-in_err-expect_item-clause-memory
+returns-in_err-expect_item-clause-memory c = λ lacks text walked.
+    tells_item c.args.trace.now text c.args.self.now walked c.requires.trace c.in-Some.line c.in-Some.caller c.version_with-version.result
+    c.run_op-answer.new.space.space.areas c.run_op-answer.result (c.in-Some.ensures text walked)
+    (ran_from c.args.trace.now c.args.self.now c.in-Some.line c.in-Some.caller c.version_with-version.result c.run_op-answer.new.space.space.areas
+    c.run_op-answer.result c.is_call-is_call.result c.run_op-answer.ensures.answer
+    c.is_call-is_call.ensures c.version_with-version.ensures (c.if-not-is_in_order.ensures.0 refl))
 
 pub pass-requires-clause-caller : goal.pass-requires-clause-caller
 pass-requires-clause-caller c =
