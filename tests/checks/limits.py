@@ -178,6 +178,17 @@ def check_children(program: str) -> None:
         passed(f"eight children, {mode}", took)
 
 
+def check_child(program: str) -> None:
+    """A child that faults as often as a trace has operations left for it."""
+    count = MOST["operations"] - 1
+    trace = HEAD + b"0 fork 1\n" + b"1 fault 0 r\n" * count
+    faults = (f"L{line} t1 v0 = SIGSEGV SEGV_MAPERR" for line in range(3, count + 3))
+    output = bytes_of(["L2 t0 v0 = child 1 areas 0", "maps 0", "child 1 of L2 v0", *faults, "maps 0"])
+    for mode in ("serial", "threads"):
+        took = check_run(program, "the most operations of a child", [mode], trace, (0, output, b""))
+        passed(f"the most operations of a child, {mode}", took)
+
+
 # Maps texts
 
 
@@ -288,6 +299,7 @@ def check(options: argparse.Namespace) -> None:
     check_operations(options.program)
     check_traces(options.program)
     check_children(options.program)
+    check_child(options.program)
     check_texts(options.program)
 
 

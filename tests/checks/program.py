@@ -221,7 +221,7 @@ def check_load(program: str, count: int, seed: int, seconds: int, judges: bool) 
 
 def check_scripts(program: str) -> None:
     """The longest scripts: as many lines as one may have, each as long as a line may be, and a line more."""
-    for made in (lock_script, grace_script):
+    for made in (lock_script, calls_script, grace_script, trees_script):
         script, output = made()
         for name, lines in (
             (made.__name__, script),
@@ -260,6 +260,18 @@ def lock_script() -> tuple[list[str], list[str]]:
     return [*script, *["#"] * (SCRIPT_LINES - len(script))], output
 
 
+def calls_script() -> tuple[list[str], list[str]]:
+    """As many calls as a script may have, each of which unmaps what was not mapped."""
+    script, seq = ["vmasteps 1", "lock 1 1"], 2
+    output: list[str] = []
+    while len(script) + 2 <= SCRIPT_LINES:
+        for line in ("begin", "end 0 munmap 0x1000 4096"):
+            script.append(line)
+            seq += 1
+            output.append(f"L{len(script)} ok | S {seq} M 0:0/0")
+    return script, output
+
+
 def grace_script() -> tuple[list[str], list[str]]:
     """A row is published in the place of the other, in turn. A reader opens, loads the root, closes and is scanned."""
     script, tree, pin = ["vmasteps 1", "grace 1 2"], 0, 0
@@ -286,6 +298,18 @@ def grace_script() -> tuple[list[str], list[str]]:
             output.append(f"L{len(script)} {result} | {shown}")
         tree, pin = tree + 1, pin + 2
     return [*script, *["#"] * (SCRIPT_LINES - len(script))], output
+
+
+def trees_script() -> tuple[list[str], list[str]]:
+    """As many trees as a script may have, each of one row, and at last a reader that loads the root."""
+    script, tree = ["vmasteps 1", "grace 1 2", "open 0"], 0
+    output = ["L3 ok | T 0 root 0 P 0:1 free 1 wait"]
+    while len(script) + 1 < SCRIPT_LINES:
+        tree += 1
+        script.append(f"publish {tree} 0")
+        output.append(f"L{len(script)} ok | T {tree} root 0 P 0:1 free 1 wait")
+    output.append(f"L{SCRIPT_LINES} tree {tree} row 0 | T {tree} root 0 P 0:1 free 1 wait")
+    return [*script, "root 0"], output
 
 
 def check_all_at_once(program: str) -> None:
