@@ -146,6 +146,11 @@ def script(count: int) -> list[str]:
     ]
 
 
+def trees(count: int) -> list[str]:
+    """A script in which a tree of all rows is published again and again."""
+    return ["vmasteps 1", "grace 8 8", *(f"publish {tree} 0 1 2 3 4 5 6 7" for tree in range(1, count + 1))]
+
+
 def judged(made: Made) -> Input:
     """The input of `check`: a trace, and its output."""
 
@@ -214,6 +219,8 @@ TIME: list[tuple[str, list[str], Input, int]] = [
     ("an address in a list", ["query", "0x10000000"], given(maps), 250_000),
     ("calls in threads", ["threads"], given(calls), 100_000),
     ("a list", ["retrace"], given(maps), 16_000),
+    ("a script", ["steps"], given(script), 2_499),
+    ("a script of trees", ["steps"], given(trees), 2_499),
 ]
 
 # the same of sessions
