@@ -328,7 +328,7 @@ def check(options: argparse.Namespace) -> None:
             check_memory(live, name, [], made(options.program, size.parts), size)
     check_room("a space", [options.program, "serial"], 1090, 672)
     check_room("a space of a session", [live], 390, 16)
-    check_waiting(options.program, 40_000)
+    check_waiting(options.program, 200_000)
     for name, words, made, count in TIME:
         check_time(options.program, name, words, made, count)
     for name, made, count in SESSION_TIME:
