@@ -35,8 +35,7 @@ fn words<'a, L>(writer: &'a NodeWriter, row: u64, steps: &mut Steps<L>) -> &'a [
     ensures words { result.now ≡ words_at writer.now row }
     ensures steps { steps.new ≡ steps.old + 1 }
 {
-    steps.tick();
-    writer.row_words(Row(row as u32))
+    writer.nodes().written(writer, Row(row as u32), steps)
 }
 
 /// The whole tree as a branch, without the gap of its item. Tree 0, whose root lists nothing, is one gap. Counts one step.

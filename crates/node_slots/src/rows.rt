@@ -1,6 +1,6 @@
 ghost use Rattle.std.specs.Prelude.{◌≡◌, ◌≤◌, ◌<◌, ◌+◌, ◌-◌, ◌^◌, ℕ, min, max, true, false, nat_eq, if◌then◌else◌, List, [], ◌∷◌, ◌++◌, length, slice_set, MatchOption, IfSome, OnSome, IfOk};
 ghost use Rattle.std.specs.List.Sorted.{IsPermutation};
-ghost use Rattle.grace_core.specs.Core.{row_at, since_at, times};
+ghost use Rattle.grace_core.specs.Core.{since_at, times};
 ghost use Rattle.grace_core.specs.Steps.{least};
 ghost use Rattle.maple_node.specs.Levels.{at_of};
 ghost use Rattle.maple_node.specs.Trees.{tree_of, IsLayout};
@@ -113,7 +113,7 @@ impl NodeTable {
         writer.free.len() as u32
     }
 
-    /// The words that the table has in a row. Counts one step.
+    /// The words that the table has in a row. Counts one step. Nothing else reads a row for the writer.
     pub fn written<'a, L>(
         &self,
         writer: &'a NodeWriter,
@@ -122,15 +122,18 @@ impl NodeTable {
     ) -> &'a [u64; 32]
         requires table { Writes writer.now self.now }
         requires row { row.0 < row_count writer.now }
-        ensures words { result.now ≡ row_at (writer_state writer.now).words row.0 }
+        ensures words { result.now ≡ words_at writer.now row.0 }
         ensures steps { steps.new ≡ steps.old + 1 }
     {
         steps.tick();
-        writer.row_words(row)
+        match writer.writer_state.words.get(row.0 as usize) {
+            Some(words) => words,
+            None => &EMPTY_ROW,
+        }
     }
 
     /// The greatest tree, at most the present one, such that no row waits that left at its publish or before.
-    pub fn elapsed(&self, writer: &NodeWriter) -> u64
+    pub fn settled(&self, writer: &NodeWriter) -> u64
         requires table { Writes writer.now self.now }
         ensures most { result ≤ (writer_state writer.now).tree.number }
         ensures none { (row : ℕ) → is_waiting writer.now row ≡ true → result < since_at (writer_state writer.now).since row }
@@ -155,15 +158,11 @@ impl NodeWriter {
         })
     }
 
-    /// The words that the writer's table has in a row.
-    pub fn row_words(&self, row: Row) -> &[u64; 32]
-        requires row { row.0 < row_count self.now }
-        ensures { result.now ≡ words_at self.now row.0 }
+    /// The writer's table.
+    pub fn nodes(&self) -> &NodeTable
+        ensures { Writes self.now result.now }
     {
-        match self.writer_state.words.get(row.0 as usize) {
-            Some(words) => words,
-            None => &EMPTY_ROW,
-        }
+        &self.writer_state.table
     }
 
     /// Takes the last row of the free list. None exactly where the list is empty.

@@ -145,7 +145,7 @@ impl SpanTree {
         ensures elapsed { result ≡ self.now.elapsed }
         ensures most { result ≤ self.now.number }
     {
-        self.nodes.elapsed(&self.writer)
+        self.nodes.settled(&self.writer)
     }
 
     /// What the type keeps: the pairs stand in order, with no page in common, up to the limit, and are no more than may be.

@@ -5,5 +5,5 @@ use Rattle.span_tree.proofs.tree.SpanTree.elapsed.Goals as goal
 
 pub returns-clause-elapsed : goal.returns-clause-elapsed
 returns-clause-elapsed c =
-    let told = c.elapsed.ensures in
-    elapsed_is c.self.inside.writer c.elapsed.result told.most told.none told.greatest ∙ ap (λ v. v.elapsed) c.self.view_is
+    let told = c.settled.ensures in
+    elapsed_is c.self.inside.writer c.settled.result told.most told.none told.greatest ∙ ap (λ v. v.elapsed) c.self.view_is

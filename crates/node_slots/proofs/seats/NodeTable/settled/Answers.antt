@@ -1,11 +1,11 @@
--- For `elapsed`: the first of the queue left first.
+-- For `settled`: the first of the queue left first.
 use Rattle.std.proofs.Common.{◌≡◌, ◌<◌, ◌-◌, ◌∙◌, length, refl, ap, arith}
 use Rattle.node_slots.specs.declared.left.Left.{Left}
 use Rattle.node_slots.specs.Kept.{left_at, no_left, firsts_of}
 use Rattle.node_slots.specs.Seats.{writer_state}
 use Rattle.node_slots.proofs.Seating.{read_any}
 use Rattle.node_slots.proofs.Listing.{waiting_after, elapsed_greatest}
-use Rattle.node_slots.proofs.seats.NodeTable.elapsed.Goals as goal
+use Rattle.node_slots.proofs.seats.NodeTable.settled.Goals as goal
 
 pub returns-in-Some-clause-most : goal.returns-in-Some-clause-most
 returns-in-Some-clause-most c =
