@@ -10,7 +10,7 @@ use Rattle.area_model.specs.declared.step.Stepped.{Stepped}
 use Rattle.area_model.specs.Stepped.{outcome_of}
 use Rattle.area_rules.specs.Tables.{AddressSpace, Outcome, has_too_many_areas}
 use Rattle.mm_types.specs.Rows.{first_row}
-use Rattle.area_rules.specs.Mmap.{mmap, mmap_rows, mmap_placed, mmap_done, start_of, mapped_list, objects_after}
+use Rattle.area_rules.specs.Mmap.{mmap_unsealed, mmap_rows, mmap_placed_unsealed, mmap_done, start_of, mapped_list, objects_after}
 
 -- a refusal
 abbrev pub refusal : AddressSpace → Errno → Outcome
@@ -26,27 +26,27 @@ pub same_length_test : (config : Config) (result test : Bool) (xs ys zs : List R
 same_length_test config result test xs ys zs is first second outcome = sym (ap (λ (l : List Record). has_too_many_areas config l) (first ∙ second)) ∙ sym is ∙ outcome
 
 pub mmap_refused : (config : Config) (space : AddressSpace) (args : MmapArgs) (errno : Errno) → first_row (mmap_rows config space.areas args) ≡ Some errno
-    → mmap config space args ≡ refusal space errno
-unfolding mmap
+    → mmap_unsealed config space args ≡ refusal space errno
+unfolding mmap_unsealed
 mmap_refused config space args errno refused = rw refused
 
 pub mmap_no_place : (config : Config) (space : AddressSpace) (args : MmapArgs) → first_row (mmap_rows config space.areas args) ≡ None
-    → start_of config space.areas args ≡ None → mmap config space args ≡ refusal space Enomem
-unfolding mmap mmap_placed
+    → start_of config space.areas args ≡ None → mmap_unsealed config space args ≡ refusal space Enomem
+unfolding mmap_unsealed mmap_placed_unsealed
 mmap_no_place config space args passes none = rw (passes, none)
 
 module _ (config : Config) (space : AddressSpace) (args : MmapArgs) (start : ℕ) (passes : first_row (mmap_rows config space.areas args) ≡ None)
     (found : start_of config space.areas args ≡ Some start) where
-  pub mmap_too_long : has_too_many_areas config (mapped_list config space args start) ≡ true → mmap config space args ≡ refusal space Enomem
-  unfolding mmap mmap_placed
+  pub mmap_too_long : has_too_many_areas config (mapped_list config space args start) ≡ true → mmap_unsealed config space args ≡ refusal space Enomem
+  unfolding mmap_unsealed mmap_placed_unsealed
   mmap_too_long long = rw (passes, found, long)
 
-  pub mmap_maps : has_too_many_areas config (mapped_list config space args start) ≡ false → mmap config space args ≡ mmap_done config space args start
-  unfolding mmap mmap_placed
+  pub mmap_maps : has_too_many_areas config (mapped_list config space args start) ≡ false → mmap_unsealed config space args ≡ mmap_done config space args start
+  unfolding mmap_unsealed mmap_placed_unsealed
   mmap_maps fits = rw (passes, found, fits)
 
   pub mmap_outcome : (list items : List Record) (objects : ℕ) → list ≡ items → items ≡ mapped_list config space args start → objects ≡ objects_after space.objects args
       → has_too_many_areas config (mapped_list config space args start) ≡ false
-      → outcome_of (record { list = list; counters = record { objects = objects; brk = space.brk }; reply = Addr (4096 * start) }) ≡ mmap config space args
+      → outcome_of (record { list = list; counters = record { objects = objects; brk = space.brk }; reply = Addr (4096 * start) }) ≡ mmap_unsealed config space args
   unfolding mmap_done
   mmap_outcome list items objects of is counted fits = rw (mmap_maps fits, of, is, counted)

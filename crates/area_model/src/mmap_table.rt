@@ -4,7 +4,7 @@ ghost use Rattle.mm_types.specs.Config.{IsValidConfig};
 ghost use Rattle.mm_types.specs.Rows.{first_row};
 ghost use Rattle.area_rules.specs.Tables.{space_of};
 ghost use Rattle.area_rules.specs.Steps.{IsReady};
-ghost use Rattle.area_rules.specs.Mmap.{is_taken, start_of, mapped_list, mmap_rows, mmap};
+ghost use Rattle.area_rules.specs.Mmap.{is_taken, start_of, mapped_list, mmap_rows, mmap_unsealed};
 ghost use Rattle.area_model.specs.Stepped.{outcome_of};
 
 use crate::placement::{is_free, place};
@@ -77,7 +77,7 @@ pub(crate) fn mmap(
     args: &MmapArgs,
 ) -> Result<Stepped, NoMemory>
     requires { IsReady config.now (space_of areas.now counters) }
-    ensures { IfOk result (λ stepped. outcome_of stepped ≡ mmap config.now (space_of areas.now counters) args.now) }
+    ensures { IfOk result (λ stepped. outcome_of stepped ≡ mmap_unsealed config.now (space_of areas.now counters) args.now) }
 {
     if let Some(errno) = request_error(config, areas, args) {
         return refused(alloc, counters, areas, errno);

@@ -2,7 +2,7 @@
 ghost use Rattle.std.specs.Prelude.{◌≡◌, ◌≤◌, All, IfOk, option_copied};
 ghost use Rattle.mm_types.specs.Records.{IsValid};
 ghost use Rattle.area_list.specs.Areas.{Neighbours};
-ghost use Rattle.area_rules.specs.Mprotect.{stop_of, stop_error, mprotect};
+ghost use Rattle.area_rules.specs.Mprotect.{stop_of, stop_error, mprotect_unsealed};
 ghost use Rattle.area_rules.specs.Tables.{space_of};
 ghost use Rattle.area_model.specs.Stepped.{outcome_of};
 ghost use Rattle.area_rules.specs.Steps.{IsReady};
@@ -49,7 +49,7 @@ fn stop_error(range: Span, stop: u64, area: Option<&Record>) -> Option<Errno>
 }
 
 /// One call of mprotect(2) on a list of areas.
-#[tactic(auto, using(area_list::proofs::SmallNumbers::all_small), unfolding(area_rules::specs::Mprotect::mprotect, area_rules::specs::Mprotect::mprotect_rows, area_rules::specs::Mprotect::protect_request_rows, area_rules::specs::Mprotect::protected_prefix))]
+#[tactic(auto, using(area_list::proofs::SmallNumbers::all_small), unfolding(area_rules::specs::Mprotect::mprotect_unsealed, area_rules::specs::Mprotect::mprotect_unsealed_rows, area_rules::specs::Mprotect::protect_request_rows, area_rules::specs::Mprotect::protected_prefix))]
 pub(crate) fn mprotect(
     alloc: Global,
     config: &Config,
@@ -61,7 +61,7 @@ pub(crate) fn mprotect(
 ) -> Result<Stepped, NoMemory>
     requires { IsReady config.now (space_of areas.now counters) }
     ensures { IfOk result
-        (λ stepped. outcome_of stepped ≡ mprotect config.now (space_of areas.now counters) addr len prot) }
+        (λ stepped. outcome_of stepped ≡ mprotect_unsealed config.now (space_of areas.now counters) addr len prot) }
 {
     if let Some(reply) = mprotect_answer(addr, len) {
         return unchanged(alloc, counters, areas, reply);

@@ -9,7 +9,7 @@ ghost use Rattle.area_model.specs.Stepped.{outcome_of};
 ghost use Rattle.area_rules.specs.Steps.{IsReady};
 ghost use Rattle.mm_types.specs.Rows.{first_row};
 ghost use Rattle.area_rules.specs.Mremap.{range_rows, mremap_rows, moved, shrunk_list, has_room};
-ghost use Rattle.area_rules.specs.Mremap.{lengthened_list, new_place, mremap_change, mremap};
+ghost use Rattle.area_rules.specs.Mremap.{lengthened_list, new_place, mremap_change, mremap_unsealed};
 
 use crate::placement::{is_free, place};
 use crate::step::Stepped;
@@ -191,7 +191,7 @@ fn change(
 }
 
 /// One call of mremap(2) on a list of areas.
-#[tactic(auto, unfolding(area_rules::specs::Mremap::mremap, area_rules::specs::Mremap::mremap_changed, area_rules::specs::Mremap::mremap_done))]
+#[tactic(auto, unfolding(area_rules::specs::Mremap::mremap_unsealed, area_rules::specs::Mremap::mremap_changed_unsealed, area_rules::specs::Mremap::mremap_done))]
 pub(crate) fn mremap(
     alloc: Global,
     config: &Config,
@@ -201,7 +201,7 @@ pub(crate) fn mremap(
 ) -> Result<Stepped, NoMemory>
     requires { IsReady config.now (space_of areas.now counters) }
     ensures { IfOk result
-        (λ stepped. outcome_of stepped ≡ mremap config.now (space_of areas.now counters) args.now) }
+        (λ stepped. outcome_of stepped ≡ mremap_unsealed config.now (space_of areas.now counters) args.now) }
 {
     if let Some(errno) = request_error(config, areas, args) {
         return refused(alloc, counters, areas, errno);

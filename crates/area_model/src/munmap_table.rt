@@ -1,6 +1,6 @@
 //! munmap(2): the tests of its table in their order, and the unmapping itself.
 ghost use Rattle.std.specs.Prelude.{◌≡◌, IfOk};
-ghost use Rattle.area_rules.specs.Munmap.{munmap};
+ghost use Rattle.area_rules.specs.Munmap.{munmap_unsealed};
 ghost use Rattle.area_rules.specs.Tables.{space_of};
 ghost use Rattle.area_model.specs.Stepped.{outcome_of};
 ghost use Rattle.area_rules.specs.Steps.{IsReady};
@@ -13,7 +13,7 @@ use mm_types::{AreaList, Config, Counters, Errno, NoMemory, Record, Reply};
 use std::alloc::Global;
 
 /// One call of munmap(2) on a list of areas.
-#[tactic(auto, using(area_list::proofs::SmallNumbers::all_small), unfolding(area_rules::specs::Munmap::munmap, area_rules::specs::Munmap::munmap_rows))]
+#[tactic(auto, using(area_list::proofs::SmallNumbers::all_small), unfolding(area_rules::specs::Munmap::munmap_unsealed, area_rules::specs::Munmap::munmap_rows))]
 pub(crate) fn munmap(
     alloc: Global,
     config: &Config,
@@ -24,7 +24,7 @@ pub(crate) fn munmap(
 ) -> Result<Stepped, NoMemory>
     requires { IsReady config.now (space_of areas.now counters) }
     ensures { IfOk result
-        (λ stepped. outcome_of stepped ≡ munmap config.now (space_of areas.now counters) addr len) }
+        (λ stepped. outcome_of stepped ≡ munmap_unsealed config.now (space_of areas.now counters) addr len) }
 {
     if !is_aligned(addr) {
         return refused(alloc, counters, areas, Errno::Einval);

@@ -2,7 +2,8 @@
 ghost use Rattle.std.specs.Prelude.{◌≡◌, IfOk};
 ghost use Rattle.std.specs.List.{list_any};
 ghost use Rattle.std.specs.Option.{option_to_list};
-ghost use Rattle.area_rules.specs.Seals.{has_sealed, is_sealed_off, guarded};
+ghost use Rattle.area_rules.specs.Guarded.{is_sealed_off, guarded};
+ghost use Rattle.area_rules.specs.Seals.{has_sealed};
 ghost use Rattle.area_rules.specs.Tables.{space_of};
 ghost use Rattle.area_model.specs.Stepped.{outcome_of};
 
@@ -33,8 +34,8 @@ fn has_sealed_in(span: Option<Span>, areas: &[Record]) -> bool
     }
 }
 
-/// Whether a call that its table answers so would change sealed pages.
-#[tactic(auto, unfolding(area_rules::specs::Seals::is_sealed_off))]
+/// Whether a call that its table answers so without the test of seals would change sealed pages.
+#[tactic(auto, unfolding(area_rules::specs::Guarded::is_sealed_off))]
 fn is_sealed_off(areas: &[Record], call: &Call, reply: &Reply) -> bool
     ensures { result ≡ is_sealed_off areas.now call.now reply.now }
 {
@@ -43,7 +44,7 @@ fn is_sealed_off(areas: &[Record], call: &Call, reply: &Reply) -> bool
 }
 
 /// The outcome of a call with the seals: one that would change sealed pages is refused and changes nothing.
-#[tactic(auto, unfolding(area_rules::specs::Seals::guarded))]
+#[tactic(auto, unfolding(area_rules::specs::Guarded::guarded))]
 pub(crate) fn guarded(
     alloc: Global,
     counters: Counters,

@@ -68,7 +68,7 @@ fn step_unsealed(
 /// grows an area. `counters` is how many objects were numbered before it, and the break. A refused call leaves list and
 /// counters as they were, but mprotect(2) keeps the new protection of the pages before the one at which it stopped. A call
 /// that would change a sealed page is refused. The one error is that memory runs out.
-#[tactic(auto, unfolding(area_rules::specs::Steps::step))]
+#[tactic(auto, using(area_rules::proofs::Guarding::step_guarded))]
 pub fn model_step(
     alloc: Global,
     config: &Config,

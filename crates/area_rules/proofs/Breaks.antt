@@ -10,8 +10,7 @@ use Rattle.area_list.proofs.Order.{good_from_canonical}
 use Rattle.area_list.proofs.Putting.{page_map-put}
 use Rattle.area_rules.specs.Brk.{pages_between, heap_area, break_kept, break_moved, lowered_list, raised_list, brk}
 use Rattle.area_rules.specs.Laws.{heap_page, after_brk}
-use Rattle.area_rules.specs.Seals.{guarded, is_sealed_off, guarded_ranges}
-use Rattle.area_rules.specs.Steps.{step_unsealed, step, IsReady}
+use Rattle.area_rules.specs.Steps.{step, IsReady}
 use Rattle.area_rules.specs.Tables.{AddressSpace, Outcome, pages_of}
 use Rattle.area_rules.proofs.Cases.{IsLowered, IsRaised, brk_cases}
 use Rattle.area_rules.proofs.Stepping.{room_above, raised_good}
@@ -19,7 +18,7 @@ use Rattle.area_rules.proofs.Unmapped.{free_unmapped}
 
 -- no brk is refused by a seal
 pub step-brk : (config : Config) (space : AddressSpace) (addr : ℕ) → step config space (Brk addr) ≡ brk config space addr
-unfolding step step_unsealed guarded is_sealed_off guarded_ranges
+unfolding step
 step-brk config space addr = refl
 
 module _ (config : Config) (space : AddressSpace) (addr : ℕ) where

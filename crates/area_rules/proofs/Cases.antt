@@ -19,9 +19,9 @@ use Rattle.area_rules.specs.Accesses.{permits}
 use Rattle.area_rules.specs.Placement.{is_free}
 use Rattle.area_rules.specs.Tables.{AddressSpace, Outcome, unless_answered, pages_of, has_too_many_areas}
 use Rattle.area_rules.specs.Growing.{is_above, grower, grows, grown, touch}
-use Rattle.area_rules.specs.Mmap.{start_of, is_taken, mapped_list, mmap_rows, mmap_list_rows, mmap_placed, mmap_done, mmap}
-use Rattle.area_rules.specs.Munmap.{range_of, munmap_rows, munmap}
-use Rattle.area_rules.specs.Mprotect.{protect_request_rows, mprotect_rows, protected_prefix, mprotect_done, mprotect}
+use Rattle.area_rules.specs.Mmap.{start_of, is_taken, mapped_list, mmap_rows, mmap_unsealed_rows, mmap_placed_unsealed, mmap_done, mmap_unsealed}
+use Rattle.area_rules.specs.Munmap.{range_of, munmap_rows, munmap_unsealed}
+use Rattle.area_rules.specs.Mprotect.{protect_request_rows, mprotect_unsealed_rows, protected_prefix, mprotect_done, mprotect_unsealed}
 use Rattle.area_rules.specs.Seals.{has_sealed}
 use Rattle.area_rules.specs.Brk.{pages_between, break_kept, break_moved, lowered_list, raised_list, has_room_above, brk_rows, brk}
 use Rattle.area_rules.specs.Mseal.{has_hole, seal_request_rows, mseal_rows, mseal}
@@ -45,22 +45,22 @@ not_taken config areas args h = h.1.1.1.1.1.1.1.1.1.1.1.0
 pub mmap_cases : (P : Outcome → Type 0) (config : Config) (space : AddressSpace) (args : MmapArgs)
     → ((errno : Errno) → P (record { space = space; reply = Refused errno }))
     → ((page : ℕ) → IsMappable config space args page → P (mmap_done config space args page))
-    → P (mmap config space args)
-unfolding mmap mmap_placed
+    → P (mmap_unsealed config space args)
+unfolding mmap_unsealed mmap_placed_unsealed
 mmap_cases P config space args refused done =
     unless_refused_cases P space (first_row (mmap_rows config space.areas args)) _ refused
     (λ none. at (start_of config space.areas args) refl (rows_false (mmap_rows config space.areas args) none))
   where
     at : (found : Option ℕ) → start_of config space.areas args ≡ found → NoneHolds (mmap_rows config space.areas args)
-        → P (mmap_placed config space args found)
+        → P (mmap_placed_unsealed config space args found)
     at None is none = refused Enomem
-    at (Some page) is none = unless_refused_cases P space (first_row (mmap_list_rows config space args page)) _ refused
+    at (Some page) is none = unless_refused_cases P space (first_row (mmap_unsealed_rows config space args page)) _ refused
         (λ short. done page (record {
           found = is;
           accepted = accepted_from_rows config space.areas args none;
           kept = not_taken config space.areas args none;
           few = ltb-false config.areas (length (mapped_list config space args page))
-              (rows_false (mmap_list_rows config space args page) short).0;
+              (rows_false (mmap_unsealed_rows config space args page) short).0;
         }))
 
 -- what the tests of munmap leave
@@ -85,8 +85,8 @@ pub munmap_cases : (P : Outcome → Type 0) (config : Config) (space : AddressSp
     → ((errno : Errno) → P (record { space = space; reply = Refused errno }))
     → (IsCuttable config space.areas addr len
     → P (record { space = record space { areas = cut (range_of addr len) space.areas }; reply = Zero }))
-    → P (munmap config space addr len)
-unfolding munmap
+    → P (munmap_unsealed config space addr len)
+unfolding munmap_unsealed
 munmap_cases P config space addr len refused done =
     unless_refused_cases P space (first_row (munmap_rows config space.areas addr len)) _ refused
     (λ none. done (cuttable_from_rows config space.areas addr len
@@ -99,8 +99,8 @@ pub record IsProtected (config : Config) (areas : List Record) (addr len : ℕ) 
 
 -- by the failed tests
 protected_from_rows : (config : Config) (areas : List Record) (addr len : ℕ) (prot : Prot)
-    → first_row (mprotect_rows config areas addr len prot) ≡ None → IsProtected config areas addr len prot
-unfolding mprotect_rows
+    → first_row (mprotect_unsealed_rows config areas addr len prot) ≡ None → IsProtected config areas addr len prot
+unfolding mprotect_unsealed_rows
 protected_from_rows config areas addr len prot none =
     let last : List (Bool × Reply) =
     (has_too_many_areas config (protected_prefix prot (range_of addr len) areas), Refused Enomem) ∷ [] in
@@ -114,12 +114,12 @@ protected_from_rows config areas addr len prot none =
 pub mprotect_cases : (P : Outcome → Type 0) (config : Config) (space : AddressSpace) (addr len : ℕ) (prot : Prot)
     → ((reply : Reply) → P (record { space = space; reply = reply }))
     → (IsProtected config space.areas addr len prot → P (mprotect_done space (range_of addr len) prot))
-    → P (mprotect config space addr len prot)
-unfolding mprotect
+    → P (mprotect_unsealed config space addr len prot)
+unfolding mprotect_unsealed
 mprotect_cases P config space addr len prot answered done =
-    at (first_row (mprotect_rows config space.areas addr len prot)) refl
+    at (first_row (mprotect_unsealed_rows config space.areas addr len prot)) refl
   where
-    at : (answer : Option Reply) → first_row (mprotect_rows config space.areas addr len prot) ≡ answer
+    at : (answer : Option Reply) → first_row (mprotect_unsealed_rows config space.areas addr len prot) ≡ answer
         → P (unless_answered space answer (mprotect_done space (range_of addr len) prot))
     at (Some reply) is = answered reply
     at None is = done (protected_from_rows config space.areas addr len prot is)

@@ -16,7 +16,7 @@ use Rattle.mm_types.specs.Rows.{first_row}
 use Rattle.area_rules.specs.Munmap.{range_of}
 use Rattle.area_rules.specs.declared.mremap_request.Moved.{Moved}
 use Rattle.area_rules.specs.declared.mremap_request.MremapArgs.{MremapArgs}
-use Rattle.area_rules.specs.Mremap.{moves_to, lengthens, old_range, new_range, mremap_rows, carried_area, moved_list, moved, has_room, mremap_change, mremap_list_rows, mremap_changed, mremap_done, mremap}
+use Rattle.area_rules.specs.Mremap.{moves_to, lengthens, old_range, new_range, mremap_rows, carried_area, moved_list, moved, has_room, mremap_change, remaps_seal, mremap_list_rows, mremap_changed, mremap_done, mremap}
 use Rattle.area_list.specs.Areas.{overlap}
 use Rattle.area_rules.specs.Laws.{moved_range, MovesTo, IsMove}
 use Rattle.area_list.proofs.Order.{good_from_canonical, pairs_from_canonical}
@@ -84,29 +84,30 @@ change_moves config areas area args start (inr found) =
     ∙ cond-false (has_room config areas args) _ _ found.2
     ∙ ap (option_map (moved areas area args)) found.3
 
-few_rows : (config : Config) (change : Moved) → length change.areas ≤ config.areas
-    → first_row (mremap_list_rows config change) ≡ None
-few_rows config change few =
+few_rows : (config : Config) (areas : List Record) (args : MremapArgs) (change : Moved) → length change.areas ≤ config.areas
+    → remaps_seal areas args ≡ false → first_row (mremap_list_rows config areas args change) ≡ None
+few_rows config areas args change few unsealed =
     cond-false (has_too_many_areas config change.areas) _ _ (le-ltb config.areas (length change.areas) few)
+    ∙ cond-false (remaps_seal areas args) _ _ unsealed
 
--- and so mremap(2) leaves the moved list, where it is not too long
+-- and so mremap(2) leaves the moved list, where it is not too long and no seal refuses
 pub mremap_moves : (config : Config) (space : AddressSpace) (area : Record) (args : MremapArgs) (start : ℕ)
     → IsMove config space.areas area args start → length (moved_list space.areas area args start) ≤ config.areas
-    → mremap config space args
+    → remaps_seal space.areas args ≡ false → mremap config space args
     ≡ record {
       space = record space { areas = moved_list space.areas area args start };
       reply = Addr (PAGE_SIZE * start);
     }
 unfolding mremap mremap_changed mremap_done
-mremap_moves config space area args start move few =
+mremap_moves config space area args start move few unsealed =
     let made : Moved = moved space.areas area args start in
     let change : Option Moved = option_and_then (λ a. mremap_change config space.areas a args)
     (area_at space.areas (page_of args.old)) in
-    let last : Option Moved → Outcome = mremap_changed config space in
+    let last : Option Moved → Outcome = mremap_changed config space args in
     ap (λ o. unless_refused space o (last change)) move.accepted
     ∙ ap last (ap (option_and_then (λ a. mremap_change config space.areas a args)) move.found
     ∙ change_moves config space.areas area args start move.place)
-    ∙ ap (λ o. unless_refused space o (mremap_done space made)) (few_rows config made few)
+    ∙ ap (λ o. unless_refused space o (mremap_done space made)) (few_rows config space.areas args made few unsealed)
 
 module _ (config : Config) (areas : List Record) (area : Record) (args : MremapArgs) (start : ℕ)
     (move : IsMove config areas area args start) where

@@ -1,5 +1,5 @@
 -- For the laws of `page_laws`: which pages each call changes, and to what.
-use Rattle.std.proofs.Common.{◌≡◌, ◌≢◌, ◌<◌, ◌≤◌, ◌+◌, ◌-◌, ◌*◌, ◌⊎◌, inl, inr, ℕ, true, false, ◌&&◌, if◌then◌else◌, nat_eq, nat_lt, nat_le, List, Option, Some, None, option_map, refl, ap, ◌∙◌, sym, subst, arith}
+use Rattle.std.proofs.Common.{◌≡◌, ◌≢◌, ◌<◌, ◌≤◌, ◌+◌, ◌-◌, ◌*◌, ℕ, true, false, ◌&&◌, if◌then◌else◌, nat_eq, nat_lt, nat_le, List, Option, Some, None, option_map, refl, ap, ◌∙◌, sym, subst, arith}
 use Rattle.std.proofs.lemmas.Bool.{cond_both, cond-true, cond-false, leb-true, ltb-true, ltb-false, eqb-true, false_from_ne_true}
 use Rattle.std.proofs.lemmas.Bool.Decides.{nat_tests}
 use Rattle.mm_types.specs.declared.area.Prot.{Prot}
@@ -26,15 +26,15 @@ use Rattle.area_list.proofs.Putting.{page_map-put}
 use Rattle.area_rules.specs.declared.mremap_request.Moved.{Moved}
 use Rattle.area_rules.specs.declared.mremap_request.MremapArgs.{MremapArgs}
 use Rattle.area_rules.specs.Laws.{prefix_of, moved_range, IsMove}
-use Rattle.area_rules.specs.Mmap.{new_area, mapped_list, mmap_done, mmap}
+use Rattle.area_rules.specs.Mmap.{new_area, mapped_list, mmap_done}
 use Rattle.area_rules.specs.Mprotect.{may_have, stop_of, protected_prefix, protect_request_rows, mprotect_rows, stop_error, stopped_reply, mprotect_done, mprotect}
-use Rattle.area_rules.specs.Mremap.{lengthens, old_range, mremap_rows, carried_area, moved, shrunk_list, added_range, has_room, lengthened_list, mremap_change, mremap_done, mremap}
-use Rattle.area_rules.specs.Munmap.{range_of, munmap}
+use Rattle.area_rules.specs.Mremap.{lengthens, old_range, mremap_rows, carried_area, moved, shrunk_list, added_range, has_room, lengthened_list, mremap_change, mremap_done, mremap_unsealed}
+use Rattle.area_rules.specs.Munmap.{range_of}
 use Rattle.area_rules.specs.Pages.{mmap_page, runs_on}
 use Rattle.area_rules.specs.Steps.{step_unsealed, step, IsReady}
 use Rattle.area_rules.specs.Tables.{AddressSpace, Outcome, unless_refused, unless_answered, pages_of}
 use Rattle.area_rules.proofs.Cases.{IsMappable, IsCuttable, mmap_cases, munmap_cases}
-use Rattle.area_rules.proofs.Guarding.{guarded_cases}
+use Rattle.area_rules.proofs.Guarding.{step_cases}
 use Rattle.area_rules.proofs.Moving.{carried_page, move_beside, move_left, move_reached, move_carried, move_others}
 use Rattle.area_rules.proofs.NewArea.{new_area_good}
 use Rattle.area_rules.proofs.ProtectLaws.{stop_is, page_map-prefix}
@@ -53,9 +53,9 @@ module _ (config : Config) (space : AddressSpace) (addr len : ℕ) where
       → (IsCuttable config space.areas addr len
       → P (record { space = record space { areas = cut (range_of addr len) space.areas }; reply = Zero }))
       → P (step config space (Munmap addr len))
-  unfolding step step_unsealed
+  unfolding step_unsealed
   by_munmap P refused done =
-      guarded_cases P space (Munmap addr len) (munmap config space addr len) (refused Eperm)
+      step_cases config space P (Munmap addr len) (refused Eperm)
       (λ left. munmap_cases P config space addr len refused done)
 
   -- the pages of the range are not mapped
@@ -78,14 +78,6 @@ zero_ends range stop area =
     cond_both (nat_le range.hi stop) None (Some _) (λ (o : Option Errno). stopped_reply o ≡ Zero → range.hi ≤ stop)
     (λ past is. leb-true range.hi stop past) (λ before is. cc)
 
--- and none that stops answers EPERM
-stop_unsealed : (range : Span) (stop : ℕ) (area : Option Record) → stopped_reply (stop_error range stop area) ≢ Refused Eperm
-unfolding stop_error
-stop_unsealed range stop None is = cond_both (nat_le range.hi stop) None (Some Enomem)
-    (λ (o : Option Errno). stopped_reply o ≢ Refused Eperm) (λ past e. cc) (λ before e. cc) is
-stop_unsealed range stop (Some area) is = cond_both (nat_le range.hi stop) None (Some Eacces)
-    (λ (o : Option Errno). stopped_reply o ≢ Refused Eperm) (λ past e. cc) (λ before e. cc) is
-
 -- a page that may have a protection is mapped
 may_mapped : (prot : Prot) (page : ℕ) (found : Option Record) → may_have prot found ≡ true
     → option_map (mapped_page page) found ≢ None
@@ -98,22 +90,24 @@ module _ (config : Config) (space : AddressSpace) (addr len : ℕ) (prot : Prot)
   pub by_mprotect : (P : Outcome → Type 0) → ((errno : Errno) → P (record { space = space; reply = Refused errno }))
       → (len ≡ 0 → P (record { space = space; reply = Zero })) → P (mprotect_done space (range_of addr len) prot)
       → P (step config space (Mprotect addr len prot))
-  unfolding step step_unsealed mprotect mprotect_rows protect_request_rows
+  unfolding step mprotect mprotect_rows protect_request_rows
   by_mprotect P refused empty done =
-      guarded_cases P space (Mprotect addr len prot) (mprotect config space addr len prot) (refused Eperm)
-      (λ left. unless_answered-gives P space (mprotect_rows config space.areas addr len prot) _ (
+      unless_answered-gives P space (mprotect_rows config space.areas addr len prot) _ (
         λ misplaced. refused Einval,
         λ aligned. (
           λ none. empty (eqb-true len 0 none),
           λ some. (
             λ past. refused Enomem,
             λ within. (
-              λ many. refused Enomem,
-              λ few. done,
+              λ sealed. refused Eperm,
+              λ unsealed. (
+                λ many. refused Enomem,
+                λ few. done,
+              ),
             ),
           ),
         ),
-      ))
+      )
 
   -- where it answers zero, it stops at the end of its range
   protected_end : (mprotect_done space (range_of addr len) prot).reply ≡ Zero
@@ -165,51 +159,40 @@ module _ (config : Config) (space : AddressSpace) (addr len : ℕ) (prot : Prot)
       may_mapped prot page (area_at space.areas page) ((stop_is prot range space.areas (in_order addr len)).before page lies.low
       (omega (arith, lies.high, protected_end is))))
 
-  -- where no test answers and no seal refuses, the pages before the stop have the protection
+  -- where no test answers, the pages before the stop have the protection
   pub protected_stopped : (page : ℕ) → IsReady config space → first_row (mprotect_rows config space.areas addr len prot) ≡ None
-      → (step config space (Mprotect addr len prot)).reply ≢ Refused Eperm
       → page_map (step config space (Mprotect addr len prot)).space.areas page
       ≡ (if has_page (prefix_of prot (range_of addr len) space.areas) page
       then option_map (changed_page (Protection prot)) (page_map space.areas page) else page_map space.areas page)
-  unfolding step step_unsealed mprotect
+  unfolding step mprotect
   protected_stopped page ready none =
-      guarded_cases Stops space (Mprotect addr len prot) (mprotect config space addr len prot) (λ other. absurd (other refl))
-      (λ left. subst (λ answer. Stops (unless_answered space answer (mprotect_done space (range_of addr len) prot))) (sym none)
-      (λ other. before_stop page ready))
+      subst (λ answer. Stops (unless_answered space answer (mprotect_done space (range_of addr len) prot))) (sym none)
+      (before_stop page ready)
     where
       Stops : Outcome → Type 0
-      Stops o = o.reply ≢ Refused Eperm → page_map o.space.areas page
+      Stops o = page_map o.space.areas page
           ≡ (if has_page (prefix_of prot (range_of addr len) space.areas) page
           then option_map (changed_page (Protection prot)) (page_map space.areas page) else page_map space.areas page)
 
   -- else nothing changes
-  pub protected_kept : (first_row (mprotect_rows config space.areas addr len prot) ≢ None)
-      ⊎ ((step config space (Mprotect addr len prot)).reply ≡ Refused Eperm)
+  pub protected_kept : first_row (mprotect_rows config space.areas addr len prot) ≢ None
       → (step config space (Mprotect addr len prot)).space ≡ space
-  unfolding step step_unsealed mprotect
-  protected_kept =
-      guarded_cases Kept space (Mprotect addr len prot) (mprotect config space addr len prot) (λ h. refl)
-      (λ left. at (first_row (mprotect_rows config space.areas addr len prot)) refl)
+  unfolding step mprotect
+  protected_kept some = at (first_row (mprotect_rows config space.areas addr len prot)) some
     where
-      Kept : Outcome → Type 0
-      Kept o = (first_row (mprotect_rows config space.areas addr len prot) ≢ None) ⊎ (o.reply ≡ Refused Eperm)
-          → o.space ≡ space
-
-      at : (answer : Option Reply) → first_row (mprotect_rows config space.areas addr len prot) ≡ answer
-          → Kept (unless_answered space answer (mprotect_done space (range_of addr len) prot))
-      at (Some reply) is h = refl
-      at None is (inl some) = absurd (some is)
-      at None is (inr sealed) = let stop = stop_of prot (range_of addr len) space.areas in
-          absurd (stop_unsealed (range_of addr len) stop (area_at space.areas stop) sealed)
+      at : (answer : Option Reply) → answer ≢ None
+          → (unless_answered space answer (mprotect_done space (range_of addr len) prot)).space ≡ space
+      at (Some reply) some = refl
+      at None some = absurd (some refl)
 
 module _ (config : Config) (space : AddressSpace) (args : MmapArgs) where
   -- what holds of each of mmap's outcomes holds of the step
   by_mmap : (P : Outcome → Type 0) → ((errno : Errno) → P (record { space = space; reply = Refused errno }))
       → ((start : ℕ) → IsMappable config space args start → P (mmap_done config space args start))
       → P (step config space (Mmap args))
-  unfolding step step_unsealed
+  unfolding step_unsealed
   by_mmap P refused done =
-      guarded_cases P space (Mmap args) (mmap config space args) (refused Eperm)
+      step_cases config space P (Mmap args) (refused Eperm)
       (λ left. mmap_cases P config space args refused done)
 
   -- the pages of the list with the new area
@@ -439,17 +422,17 @@ module _ (config : Config) (space : AddressSpace) (args : MremapArgs) where
       → ((area : Record) (change : Moved) → area_at space.areas (page_of args.old) ≡ Some area
       → first_row (mremap_rows config space.areas args) ≡ None → IsRemappable config space.areas args
       → mremap_change config space.areas area args ≡ Some change → P (mremap_done space change))
-      → P (mremap config space args)
-  unfolding mremap
+      → P (mremap_unsealed config space args)
+  unfolding mremap_unsealed
   by_rows P refused done = mremap_accepted (first_row (mremap_rows config space.areas args)) refl
     where
       refusing : (refusal : Option Errno) (errno : Errno) (rest : Outcome) → refusal ≡ Some errno → P (unless_refused space refusal rest)
       refusing refusal errno rest is = subst (λ o. P (unless_refused space o rest)) (sym is) (refused errno)
 
-      refused_row : (errno : Errno) → first_row (mremap_rows config space.areas args) ≡ Some errno → P (mremap config space args)
+      refused_row : (errno : Errno) → first_row (mremap_rows config space.areas args) ≡ Some errno → P (mremap_unsealed config space args)
       refused_row errno is = refusing (first_row (mremap_rows config space.areas args)) errno _ is
 
-      mremap_accepted : (refusal : Option Errno) → first_row (mremap_rows config space.areas args) ≡ refusal → P (mremap config space args)
+      mremap_accepted : (refusal : Option Errno) → first_row (mremap_rows config space.areas args) ≡ refusal → P (mremap_unsealed config space args)
       mremap_accepted None is =
           mremap_cases P config space args refused (λ area change found r e few. done area change found is r e)
       mremap_accepted (Some errno) is = refused_row errno is
@@ -460,9 +443,9 @@ module _ (config : Config) (space : AddressSpace) (args : MremapArgs) where
       → first_row (mremap_rows config space.areas args) ≡ None → IsRemappable config space.areas args
       → mremap_change config space.areas area args ≡ Some change → P (mremap_done space change))
       → P (step config space (remap args))
-  unfolding step step_unsealed
+  unfolding step_unsealed
   by_mremap P refused done =
-      guarded_cases P space (remap args) (mremap config space args) (refused Eperm) (λ left. by_rows P refused done)
+      step_cases config space P (remap args) (refused Eperm) (λ left. by_rows P refused done)
 
   -- what the step makes of each page
   step_remaps : (address : ℕ) → IsReady config space → (step config space (remap args)).reply ≡ Addr address

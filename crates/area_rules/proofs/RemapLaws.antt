@@ -22,7 +22,7 @@ use Rattle.mm_types.specs.Rows.{first_row}
 use Rattle.area_rules.specs.Munmap.{range_of}
 use Rattle.area_rules.specs.declared.mremap_request.Moved.{Moved}
 use Rattle.area_rules.specs.declared.mremap_request.MremapArgs.{MremapArgs}
-use Rattle.area_rules.specs.Mremap.{moves_to, may_move, lengthens, old_range, new_range, is_new_misplaced, leaves_area, overflows_object, area_rows, mremap_rows, carried_area, moved_list, moved, shrunk_list, added_range, has_room, lengthened_list, new_place, mremap_change, mremap_list_rows, mremap_changed, mremap_done, mremap}
+use Rattle.area_rules.specs.Mremap.{moves_to, may_move, lengthens, old_range, new_range, is_new_misplaced, leaves_area, overflows_object, area_rows, mremap_rows, carried_area, moved_list, moved, shrunk_list, added_range, has_room, lengthened_list, new_place, mremap_change, mremap_unsealed_rows, mremap_changed_unsealed, mremap_done, mremap_unsealed}
 use Rattle.area_list.specs.Areas.{overlap}
 use Rattle.area_rules.specs.Laws.{moved_range, MovesTo}
 use Rattle.area_list.proofs.Parts.{part}
@@ -302,8 +302,8 @@ pub mremap_cases : (P : Outcome → Type 0) (config : Config) (space : AddressSp
     → ((area : Record) (change : Moved) → area_at space.areas (page_of args.old) ≡ Some area
     → IsRemappable config space.areas args → mremap_change config space.areas area args ≡ Some change
     → length change.areas ≤ config.areas → P (mremap_done space change))
-    → P (mremap config space args)
-unfolding mremap mremap_changed
+    → P (mremap_unsealed config space args)
+unfolding mremap_unsealed mremap_changed_unsealed
 mremap_cases P config space args refused done =
     unless_refused_cases P space (first_row (mremap_rows config space.areas args)) _ refused
     (λ none. at change refl (remappable_from_rows config space.areas args
@@ -314,14 +314,14 @@ mremap_cases P config space args refused done =
         (area_at space.areas (page_of args.old))
 
     at : (found : Option Moved) → change ≡ found → IsRemappable config space.areas args
-        → P (mremap_changed config space found)
+        → P (mremap_changed_unsealed config space found)
     at None is r = refused Enomem
     at (Some moved) is r =
-        unless_refused_cases P space (first_row (mremap_list_rows config moved)) (mremap_done space moved) refused
+        unless_refused_cases P space (first_row (mremap_unsealed_rows config moved)) (mremap_done space moved) refused
         (λ through. option_and_then_some (λ area. mremap_change config space.areas area args)
         (area_at space.areas (page_of args.old)) moved is
         (λ area found e. done area moved found r e (ltb-false config.areas (length moved.areas)
-        (rows_false (mremap_list_rows config moved) through).0)))
+        (rows_false (mremap_unsealed_rows config moved) through).0)))
 
 -- what holds of an address space, and of the one with the list after the change that the tests let pass, holds after
 -- mremap
@@ -329,7 +329,7 @@ pub mremap_both : (P : AddressSpace → Type 0) (config : Config) (space : Addre
     → ((area : Record) (change : Moved) → area_at space.areas (page_of args.old) ≡ Some area
     → IsRemappable config space.areas args → mremap_change config space.areas area args ≡ Some change
     → length change.areas ≤ config.areas → P (record space { areas = change.areas }))
-    → P (mremap config space args).space
+    → P (mremap_unsealed config space args).space
 unfolding mremap_done
 mremap_both P config space args kept done = mremap_cases (λ o. P o.space) config space args (λ errno. kept) done
 

@@ -30,17 +30,18 @@ use Rattle.area_rules.specs.Tables.{AddressSpace, Outcome, pages_of}
 use Rattle.area_rules.specs.Placement.{bounds_of, place, is_free}
 use Rattle.area_rules.specs.Brk.{pages_between, heap_area, brk}
 use Rattle.area_rules.specs.Growing.{touch}
-use Rattle.area_rules.specs.Mmap.{is_noreplace, is_fixed, is_taken, start_of, new_area, mapped_list, mmap_done, mmap}
-use Rattle.area_rules.specs.Munmap.{range_of, munmap}
-use Rattle.area_rules.specs.Mprotect.{protect_request_rows, mprotect}
+use Rattle.area_rules.specs.Mmap.{is_noreplace, is_fixed, is_taken, start_of, new_area, mapped_list, mmap_done, mmap_unsealed}
+use Rattle.area_rules.specs.Munmap.{range_of, munmap_unsealed}
+use Rattle.area_rules.specs.Mprotect.{protect_request_rows, mprotect_unsealed}
 use Rattle.area_rules.specs.declared.mremap_request.MremapArgs.{MremapArgs}
-use Rattle.area_rules.specs.Mremap.{mremap_args, moves_to, lengthens, old_range, new_range, carried_area, moved_list, shrunk_list, added_range, has_room, lengthened_list, mremap_done, mremap}
+use Rattle.area_rules.specs.Mremap.{mremap_args, moves_to, lengthens, old_range, new_range, carried_area, moved_list, shrunk_list, added_range, has_room, lengthened_list, mremap_done, mremap_unsealed}
 use Rattle.area_rules.specs.Mseal.{mseal}
-use Rattle.area_rules.specs.Seals.{has_sealed, guarded_ranges, is_sealed_off}
+use Rattle.area_rules.specs.Seals.{has_sealed}
+use Rattle.area_rules.specs.Guarded.{guarded_ranges, is_sealed_off}
 use Rattle.area_rules.specs.Steps.{step_unsealed, step, IsReady}
 use Rattle.area_rules.specs.Laws.{prefix_of, moved_range, MovesTo}
 use Rattle.area_rules.proofs.Fitting.{place_free}
-use Rattle.area_rules.proofs.Guarding.{guarded_cases}
+use Rattle.area_rules.proofs.Guarding.{step_cases}
 use Rattle.area_rules.proofs.Cases.{IsMappable, mmap_cases, munmap_cases, mprotect_cases, grower_is, touch_cases, brk_cases, mseal_cases}
 use Rattle.area_rules.proofs.NewArea.{new_area_good}
 use Rattle.area_rules.proofs.ProtectLaws.{stop_is, page_map-prefix}
@@ -181,7 +182,7 @@ module _ (config : Config) (space : AddressSpace) (page : ℕ) (mapped : MappedP
   Left call o = is_sealed_off space.areas call o.reply ≡ false → Stays o.space.areas
 
   -- mmap keeps the page
-  mmap_stays : (args : MmapArgs) → Left (Mmap args) (mmap config space args)
+  mmap_stays : (args : MmapArgs) → Left (Mmap args) (mmap_unsealed config space args)
   unfolding mmap_done mapped_list new_area
   mmap_stays args = mmap_cases (Left (Mmap args)) config space args (λ errno left. here)
       (λ start m left. put_stays (new_area config space.objects args start)
@@ -189,13 +190,13 @@ module _ (config : Config) (space : AddressSpace) (page : ℕ) (mapped : MappedP
       (off_start args start _ m left))
 
   -- munmap keeps it
-  munmap_stays : (addr len : ℕ) → Left (Munmap addr len) (munmap config space addr len)
+  munmap_stays : (addr len : ℕ) → Left (Munmap addr len) (munmap_unsealed config space addr len)
   munmap_stays addr len = munmap_cases (Left (Munmap addr len)) config space addr len (λ errno left. here)
       (λ c left. cut_stays (range_of addr len) c.some_pages
       (off_sealed (range_of addr len) (munmap_left space.areas addr len left)))
 
   -- mprotect keeps it
-  mprotect_stays : (addr len : ℕ) (prot : Prot) → Left (Mprotect addr len prot) (mprotect config space addr len prot)
+  mprotect_stays : (addr len : ℕ) (prot : Prot) → Left (Mprotect addr len prot) (mprotect_unsealed config space addr len prot)
   mprotect_stays addr len prot =
       mprotect_cases (Left (Mprotect addr len prot)) config space addr len prot (λ reply left. here)
       (λ p left. let range = range_of addr len in
@@ -257,7 +258,7 @@ module _ (config : Config) (space : AddressSpace) (page : ℕ) (mapped : MappedP
       (off_free (new - old) (page_of args.old + old) (added_range args) free (omega arith) (omega arith))
 
   -- so mremap keeps it
-  mremap_stays : (args : MremapArgs) → Left (remap_call args) (mremap config space args)
+  mremap_stays : (args : MremapArgs) → Left (remap_call args) (mremap_unsealed config space args)
   unfolding mremap_done
   mremap_stays args = mremap_cases (Left (remap_call args)) config space args (λ errno left. here)
       (λ area change found r e few left. let ranges = mremap_left space.areas args _ left in
@@ -314,7 +315,6 @@ module _ (config : Config) (space : AddressSpace) (page : ℕ) (mapped : MappedP
 pub sealed_stay : (config : Config) (space : AddressSpace) (call : Call) (page : ℕ) (mapped : MappedPage)
     → IsReady config space → page_map space.areas page ≡ Some mapped → mapped.attr.sealed ≡ true
     → page_map (step config space call).space.areas page ≡ Some mapped
-unfolding step
 sealed_stay config space call page mapped ready here sealed =
-    guarded_cases (λ o. page_map o.space.areas page ≡ Some mapped) space call (step_unsealed config space call) here
+    step_cases config space (λ o. page_map o.space.areas page ≡ Some mapped) call here
     (unsealed_stays config space page mapped ready here sealed call)

@@ -1,29 +1,30 @@
 -- For the law `mseal_seals_the_range`: what mseal(2) changes.
-use Rattle.std.proofs.Common.{◌≡◌, ◌≢◌, ◌⊎◌, ℕ, true, if◌then◌else◌, None, option_map, refl, sym, subst, arith, inl, inr}
+use Rattle.std.proofs.Common.{◌≡◌, ◌≢◌, ◌⊎◌, ℕ, true, if◌then◌else◌, None, List, option_map, refl, sym, subst, ◌∙◌, arith, inl, inr}
 use Rattle.std.proofs.lemmas.Bool.{eqb-false}
+use Rattle.mm_types.specs.declared.area.Record.{Record}
 use Rattle.mm_types.specs.declared.call.Call.TheVariants.{Mseal}
 use Rattle.mm_types.specs.declared.call.Errno.{Errno}
 use Rattle.mm_types.specs.declared.call.Reply.TheVariants.{Refused, Zero}
 use Rattle.mm_types.specs.declared.config.Config.{Config}
 use Rattle.area_list.specs.declared.attributes.AttrChange.TheVariants.{Seal}
 use Rattle.area_list.specs.Attributes.{changed_page}
-use Rattle.area_list.specs.Areas.{page_of, has_page, page_map}
+use Rattle.area_list.specs.Areas.{page_of, has_page, page_map, IsCanonical}
 use Rattle.area_list.specs.Changes.{sealed_list}
 use Rattle.area_list.proofs.Changed.{page_map-changed}
 use Rattle.area_list.proofs.Holding.{lies_in}
+use Rattle.area_list.proofs.Uniqueness.{canonical_unique}
 use Rattle.area_rules.specs.Mseal.{has_hole, mseal}
 use Rattle.area_rules.specs.Munmap.{range_of}
-use Rattle.area_rules.specs.Seals.{guarded, is_sealed_off, guarded_ranges}
-use Rattle.area_rules.specs.Steps.{step_unsealed, step, IsReady}
+use Rattle.area_rules.specs.Steps.{step, IsReady}
 use Rattle.area_rules.specs.Tables.{AddressSpace, Outcome, pages_of}
 use Rattle.area_rules.proofs.Cases.{IsSealable, mseal_cases}
 use Rattle.area_rules.proofs.SealTests.{hole_is}
-use Rattle.area_rules.proofs.Stepping.{in_order, all_may_seal}
+use Rattle.area_rules.proofs.Stepping.{in_order, all_may_seal, step_sound}
 
 -- no mseal is refused by a seal
 pub step-mseal : (config : Config) (space : AddressSpace) (addr len flags : ℕ)
     → step config space (Mseal addr len flags) ≡ mseal config space addr len flags
-unfolding step step_unsealed guarded is_sealed_off guarded_ranges
+unfolding step
 step-mseal config space addr len flags = refl
 
 -- an empty range has no page
@@ -72,3 +73,14 @@ module _ (config : Config) (space : AddressSpace) (addr len flags : ℕ) where
       → (step config space (Mseal addr len flags)).space ≡ space
   mseal_kept = by_mseal (λ o. ((o.reply ≢ Zero) ⊎ (len ≡ 0)) → o.space ≡ space) (λ errno h. refl) (λ none h. refl)
       (λ s h. elim h [ inl other ↦ absurd (other refl) | inr none ↦ absurd (eqb-false len 0 s.some_bytes none) ])
+
+  -- the list is the only canonical one with this map of pages
+  pub sealed_unique : (others : List Record) → IsReady config space
+      → (step config space (Mseal addr len flags)).reply ≡ Zero → len ≢ 0 → IsCanonical (page_of config.limit) others
+      → ((page : ℕ) → page_map others page
+      ≡ (if has_page (range_of addr len) page then option_map (changed_page Seal) (page_map space.areas page)
+      else page_map space.areas page))
+      → others ≡ (step config space (Mseal addr len flags)).space.areas
+  sealed_unique others ready is some canonical alike =
+      canonical_unique (page_of config.limit) others (step config space (Mseal addr len flags)).space.areas canonical
+      (step_sound config space (Mseal addr len flags) ready).canonical (λ page. alike page ∙ sym (sealed_page_map page ready is some))

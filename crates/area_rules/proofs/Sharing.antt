@@ -12,7 +12,7 @@ use Rattle.mm_types.specs.declared.config.Config.{Config}
 use Rattle.area_list.specs.Areas.{MappedPage, page_of, has_page, index_of, mapped_page, page_map}
 use Rattle.area_rules.specs.Tables.{AddressSpace, Outcome, pages_of}
 use Rattle.area_rules.specs.Munmap.{range_of}
-use Rattle.area_rules.specs.Mmap.{is_anonymous, is_shared, start_of, object_mapped, objects_after, new_area, mapped_list, mmap_done, mmap}
+use Rattle.area_rules.specs.Mmap.{is_anonymous, is_shared, start_of, object_mapped, objects_after, new_area, mapped_list, mmap_done, mmap_unsealed}
 use Rattle.area_rules.specs.Steps.{step_unsealed, step, IsReady}
 use Rattle.area_rules.specs.Laws.{MapsShared}
 use Rattle.area_list.proofs.Elements.{Each-weaker}
@@ -20,7 +20,7 @@ use Rattle.area_list.proofs.Order.{good_from_canonical}
 use Rattle.area_list.proofs.Pages.{lies}
 use Rattle.area_list.proofs.Putting.{page_map-put}
 use Rattle.area_rules.proofs.NewArea.{IsAccepted, new_area_good}
-use Rattle.area_rules.proofs.Guarding.{guarded_cases}
+use Rattle.area_rules.proofs.Guarding.{step_cases}
 use Rattle.area_rules.proofs.Cases.{mmap_cases}
 use Rattle.area_rules.proofs.Stepping.{IsCounted}
 
@@ -34,9 +34,9 @@ shared_done : (Q : Outcome → Type 0) (config : Config) (space : AddressSpace) 
     → ((start : ℕ) → start_of config space.areas args ≡ Some start → IsAccepted config args
     → page_of address ≡ start → Q (mmap_done config space args start))
     → Q (step config space (Mmap args))
-unfolding step step_unsealed
+unfolding step_unsealed
 shared_done Q config space args address maps done =
-    guarded_cases (Answers address Q) space (Mmap args) (mmap config space args) (λ refused. cc)
+    step_cases config space (Answers address Q) (Mmap args) (λ refused. cc)
     (λ left. mmap_cases (Answers address Q) config space args (λ errno h. cc)
     (λ start m h. done start m.found m.accepted (begins start h))) maps.reply
   where

@@ -25,11 +25,11 @@ use Rattle.area_list.specs.declared.attributes.AttrChange.TheVariants.{Protectio
 use Rattle.area_rules.specs.Tables.{AddressSpace, pages_of}
 use Rattle.area_rules.specs.Placement.{is_free}
 use Rattle.area_rules.specs.Growing.{is_above, grown_to, grown_at, grown_list, AreGrowersPrivate, touch}
-use Rattle.area_rules.specs.Mmap.{is_anonymous, is_shared, grows_down, cannot_grow, object_mapped, mapped_list, mmap_done, mmap, new_area, objects_after}
-use Rattle.area_rules.specs.Munmap.{range_of, munmap}
-use Rattle.area_rules.specs.Mprotect.{protected_prefix, mprotect}
+use Rattle.area_rules.specs.Mmap.{is_anonymous, is_shared, grows_down, cannot_grow, object_mapped, mapped_list, mmap_done, mmap_unsealed, new_area, objects_after}
+use Rattle.area_rules.specs.Munmap.{range_of, munmap_unsealed}
+use Rattle.area_rules.specs.Mprotect.{protected_prefix, mprotect_unsealed}
 use Rattle.area_rules.specs.declared.mremap_request.MremapArgs.{MremapArgs}
-use Rattle.area_rules.specs.Mremap.{mremap_args, carried_area, mremap}
+use Rattle.area_rules.specs.Mremap.{mremap_args, carried_area, mremap_unsealed}
 use Rattle.area_rules.specs.Brk.{pages_between, heap_area, has_room_above, brk}
 use Rattle.area_rules.specs.Mseal.{mseal}
 use Rattle.area_rules.specs.Steps.{step_unsealed, step, IsReady}
@@ -41,7 +41,7 @@ use Rattle.area_list.proofs.Holding.{found_keeps}
 use Rattle.area_list.proofs.Order.{IsGood}
 use Rattle.area_list.proofs.Putting.{put_canonical, put_each}
 use Rattle.area_rules.proofs.Limits.{limit_between}
-use Rattle.area_rules.proofs.Guarding.{guard_both}
+use Rattle.area_rules.proofs.Guarding.{step_cases}
 use Rattle.area_rules.proofs.Cases.{IsMappable, IsGrower, IsRaised, mmap_cases, munmap_cases, mprotect_cases, grower_is, touch_cases, brk_cases, mseal_cases}
 use Rattle.area_rules.proofs.Growing.{grown_canonical, grown_length}
 use Rattle.area_rules.proofs.NewArea.{IsAccepted, new_area_good, new_area_counted, objects_kept}
@@ -58,7 +58,7 @@ mapped_canonical config space args page ready m =
 
 -- mmap keeps the list sound
 pub mmap_sound : (config : Config) (space : AddressSpace) (args : MmapArgs) → IsReady config space
-    → IsSound config (mmap config space args).space.areas
+    → IsSound config (mmap_unsealed config space args).space.areas
 unfolding mmap_done
 mmap_sound config space args ready =
     mmap_cases (λ o. IsSound config o.space.areas) config space args (λ errno. ready.sound)
@@ -66,7 +66,7 @@ mmap_sound config space args ready =
 
 -- and so does munmap
 pub munmap_sound : (config : Config) (space : AddressSpace) (addr len : ℕ) → IsReady config space
-    → IsSound config (munmap config space addr len).space.areas
+    → IsSound config (munmap_unsealed config space addr len).space.areas
 munmap_sound config space addr len ready =
     munmap_cases (λ o. IsSound config o.space.areas) config space addr len (λ errno. ready.sound)
     (λ c. record {
@@ -81,7 +81,7 @@ in_order addr len = omega arith
 
 -- and mprotect
 pub mprotect_sound : (config : Config) (space : AddressSpace) (addr len : ℕ) (prot : Prot) → IsReady config space
-    → IsSound config (mprotect config space addr len prot).space.areas
+    → IsSound config (mprotect_unsealed config space addr len prot).space.areas
 mprotect_sound config space addr len prot ready =
     mprotect_cases (λ o. IsSound config o.space.areas) config space addr len prot (λ reply. ready.sound)
     (λ p. record {
@@ -92,7 +92,7 @@ mprotect_sound config space addr len prot ready =
 
 -- and mremap
 pub mremap_sound : (config : Config) (space : AddressSpace) (args : MremapArgs) → IsReady config space
-    → IsSound config (mremap config space args).space.areas
+    → IsSound config (mremap_unsealed config space args).space.areas
 mremap_sound config space args ready = mremap_both (λ s. IsSound config s.areas) config space args ready.sound
     (λ area change found r e few. record {
       canonical = change_both (IsCanonical (page_of config.limit)) config space.areas area args change
@@ -211,8 +211,7 @@ unsealed_sound config space (Mseal addr len flags) ready = mseal_sound config sp
 -- what holds of a space, and of the one after a call without seals, holds after the step
 pub step_both : (P : AddressSpace → Type 0) (config : Config) (space : AddressSpace) (call : Call) → P space
     → P (step_unsealed config space call).space → P (step config space call).space
-unfolding step
-step_both P config space call kept done = guard_both P space call (step_unsealed config space call) kept done
+step_both P config space call kept done = step_cases config space (λ o. P o.space) call kept (λ left. done)
 
 -- and with them
 pub step_sound : (config : Config) (space : AddressSpace) (call : Call) → IsReady config space
@@ -232,7 +231,7 @@ module _ (P : Attr → ℕ → Type 0) (stays : StaysWithChanges P) where
   -- mmap keeps it, where its new areas have it
   mmap_each : (config : Config) (space : AddressSpace) (args : MmapArgs)
       → ((page : ℕ) → IsAccepted config args → Has P (new_area config space.objects args page))
-      → Each (Has P) space.areas → Each (Has P) (mmap config space args).space.areas
+      → Each (Has P) space.areas → Each (Has P) (mmap_unsealed config space args).space.areas
   unfolding mmap_done mapped_list
   mmap_each config space args new each =
       mmap_cases (λ o. Each (Has P) o.space.areas) config space args (λ errno. each)
@@ -241,7 +240,7 @@ module _ (P : Attr → ℕ → Type 0) (stays : StaysWithChanges P) where
 
   -- munmap keeps it
   munmap_each : (config : Config) (space : AddressSpace) (addr len : ℕ) → Each (Has P) space.areas
-      → Each (Has P) (munmap config space addr len).space.areas
+      → Each (Has P) (munmap_unsealed config space addr len).space.areas
   munmap_each config space addr len each =
       munmap_cases (λ o. Each (Has P) o.space.areas) config space addr len (λ errno. each)
       (λ c. cut_each (Has P) (λ area lo hi p. p) (range_of addr len) space.areas each)
@@ -254,7 +253,7 @@ module _ (P : Attr → ℕ → Type 0) (stays : StaysWithChanges P) where
 
   -- mprotect keeps it
   mprotect_each : (config : Config) (space : AddressSpace) (addr len : ℕ) (prot : Prot) → Each (Has P) space.areas
-      → Each (Has P) (mprotect config space addr len prot).space.areas
+      → Each (Has P) (mprotect_unsealed config space addr len prot).space.areas
   unfolding protected_prefix
   mprotect_each config space addr len prot each =
       mprotect_cases (λ o. Each (Has P) o.space.areas) config space addr len prot (λ reply. each)
@@ -262,7 +261,7 @@ module _ (P : Attr → ℕ → Type 0) (stays : StaysWithChanges P) where
 
   -- mremap keeps it
   mremap_each : (config : Config) (space : AddressSpace) (args : MremapArgs) → Each (Has P) space.areas
-      → Each (Has P) (mremap config space args).space.areas
+      → Each (Has P) (mremap_unsealed config space args).space.areas
   mremap_each config space args each = mremap_both (λ s. Each (Has P) s.areas) config space args each
       (λ area change found r e few. change_each (Has P) (λ area lo hi p. p) carried (λ a b p q joins. p) config
       space.areas area args change each (found_keeps (Has P) space.areas (page_of args.old) area each found) e)
@@ -352,7 +351,7 @@ others_unsealed config space (Mseal addr len flags) other =
 
 -- mmap keeps the objects counted
 mmap_counted : (config : Config) (space : AddressSpace) (args : MmapArgs) → AllCounted space
-    → length config.files ≤ space.objects → AllCounted (mmap config space args).space
+    → length config.files ≤ space.objects → AllCounted (mmap_unsealed config space args).space
 unfolding mmap_done mapped_list
 mmap_counted config space args counted files = mmap_cases (λ o. AllCounted o.space) config space args (λ errno. counted)
     (λ page m. let Counted : Record → Type 0 = IsCounted (objects_after space.objects args) in
@@ -401,7 +400,7 @@ step_counted config space call counted files =
 
 -- mmap numbers at most one object
 mmap_objects : (config : Config) (space : AddressSpace) (args : MmapArgs)
-    → CountsOn space (mmap config space args).space
+    → CountsOn space (mmap_unsealed config space args).space
 unfolding mmap_done
 mmap_objects config space args =
     mmap_cases (λ o. CountsOn space o.space) config space args (λ errno. omega arith)

@@ -20,8 +20,7 @@ use Rattle.area_list.proofs.Pages.{page_map-cons}
 use Rattle.area_rules.specs.Accesses.{permits}
 use Rattle.area_rules.specs.Growing.{is_above, grower, grows, grown_to, grown_at, grown_list, grown, touch}
 use Rattle.area_rules.specs.Laws.{IsGrownReply}
-use Rattle.area_rules.specs.Seals.{guarded, is_sealed_off, guarded_ranges}
-use Rattle.area_rules.specs.Steps.{step_unsealed, step, IsReady}
+use Rattle.area_rules.specs.Steps.{step, IsReady}
 use Rattle.area_rules.specs.Tables.{AddressSpace, Outcome}
 use Rattle.area_rules.proofs.Cases.{IsGrower, grower_is}
 use Rattle.area_rules.proofs.Growing.{grown_canonical}
@@ -31,7 +30,7 @@ use Rattle.area_rules.proofs.Unmapped.{free_unmapped}
 -- no touch is refused by a seal
 pub step-touch : (config : Config) (space : AddressSpace) (page : Page) (access : Access)
     → step config space (Touch page access) ≡ touch config space page.0 access
-unfolding step step_unsealed guarded is_sealed_off guarded_ranges
+unfolding step
 step-touch config space page access = refl
 
 -- what may grow has no object

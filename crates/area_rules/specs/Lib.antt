@@ -3,6 +3,7 @@ pub mod Accesses
 pub mod Placement
 pub mod Growing
 pub mod Seals
+pub mod Guarded
 pub mod Mmap
 pub mod Munmap
 pub mod Mprotect

@@ -16,6 +16,8 @@ use Rattle.area_list.specs.Areas.{page_of}
 use Rattle.area_list.specs.Changes.{put}
 use Rattle.area_rules.specs.Placement.{bounds_of, place, is_free}
 use Rattle.area_rules.specs.Tables.{AddressSpace, Outcome, unless_refused, is_aligned, pages_of, has_too_many_areas}
+use Rattle.area_rules.specs.Munmap.{range_of}
+use Rattle.area_rules.specs.Seals.{has_sealed}
 use Rattle.mm_types.specs.Rows.{first_row}
 use Rattle.mm_types.specs.Flags.{has_flag}
 
@@ -132,9 +134,16 @@ mmap_rows config areas args =
     ∷ (is_taken areas args, Eexist)
     ∷ []
 
--- the last test, at its place: too many areas
+-- MAP_FIXED, and a page of the range is sealed
+unfoldable pub maps_over_seal : List Record → MmapArgs → Bool
+maps_over_seal areas args = has_flag args.flags MAP_FIXED && has_sealed (range_of args.addr args.len) areas
+
+-- the last tests, at its place: too many areas, a sealed page
 abbrev pub mmap_list_rows : Config → AddressSpace → MmapArgs → ℕ → List (Bool × Errno)
-mmap_list_rows config space args start = (has_too_many_areas config (mapped_list config space args start), Enomem) ∷ []
+mmap_list_rows config space args start =
+    (has_too_many_areas config (mapped_list config space args start), Enomem)
+    ∷ (maps_over_seal space.areas args, Eperm)
+    ∷ []
 
 -- the mapping at its place, and the address as reply
 unfoldable pub mmap_done : Config → AddressSpace → MmapArgs → ℕ → Outcome
@@ -143,7 +152,7 @@ mmap_done config space args start = record {
   reply = Addr (PAGE_SIZE * start);
 }
 
--- the mapping as far as there is a place: none refuses, and so do too many areas
+-- the mapping as far as there is a place: none refuses, and so do too many areas, and a sealed page
 unfoldable pub mmap_placed : Config → AddressSpace → MmapArgs → Option ℕ → Outcome
 mmap_placed config space args None = record { space = space; reply = Refused Enomem }
 mmap_placed config space args (Some start) =
@@ -153,3 +162,18 @@ mmap_placed config space args (Some start) =
 unfoldable pub mmap : Config → AddressSpace → MmapArgs → Outcome
 mmap config space args = unless_refused space (first_row (mmap_rows config space.areas args))
     (mmap_placed config space args (start_of config space.areas args))
+
+-- the last test without that of seals, as the call is planned: too many areas
+abbrev pub mmap_unsealed_rows : Config → AddressSpace → MmapArgs → ℕ → List (Bool × Errno)
+mmap_unsealed_rows config space args start = (has_too_many_areas config (mapped_list config space args start), Enomem) ∷ []
+
+-- the mapping as far as there is a place, without the test of seals
+unfoldable pub mmap_placed_unsealed : Config → AddressSpace → MmapArgs → Option ℕ → Outcome
+mmap_placed_unsealed config space args None = record { space = space; reply = Refused Enomem }
+mmap_placed_unsealed config space args (Some start) =
+    unless_refused space (first_row (mmap_unsealed_rows config space args start)) (mmap_done config space args start)
+
+-- mmap(2) without the test of seals, as it is planned
+unfoldable pub mmap_unsealed : Config → AddressSpace → MmapArgs → Outcome
+mmap_unsealed config space args = unless_refused space (first_row (mmap_rows config space.areas args))
+    (mmap_placed_unsealed config space args (start_of config space.areas args))

@@ -5,7 +5,7 @@ use Rattle.mm_types.specs.declared.area.Span.{Span}
 use Rattle.mm_types.specs.declared.area.Prot.{Prot}
 use Rattle.mm_types.specs.declared.area.Record.{Record}
 use Rattle.mm_types.specs.declared.call.Errno.{Errno}
-use Rattle.mm_types.specs.declared.call.Errno.TheVariants.{Enomem, Eacces, Einval}
+use Rattle.mm_types.specs.declared.call.Errno.TheVariants.{Eperm, Enomem, Eacces, Einval}
 use Rattle.mm_types.specs.declared.call.Reply.{Reply}
 use Rattle.mm_types.specs.declared.call.Reply.TheVariants.{Zero, Refused}
 use Rattle.mm_types.specs.declared.config.Config.{Config}
@@ -17,6 +17,7 @@ use Rattle.area_rules.specs.Placement.{least_below}
 use Rattle.area_rules.specs.Tables.{AddressSpace, Outcome, unless_answered, is_aligned, pages_of, has_too_many_areas}
 use Rattle.mm_types.specs.Rows.{first_row}
 use Rattle.area_rules.specs.Munmap.{range_of}
+use Rattle.area_rules.specs.Seals.{has_sealed}
 
 -- whether a page is mapped by an area that may have this protection
 unfoldable pub may_have : Prot → Option Record → Bool
@@ -39,10 +40,12 @@ protect_request_rows addr len =
     ∷ (nat_le ADDRESSES_END (addr + PAGE_SIZE * pages_of len), Refused Enomem)
     ∷ []
 
--- all tests that change nothing: those of the request, and too many areas
+-- all tests that change nothing: those of the request, a sealed page of the range, and too many areas
 unfoldable pub mprotect_rows : Config → List Record → ℕ → ℕ → Prot → List (Bool × Reply)
 mprotect_rows config areas addr len prot = protect_request_rows addr len
-    ++ (has_too_many_areas config (protected_prefix prot (range_of addr len) areas), Refused Enomem) ∷ []
+    ++ (has_sealed (range_of addr len) areas, Refused Eperm)
+    ∷ (has_too_many_areas config (protected_prefix prot (range_of addr len) areas), Refused Enomem)
+    ∷ []
 
 -- why the call stops before the range's end, if it does: the page there is not mapped, or may not have the protection
 unfoldable pub stop_error : Span → ℕ → Option Record → Option Errno
@@ -67,3 +70,13 @@ mprotect_done space range prot = let stop = stop_of prot range space.areas in re
 unfoldable pub mprotect : Config → AddressSpace → ℕ → ℕ → Prot → Outcome
 mprotect config space addr len prot = unless_answered space (first_row (mprotect_rows config space.areas addr len prot))
     (mprotect_done space (range_of addr len) prot)
+
+-- its tests without that of seals, as the call is planned
+unfoldable pub mprotect_unsealed_rows : Config → List Record → ℕ → ℕ → Prot → List (Bool × Reply)
+mprotect_unsealed_rows config areas addr len prot = protect_request_rows addr len
+    ++ (has_too_many_areas config (protected_prefix prot (range_of addr len) areas), Refused Enomem) ∷ []
+
+-- mprotect(2) without the test of seals, as it is planned
+unfoldable pub mprotect_unsealed : Config → AddressSpace → ℕ → ℕ → Prot → Outcome
+mprotect_unsealed config space addr len prot = unless_answered space
+    (first_row (mprotect_unsealed_rows config space.areas addr len prot)) (mprotect_done space (range_of addr len) prot)

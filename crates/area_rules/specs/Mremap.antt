@@ -18,6 +18,7 @@ use Rattle.area_rules.specs.Tables.{AddressSpace, Outcome, unless_refused, is_al
 use Rattle.mm_types.specs.Rows.{first_row}
 use Rattle.mm_types.specs.Flags.{has_flag}
 use Rattle.area_rules.specs.Munmap.{range_of}
+use Rattle.area_rules.specs.Seals.{has_sealed}
 
 -- the arguments of mremap(2) as one
 abbrev pub mremap_args : (old old_len new_len flags new : ℕ) → MremapArgs
@@ -130,9 +131,16 @@ mremap_change config areas area args = if moves_to args then Some (moved areas a
     else (if has_room config areas args then Some (record { areas = lengthened_list areas area args; page = page_of args.old })
     else option_map (moved areas area args) (new_place config areas args)))
 
--- the last test: too many areas
-abbrev pub mremap_list_rows : Config → Moved → List (Bool × Errno)
-mremap_list_rows config change = (has_too_many_areas config change.areas, Enomem) ∷ []
+-- a page of the old range is sealed, or one of the fixed new range
+unfoldable pub remaps_seal : List Record → MremapArgs → Bool
+remaps_seal areas args = has_sealed (old_range args) areas || (moves_to args && has_sealed (new_range args) areas)
+
+-- the last tests: too many areas, a sealed page
+abbrev pub mremap_list_rows : Config → List Record → MremapArgs → Moved → List (Bool × Errno)
+mremap_list_rows config areas args change =
+    (has_too_many_areas config change.areas, Enomem)
+    ∷ (remaps_seal areas args, Eperm)
+    ∷ []
 
 -- the outcome of a change: the list after it, and the address of its page as reply
 unfoldable pub mremap_done : AddressSpace → Moved → Outcome
@@ -141,12 +149,28 @@ mremap_done space change = record {
   reply = Addr (PAGE_SIZE * change.page);
 }
 
--- the change as far as there is one: no place or no MREMAP_MAYMOVE refuses, and so do too many areas
-unfoldable pub mremap_changed : Config → AddressSpace → Option Moved → Outcome
-mremap_changed config space None = record { space = space; reply = Refused Enomem }
-mremap_changed config space (Some change) = unless_refused space (first_row (mremap_list_rows config change)) (mremap_done space change)
+-- the change as far as there is one: no place or no MREMAP_MAYMOVE refuses, and so do too many areas, and a sealed page
+unfoldable pub mremap_changed : Config → AddressSpace → MremapArgs → Option Moved → Outcome
+mremap_changed config space args None = record { space = space; reply = Refused Enomem }
+mremap_changed config space args (Some change) =
+    unless_refused space (first_row (mremap_list_rows config space.areas args change)) (mremap_done space change)
 
 -- mremap(2): the first test that holds refuses, and else the area is moved, shrunk or grown
 unfoldable pub mremap : Config → AddressSpace → MremapArgs → Outcome
-mremap config space args = unless_refused space (first_row (mremap_rows config space.areas args)) (mremap_changed config space
+mremap config space args = unless_refused space (first_row (mremap_rows config space.areas args)) (mremap_changed config space args
+    (option_and_then (λ area. mremap_change config space.areas area args) (area_at space.areas (page_of args.old))))
+
+-- the last test without that of seals, as the call is planned: too many areas
+abbrev pub mremap_unsealed_rows : Config → Moved → List (Bool × Errno)
+mremap_unsealed_rows config change = (has_too_many_areas config change.areas, Enomem) ∷ []
+
+-- the change as far as there is one, without the test of seals
+unfoldable pub mremap_changed_unsealed : Config → AddressSpace → Option Moved → Outcome
+mremap_changed_unsealed config space None = record { space = space; reply = Refused Enomem }
+mremap_changed_unsealed config space (Some change) =
+    unless_refused space (first_row (mremap_unsealed_rows config change)) (mremap_done space change)
+
+-- mremap(2) without the test of seals, as it is planned
+unfoldable pub mremap_unsealed : Config → AddressSpace → MremapArgs → Outcome
+mremap_unsealed config space args = unless_refused space (first_row (mremap_rows config space.areas args)) (mremap_changed_unsealed config space
     (option_and_then (λ area. mremap_change config space.areas area args) (area_at space.areas (page_of args.old))))

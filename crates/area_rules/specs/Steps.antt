@@ -8,27 +8,32 @@ use Rattle.mm_types.specs.Config.{IsValidConfig, counters_at_opening}
 use Rattle.area_list.specs.Areas.{IsSound}
 use Rattle.area_rules.specs.Tables.{AddressSpace, Outcome, space_of}
 use Rattle.area_rules.specs.Growing.{AreGrowersPrivate, touch}
-use Rattle.area_rules.specs.Mmap.{mmap}
-use Rattle.area_rules.specs.Munmap.{munmap}
-use Rattle.area_rules.specs.Mprotect.{mprotect}
-use Rattle.area_rules.specs.Mremap.{mremap_args, mremap}
+use Rattle.area_rules.specs.Mmap.{mmap, mmap_unsealed}
+use Rattle.area_rules.specs.Munmap.{munmap, munmap_unsealed}
+use Rattle.area_rules.specs.Mprotect.{mprotect, mprotect_unsealed}
+use Rattle.area_rules.specs.Mremap.{mremap_args, mremap, mremap_unsealed}
 use Rattle.area_rules.specs.Brk.{brk}
 use Rattle.area_rules.specs.Mseal.{mseal}
-use Rattle.area_rules.specs.Seals.{guarded}
 
--- one call by its table, without the tests of seals
+-- one call by its table
+unfoldable pub step : Config → AddressSpace → Call → Outcome
+step config space (Mmap args) = mmap config space args
+step config space (Munmap addr len) = munmap config space addr len
+step config space (Mprotect addr len prot) = mprotect config space addr len prot
+step config space (Mremap old old_len new_len flags new) = mremap config space (mremap_args old old_len new_len flags new)
+step config space (Touch page access) = touch config space page.0 access
+step config space (Brk addr) = brk config space addr
+step config space (Mseal addr len flags) = mseal config space addr len flags
+
+-- the same without the tests of seals of mmap, munmap, mprotect and mremap, as a call is planned before it is guarded
 unfoldable pub step_unsealed : Config → AddressSpace → Call → Outcome
-step_unsealed config space (Mmap args) = mmap config space args
-step_unsealed config space (Munmap addr len) = munmap config space addr len
-step_unsealed config space (Mprotect addr len prot) = mprotect config space addr len prot
-step_unsealed config space (Mremap old old_len new_len flags new) = mremap config space (mremap_args old old_len new_len flags new)
+step_unsealed config space (Mmap args) = mmap_unsealed config space args
+step_unsealed config space (Munmap addr len) = munmap_unsealed config space addr len
+step_unsealed config space (Mprotect addr len prot) = mprotect_unsealed config space addr len prot
+step_unsealed config space (Mremap old old_len new_len flags new) = mremap_unsealed config space (mremap_args old old_len new_len flags new)
 step_unsealed config space (Touch page access) = touch config space page.0 access
 step_unsealed config space (Brk addr) = brk config space addr
 step_unsealed config space (Mseal addr len flags) = mseal config space addr len flags
-
--- one call: by its table, unless it would change sealed pages
-unfoldable pub step : Config → AddressSpace → Call → Outcome
-step config space call = guarded space call (step_unsealed config space call)
 
 -- Where a step may be taken: the configuration is valid, the list sound, no object above the counter, which has room to count one
 -- more, what may grow is private anonymous memory, and the break lies at or below the limit.

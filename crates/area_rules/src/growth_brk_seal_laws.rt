@@ -11,7 +11,7 @@ ghost use Rattle.mm_types.specs.declared.call.Reply.TheVariants.{Refused, Zero, 
 ghost use Rattle.mm_types.specs.declared.config.Config.{Config};
 ghost use Rattle.area_list.specs.declared.attributes.AttrChange.TheVariants.{Seal};
 ghost use Rattle.area_list.specs.Attributes.{changed_page};
-ghost use Rattle.area_list.specs.Areas.{MappedPage, IsCanonical, has_page, page_map};
+ghost use Rattle.area_list.specs.Areas.{MappedPage, IsCanonical, page_of, has_page, page_map};
 ghost use Rattle.area_rules.specs.Accesses.{permits};
 ghost use Rattle.area_rules.specs.Brk.{pages_between};
 ghost use Rattle.area_rules.specs.Growing.{grows};
@@ -74,7 +74,7 @@ pub fn brk_changes_the_pages_between()
 {}
 
 /// mseal(2) seals the pages of its range, all mapped, where it answers zero and the range is not empty, and keeps every other
-/// page. Else it changes nothing.
+/// page. Its list is the only canonical one with that map of pages. Else it changes nothing.
 pub fn mseal_seals_the_range()
     ensures pages { (config : Config) (space : AddressSpace) (addr len flags page : ℕ) → IsReady config space
         → (step config space (Mseal addr len flags)).reply ≡ Zero → len ≢ 0
@@ -87,6 +87,12 @@ pub fn mseal_seals_the_range()
     ensures kept { (config : Config) (space : AddressSpace) (addr len flags : ℕ)
         → ((step config space (Mseal addr len flags)).reply ≢ Zero) ⊎ (len ≡ 0)
         → (step config space (Mseal addr len flags)).space ≡ space }
+    ensures only { (config : Config) (space : AddressSpace) (addr len flags : ℕ) (others : List Record) → IsReady config space
+        → (step config space (Mseal addr len flags)).reply ≡ Zero → len ≢ 0 → IsCanonical (page_of config.limit) others
+        → ((page : ℕ) → page_map others page
+        ≡ (if has_page (range_of addr len) page then option_map (changed_page Seal) (page_map space.areas page)
+        else page_map space.areas page))
+        → others ≡ (step config space (Mseal addr len flags)).space.areas }
 {}
 
 /// No call that is ready changes a sealed page.

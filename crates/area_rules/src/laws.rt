@@ -18,7 +18,7 @@ ghost use Rattle.area_rules.specs.Growing.{AreGrowersPrivate};
 ghost use Rattle.area_rules.specs.Munmap.{range_of};
 ghost use Rattle.area_rules.specs.Mprotect.{stop_of, protected_prefix};
 ghost use Rattle.area_rules.specs.declared.mremap_request.MremapArgs.{MremapArgs};
-ghost use Rattle.area_rules.specs.Mremap.{old_range, moved_list, mremap};
+ghost use Rattle.area_rules.specs.Mremap.{old_range, moved_list, remaps_seal, mremap};
 ghost use Rattle.area_list.specs.Areas.{overlap};
 ghost use Rattle.area_list.specs.declared.attributes.AttrChange.TheVariants.{Protection};
 ghost use Rattle.area_list.specs.Attributes.{changed_page};
@@ -45,16 +45,16 @@ pub fn protect_changes_the_prefix()
         → others ≡ protected_prefix prot range areas }
 {}
 
-/// Where mremap(2) moves a range, it leaves the moved list, unless that is too long. The new range shares no page with the
-/// old one. The pages of the old range are unmapped. Those of the new one are mapped to the attributes and the object of
-/// the area, by ascending index from that of the old range's first page on, so each page that stays is mapped to what it
-/// was mapped to before. All other pages are as before.
+/// Where mremap(2) moves a range, it leaves the moved list, unless that is too long or the call would change sealed pages. The new
+/// range shares no page with the old one. The pages of the old range are unmapped. Those of the new one are mapped to the
+/// attributes and the object of the area, by ascending index from that of the old range's first page on, so each page that stays
+/// is mapped to what it was mapped to before. All other pages are as before.
 pub fn move_carries_the_pages()
     ensures canonical { (config : Config) (areas : List Record) (area : Record) (args : MremapArgs) (start : ℕ)
         → IsMove config areas area args start → IsCanonical (page_of config.limit) (moved_list areas area args start) }
     ensures made { (config : Config) (space : AddressSpace) (area : Record) (args : MremapArgs) (start : ℕ)
         → IsMove config space.areas area args start → length (moved_list space.areas area args start) ≤ config.areas
-        → mremap config space args ≡ record {
+        → remaps_seal space.areas args ≡ false → mremap config space args ≡ record {
           space = record space { areas = moved_list space.areas area args start };
           reply = Addr (PAGE_SIZE * start);
         } }

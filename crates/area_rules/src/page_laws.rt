@@ -1,11 +1,10 @@
 //! Laws of the pages that calls change. Each is the contract of a function that does nothing.
-ghost use Rattle.std.specs.Prelude.{◌≡◌, ◌≢◌, ◌<◌, ◌≤◌, ◌+◌, ◌⊎◌, ℕ, true, false, if◌then◌else◌, None, Some, option_map};
+ghost use Rattle.std.specs.Prelude.{◌≡◌, ◌≢◌, ◌<◌, ◌≤◌, ◌+◌, ℕ, true, false, if◌then◌else◌, None, Some, option_map};
 ghost use Rattle.mm_types.specs.declared.area.Prot.{Prot};
 ghost use Rattle.mm_types.specs.declared.call.Call.{Call};
 ghost use Rattle.mm_types.specs.declared.call.Call.TheVariants.{Mmap, Munmap, Mprotect, Mremap};
-ghost use Rattle.mm_types.specs.declared.call.Errno.TheVariants.{Eperm};
 ghost use Rattle.mm_types.specs.declared.call.MmapArgs.{MmapArgs};
-ghost use Rattle.mm_types.specs.declared.call.Reply.TheVariants.{Addr, Refused, Zero};
+ghost use Rattle.mm_types.specs.declared.call.Reply.TheVariants.{Addr, Zero};
 ghost use Rattle.mm_types.specs.declared.config.Config.{Config};
 ghost use Rattle.mm_types.specs.Rows.{first_row};
 ghost use Rattle.area_list.specs.declared.attributes.AttrChange.TheVariants.{Protection};
@@ -40,7 +39,7 @@ pub fn munmap_changes_its_pages()
 {}
 
 /// mprotect(2) that is ready and answers zero gives the pages of its range, all mapped, the protection, and keeps all else of them
-/// and every other page. Where no test answers and no seal refuses, also with an error, the pages before its stop have it, and
+/// and every other page. Where no test answers, also with an error, the pages before its stop have it, and
 /// these alone. Else it changes nothing.
 pub fn mprotect_changes_its_pages()
     ensures pages { (config : Config) (space : AddressSpace) (addr len : ℕ) (prot : Prot) (page : ℕ) → IsReady config space
@@ -53,14 +52,12 @@ pub fn mprotect_changes_its_pages()
         → page_map space.areas page ≢ None }
     ensures stopped { (config : Config) (space : AddressSpace) (addr len : ℕ) (prot : Prot) (page : ℕ) → IsReady config space
         → first_row (mprotect_rows config space.areas addr len prot) ≡ None
-        → (step config space (Mprotect addr len prot)).reply ≢ Refused Eperm
         → page_map (step config space (Mprotect addr len prot)).space.areas page
         ≡ (if has_page (prefix_of prot (range_of addr len) space.areas) page
         then option_map (changed_page (Protection prot)) (page_map space.areas page)
         else page_map space.areas page) }
     ensures kept { (config : Config) (space : AddressSpace) (addr len : ℕ) (prot : Prot)
-        → (first_row (mprotect_rows config space.areas addr len prot) ≢ None)
-        ⊎ ((step config space (Mprotect addr len prot)).reply ≡ Refused Eperm)
+        → first_row (mprotect_rows config space.areas addr len prot) ≢ None
         → (step config space (Mprotect addr len prot)).space ≡ space }
 {}
 

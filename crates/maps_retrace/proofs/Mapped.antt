@@ -22,10 +22,12 @@ use Rattle.area_list.specs.Areas.{page_of, overlap, IsSound}
 use Rattle.area_list.specs.Changes.{put}
 use Rattle.area_rules.specs.Placement.{is_free}
 use Rattle.area_rules.specs.Tables.{Outcome, is_aligned, pages_of}
-use Rattle.area_rules.specs.Mmap.{file_of, file_place, object_of, lacks_file, overflows_offset, has_no_sharing, cannot_grow, denies, is_denied, is_fixed, is_taken, start_of, most_of, most_allowed, object_mapped, objects_after, new_area, mapped_list, mmap_rows, mmap_done, mmap}
+use Rattle.area_rules.specs.Mmap.{file_of, file_place, object_of, lacks_file, overflows_offset, has_no_sharing, cannot_grow, denies, is_denied, is_fixed, is_taken, start_of, most_of, most_allowed, object_mapped, objects_after, new_area, mapped_list, mmap_rows, mmap_done, mmap_unsealed}
 use Rattle.area_rules.specs.Munmap.{range_of}
-use Rattle.area_rules.specs.Seals.{has_sealed, guarded_ranges, is_sealed_off, guarded}
+use Rattle.area_rules.specs.Guarded.{guarded_ranges, is_sealed_off, guarded}
+use Rattle.area_rules.specs.Seals.{has_sealed}
 use Rattle.area_rules.specs.Steps.{step_unsealed, step}
+use Rattle.area_rules.proofs.Guarding.{step_guarded}
 use Rattle.area_rules.proofs.MmapTable.{mmap_maps}
 use Rattle.trace_text.specs.LineTexts.{bits_of_prot}
 use Rattle.maps_retrace.specs.Laws.{space_with}
@@ -276,7 +278,7 @@ module _ (files : List FileRow) (opened : AreOpenFrom 3 files) (areas : List Rec
       ∙ le-ltb (default_config files).areas (length (areas ++ area ∷ [])) short
 
   -- the outcome, without the tests of seals
-  maps : IsSound (default_config files) (areas ++ area ∷ []) → mmap (default_config files) (space_with files areas) (mapping_of area)
+  maps : IsSound (default_config files) (areas ++ area ∷ []) → mmap_unsealed (default_config files) (space_with files areas) (mapping_of area)
       ≡ record { space = space_with files (areas ++ area ∷ []); reply = Addr (PAGE_SIZE * area.span.lo) }
   unfolding mmap_done default_config
   maps sound =
@@ -298,9 +300,10 @@ module _ (files : List FileRow) (opened : AreOpenFrom 3 files) (areas : List Rec
   pub step_maps : IsSound (default_config files) (areas ++ area ∷ []) → Each (λ other. other.attr.sealed ≡ false) areas
       → step (default_config files) (space_with files areas) (Mmap (mapping_of area))
       ≡ record { space = space_with files (areas ++ area ∷ []); reply = Addr (PAGE_SIZE * area.span.lo) }
-  unfolding step step_unsealed guarded
+  unfolding step_unsealed guarded
   step_maps sound unsealed =
       let after : Outcome = record { space = space_with files (areas ++ area ∷ []); reply = Addr (PAGE_SIZE * area.span.lo) } in
       let refused : Outcome = record { space = space_with files areas; reply = Refused Eperm } in
-      ap (λ (o : Outcome). if is_sealed_off areas (Mmap (mapping_of area)) o.reply then refused else o) (maps sound)
+      step_guarded (default_config files) (space_with files areas) (Mmap (mapping_of area))
+      ∙ ap (λ (o : Outcome). if is_sealed_off areas (Mmap (mapping_of area)) o.reply then refused else o) (maps sound)
       ∙ cond-false (is_sealed_off areas (Mmap (mapping_of area)) (Addr (PAGE_SIZE * area.span.lo))) refused after (not_sealed unsealed)

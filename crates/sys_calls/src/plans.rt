@@ -68,8 +68,7 @@ fn plan_unsealed<A: Areas>(
 }
 
 /// One call, planned. `counters` are those before it. The reply, the counters and the list that the plan makes are those of the
-/// step: of the call's table, unless it would change sealed pages. A touch is one change at most. No memory is taken.
-#[tactic(auto, unfolding(area_rules::specs::Steps::step))]
+/// step, by the call's table. A touch is one change at most. No memory is taken.
 pub fn plan_call<A: Areas>(
     config: &Config,
     counters: Counters,

@@ -10,7 +10,7 @@ use Rattle.mm_types.specs.declared.config.TheConstants.{PAGE_SIZE}
 use Rattle.area_rules.specs.declared.placement.Bounds.{Bounds}
 use Rattle.area_list.specs.Areas.{page_of, IsSound}
 use Rattle.area_list.specs.Changes.{cut}
-use Rattle.area_rules.specs.Munmap.{range_of, munmap_rows, munmap}
+use Rattle.area_rules.specs.Munmap.{range_of, munmap_rows, munmap_unsealed}
 use Rattle.area_rules.specs.Tables.{space_of}
 use Rattle.area_rules.specs.Tables.{is_aligned, pages_of}
 use Rattle.area_list.proofs.Cutting.{cut_canonical}
@@ -24,12 +24,12 @@ pub cut_call : {config : Config} {bounds : Bounds} {most : ℕ} {old : PlanView}
     → IsPrepared config bounds most old → new.room ≡ old.room → IsSound config areas → is_aligned addr ≡ true → (len ≡ 0 → ⊥)
     → addr + PAGE_SIZE * pages_of len ≤ config.limit → range ≡ range_of addr len → Makes new.changes areas (cut range areas)
     → nat_lt config.areas (length (applied new.changes areas)) ≡ false
-    → IsPlannedCall bounds most areas (munmap config (space_of areas counters) addr len) Zero old new
-unfolding munmap munmap_rows
+    → IsPlannedCall bounds most areas (munmap_unsealed config (space_of areas counters) addr len) Zero old new
+unfolding munmap_unsealed munmap_rows
 cut_call {config} addr len range areas new counters prepared room sound aligned some within is made fits =
     let made_range = subst (λ span. Makes new.changes areas (cut span areas)) is made in
     let short = ap (λ (list : List Record). nat_lt config.areas (length list)) (sym made_range.result) ∙ fits in
-    done prepared new room areas (cut (range_of addr len) areas) counters (munmap config (space_of areas counters) addr len) Zero
+    done prepared new room areas (cut (range_of addr len) areas) counters (munmap_unsealed config (space_of areas counters) addr len) Zero
     (rw (aligned, ne_eqb len 0 some, le-ltb config.limit (addr + PAGE_SIZE * pages_of len) within, short) refl) made_range (record {
       canonical = cut_canonical (page_of config.limit) (range_of addr len) areas (range_some addr len (range_of addr len) some refl) sound.canonical;
       few = ltb-false config.areas (length (cut (range_of addr len) areas)) short;

@@ -10,7 +10,7 @@ use Rattle.mm_types.specs.declared.config.Config.{Config}
 use Rattle.mm_types.specs.Config.{IsValidConfig}
 use Rattle.area_list.specs.Areas.{page_of}
 use Rattle.area_list.specs.Changes.{put}
-use Rattle.area_rules.specs.Mmap.{mmap, mmap_rows, mmap_done, start_of, mapped_list, new_area, objects_after}
+use Rattle.area_rules.specs.Mmap.{mmap_unsealed, mmap_rows, mmap_done, start_of, mapped_list, new_area, objects_after}
 use Rattle.area_rules.specs.Tables.{AddressSpace, Outcome, counters_of, has_too_many_areas}
 use Rattle.mm_types.specs.declared.call.Counters.{Counters}
 use Rattle.mm_types.specs.Rows.{first_row}
@@ -37,29 +37,29 @@ refused_with space reply = record { space = space; reply = reply }
 module _ {config : Config} {space : AddressSpace} {bounds : Bounds} {most : ℕ} {old : PlanView} (args : MmapArgs)
     (ready : IsReady config space) (prepared : IsPrepared config bounds most old) (new : PlanView) (room : new.room ≡ old.room) where
   -- a call that is refused
-  pub refused_call : (errno : Errno) (reply : Reply) → reply ≡ Refused errno → mmap config space args ≡ refusal space errno → new.changes ≡ []
-      → IsPlannedCall bounds most space.areas (mmap config space args) reply old new
+  pub refused_call : (errno : Errno) (reply : Reply) → reply ≡ Refused errno → mmap_unsealed config space args ≡ refusal space errno → new.changes ≡ []
+      → IsPlannedCall bounds most space.areas (mmap_unsealed config space args) reply old new
   refused_call errno reply answered is none =
-      unchanged prepared new room space (mmap config space args) reply (is ∙ ap (refused_with space) (sym answered)) none ready.sound
+      unchanged prepared new room space (mmap_unsealed config space args) reply (is ∙ ap (refused_with space) (sym answered)) none ready.sound
 
   -- a call that goes through
-  pub done_call : (start : ℕ) (area : Record) → mmap config space args ≡ mmap_done config space args start
+  pub done_call : (start : ℕ) (area : Record) → mmap_unsealed config space args ≡ mmap_done config space args start
       → area ≡ new_area config space.objects args start → Makes new.changes space.areas (put area space.areas)
-      → IsPlannedCall bounds most space.areas (mmap config space args) (Addr (4096 * start)) old new
+      → IsPlannedCall bounds most space.areas (mmap_unsealed config space args) (Addr (4096 * start)) old new
   unfolding mmap_done mapped_list
   done_call start area is newest made =
-      planned prepared new room space.areas (mmap config space args) (Addr (4096 * start)) (sym (ap (λ (o : Outcome). o.reply) is))
+      planned prepared new room space.areas (mmap_unsealed config space args) (Addr (4096 * start)) (sym (ap (λ (o : Outcome). o.reply) is))
       (subst (Makes new.changes space.areas) (ap (λ area. put area space.areas) newest ∙ sym (ap (λ (o : Outcome). o.space.areas) is)) made)
       (unfold step_unsealed in unsealed_sound config space (Mmap args) ready)
 
 module _ (config : Config) (space : AddressSpace) (args : MmapArgs) where
   -- the counters after it
-  pub refused_counters : (errno : Errno) (counters : Counters) → counters ≡ counters_of space → mmap config space args ≡ refusal space errno
-      → counters ≡ counters_of (mmap config space args).space
+  pub refused_counters : (errno : Errno) (counters : Counters) → counters ≡ counters_of space → mmap_unsealed config space args ≡ refusal space errno
+      → counters ≡ counters_of (mmap_unsealed config space args).space
   refused_counters errno counters same is = same ∙ sym (ap (λ (o : Outcome). counters_of o.space) is)
 
-  pub done_counters : (start objects : ℕ) → objects ≡ objects_after space.objects args → mmap config space args ≡ mmap_done config space args start
-      → record { objects = objects; brk = space.brk } ≡ counters_of (mmap config space args).space
+  pub done_counters : (start objects : ℕ) → objects ≡ objects_after space.objects args → mmap_unsealed config space args ≡ mmap_done config space args start
+      → record { objects = objects; brk = space.brk } ≡ counters_of (mmap_unsealed config space args).space
   unfolding mmap_done
   done_counters start objects counted is = ap (λ n. record { objects = n; brk = space.brk }) counted ∙ sym (ap (λ (o : Outcome). counters_of o.space) is)
 

@@ -3,7 +3,7 @@ ghost use Rattle.std.specs.Prelude.{◌≡◌, ◌≤◌, ℕ, []};
 ghost use Rattle.mm_types.specs.declared.call.Errno.{Errno};
 ghost use Rattle.mm_types.specs.declared.call.Reply.TheVariants.{Addr, Refused};
 ghost use Rattle.area_list.specs.Areas.{IsCanonical};
-ghost use Rattle.area_rules.specs.Mmap.{start_of, mmap};
+ghost use Rattle.area_rules.specs.Mmap.{start_of, mmap_unsealed};
 ghost use Rattle.area_rules.specs.Munmap.{range_of};
 ghost use Rattle.area_rules.specs.Placement.{bounds_of};
 ghost use Rattle.area_rules.specs.Tables.{space_of, counters_of};
@@ -34,7 +34,8 @@ fn start_of<A: Areas>(config: &Config, areas: &A, args: &MmapArgs) -> Option<u64
 }
 
 /// One call of mmap(2), planned. `counters` are those before it. The reply, the counters and the list that the plan makes are
-/// those of its table. After a refusal the plan is empty. No memory is taken.
+/// those of its table without the test of seals, which `guard` of sys_seal makes. After a refusal the plan is empty. No memory is
+/// taken.
 pub fn plan_mmap<A: Areas>(
     config: &Config,
     counters: Counters,
@@ -45,8 +46,8 @@ pub fn plan_mmap<A: Areas>(
     requires ready { IsReady config.now (space_of (A.list areas.now) counters) }
     requires prepared { IsPrepared config.now (A.bounds areas.now) (A.most areas.now) plan.old }
     ensures planned { IsPlannedCall (A.bounds areas.now) (A.most areas.now) (A.list areas.now)
-        (mmap config.now (space_of (A.list areas.now) counters) args.now) result.reply plan.old plan.new }
-    ensures counters { result.counters ≡ counters_of (mmap config.now (space_of (A.list areas.now) counters) args.now).space }
+        (mmap_unsealed config.now (space_of (A.list areas.now) counters) args.now) result.reply plan.old plan.new }
+    ensures counters { result.counters ≡ counters_of (mmap_unsealed config.now (space_of (A.list areas.now) counters) args.now).space }
     ensures local { (addr : ℕ) → result.reply ≡ Addr addr → IsLocal (range_of addr args.now.len) (A.list areas.now) plan.new.changes }
     ensures refused { (errno : Errno) → result.reply ≡ Refused errno → plan.new.changes ≡ [] }
 {

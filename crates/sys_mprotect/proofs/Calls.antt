@@ -10,7 +10,7 @@ use Rattle.mm_types.specs.declared.call.Reply.{Reply}
 use Rattle.mm_types.specs.declared.config.Config.{Config}
 use Rattle.area_rules.specs.declared.placement.Bounds.{Bounds}
 use Rattle.area_list.specs.Areas.{area_at, page_of, IsSound}
-use Rattle.area_rules.specs.Mprotect.{stop_of, stop_error, stopped_reply, protected_prefix, protect_request_rows, mprotect_rows, mprotect}
+use Rattle.area_rules.specs.Mprotect.{stop_of, stop_error, stopped_reply, protected_prefix, protect_request_rows, mprotect_unsealed_rows, mprotect_unsealed}
 use Rattle.area_rules.specs.Munmap.{range_of}
 use Rattle.area_rules.specs.Tables.{space_of}
 use Rattle.mm_types.specs.Rows.{first_row}
@@ -50,15 +50,15 @@ pub answered_call : (config : Config) (areas : List Record) (addr len : ℕ) (pr
     (counters : Counters) (reply : Reply)
     → IsPrepared config bounds most old → new.room ≡ old.room → IsSound config areas → new.changes ≡ []
     → first_row (protect_request_rows addr len) ≡ Some reply
-    → IsPlannedCall bounds most areas (mprotect config (space_of areas counters) addr len prot) reply old new
-unfolding mprotect mprotect_rows
+    → IsPlannedCall bounds most areas (mprotect_unsealed config (space_of areas counters) addr len prot) reply old new
+unfolding mprotect_unsealed mprotect_unsealed_rows
 answered_call config areas addr len prot new counters reply prepared room sound none answer =
-    unchanged prepared new room (space_of areas counters) (mprotect config (space_of areas counters) addr len prot) reply
+    unchanged prepared new room (space_of areas counters) (mprotect_unsealed config (space_of areas counters) addr len prot) reply
     (rw (first_row-more (protect_request_rows addr len) _ reply answer)) none sound
 
 module _ (config : Config) (areas : List Record) (addr len : ℕ) (prot : Prot) (range : Span) (p : Passes config areas addr len prot range) where
-  pub none_answers : first_row (mprotect_rows config areas addr len prot) ≡ None
-  unfolding mprotect_rows protect_request_rows
+  pub none_answers : first_row (mprotect_unsealed_rows config areas addr len prot) ≡ None
+  unfolding mprotect_unsealed_rows protect_request_rows
   none_answers = let failed : NoneHolds (protect_request_rows addr len) = rows_false (protect_request_rows addr len) p.request in
       rw (failed.0, failed.1.0, failed.1.1.0, ← p.pages, p.fits)
 
@@ -67,10 +67,10 @@ module _ (config : Config) (areas : List Record) (addr len : ℕ) (prot : Prot) 
       → IsPrepared config bounds most old → new.room ≡ old.room → IsSound config areas → result ≡ stopped_reply error
       → error ≡ stop_error range (stop_of prot range areas) (area_at areas (stop_of prot range areas))
       → Makes new.changes areas (protected_prefix prot range areas)
-      → IsPlannedCall bounds most areas (mprotect config (space_of areas counters) addr len prot) result old new
-  unfolding mprotect
+      → IsPlannedCall bounds most areas (mprotect_unsealed config (space_of areas counters) addr len prot) result old new
+  unfolding mprotect_unsealed
   passing_call new counters error result prepared room sound is stops made =
-      done prepared new room areas (protected_prefix prot range areas) counters (mprotect config (space_of areas counters) addr len prot) result
+      done prepared new room areas (protected_prefix prot range areas) counters (mprotect_unsealed config (space_of areas counters) addr len prot) result
       (rw (none_answers, ← p.pages) (ap (λ reply. record { space = space_of (protected_prefix prot range areas) counters; reply = reply })
       (sym (is ∙ ap stopped_reply stops)))) made (record {
         canonical = prefix_canonical (page_of config.limit) prot range areas (omega (arith, range_some addr len range (request_some addr len p.request) p.pages)) sound.canonical;

@@ -6,7 +6,7 @@ ghost use Rattle.mm_types.specs.declared.call.Counters.{Counters};
 ghost use Rattle.mm_types.specs.declared.call.Reply.{Reply};
 ghost use Rattle.mm_types.specs.Config.{IsValidConfig};
 ghost use Rattle.area_list.specs.Areas.{IsSound, area_at};
-ghost use Rattle.area_rules.specs.Mprotect.{stop_of, stop_error, protected_prefix, mprotect_rows, mprotect};
+ghost use Rattle.area_rules.specs.Mprotect.{stop_of, stop_error, protected_prefix, mprotect_unsealed_rows, mprotect_unsealed};
 ghost use Rattle.area_rules.specs.Munmap.{range_of};
 ghost use Rattle.area_rules.specs.Tables.{space_of};
 ghost use Rattle.mm_types.specs.Rows.{first_row};
@@ -52,10 +52,10 @@ fn plan_prefix<A: Areas>(
 }
 
 /// One call of mprotect(2), planned. `addr` and `len` are in bytes. The reply and the list that the plan makes are those
-/// of its table, and do not depend on the counters. Where the call stops at a page that is not mapped (ENOMEM)
-/// or may not have the protection (EACCES), the plan has the new protection of the pages before it; after every other
-/// refusal it is empty. No memory is taken.
-#[tactic(auto, using(split_merge::proofs::Refusing::nothing_made, split_merge::proofs::Refusing::nothing_local, split_merge::proofs::Refusing::nothing_kept), unfolding(area_rules::specs::Mprotect::mprotect, area_rules::specs::Mprotect::mprotect_rows, area_rules::specs::Mprotect::protect_request_rows))]
+/// of its table without the test of seals, which `guard` of sys_seal makes, and do not depend on the counters. Where the call stops
+/// at a page that is not mapped (ENOMEM) or may not have the protection (EACCES), the plan has the new protection of the pages
+/// before it; after every other refusal it is empty. No memory is taken.
+#[tactic(auto, using(split_merge::proofs::Refusing::nothing_made, split_merge::proofs::Refusing::nothing_local, split_merge::proofs::Refusing::nothing_kept), unfolding(area_rules::specs::Mprotect::mprotect_unsealed, area_rules::specs::Mprotect::mprotect_unsealed_rows, area_rules::specs::Mprotect::protect_request_rows))]
 pub fn plan_mprotect<A: Areas>(
     config: &Config,
     areas: &A,
@@ -68,9 +68,9 @@ pub fn plan_mprotect<A: Areas>(
     requires sound { IsSound config.now (A.list areas.now) }
     requires prepared { IsPrepared config.now (A.bounds areas.now) (A.most areas.now) plan.old }
     ensures planned { (counters : Counters) → IsPlannedCall (A.bounds areas.now) (A.most areas.now) (A.list areas.now)
-        (mprotect config.now (space_of (A.list areas.now) counters) addr len prot) result plan.old plan.new }
+        (mprotect_unsealed config.now (space_of (A.list areas.now) counters) addr len prot) result plan.old plan.new }
     ensures local { IsLocal (range_of addr len) (A.list areas.now) plan.new.changes }
-    ensures early { (reply : Reply) → first_row (mprotect_rows config.now (A.list areas.now) addr len prot) ≡ Some reply
+    ensures early { (reply : Reply) → first_row (mprotect_unsealed_rows config.now (A.list areas.now) addr len prot) ≡ Some reply
         → plan.new.changes ≡ [] }
 {
     if let Some(reply) = mprotect_answer(addr, len) {

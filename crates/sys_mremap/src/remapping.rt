@@ -5,7 +5,7 @@ ghost use Rattle.mm_types.specs.declared.call.Errno.{Errno};
 ghost use Rattle.mm_types.specs.declared.call.Reply.TheVariants.{Addr, Refused};
 ghost use Rattle.mm_types.specs.Config.{IsValidConfig};
 ghost use Rattle.area_list.specs.Areas.{IsSound};
-ghost use Rattle.area_rules.specs.Mremap.{mremap_args, mremap};
+ghost use Rattle.area_rules.specs.Mremap.{mremap_args, mremap_unsealed};
 ghost use Rattle.area_rules.specs.Munmap.{range_of};
 ghost use Rattle.area_rules.specs.Tables.{space_of};
 ghost use Rattle.split_merge.specs.Calls.{IsPrepared, IsPlannedCall};
@@ -18,8 +18,8 @@ use mm_types::{Config, Errno, PAGE_SIZE, Reply};
 use split_merge::{Areas, Plan, is_too_long};
 
 /// One call of mremap(2), planned. Addresses and lengths are in bytes. The reply and the list that the plan makes are
-/// those of its table, and do not depend on the counters. After a refusal the plan is empty. No memory is
-/// taken.
+/// those of its table without the test of seals, which `guard` of sys_seal makes, and do not depend on the counters. After a
+/// refusal the plan is empty. No memory is taken.
 pub fn plan_mremap<A: Areas>(
     config: &Config,
     areas: &A,
@@ -34,7 +34,7 @@ pub fn plan_mremap<A: Areas>(
     requires sound { IsSound config.now (A.list areas.now) }
     requires prepared { IsPrepared config.now (A.bounds areas.now) (A.most areas.now) plan.old }
     ensures planned { (counters : Counters) → IsPlannedCall (A.bounds areas.now) (A.most areas.now) (A.list areas.now)
-        (mremap config.now (space_of (A.list areas.now) counters) (mremap_args old old_len new_len flags new))
+        (mremap_unsealed config.now (space_of (A.list areas.now) counters) (mremap_args old old_len new_len flags new))
         result plan.old plan.new }
     ensures local { (addr : ℕ) → result ≡ Addr addr
         → IsLocalToEither (range_of old old_len) (range_of addr new_len) (A.list areas.now) plan.new.changes }

@@ -3,8 +3,11 @@ ghost use Rattle.std.specs.Prelude.{◌≡◌, ◌≤◌, length};
 ghost use Rattle.std.specs.Option.{option_to_list};
 ghost use Rattle.std.specs.List.{list_any};
 ghost use Rattle.area_list.specs.Areas.{IsCanonical};
-ghost use Rattle.area_rules.specs.Seals.{has_sealed, is_sealed_off, guarded};
-ghost use Rattle.area_rules.specs.Tables.{AddressSpace, Outcome, counters_of};
+ghost use Rattle.area_rules.specs.Guarded.{is_sealed_off};
+ghost use Rattle.area_rules.specs.Seals.{has_sealed};
+ghost use Rattle.area_rules.specs.Steps.{step, step_unsealed};
+ghost use Rattle.area_rules.specs.Tables.{AddressSpace, counters_of};
+ghost use Rattle.mm_types.specs.declared.config.Config.{Config};
 ghost use Rattle.split_merge.specs.Plans.{PlanView, IsKept};
 ghost use Rattle.sys_seal.specs.Guards.{IsPlannedWhole};
 
@@ -24,7 +27,7 @@ fn has_sealed_in<A: Areas>(areas: &A, range: Option<Span>) -> bool
 }
 
 /// Whether a call would change sealed pages, where all its other tests answer so.
-#[tactic(auto, unfolding(area_rules::specs::Seals::is_sealed_off))]
+#[tactic(auto, unfolding(area_rules::specs::Guarded::is_sealed_off))]
 fn is_sealed_off<A: Areas>(areas: &A, call: &Call, reply: &Reply) -> bool
     requires { IsCanonical (A.bounds areas.now).limit (A.list areas.now) }
     ensures { result ≡ is_sealed_off (A.list areas.now) call.now reply.now }
@@ -33,9 +36,9 @@ fn is_sealed_off<A: Areas>(areas: &A, call: &Call, reply: &Reply) -> bool
     has_sealed_in(areas, first) || has_sealed_in(areas, second)
 }
 
-/// A planned call with the tests of seals: where it would change sealed pages, EPERM, an empty plan, and the counters before it.
-/// `planned` is what its own plan call answered over this list, and `before` are the counters before it (mseal(2)).
-#[tactic(auto, unfolding(area_rules::specs::Seals::guarded))]
+/// The tests of seals of a planned call: where it would change sealed pages, EPERM, an empty plan, and the counters before it.
+/// `planned` is what its own plan call answered over this list without these tests, and `before` are the counters before it
+/// (mseal(2)). With them it is planned as the call's whole table has it.
 pub fn guard<A: Areas>(
     areas: &A,
     call: &Call,
@@ -44,10 +47,10 @@ pub fn guard<A: Areas>(
     plan: &mut Plan,
 ) -> Planned
     requires { IsKept (A.bounds areas.now) (A.most areas.now) (A.list areas.now) }
-    ensures planned { (space : AddressSpace) (outcome : Outcome) (fresh : PlanView) → space.areas ≡ A.list areas.now
+    ensures planned { (config : Config) (space : AddressSpace) (fresh : PlanView) → space.areas ≡ A.list areas.now
         → counters_of space ≡ before
-        → IsPlannedWhole (A.bounds areas.now) (A.most areas.now) (A.list areas.now) outcome planned fresh plan.old
-        → IsPlannedWhole (A.bounds areas.now) (A.most areas.now) (A.list areas.now) (guarded space call.now outcome) result fresh plan.new }
+        → IsPlannedWhole (A.bounds areas.now) (A.most areas.now) (A.list areas.now) (step_unsealed config space call.now) planned fresh plan.old
+        → IsPlannedWhole (A.bounds areas.now) (A.most areas.now) (A.list areas.now) (step config space call.now) result fresh plan.new }
     ensures short { length plan.new.changes ≤ length plan.old.changes }
 {
     if is_sealed_off(areas, call, &planned.reply) {
