@@ -9,3 +9,4 @@ pub mod Opening
 pub mod Preserving
 pub mod Refusing
 pub mod Following
+pub mod Using

@@ -5,4 +5,5 @@ pub mod Events
 pub mod Refusals
 pub mod States
 pub mod Laws
+pub mod Uses
 pub mod Internal

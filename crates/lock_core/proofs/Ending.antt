@@ -31,6 +31,7 @@ use Rattle.lock_core.specs.Events.{after_end, entry_of}
 use Rattle.lock_core.specs.Refusals.{first_page, sorted_rows, first_difference, list_difference, refusal}
 use Rattle.lock_core.specs.Kept.{IsKept}
 use Rattle.lock_core.proofs.Keeping.{end_keeps}
+use Rattle.lock_core.proofs.Weighing.{sum_by-attached, sum_by-packed}
 
 -- what is mapped to none is none
 pub mapped_none : {B : Type 0} (f : ℕ → B) (o : Option ℕ) → option_map f o ≡ None → o ≡ None
@@ -63,31 +64,6 @@ sum_by-sort_by : {A : Type 0} (key weight : A → ℕ) (xs : List A) → sum_by 
 sum_by-sort_by key weight [] = refl
 sum_by-sort_by key weight (x ∷ xs) =
     omega (arith, sum_by-insert_by key weight x (sort_by key xs), sum_by-sort_by key weight xs, sum_by-cons weight x xs)
-
--- the attached rows weigh what the slots weigh
-pub sum_by-attached : (weight : List ℕ → ℕ) (slots : List SlotState)
-    → sum_by weight (filter (λ row. not (is_detached row)) (map (λ slot. slot.row) slots)) ≡ sum_by (attached_weight weight) slots
-sum_by-attached weight [] = refl
-sum_by-attached weight (slot ∷ slots) =
-    let rest = sum_by-attached weight slots in
-    let rows = filter (λ row. not (is_detached row)) (map (λ (s : SlotState). s.row) slots) in
-    let here = sum_by-cons (attached_weight weight) slot slots in
-    elim (cases_Bool (is_detached slot.row)) [
-      | inl detached ↦
-          let none = cond-true {A = ℕ} (is_detached slot.row) 0 (weight slot.row) detached in
-          ap (λ (l : List (List ℕ)). sum_by weight l) (cond-false (not (is_detached slot.row)) (slot.row ∷ rows) rows (ap not detached))
-          ∙ omega (arith, rest, here, none)
-      | inr attached ↦
-          let some = cond-false {A = ℕ} (is_detached slot.row) 0 (weight slot.row) attached in
-          ap (λ (l : List (List ℕ)). sum_by weight l) (cond-true (not (is_detached slot.row)) (slot.row ∷ rows) rows (ap not attached))
-          ∙ omega (arith, rest, here, some, sum_by-cons weight slot.row rows)
-    ]
-
--- the rows of a list weigh what its areas weigh by their words
-pub sum_by-packed : (weight : List ℕ → ℕ) (areas : List Record) → sum_by weight (map packed areas) ≡ sum_by (λ area. weight (packed area)) areas
-sum_by-packed weight [] = refl
-sum_by-packed weight (area ∷ areas) =
-    omega (arith, sum_by-cons weight (packed area) (map packed areas), sum_by-cons (λ (a : Record). weight (packed a)) area areas, sum_by-packed weight areas)
 
 -- rows that differ nowhere from a list show exactly it
 pub rows_exact : (slots : List SlotState) (areas : List Record) → first_difference (sorted_rows slots) (map packed areas) ≡ None → Exactly slots areas

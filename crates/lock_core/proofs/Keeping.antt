@@ -15,11 +15,11 @@ use Rattle.lock_core.specs.declared.stage.SlotState.{SlotState}
 use Rattle.lock_core.specs.declared.stage.Stage.{Stage}
 use Rattle.lock_core.specs.declared.stage.Stage.TheVariants.{Out, Holds, Valid, Gone}
 use Rattle.lock_core.specs.Core.{Core, Reader, slot_at, count_at, reader_at, free_slot, gone_reader, held, is_slot, holds, StartsWith}
-use Rattle.lock_core.specs.Rows.{is_marked, attached_weight, shown_weight, Within, Exactly}
+use Rattle.lock_core.specs.Rows.{is_marked, attached_weight, Within, Exactly}
 use Rattle.lock_core.specs.Facts.{list_after, HoldersFact, StaysValid, Facts}
 use Rattle.lock_core.specs.Events.{with_reader, looked, longer, held_slot, after_add, after_look, after_sub, after_begin, after_mark, after_store, after_end, after_split, after_join}
 use Rattle.lock_core.proofs.Elements.{each_set, none_passes}
-use Rattle.lock_core.proofs.Weighing.{shown-set}
+use Rattle.lock_core.proofs.Weighing.{shown_weight, WeighsWithin, shown-set, within_weighs, weighs_within}
 use Rattle.lock_core.proofs.Holding.{IsFound, holds-none, holds-some, reader_within, holders_change, holders_slot, holders_push, valid_change, valid_slot, valid_sequence, valid_push, starts_more, starts_all, starts_longer, seen_change, seen_push}
 
 -- add
@@ -130,8 +130,8 @@ sub_keeps config core reader at facts some =
 
 -- rows in slots that are not marked weigh no more than all attached rows
 within_exact : (seq : ℕ) (slots : List SlotState) (areas : List Record) → Exactly slots areas → Within seq slots areas
-within_exact seq slots areas exact weight =
-    omega (arith, exact weight, sum_by-le-sum_by (shown_weight weight seq) (attached_weight weight) slots (less weight))
+within_exact seq slots areas exact = weighs_within seq slots areas
+    (λ weight. omega (arith, exact weight, sum_by-le-sum_by (shown_weight weight seq) (attached_weight weight) slots (less weight)))
   where
     less : (weight : List ℕ → ℕ) (slot : SlotState) → shown_weight weight seq slot ≤ attached_weight weight slot
     less weight slot = cond_both (is_marked seq slot) 0 (attached_weight weight slot) (λ n. n ≤ attached_weight weight slot) (λ h. omega arith) (λ h. omega arith)
@@ -161,15 +161,21 @@ held_by_none : (core : Core) (slot : ℕ) → HoldersFact core.slots core.counts
 held_by_none core slot fact none reader = none_passes (holds slot) core.readers reader gone_reader refl (sym (fact.counted slot) ∙ none)
 
 -- the rows that are not marked weigh no more once a slot that changes is marked
-within_marked : (seq : ℕ) (slots : List SlotState) (areas : List Record) (slot : ℕ) (changed : SlotState) → changed.lock_seq ≡ seq
-    → Within seq slots areas → Within seq (set slots slot changed) areas
-within_marked seq slots areas slot changed marked within weight = elim (cases_lt slot (length slots)) [
+weighs_marked : (seq : ℕ) (slots : List SlotState) (areas : List Record) (slot : ℕ) (changed : SlotState) → changed.lock_seq ≡ seq
+    → WeighsWithin seq slots areas → WeighsWithin seq (set slots slot changed) areas
+weighs_marked seq slots areas slot changed marked within weight = elim (cases_lt slot (length slots)) [
   | inl there ↦
       let none = cond-true {A = ℕ} (is_marked seq changed) 0 (attached_weight weight changed) (eq-eqb changed.lock_seq seq marked) in
       omega (arith, none, within weight, shown-set weight seq slots slot changed there)
   | inr past ↦ subst (λ (l : List SlotState). sum_by (shown_weight weight seq) l ≤ sum_by (λ area. weight (packed area)) areas)
       (sym (set_past slots slot changed past)) (within weight)
 ]
+
+-- so they are areas of the list still
+within_marked : (seq : ℕ) (slots : List SlotState) (areas : List Record) (slot : ℕ) (changed : SlotState) → changed.lock_seq ≡ seq
+    → Within seq slots areas → Within seq (set slots slot changed) areas
+within_marked seq slots areas slot changed marked within = weighs_within seq (set slots slot changed) areas
+    (weighs_marked seq slots areas slot changed marked (within_weighs seq slots areas within))
 
 -- mark
 pub mark_keeps : (config : Config) (core : Core) (slot : ℕ) → Facts config core → core.seq % 2 ≡ 1 → count_at core.counts slot ≡ 0

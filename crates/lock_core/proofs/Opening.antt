@@ -13,10 +13,11 @@ use Rattle.area_rules.proofs.Journals.{after-nil}
 use Rattle.lock_core.specs.declared.stage.SlotState.{SlotState}
 use Rattle.lock_core.specs.declared.stage.Stage.TheVariants.{Out}
 use Rattle.lock_core.specs.Core.{Reader, free_slot, gone_reader, holds}
-use Rattle.lock_core.specs.Rows.{attached_weight, shown_weight, Within, Exactly}
+use Rattle.lock_core.specs.Rows.{attached_weight, Within, Exactly}
 use Rattle.lock_core.specs.Facts.{list_after, StaysValid, Facts}
 use Rattle.lock_core.specs.States.{opening_core}
 use Rattle.lock_core.proofs.Holding.{IsFound}
+use Rattle.lock_core.proofs.Weighing.{shown_weight, weighs_within}
 use Rattle.lock_core.specs.Core.{held, StartsWith}
 
 -- what is so of an element and of what is answered past the end is so of each of its copies
@@ -36,8 +37,8 @@ opening_exact config slots weight =
     nothing ∙ sym (ap (λ (l : List Record). sum_by (λ area. weight (packed area)) l) (opening_list config))
 
 opening_within : (config : Config) (slots : ℕ) → Within 2 (replicate slots free_slot) (list_after config [])
-opening_within config slots weight =
-    let none = sum_by-replicate (shown_weight weight 2) slots free_slot in omega (arith, none)
+opening_within config slots = weighs_within 2 (replicate slots free_slot) (list_after config [])
+    (λ weight. let none = sum_by-replicate (shown_weight weight 2) slots free_slot in omega (arith, none))
 
 pub opening_facts : (config : Config) (readers slots : ℕ) → Facts config (opening_core readers slots)
 opening_facts config readers slots = record {

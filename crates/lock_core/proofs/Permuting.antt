@@ -1,35 +1,14 @@
 -- For the law `rows_by_weight`: rows that weigh what a list weighs, however rows are weighed, are those of the list in some order.
 use Rattle.std.proofs.Common.{ℕ, ◌≡◌, ◌≤◌, ◌∙◌, ◌↔◌, refl, sym, ap, subst, List, [], ◌∷◌, ◌++◌, map, get_or, append-nil, arith}
-use Rattle.std.specs.List.{sum_by, remove}
+use Rattle.std.specs.List.{sum_by}
 use Rattle.std.specs.List.Sorted.{IsPermutation}
-use Rattle.std.proofs.lemmas.List.Sorted.{IsPermutation-refl, IsPermutation-sym, IsPermutation-cons, IsPermutation-trans, IsPermutation-remove, sum_by-IsPermutation}
+use Rattle.std.proofs.lemmas.List.Sorted.{sum_by-IsPermutation}
 use Rattle.std.proofs.lemmas.List.Sums.{sum_by-cons, sum_by-append}
 use Rattle.mm_types.specs.declared.area.Record.{Record}
 use Rattle.mm_types.specs.Packed.{packed}
 use Rattle.lock_core.specs.declared.stage.SlotState.{SlotState}
 use Rattle.lock_core.specs.Rows.{attached_rows, Exactly}
-use Rattle.lock_core.proofs.Elements.{some_weighs}
-use Rattle.lock_core.proofs.Reading.{same_element}
-use Rattle.lock_core.proofs.Weighing.{only, only_same, only_other}
-use Rattle.lock_core.proofs.Ending.{sum_by-attached, sum_by-packed}
-
--- rows that weigh no more than others are among them, each as often
-among : (xs ys : List (List ℕ)) → ((weight : List ℕ → ℕ) → sum_by weight xs ≤ sum_by weight ys)
-    → (others : List (List ℕ)) × IsPermutation (xs ++ others) ys
-among [] ys less = (ys, IsPermutation-refl ys)
-among (x ∷ xs) ys less =
-    let one = sum_by-cons (only x) x xs in
-    let itself = only_same x in
-    let found = some_weighs (only x) ys [] (omega (arith, less (only x), one, itself)) in
-    let there : x ≡ get_or ys found.0 [] = only_other x (get_or ys found.0 []) found.2 in
-    let is : x ≡ get_or ys found.0 x = there ∙ same_element ys found.0 [] x found.1 in
-    let taken = IsPermutation-remove ys found.0 x found.1 is in
-    let rest = among xs (remove ys found.0)
-    (λ weight. omega (arith, less weight, sum_by-cons weight x xs, sum_by-IsPermutation weight ys (x ∷ remove ys found.0) taken, sum_by-cons weight x (remove ys found.0))) in (
-      rest.0,
-      IsPermutation-trans (x ∷ (xs ++ rest.0)) (x ∷ remove ys found.0) ys (IsPermutation-cons x (xs ++ rest.0) (remove ys found.0) rest.1)
-          (IsPermutation-sym ys (x ∷ remove ys found.0) taken),
-    )
+use Rattle.lock_core.proofs.Weighing.{among, sum_by-attached, sum_by-packed}
 
 -- a list of which each element weighs 1, and which weighs nothing
 weighs_none : (xs : List (List ℕ)) → sum_by (λ x. 1) xs ≡ 0 → xs ≡ []

@@ -15,7 +15,7 @@ use Rattle.area_rules.specs.Steps.{after, IsReady}
 use Rattle.area_rules.proofs.Journals.{after_ready}
 use Rattle.lock_core.specs.Rows.{is_detached, IsRowOf}
 use Rattle.lock_core.specs.Facts.{list_after}
-use Rattle.lock_core.proofs.Weighing.{no_area}
+use Rattle.lock_core.proofs.Weighing.{no_area, same_element}
 
 -- a row of four words that is detached is the row of no area
 detached_is : (row : List ℕ) → length row ≡ 4 → is_detached row ≡ true → row ≡ 0 ∷ 0 ∷ 0 ∷ 0 ∷ []
@@ -34,12 +34,6 @@ detached_is (a ∷ []) four zeros = absurd (omega arith)
 detached_is (a ∷ b ∷ []) four zeros = absurd (omega arith)
 detached_is (a ∷ b ∷ c ∷ []) four zeros = absurd (omega arith)
 detached_is (a ∷ b ∷ c ∷ d ∷ e ∷ row) four zeros = absurd (omega arith)
-
--- an element that there is, whatever is answered where there is none
-pub same_element : {A : Type 0} (xs : List A) (i : ℕ) (d e : A) → i < length xs → get_or xs i d ≡ get_or xs i e
-same_element [] i d e within = absurd (omega arith)
-same_element (x ∷ xs) zero d e within = refl
-same_element (x ∷ xs) (suc i) d e within = same_element xs i d e (omega arith)
 
 -- what is unpacked of a row that is right for a list is none, or an area of it
 pub row_area : (areas : List Record) (row : List ℕ) → All IsValid areas → All (λ area. area.object < 2 ^ 32) areas → length row ≡ 4

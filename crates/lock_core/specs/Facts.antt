@@ -29,8 +29,8 @@ pub record HoldersFact (slots : List SlotState) (counts : List ℕ) (readers : L
   pub found : (reader : ℕ) → IfSome (held (reader_at readers reader).stage)
       (λ at. (at.0 < length slots) × ((slot_at slots at.0).lock_seq ≡ at.1))
 
--- The journal is legal. The rows of slots that are not marked show areas of the list after the journal, each at most
--- once, and while no call is open the rows show exactly that list.
+-- The journal is legal. The attached rows of slots that are not marked show areas of the list after the journal, no two the
+-- same, and while no call is open the attached rows show exactly that list.
 pub record RowsFact (config : Config) (seq : ℕ) (slots : List SlotState) (journal : List Entry) : Type 0 where
   pub legal : IsLegalJournal config journal
   pub wide : (slot : ℕ) → length (slot_at slots slot).row ≡ 4

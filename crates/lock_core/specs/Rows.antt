@@ -1,5 +1,5 @@
 -- What the rows of slots show of a list of areas.
-use Rattle.std.specs.Prelude.{ℕ, ◌≡◌, ◌≤◌, ◌⊎◌, Bool, true, if◌then◌else◌, nat_eq, List, map, sum_by, Contains, not, filter}
+use Rattle.std.specs.Prelude.{ℕ, ◌≡◌, ◌⊎◌, Bool, true, if◌then◌else◌, nat_eq, List, ◌++◌, map, sum_by, Contains, not, filter, IsPermutation}
 use Rattle.std.specs.List.{list_all}
 use Rattle.mm_types.specs.declared.area.Record.{Record}
 use Rattle.mm_types.specs.Packed.{packed}
@@ -21,18 +21,18 @@ is_marked seq slot = nat_eq slot.lock_seq seq
 abbrev pub IsRowOf : List Record → List ℕ → Type 0
 IsRowOf areas row = (is_detached row ≡ true) ⊎ Contains (map packed areas) row
 
+-- the attached rows in slots that are not marked
+abbrev pub shown_rows : ℕ → List SlotState → List (List ℕ)
+shown_rows seq slots = attached_rows (filter (λ slot. not (is_marked seq slot)) slots)
+
+-- Each attached row in a slot that is not marked has the words of an area of the list, and two such rows those of two areas: with
+-- some others, these rows are the words of the list's areas in some order.
+abbrev pub Within : ℕ → List SlotState → List Record → Type 0
+Within seq slots areas = (others : List (List ℕ)) × IsPermutation (shown_rows seq slots ++ others) (map packed areas)
+
 -- what an attached row weighs; a detached one weighs nothing
 abbrev pub attached_weight : (List ℕ → ℕ) → SlotState → ℕ
 attached_weight weight slot = if is_detached slot.row then 0 else weight slot.row
-
--- what an attached row weighs in a slot that is not marked
-abbrev pub shown_weight : (List ℕ → ℕ) → ℕ → SlotState → ℕ
-shown_weight weight seq slot = if is_marked seq slot then 0 else attached_weight weight slot
-
--- Each attached row in a slot that is not marked has the words of an area of the list, and two such rows those of two
--- areas: however rows are weighed, these rows weigh no more than the list.
-abbrev pub Within : ℕ → List SlotState → List Record → Type 0
-Within seq slots areas = (weight : List ℕ → ℕ) → sum_by (shown_weight weight seq) slots ≤ sum_by (λ area. weight (packed area)) areas
 
 -- The attached rows are exactly the areas of the list: however rows are weighed, both weigh the same.
 abbrev pub Exactly : List SlotState → List Record → Type 0
