@@ -24,3 +24,4 @@ pub mod Told
 pub mod Coming
 pub mod Walking
 pub mod OwnLines
+pub mod OneSpace

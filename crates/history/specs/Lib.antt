@@ -5,6 +5,7 @@ pub mod Labels
 pub mod Threads
 pub mod CallerPlaces
 pub mod Parents
+pub mod SpaceLines
 pub mod Checking
 pub mod Coming
 pub mod Internal

@@ -1,7 +1,7 @@
 //! Whether a history is legal and of a trace, found in one pass over its items.
 ghost use Rattle.std.specs.Prelude.{◌≡◌, ◌+◌, ◌-◌, ◌^◌, ◌<◌, ◌≤◌, ◌↔◌, Err, List, [], All, IsTrue, length, take, IfOk, IfErr, OnOk};
 ghost use Rattle.mm_types.specs.Config.{IsValidConfig};
-ghost use Rattle.trace_reader.specs.Values.{AreNumbered};
+ghost use Rattle.trace_reader.specs.Values.{AreNumbered, IsTraceValue};
 ghost use Rattle.trace_reader.specs.declared.limits.TheConstants.{MOST_LINES};
 ghost use Rattle.history.specs.declared.answers.BadEntry.{BadEntry};
 ghost use Rattle.history.specs.declared.callers.TheConstants.{MOST_THREADS};
@@ -14,8 +14,8 @@ ghost use Rattle.history.specs.Internal.Walks.{shown, space_after_line, HasBegun
 use crate::answers::{Answer, BadEntry, CheckError, Expected};
 use crate::items::{Content, History, Item};
 use crate::made::made_call;
-use crate::parents::lines_of_parent;
 use crate::progress::Progress;
+use crate::space_lines::SpaceLines;
 use mm_types::{Call, Config, Entry, NoMemory};
 use plain_space::PlainSpace;
 use std::alloc::Global;
@@ -41,20 +41,34 @@ struct Walk<'a> {
 /// that is bad, or its end, where lines are left. Each call is made once, and each item is compared once. The only other error is out of
 /// memory.
 pub fn check(alloc: Global, trace: &Trace, history: &History) -> Result<(), CheckError>
-    requires valid { IsValidConfig trace.now.config }
-    requires few { length trace.now.lines ≤ MOST_LINES }
-    requires threads { All (λ line. line.thread < MOST_THREADS) trace.now.lines }
-    requires numbered { AreNumbered trace.now.lines }
+    requires { IsTraceValue trace.now }
     ensures legal { OnOk result (IsLegalHistory trace.now.config [] (parent_lines trace.now.lines) history.now) }
     ensures refused { (bad : BadEntry) → result ≡ Err (CheckError.Bad bad)
         → IsRefused trace.now.config [] (parent_lines trace.now.lines) history.now bad }
 {
-    let lines = lines_of_parent(alloc, trace.lines.items())?;
-    check_after(alloc, &trace.config, &[], lines.as_slice(), history)
+    let lines = SpaceLines::parent_of(alloc, trace)?;
+    check_after(alloc, &trace.config, &[], &lines, history)
 }
 
 /// Judges a history of a space that began with some entries, as `check` does one of a space that began empty.
 pub fn check_after(
+    alloc: Global,
+    config: &Config,
+    start: &[Entry],
+    lines: &SpaceLines<'_>,
+    history: &History,
+) -> Result<(), CheckError>
+    requires valid { IsValidConfig config.now }
+    requires begun { length start.now ≤ 2 ^ 31 }
+    ensures legal { OnOk result (IsLegalHistory config.now start.now lines.now history.now) }
+    ensures refused { (bad : BadEntry) → result ≡ Err (CheckError.Bad bad)
+        → IsRefused config.now start.now lines.now history.now bad }
+{
+    check_lines(alloc, config, start, lines.items(), history)
+}
+
+/// The same, by these lines.
+fn check_lines(
     alloc: Global,
     config: &Config,
     start: &[Entry],

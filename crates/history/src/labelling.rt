@@ -3,16 +3,19 @@ ghost use Rattle.std.specs.Prelude.{◌≡◌, ◌<◌, ◌≤◌, ◌^◌, ◌+
 ghost use Rattle.history.specs.Histories.{goes_first, gather};
 ghost use Rattle.history.specs.Runs.{time_key};
 ghost use Rattle.history.specs.Labels.{labelled, label_of};
+ghost use Rattle.history.specs.Parents.{parent_lines};
+ghost use Rattle.trace_reader.specs.Values.{IsTraceValue};
 
 use crate::callers::{Callers, MOST_THREADS};
 use crate::gathering::gather_one;
 use crate::items::{History, Item};
 use crate::ordering::{are_in_order, put_in_order};
+use crate::space_lines::SpaceLines;
 use mm_types::{Entry, NoMemory, Seen};
 use std::alloc::Global;
 use trace_reader::{Trace, TraceLine};
 
-/// The history of a journal and one log, where each item has the caller of the line of the trace that stands with it, in time linear in
+/// The history of a journal and one log, where each item has the caller of the parent's line that stands with it, in time linear in
 /// the lines, but for reads between two calls that are not in the order of callers. Fails only where memory runs out.
 pub fn label(
     alloc: Global,
@@ -20,11 +23,37 @@ pub fn label(
     journal: &[Entry],
     log: &[Seen],
 ) -> Result<History, NoMemory>
-    requires { All (λ line. line.thread < MOST_THREADS) trace.now.lines }
-    ensures { IfOk result (λ history. history ≡ label_of trace.now.lines journal.now log.now) }
+    requires { IsTraceValue trace.now }
+    ensures { IfOk result (λ history. history ≡ label_of (parent_lines trace.now.lines) journal.now log.now) }
+{
+    let lines = SpaceLines::parent_of(alloc, trace)?;
+    label_space(alloc, &lines, journal, log)
+}
+
+/// The same, by the lines of a space.
+pub fn label_space(
+    alloc: Global,
+    lines: &SpaceLines<'_>,
+    journal: &[Entry],
+    log: &[Seen],
+) -> Result<History, NoMemory>
+    ensures { IfOk result (λ history. history ≡ label_of lines.now journal.now log.now) }
+{
+    label_lines(alloc, lines.items(), journal, log)
+}
+
+/// The same, by these lines.
+fn label_lines(
+    alloc: Global,
+    lines: &[TraceLine],
+    journal: &[Entry],
+    log: &[Seen],
+) -> Result<History, NoMemory>
+    requires { All (λ line. line.thread < MOST_THREADS) lines.now }
+    ensures { IfOk result (λ history. history ≡ label_of lines.now journal.now log.now) }
 {
     let mut items = gather_one(alloc, journal, log)?;
-    give_callers(&mut items, trace.lines.items());
+    give_callers(&mut items, lines);
     let items = in_order(alloc, items)?;
     Ok(History::of(items))
 }

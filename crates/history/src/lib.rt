@@ -17,6 +17,7 @@ mod places;
 mod progress;
 mod run_laws;
 mod same;
+mod space_lines;
 mod turns;
 
 pub use answers::{Answer, BadEntry, CheckError};
@@ -24,7 +25,7 @@ pub use callers::{Callers, MOST_THREADS};
 pub use checking::{check, check_after};
 pub use gathering::gather;
 pub use items::{Content, History, Item};
-pub use labelling::label;
+pub use labelling::{label, label_space};
 pub use laws::{
     lines_of_a_trace_ask_for_themselves, refused_is_not_legal, serial_history_by_version,
     serial_history_is_legal, sort_by_caller_is_stable,
@@ -38,4 +39,5 @@ pub use run_laws::{
     callers_share_the_lines, labels_make_the_serial_history, no_lines_past_the_callers,
     one_operation_more, run_makes_a_legal_history, touches_that_grew_are_made,
 };
+pub use space_lines::SpaceLines;
 pub use turns::{Turn, Turns, in_turn};

@@ -113,7 +113,7 @@ fn drawn_line(draws: &mut Draws, before: &[TraceLine], place: u64, forks: bool) 
         drawn_op(draws)
     };
     TraceLine {
-        number: 2 + place,
+        number: 3 + place,
         thread,
         op,
         after: named(draws, before, thread),

@@ -2,6 +2,7 @@
 
 use crate::by_hand::{READ, WRITE, area, called, faulted, item, line, mmap, trace_of};
 use crate::drawing::CHILD;
+use crate::read_again::is_read;
 use crate::slow_judge::Told;
 use crate::tests::{Whose, bad_of, inherited};
 use history::{Content, History, Item};
@@ -98,29 +99,13 @@ fn stray_trace(alloc: Global, thread: u32) -> Result<Trace, Fail> {
     Ok(trace_of(alloc, lines))
 }
 
-/// Its item, which is right.
-fn stray_history(alloc: Global) -> Result<Vec<Item>, Fail> {
-    let mut items = Vec::new(alloc);
-    items.push(called(0, 1, UNMAPPING, Reply::Zero))?;
-    Ok(items)
-}
-
 #[test]
-fn a_line_that_names_none_of_the_space_stands_nowhere(rt: HostRuntime) -> Result<(), Fail> {
-    let wanted = (1, Told::Nothing, Told::Call(UNMAPPING, Reply::Zero));
-    let trace = stray_trace(rt.alloc(), 0)?;
-    let items = stray_history(rt.alloc())?;
-    assert_eq!(rt;
-        bad_of(&rt, &trace, Whose::Parent, &History::of(items))?,
-        Some(wanted)
-    );
-
-    let history = History::of(stray_history(rt.alloc())?);
-    let trace = stray_trace(rt.alloc(), CHILD)?;
-    assert_eq!(rt;
-        bad_of(&rt, &trace, Whose::Child(&[]), &history)?,
-        Some(wanted)
-    );
+fn lines_that_name_none_of_the_space_make_no_trace(rt: HostRuntime) -> Result<(), Fail> {
+    for thread in [0, CHILD] {
+        let trace = stray_trace(rt.alloc(), thread)?;
+        let is_read = is_read(rt.alloc(), &trace)?;
+        assert!(rt; !is_read);
+    }
     Ok(())
 }
 

@@ -1,9 +1,10 @@
 //! Gathering, labelling and checking, against lists worked out by hand.
 
 use crate::by_hand::{WRITE, area, called, faulted, item, line, trace_of};
+use crate::read_again::read_again;
 use crate::slow_judge::{Bad, Told};
 use crate::tests::{Whose, bad_of};
-use history::{Content, History, Item, MOST_THREADS, gather, label};
+use history::{Content, History, Item, gather, label};
 use mm_types::{
     Access, AreaList, Call, Entry, MAP_ANONYMOUS, MAP_PRIVATE, MmapArgs, Page, Record, Reply, Seen,
     Verdict,
@@ -108,16 +109,14 @@ fn call_line(number: u64, thread: u32) -> TraceLine {
 fn lines_give_the_callers(rt: HostRuntime) -> Result<(), Fail> {
     let alloc = rt.alloc();
     let lines = vec![in alloc;
-        fault_line(1, 9, 1),
-        fault_line(2, 4, 2),
-        call_line(3, 4),
-        fault_line(4, 9, 3),
-        fault_line(5, 4, 4),
-        fault_line(6, 9, 5),
+        fault_line(2, 9, 1),
+        fault_line(3, 4, 2),
+        call_line(4, 4),
+        fault_line(5, 9, 3),
+        fault_line(6, 4, 4),
+        fault_line(7, 9, 5),
     ]?;
-    let trace = trace_of(alloc, lines);
-    let lines = trace.lines.items();
-    assert!(rt; lines.iter().all(|line| line.thread < MOST_THREADS as u32));
+    let trace = read_again(&rt, &trace_of(alloc, lines))?;
     let journal = [entry(0)];
     let log = [
         fault(0, 1),
@@ -185,10 +184,10 @@ fn answered_fault(verdict: Verdict) -> Item {
 /// The lower of two threads maps a page and reads the list; the other has a fault there and unmaps it.
 fn small_trace(alloc: Global) -> Result<Trace, Fail> {
     let lines = vec![in alloc;
-        line(1, 4, Op::Call(mapping()), None),
-        fault_line(2, 9, START / 4096),
-        line(3, 4, Op::Maps, None),
-        line(4, 9, Op::Call(unmapping()), None),
+        line(2, 4, Op::Call(mapping()), None),
+        fault_line(3, 9, START / 4096),
+        line(4, 4, Op::Maps, None),
+        line(5, 9, Op::Call(unmapping()), None),
     ]?;
     Ok(trace_of(alloc, lines))
 }

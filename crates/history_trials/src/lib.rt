@@ -13,6 +13,8 @@ mod gathering_tests;
 #[cfg(test)]
 mod growing;
 #[cfg(test)]
+mod read_again;
+#[cfg(test)]
 mod running;
 #[cfg(test)]
 mod slow_judge;

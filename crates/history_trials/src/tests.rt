@@ -3,11 +3,12 @@ ghost use Rattle.std.specs.Prelude.{◌≡◌, ◌≤◌, ◌↔◌, All, IsTrue
 ghost use Rattle.area_rules.specs.Journals.{version_of};
 
 use crate::drawing::{CHILD, changed, drawn_trace, reordered};
+use crate::read_again::read_again;
 use crate::running::{Run, Space, run_lines};
 use crate::slow_judge::{Bad, Told, first_bad};
 use draws::Draws;
 use history::{Answer, CheckError, History, MOST_THREADS, are_numbered, check};
-use mm_fork::{check_child, check_parent, child_history, inherit};
+use mm_fork::{check_child, check_parent, child_history, has_child, inherit};
 use mm_types::{Entry, NoMemory, Seen};
 use std::alloc::Global;
 use std::process::Abort;
@@ -63,17 +64,15 @@ pub(crate) fn bad_of(
     whose: Whose<'_>,
     history: &History,
 ) -> Result<Option<Bad>, Fail> {
-    let lines = trace.lines.items();
-    assert!(rt; trace.config.valid());
-    assert!(rt; lines.len() <= 16);
-    assert!(rt; lines.iter().all(|line| line.thread < MOST_THREADS as u32));
-    assert!(rt; are_numbered(lines));
+    let trace = read_again(rt, trace)?;
+    assert!(rt; are_numbered(trace.lines.items()));
     match whose {
-        Whose::Alone => told(check(rt.alloc(), trace, history)),
-        Whose::Parent => told(check_parent(rt.alloc(), trace, history)),
+        Whose::Alone => told(check(rt.alloc(), &trace, history)),
+        Whose::Parent => told(check_parent(rt.alloc(), &trace, history)),
         Whose::Child(before) => {
+            assert!(rt; has_child(&trace, CHILD));
             assert!(rt; before.len() <= 16);
-            told(check_child(rt.alloc(), trace, CHILD, before, history))
+            told(check_child(rt.alloc(), &trace, CHILD, before, history))
         }
     }
 }

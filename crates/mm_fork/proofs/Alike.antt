@@ -17,7 +17,8 @@ use Rattle.history.proofs.Calls.{is_answer, reads_answer}
 use Rattle.history.proofs.Lists.{slice_get_found}
 use Rattle.history.proofs.Numbers.{passed, own_place}
 use Rattle.history.proofs.Serial.{right_is_answer}
-use Rattle.mm_fork.specs.Children.{child_lines, space_from}
+use Rattle.mm_fork.specs.Children.{space_from}
+use Rattle.history.specs.SpaceLines.{child_lines}
 use Rattle.mm_fork.proofs.Spaces.{after_on}
 
 -- the item of a line that a caller does next after some items

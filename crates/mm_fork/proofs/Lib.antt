@@ -4,4 +4,4 @@ pub mod Spaces
 pub mod ChildRuns
 pub mod Alike
 pub mod LogsBehind
-pub mod Traces
+pub mod Forked

@@ -1,5 +1,5 @@
 -- Child spaces: what a child begins with, whose lines are whose, and the history of a child.
-use Rattle.std.specs.Prelude.{ℕ, ◌≡◌, ◌≤◌, ◌<◌, ◌+◌, false, nat_eq, List, [], ◌++◌, length, map, take, drop, filter, fold, slice_get, All, Some}
+use Rattle.std.specs.Prelude.{ℕ, ◌≡◌, ◌≤◌, ◌<◌, ◌+◌, false, List, [], ◌++◌, length, map, take, drop, fold, slice_get, All, Some}
 use Rattle.mm_types.specs.declared.call.Entry.{Entry}
 use Rattle.mm_types.specs.declared.call.Seen.{Seen}
 use Rattle.mm_types.specs.declared.config.Config.{Config}
@@ -16,6 +16,7 @@ use Rattle.history.specs.declared.items.Content.TheVariants as contents
 use Rattle.history.specs.declared.items.Item.{Item}
 use Rattle.history.specs.Histories.{lines_of}
 use Rattle.history.specs.Parents.{parent_lines}
+use Rattle.history.specs.SpaceLines.{child_lines}
 use Rattle.history.specs.Runs.{history_of, own_of, ops_of, asked, HasGrown, AreTold}
 use Rattle.mm_fork.specs.Behind.{log_behind}
 
@@ -30,10 +31,6 @@ inherited journal version = map as_inherited (take version journal)
 -- the history of a child that was forked at a version, by its whole journal and the logs of its callers
 abbrev pub child_history_of : ℕ → List Entry → List (List Seen) → List Item
 child_history_of version journal logs = history_of (drop version journal) (map (log_behind version) logs)
-
--- the lines of a child, in order
-abbrev pub child_lines : List TraceLine → ℕ → List TraceLine
-child_lines lines child = filter (λ line. nat_eq line.thread child) lines
 
 -- the trace of the parent: its lines, in the same configuration
 abbrev pub parent_trace : Trace → Trace

@@ -1,17 +1,13 @@
 //! Whether a history is legal and of the lines of a parent, or of a child.
-ghost use Rattle.std.specs.Prelude.{◌≡◌, ◌<◌, ◌≤◌, ◌^◌, Err, [], All, OnOk, length};
-ghost use Rattle.mm_types.specs.Config.{IsValidConfig};
-ghost use Rattle.trace_reader.specs.Values.{AreNumbered};
-ghost use Rattle.trace_reader.specs.declared.limits.TheConstants.{MOST_LINES};
+ghost use Rattle.std.specs.Prelude.{◌≡◌, ◌≤◌, ◌^◌, Err, [], Contains, OnOk, length};
+ghost use Rattle.trace_reader.specs.Values.{IsTraceValue, children_of};
 ghost use Rattle.history.specs.declared.answers.BadEntry.{BadEntry};
-ghost use Rattle.history.specs.declared.callers.TheConstants.{MOST_THREADS};
 ghost use Rattle.history.specs.Checking.{IsRefused};
 ghost use Rattle.history.specs.Histories.{IsLegalHistory};
 ghost use Rattle.history.specs.Parents.{parent_lines};
-ghost use Rattle.mm_fork.specs.Children.{child_lines};
+ghost use Rattle.history.specs.SpaceLines.{child_lines};
 
-use crate::lines::lines_of_child;
-use history::{CheckError, History, check, check_after};
+use history::{CheckError, History, SpaceLines, check, check_after};
 use mm_types::Entry;
 use std::alloc::Global;
 use trace_reader::Trace;
@@ -19,10 +15,7 @@ use trace_reader::Trace;
 /// Judges the history of the parent of a trace, as `check` does: `Ok` exactly where it is legal and of the lines of threads that are no
 /// child's, and else the first item that is bad, or its end. The only other error is out of memory.
 pub fn check_parent(alloc: Global, trace: &Trace, history: &History) -> Result<(), CheckError>
-    requires valid { IsValidConfig trace.now.config }
-    requires few { length trace.now.lines ≤ MOST_LINES }
-    requires threads { All (λ line. line.thread < MOST_THREADS) trace.now.lines }
-    requires numbered { AreNumbered trace.now.lines }
+    requires { IsTraceValue trace.now }
     ensures legal { OnOk result (IsLegalHistory trace.now.config [] (parent_lines trace.now.lines) history.now) }
     ensures refused { (bad : BadEntry) → result ≡ Err (CheckError.Bad bad)
         → IsRefused trace.now.config [] (parent_lines trace.now.lines) history.now bad }
@@ -39,15 +32,13 @@ pub fn check_child(
     before: &[Entry],
     history: &History,
 ) -> Result<(), CheckError>
-    requires valid { IsValidConfig trace.now.config }
-    requires few { length trace.now.lines ≤ MOST_LINES }
-    requires threads { All (λ line. line.thread < MOST_THREADS) trace.now.lines }
-    requires numbered { AreNumbered trace.now.lines }
+    requires trace { IsTraceValue trace.now }
+    requires child { Contains (children_of trace.now.lines) child }
     requires begun { length before.now ≤ 2 ^ 31 }
     ensures legal { OnOk result (IsLegalHistory trace.now.config before.now (child_lines trace.now.lines child) history.now) }
     ensures refused { (bad : BadEntry) → result ≡ Err (CheckError.Bad bad)
         → IsRefused trace.now.config before.now (child_lines trace.now.lines child) history.now bad }
 {
-    let lines = lines_of_child(alloc, trace.lines.items(), child)?;
-    check_after(alloc, &trace.config, before, lines.as_slice(), history)
+    let lines = SpaceLines::child_of(alloc, trace, child)?;
+    check_after(alloc, &trace.config, before, &lines, history)
 }

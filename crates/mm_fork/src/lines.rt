@@ -1,10 +1,13 @@
-//! The lines of a child.
-ghost use Rattle.std.specs.Prelude.{◌≡◌, IfOk};
-ghost use Rattle.mm_fork.specs.Children.{child_lines};
+//! The lines of a child, and whether there is one.
+ghost use Rattle.std.specs.Prelude.{◌≡◌, ◌↔◌, Contains, IfOk, IsTrue, false, nat_eq};
+ghost use Rattle.std.specs.Option.{option_map_or};
+ghost use Rattle.std.specs.List.{list_any};
+ghost use Rattle.trace_reader.specs.Values.{child_of, children_of};
+ghost use Rattle.history.specs.SpaceLines.{child_lines};
 
 use mm_types::NoMemory;
 use std::alloc::Global;
-use trace_reader::TraceLine;
+use trace_reader::{Op, Trace, TraceLine};
 
 /// The lines of a child, in order: those of its one thread. Fails only where memory runs out.
 pub fn lines_of_child(
@@ -16,4 +19,28 @@ pub fn lines_of_child(
 {
     let own = lines.iter().filter(|line| line.thread == child);
     Ok(own.copied().collect(alloc)?)
+}
+
+/// Whether a line of a trace forks this child, as `check_child` and `SpaceLines::child_of` ask.
+pub fn has_child(trace: &Trace, child: u32) -> bool
+    ensures { IsTrue result ↔ Contains (children_of trace.now.lines) child }
+{
+    fork_it(trace.lines.items(), child)
+}
+
+/// Whether one of some lines forks this child.
+fn fork_it(lines: &[TraceLine], child: u32) -> bool
+    ensures { result ≡ list_any (λ line. option_map_or (λ own. nat_eq own child) (child_of line.op) false) lines.now }
+{
+    lines.iter().any(|line| forks(line.op, child))
+}
+
+/// Whether an operation forks this child.
+fn forks(op: Op, child: u32) -> bool
+    ensures { result ≡ option_map_or (λ own. nat_eq own child) (child_of op) false }
+{
+    match op {
+        Op::Fork { child: own } => own == child,
+        Op::Call(_) | Op::Fault { .. } | Op::Maps => false,
+    }
 }

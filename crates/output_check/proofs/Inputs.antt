@@ -1,5 +1,5 @@
 -- For `inputs_are_within` and `checked`: how long an input is, and what its trace is.
-use Rattle.std.proofs.Common.{◌≡◌, ℕ, ◌+◌, ◌≤◌, true, nat_eq, nat_lt, if◌then◌else◌, List, length, take, drop, Option, Some, None, Result, Ok, Err, refl, ap, subst, arith}
+use Rattle.std.proofs.Common.{◌≡◌, ℕ, ◌+◌, ◌≤◌, true, nat_eq, nat_lt, if◌then◌else◌, List, [], ◌∷◌, length, take, drop, Option, Some, None, Result, Ok, Err, refl, ap, subst, arith}
 use Rattle.std.proofs.lemmas.Bool.{cond_both, eqb-true, ltb-false}
 use Rattle.std.proofs.lemmas.List.{length-drop, length-take}
 use Rattle.text_lexer.specs.declared.error.Cause.{Cause}
@@ -96,3 +96,9 @@ parted_value None bytes input is =
 pub input_value : (bytes : List ℕ) (input : CheckInput) → input_of bytes ≡ Ok input → IsTraceValue input.trace
 unfolding input_of
 input_value bytes input is = parted_value (mark_from true bytes) bytes input is
+
+-- no bytes are no trace: line 1 is no header
+pub empty_input : (bytes : List ℕ) → length bytes ≡ 0 → input_of bytes ≡ Err (bad_line 1 Header)
+unfolding input_of plain_trace_of
+empty_input [] none = refl
+empty_input (first ∷ bytes) none = absurd (omega (arith, none))

@@ -1,5 +1,7 @@
 //! What is answered to the bytes of a check.
-ghost use Rattle.std.specs.Prelude.{◌≡◌, IfOk, IfErr, IsErrOf, IsOk, IsOkAnd};
+ghost use Rattle.std.specs.Prelude.{◌≡◌, Err, IfOk, IfErr, IsErrOf, IsOk, IsOkAnd, length};
+ghost use Rattle.text_lexer.specs.BadLines.{bad_line};
+ghost use Rattle.text_lexer.specs.declared.error.Cause.TheVariants.{Header};
 ghost use Rattle.text_lexer.specs.Reading.{IsErrorOf};
 ghost use Rattle.trace_reader.specs.Values.{IsTraceValue};
 ghost use Rattle.output_check.specs.Input.{input_of};
@@ -16,10 +18,11 @@ use text_lexer::ReadError;
 /// line of the text, counted from 1 behind that line.
 ///
 /// `ReadError::Bad` comes exactly where the bytes are no such input, with their first bad line and its cause. `ReadError::NoMemory` comes
-/// where memory runs out.
+/// where memory runs out, which it does not where there are no bytes.
 pub fn checked(alloc: Global, bytes: &[u8]) -> Result<Vec<u8>, ReadError>
     ensures text { IfOk result (λ text. IsOkAnd (input_of bytes.now) (λ input. IsCheckedAs input text.items)) }
     ensures bad { IfErr result (λ error. IsErrorOf error (input_of bytes.now)) }
+    ensures empty { length bytes.now ≡ 0 → result ≡ Err (ReadError.Bad (bad_line 1 Header)) }
 {
     judged(alloc, read_input(alloc, bytes))
 }

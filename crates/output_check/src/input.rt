@@ -1,5 +1,6 @@
 //! The trace and the text that the bytes of a check are.
-ghost use Rattle.std.specs.Prelude.{◌≡◌, ◌+◌, ◌≤◌, true, length, IfSome, IsErrOf, Result};
+ghost use Rattle.std.specs.Prelude.{◌≡◌, ◌+◌, ◌≤◌, true, length, Err, IfSome, IsErrOf, Result};
+ghost use Rattle.text_lexer.specs.declared.error.Cause.TheVariants.{Header};
 ghost use Rattle.text_lexer.specs.BadLines.{bad_line};
 ghost use Rattle.text_lexer.specs.Reading.{IsErrorOf};
 ghost use Rattle.trace_reader.specs.Grammar.{trace_of};
@@ -28,11 +29,18 @@ pub(crate) struct Input<'a> {
     pub(crate) given: &'a [u8],
 }
 
-/// The trace and the text that the bytes are, or the first bad line and its cause.
-#[tactic(auto, unfolding(crate::specs::Input::input_of))]
+/// The trace and the text that the bytes are, or the first bad line and its cause. No bytes take no memory.
+#[tactic(auto, unfolding(crate::specs::Input::input_of), using(crate::proofs::Inputs::empty_input))]
 pub(crate) fn read_input(alloc: Global, bytes: &[u8]) -> Result<Input<'_>, ReadError>
-    ensures { GivesInput result (input_of bytes.now) }
+    ensures input { GivesInput result (input_of bytes.now) }
+    ensures empty { length bytes.now ≡ 0 → result ≡ Err (ReadError.Bad (bad_line 1 Header)) }
 {
+    if bytes.is_empty() {
+        return Err(ReadError::Bad(BadLine {
+            line: 1,
+            cause: Cause::Header,
+        }));
+    }
     match mark_of(bytes) {
         Some(place) => {
             let front = &bytes[..place];

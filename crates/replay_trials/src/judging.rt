@@ -4,7 +4,7 @@ ghost use Rattle.area_rules.specs.Journals.{version_of};
 ghost use Rattle.trace_reader.specs.Values.{IsTraceValue};
 
 use history::{CheckError, History, MOST_THREADS, gather};
-use mm_fork::{check_child, child_history, inherit};
+use mm_fork::{check_child, child_history, has_child, inherit};
 use mm_space::Closed;
 use mm_types::{Entry, Seen};
 use output_check::checked;
@@ -83,5 +83,6 @@ pub(crate) fn judged_child(
     assert!(rt; logs.iter().all(|log| is_later(version, log.as_slice())));
     assert!(rt; version <= own.len() as u64);
     let history = child_history(alloc, version, own, logs)?;
+    assert!(rt; has_child(trace, fork.child));
     Ok(check_child(alloc, trace, fork.child, before.as_slice(), &history))
 }

@@ -1,4 +1,5 @@
-ghost use Rattle.std.specs.Prelude.{◌≡◌};
+ghost use Rattle.std.specs.Prelude.{◌≡◌, Err, length};
+ghost use Rattle.text_lexer.specs.declared.error.Cause.TheVariants.{Header};
 ghost use Rattle.text_lexer.specs.BadLines.{bad_line};
 ghost use Rattle.trace_reader.specs.Grammar.{trace_of, lines_read};
 ghost use Rattle.trace_reader.specs.Reading.{GivesLines, GivesTrace};
@@ -36,10 +37,11 @@ fn read_lines(alloc: Global, bytes: &[u8]) -> Result<TraceBuilder, ReadError>
     Ok(builder)
 }
 
-/// The trace that the bytes are, or the first bad line and its cause.
+/// The trace that the bytes are, or the first bad line and its cause. No bytes take no memory.
 #[tactic(auto, unfolding(crate::specs::Grammar::trace_of))]
 pub fn read(alloc: Global, bytes: &[u8]) -> Result<Trace, ReadError>
-    ensures { GivesTrace result (trace_of bytes.now) }
+    ensures trace { GivesTrace result (trace_of bytes.now) }
+    ensures empty { length bytes.now ≡ 0 → result ≡ Err (ReadError.Bad (bad_line 1 Header)) }
 {
     if bytes.is_empty() {
         return Err(bad(1, Cause::Header));

@@ -38,6 +38,27 @@ none_forks lines journal (fork ∷ forks) none all =
     let one : IsForkOf lines journal fork = All-head (IsForkOf lines journal) fork forks all in
     let found : Contains [] fork.child = subst (λ (l : List ℕ). Contains l fork.child) none one.child in absurd (omega (arith, found.1))
 
+-- where no line forks the trace is its parent's: so its run is the parent's, and so is the history of it
+pub alone_run : (mode : Mode) (trace : Trace) (run : ClosedView) → list_any (λ line. is_some (child_of line.op)) trace.lines ≡ false
+    → IsRunOf mode trace run → IsRunOf mode (parent_trace trace) run
+alone_run mode trace run none is = subst (λ (t : Trace). IsRunOf mode t run) (own_parent trace trace.lines false refl (sym none) refl) is
+
+pub alone_history : (mode : Mode) (trace : Trace) (run : ClosedView) (history : List Item)
+    → list_any (λ line. is_some (child_of line.op)) trace.lines ≡ false → history ≡ history_of_run mode (parent_trace trace) run
+    → history ≡ history_of_run mode trace run
+alone_history mode trace run history none is =
+    is ∙ ap (λ (t : Trace). history_of_run mode t run) (sym (own_parent trace trace.lines false refl (sym none) refl))
+
+-- what is printed of a history is the text of the run that it is of
+pub run_listed : (mode : Mode) (trace : Trace) (run : ClosedView) (lines : List TraceLine) (history items : List Item) (shown : List Record)
+    → lines ≡ trace.lines → history ≡ history_of_run mode trace run → items ≡ history → shown ≡ run.list
+    → listed_text trace.config.files lines items shown
+    ≡ listed_text trace.config.files trace.lines (history_of_run mode trace run) run.list
+run_listed mode trace run lines history items shown of_trace made same list =
+    ap (λ (l : List TraceLine). listed_text trace.config.files l items shown) of_trace
+    ∙ ap (λ (i : List Item). listed_text trace.config.files trace.lines i shown) (same ∙ made)
+    ∙ ap (λ (r : List Record). listed_text trace.config.files trace.lines (history_of_run mode trace run) r) list
+
 -- the text of a run with no children is what the trace gives
 pub alone_gives : (mode : Mode) (trace : Trace) (run : ClosedView) → IsTraceValue trace
     → list_any (λ line. is_some (child_of line.op)) trace.lines ≡ false → IsRunOf mode trace run → run.list ≡ list_after trace.config run.journal

@@ -1,6 +1,6 @@
 -- Serves `check_source`: the bytes that were taken from a source settle which trace and which text it gives, and so what is judged.
 use Rattle.std.proofs.Common.{ℕ, ◌≡◌, refl, sym, subst, List, Option, Some, None, Result, Ok, Err, IfSome}
-use Rattle.std.specs.Prelude.{IsOkAnd}
+use Rattle.std.specs.Prelude.{IsOk, IsOkAnd}
 use Rattle.io_edge.specs.Edge.{SourceView}
 use Rattle.text_lexer.specs.declared.error.ReadError.{ReadError}
 use Rattle.text_lexer.specs.declared.error.BadLine.{BadLine}
@@ -22,12 +22,11 @@ judged_parts : (read : Result CheckInput BadLine) (text : List ℕ) → IsOkAnd 
 judged_parts (Ok parts) text judged = (parts, refl, judged)
 judged_parts (Err first) text judged = absurd judged
 
--- so it is for the whole of a source that has these parts
-judged_whole : (left : Option (List ℕ)) (parts : CheckInput) (text : List ℕ) → IsCheckedAs parts text
-    → IfSome left (λ input. input_of input ≡ Ok parts) → IfSome left (λ input. IsOkAnd (input_of input) (λ parts. IsCheckedAs parts text))
-judged_whole None parts text judged read = tt
-judged_whole (Some input) parts text judged read =
-    subst (λ (r : Result CheckInput BadLine). IsOkAnd r (λ parts. IsCheckedAs parts text)) (sym read) judged
+-- a source that has these parts has some
+parts_read : (left : Option (List ℕ)) (parts : CheckInput) → IfSome left (λ input. input_of input ≡ Ok parts)
+    → IfSome left (λ input. IsOk (input_of input))
+parts_read None parts read = tt
+parts_read (Some input) parts read = subst (λ (r : Result CheckInput BadLine). IsOk r) (sym read) refl
 
 -- where what was taken is judged, the source gave it whole
 pub checks : (old new : SourceView) (bytes text : List ℕ) → IsTaking check_limit old new (Ok bytes)
@@ -35,7 +34,7 @@ pub checks : (old new : SourceView) (bytes text : List ℕ) → IsTaking check_l
 checks old new bytes text taken judged =
     let found = judged_parts (input_of bytes) text judged in
     let whole = found_whole input_of check_limit bounded_input old new bytes found.0 taken found.1 in
-    (whole.0, whole.1, whole.2, judged_whole old.left found.0 text found.2 whole.3)
+    (whole.0, whole.1, whole.2, parts_read old.left found.0 whole.3, (bytes, taken.1.moved, judged))
 
 -- where it is not, it has the source's first bad line, or memory ran out
 pub checks_nothing : (old new : SourceView) (bytes : List ℕ) (error : ReadError) (status : Status) → IsTaking check_limit old new (Ok bytes)

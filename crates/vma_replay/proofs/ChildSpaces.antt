@@ -21,11 +21,12 @@ use Rattle.history.specs.Histories.{AskThemselves, IsLegalHistory}
 use Rattle.history.proofs.Calls.{values_ask}
 use Rattle.mm_space.specs.Closing.{ClosedView}
 use Rattle.mm_space.specs.Names.{AreStrangers}
-use Rattle.mm_fork.specs.Children.{as_inherited, inherited, child_history_of, child_lines, child_trace, IsChildRun}
+use Rattle.mm_fork.specs.Children.{as_inherited, inherited, child_history_of, child_trace, IsChildRun}
+use Rattle.history.specs.SpaceLines.{child_lines}
 use Rattle.mm_fork.proofs.ChildRuns.{child_is_legal}
 use Rattle.mm_fork.proofs.Places.{mapped_from}
 use Rattle.mm_fork.proofs.Spaces.{inherited_space}
-use Rattle.mm_fork.proofs.Traces.{child_is_trace, child_is_alone, child_lines_name_none}
+use Rattle.history.proofs.OneSpace.{child_is_trace, child_is_alone, child_lines_name_none}
 use Rattle.vma_drive.specs.Sharing.{AreOfOneThread, NameNoLine}
 use Rattle.vma_replay.specs.declared.forks.Fork.{Fork}
 use Rattle.vma_replay.specs.Internal.Families.{IsOfParent, IsForkOf, AreRunsOfChildren}

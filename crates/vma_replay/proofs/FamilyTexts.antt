@@ -13,9 +13,10 @@ use Rattle.history.specs.declared.items.Item.{Item}
 use Rattle.history.specs.Histories.{journal_of}
 use Rattle.mm_space.specs.Closing.{ClosedView}
 use Rattle.history.specs.Parents.{parent_lines}
-use Rattle.mm_fork.specs.Children.{inherited, child_history_of, child_lines, parent_trace}
+use Rattle.mm_fork.specs.Children.{inherited, child_history_of, parent_trace}
+use Rattle.history.specs.SpaceLines.{child_lines}
 use Rattle.mm_fork.proofs.ChildRuns.{child_journal}
-use Rattle.mm_fork.proofs.Traces.{parent_is_trace}
+use Rattle.history.proofs.OneSpace.{parent_is_trace}
 use Rattle.vma_replay.specs.declared.forks.Fork.{Fork}
 use Rattle.vma_replay.specs.declared.words.Mode.{Mode}
 use Rattle.vma_replay.specs.declared.words.Mode.TheVariants as modes

@@ -38,7 +38,7 @@ use Rattle.mm_types.proofs.Sorting.{All-sort_by}
 use Rattle.mm_space.specs.Closing.{ClosedView}
 use Rattle.history.specs.Parents.{parent_lines}
 use Rattle.mm_fork.specs.Children.{parent_trace}
-use Rattle.mm_fork.proofs.Traces.{parent_is_trace}
+use Rattle.history.proofs.OneSpace.{parent_is_trace}
 use Rattle.vma_drive.proofs.NamesShared.{few_callers}
 use Rattle.vma_replay.specs.declared.forks.Fork.{Fork}
 use Rattle.vma_replay.specs.declared.words.Mode.{Mode}

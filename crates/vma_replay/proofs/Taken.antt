@@ -54,8 +54,13 @@ settled read limit bounded old new bytes answer taken e = taken_settles read lim
 -- where what was taken is read, the source gave it whole
 pub found_whole : {Y : Type 0} (read : List ℕ → Result Y BadLine) (limit : ℕ) → IsBounded read limit → (old new : SourceView) (bytes : List ℕ)
     (found : Y) → IsTaking limit old new (Ok bytes) → read bytes ≡ Ok found → IsReading read limit old new (Ok found)
-found_whole read limit bounded old new bytes found taken is =
-    (taken.0, (bytes, taken.1), taken.1.whole (bounded.within bytes found is), settled read limit bounded old.left new.left bytes (Ok found) taken.1 is)
+found_whole read limit bounded old new bytes found taken is = (
+  taken.0,
+  (bytes, taken.1),
+  taken.1.whole (bounded.within bytes found is),
+  settled read limit bounded old.left new.left bytes (Ok found) taken.1 is,
+  (bytes, taken.1.moved, is),
+)
 
 -- where it is not, it has the source's first bad line, or memory ran out
 pub refused_first : {Y : Type 0} (read : List ℕ → Result Y BadLine) (limit : ℕ) → IsBounded read limit → (old new : SourceView) (bytes : List ℕ)

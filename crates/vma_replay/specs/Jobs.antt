@@ -1,5 +1,5 @@
 -- What the words after the program's name ask for.
-use Rattle.std.specs.Prelude.{ℕ, ◌==◌, ◌||◌, ◌&&◌, Bool, false, not, List, [], ◌∷◌, map, codes, bytes_eq, slice_index, string_bytes, String, Option, Some, None, is_some, option_and_then, nat_le, if◌then◌else◌}
+use Rattle.std.specs.Prelude.{ℕ, ◌≤◌, ◌==◌, ◌||◌, ◌&&◌, Bool, false, not, List, [], ◌∷◌, map, codes, bytes_eq, slice_index, string_bytes, String, Option, Some, None, is_some, option_and_then, nat_le, if◌then◌else◌}
 use Rattle.std.specs.declared.alloc.Global.{Global}
 use Rattle.std.specs.List.{list_any}
 use Rattle.text_lexer.specs.Numbers.{decimal_of, number_of}
@@ -8,6 +8,8 @@ use Rattle.vma_replay.specs.declared.words.Conversion.TheVariants as conversions
 use Rattle.vma_replay.specs.declared.words.Job.{Job}
 use Rattle.vma_replay.specs.declared.words.Job.TheVariants as jobs
 use Rattle.vma_replay.specs.declared.words.Mode.TheVariants as modes
+use Rattle.vma_replay.specs.declared.words.Run.{Run}
+use Rattle.vma_replay.specs.declared.words.Run.TheVariants as runs
 
 -- a job that has no words after the first
 abbrev pub alone : Job → List (List ℕ) → Option Job
@@ -74,3 +76,15 @@ begin_with_mode (word ∷ words) = is_mode (string_bytes word)
 -- words that begin with a mode, of which none begins with `-`
 abbrev pub are_tried : List (String Global) → Bool
 are_tried words = begin_with_mode words && not (list_any begins_with_dash words)
+
+-- the job of a run
+abbrev pub job_of_run : Run → Job
+job_of_run (runs.Replay mode) = jobs.Replay mode
+job_of_run (runs.Generate count seed) = jobs.Generate count seed
+
+-- a job that is in its limits
+abbrev pub IsInLimits : Job → Type 0
+IsInLimits (jobs.Replay mode) = Unit {0}
+IsInLimits (jobs.Convert conversion) = Unit {0}
+IsInLimits jobs.Check = Unit {0}
+IsInLimits (jobs.Generate count seed) = count ≤ MOST_OPERATIONS

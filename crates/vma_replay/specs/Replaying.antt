@@ -3,7 +3,7 @@ use Rattle.std.specs.Prelude.{ℕ, ◌≡◌, ◌<◌, ◌≤◌, ◌+◌, ◌�
 use Rattle.std.specs.Option.{option_map_or}
 use Rattle.std.specs.Result.{result_err}
 use Rattle.std.specs.declared.alloc.Global.{Global}
-use Rattle.io_edge.specs.Edge.{SinkView}
+use Rattle.io_edge.specs.Edge.{SourceView, SinkView}
 use Rattle.std.specs.Io.KnownBytes.{Appends, Consumes, IsAtEnd}
 use Rattle.mm_types.specs.declared.call.Entry.{Entry}
 use Rattle.mm_types.specs.declared.call.Seen.{Seen}
@@ -14,7 +14,8 @@ use Rattle.history.specs.Histories.{journal_of, IsLegalHistory}
 use Rattle.history.specs.Runs.{history_of, IsRun}
 use Rattle.history.specs.Labels.{label_of, IsSerialRun}
 use Rattle.history.specs.Parents.{parent_lines}
-use Rattle.mm_fork.specs.Children.{inherited, child_history_of, child_lines, parent_trace, IsChildRun}
+use Rattle.mm_fork.specs.Children.{inherited, child_history_of, parent_trace, IsChildRun}
+use Rattle.history.specs.SpaceLines.{child_lines}
 use Rattle.text_lexer.specs.declared.error.Cause.{Cause}
 use Rattle.text_lexer.specs.declared.error.BadLine.{BadLine}
 use Rattle.trace_reader.specs.declared.trace.Trace.{Trace}
@@ -182,25 +183,25 @@ reads_the_source words = is_some (most_of_words words)
 abbrev pub opens_a_space : List (String Global) → Bool
 opens_a_space words = option_map_or (λ job. (work_of job).opens) (job_of_words words) false
 
--- of what the source had left, where it tells that; of nothing for work that reads nothing
-abbrev pub OfInput : Option ℕ → Option (List ℕ) → (List ℕ → Type 0) → Type 0
-OfInput None left claim = claim []
-OfInput (Some most) left claim = IfSome left claim
+-- of all that the source had left, which was taken, up to its end; of nothing for work that reads nothing
+abbrev pub OfInput : Option ℕ → SourceView → SourceView → (List ℕ → Type 0) → Type 0
+OfInput None source source' claim = claim []
+OfInput (Some most) source source' claim = (input : List ℕ) × Consumes source.left source'.left input × IsAtEnd source'.left × claim input
 
 -- what was given by work that is done is its text for the input, with these closed runs
-abbrev pub GivesAll : Work → Option (List ℕ) → List ClosedView → SinkView → SinkView → Type 0
-GivesAll work left runs old new = OfInput work.reads left (λ input. (text : List ℕ) × work.gives input runs text
-    × Appends old.written new.written text)
+abbrev pub GivesAll : Work → SourceView → SourceView → List ClosedView → SinkView → SinkView → Type 0
+GivesAll work source source' runs sink sink' = OfInput work.reads source source' (λ input. (text : List ℕ) × work.gives input runs text
+    × Appends sink.written sink'.written text)
 
 -- a beginning was given of a text that the work gives for the input with some closed runs
-abbrev pub GivesBeginning : Work → Option (List ℕ) → SinkView → SinkView → Type 0
-GivesBeginning work left old new = OfInput work.reads left (λ input. (runs : List ClosedView) × (text : List ℕ) × work.gives input runs text
-    × (count : ℕ) × Appends old.written new.written (take count text))
+abbrev pub GivesBeginning : Work → SourceView → SourceView → SinkView → SinkView → Type 0
+GivesBeginning work source source' sink sink' = OfInput work.reads source source' (λ input. (runs : List ClosedView) × (text : List ℕ)
+    × work.gives input runs text × (count : ℕ) × Appends sink.written sink'.written (take count text))
 
 -- a beginning of one that is not all of it was given
-abbrev pub GivesProperBeginning : Work → Option (List ℕ) → SinkView → SinkView → Type 0
-GivesProperBeginning work left old new = OfInput work.reads left (λ input. (runs : List ClosedView) × (text : List ℕ) × work.gives input runs text
-    × (count : ℕ) × (count < length text) × Appends old.written new.written (take count text))
+abbrev pub GivesProperBeginning : Work → SourceView → SourceView → SinkView → SinkView → Type 0
+GivesProperBeginning work source source' sink sink' = OfInput work.reads source source' (λ input. (runs : List ClosedView) × (text : List ℕ)
+    × work.gives input runs text × (count : ℕ) × (count < length text) × Appends sink.written sink'.written (take count text))
 
 -- the answer to an input that has this bad line, or none, where neither memory nor the outside fails
 abbrev pub status_of : Option BadLine → Status

@@ -1,6 +1,7 @@
 //! The closed runs of a trace: that of its parent, and those of its children.
-ghost use Rattle.std.specs.Prelude.{◌≡◌, ◌<◌, All, IfOk, Ok, Some, is_some, length, map, slice_get};
+ghost use Rattle.std.specs.Prelude.{◌≡◌, ◌<◌, ◌≤◌, [], All, IfOk, Ok, Some, is_some, length, map, slice_get};
 ghost use Rattle.std.specs.List.{list_any};
+ghost use Rattle.std.specs.Vec.{vec_capacity};
 ghost use Rattle.mm_fork.specs.Children.{parent_trace, child_trace};
 ghost use Rattle.trace_reader.specs.Values.{IsTraceValue, child_of};
 ghost use Rattle.vma_replay.specs.Internal.Families.{AreRunsOfChildren, IsFamily, IsForkOf, IsOfParent};
@@ -20,7 +21,7 @@ use std::alloc::Global;
 use std::sync::Wait;
 use std::thread;
 use std::thread::Threads;
-use trace_reader::{Lines, Op, Trace, TraceLine};
+use trace_reader::{Lines, MOST_FORKS, Op, Trace, TraceLine};
 use vma_drive::{GateWatcher, NoWatcher, Watcher, run_child};
 
 /// The closed runs of a trace, the parent's first and then one for each child, by ascending child, with the history and the forks of the
@@ -68,7 +69,8 @@ fn child_of(alloc: Global, trace: &Trace, child: u32) -> Result<Trace, NoMemory>
     })
 }
 
-/// Runs a trace: first the parent, whose trace is given, to its end, and then each child from what the parent had at its fork.
+/// Runs a trace: first the parent, whose trace is given, to its end, and then each child from what the parent had at its fork. The room for
+/// the list of all runs is taken before the first space is opened.
 pub(crate) fn closed_family<R: Threads + Wait + Sync, G: Gate>(
     rt: &R,
     alloc: Global,
@@ -81,10 +83,11 @@ pub(crate) fn closed_family<R: Threads + Wait + Sync, G: Gate>(
     requires parent { parent.now ≡ parent_trace trace.now }
     ensures { IfOk result (λ family. IsFamily mode trace.now family.history family.forks.items family.runs.items) }
 {
+    let mut runs = Vec::with_capacity(alloc, 1 + MOST_FORKS)?;
     let run = closed_run(rt, alloc, mode, parent, gate)?;
-    let history = run_history(alloc, mode, parent, &run)?;
+    let history = run_history(alloc, mode, trace, &run)?;
     let forks = forks_of(alloc, parent.lines.items(), history.items())?;
-    let mut runs = children_runs(
+    let mut children = children_runs(
         rt,
         alloc,
         mode,
@@ -93,7 +96,8 @@ pub(crate) fn closed_family<R: Threads + Wait + Sync, G: Gate>(
         forks.as_slice(),
         gate,
     )?;
-    runs.insert(0, run)?;
+    runs.push_reserved(run);
+    runs.append(&mut children)?;
     Ok(Family {
         history,
         forks,
@@ -138,7 +142,7 @@ fn run_in_turn<R: Wait>(
     let mut runs = Vec::with_capacity(alloc, forks.len())?;
     for fork in forks {
         let child = closed_child(rt, alloc, trace, parent, fork, &NoWatcher)?;
-        runs.push(child)?;
+        runs.push_reserved(child);
     }
     Ok(runs)
 }
@@ -163,17 +167,20 @@ fn run_at_once<R: Threads + Wait + Sync, G: Gate>(
         ensures { IfOk result (λ run. (fork : Fork) → slice_get forks.entry.now place ≡ Some fork
             → IsRunOfChild trace.entry.now parent.entry.now fork run) }
     { closed_child(rt, alloc, trace, parent, &forks[place], &GateWatcher(gate)) };
+    let room = Vec::with_capacity(alloc, forks.len())?;
     let ended = thread::map_indices(rt, alloc, forks.len(), &worker)?;
-    runs_of(alloc, ended)
+    runs_of(room, ended)
 }
 
-/// The runs that workers ended with. Refused where memory ran out in one.
-fn runs_of(alloc: Global, ended: Vec<Result<Closed, NoMemory>>) -> Result<Vec<Closed>, NoMemory>
+/// The runs that workers ended with, in this room. Refused where memory ran out in one.
+fn runs_of(room: Vec<Closed>, ended: Vec<Result<Closed, NoMemory>>) -> Result<Vec<Closed>, NoMemory>
+    requires empty { room.items ≡ [] }
+    requires room { length ended.items ≤ vec_capacity room }
     ensures { IfOk result (λ runs. ended.items ≡ map (λ run. Ok run) runs.items) }
 {
-    let mut runs = Vec::with_capacity(alloc, ended.len())?;
+    let mut runs = room;
     for run in ended {
-        runs.push(run?)?;
+        runs.push_reserved(run?);
     }
     Ok(runs)
 }

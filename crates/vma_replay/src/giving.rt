@@ -1,8 +1,8 @@
-//! Runs of a trace, and texts, that are given to a sink.
+//! Runs of a trace that are given to a sink.
 ghost use Rattle.std.specs.Prelude.{◌≡◌, ◌<◌, ◌^◌, ◌-◌};
 ghost use Rattle.trace_reader.specs.Values.{IsTraceValue};
 ghost use Rattle.mm_fork.specs.Children.{parent_trace};
-ghost use Rattle.vma_replay.specs.Internal.Giving.{GivesAnOutput, GivesThis, IsDoing, IsDone};
+ghost use Rattle.vma_replay.specs.Internal.Giving.{GivesAnOutput, IsDoing, IsDone};
 
 use crate::families::{closed_family, has_forks, parent_of};
 use crate::in_turn::alone_given;
@@ -11,7 +11,6 @@ use crate::replayed::{Replayed, Runs};
 use crate::status::Status;
 use crate::words::Mode;
 use io_edge::{Gate, Sink};
-use output_print::give_all;
 use std::alloc::Global;
 use std::sync::Wait;
 use std::thread::Threads;
@@ -73,21 +72,4 @@ fn family_given<R: Threads + Wait + Sync, K: Sink, G: Gate>(
     let family = closed_family(rt, alloc, mode, trace, parent, gate)?;
     give_family(alloc, sink, trace, parent, &family)?;
     Ok(Runs::of(family.runs))
-}
-
-/// Gives a sink a text that no run was made for.
-pub(crate) fn give_text<K: Sink>(alloc: Global, sink: &mut K, text: &[u8]) -> Replayed
-    requires { (K.seen sink.old).faults < 2 ^ 64 - 1 }
-    ensures { IsDone (GivesThis text.now) (K.seen sink.old) (K.seen sink.new) result.status result.runs }
-{
-    Replayed::of(alloc, text_given(alloc, sink, text))
-}
-
-/// No run, once a text was given to a sink.
-fn text_given<K: Sink>(alloc: Global, sink: &mut K, text: &[u8]) -> Result<Runs, Status>
-    requires { (K.seen sink.old).faults < 2 ^ 64 - 1 }
-    ensures { IsDoing (GivesThis text.now) (K.seen sink.old) (K.seen sink.new) result }
-{
-    give_all(sink, text)?;
-    Ok(Runs::none(alloc))
 }

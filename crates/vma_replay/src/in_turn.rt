@@ -1,6 +1,6 @@
 //! The output of a run that has no children. In `serial` it is printed line by line from what was done, without a list of it, where the order
 //! of the lines is that of the history.
-ghost use Rattle.std.specs.Prelude.{◌≡◌, ◌<◌, ◌^◌, ◌-◌, ◌∷◌, [], IfOk, IfSome, false, is_some, length};
+ghost use Rattle.std.specs.Prelude.{◌≡◌, ◌<◌, ◌^◌, ◌-◌, IfSome, false, is_some, length};
 ghost use Rattle.std.specs.List.{list_any};
 ghost use Rattle.history.specs.Labels.{labelled};
 ghost use Rattle.output_text.specs.Output.{listed_text};
@@ -18,14 +18,14 @@ use crate::words::Mode;
 use history::{Turns, in_turn};
 use io_edge::{Gate, Sink};
 use mm_space::Closed;
-use mm_types::NoMemory;
 use output_print::{PrintError, ROOM, give_all, print_history, print_maps, print_turns};
 use std::alloc::Global;
 use std::sync::Wait;
 use std::thread::Threads;
 use trace_reader::Trace;
 
-/// The closed run of a trace in which no line forks, once its output was given to a sink. It stands whole before the first byte is given.
+/// The closed run of a trace in which no line forks, once its output was given to a sink. It stands whole before the first byte is given. The
+/// room for it is taken before the space is opened, so that no closed run is lost where memory runs out.
 pub(crate) fn alone_given<R: Threads + Wait + Sync, K: Sink, G: Gate>(
     rt: &R,
     alloc: Global,
@@ -39,19 +39,11 @@ pub(crate) fn alone_given<R: Threads + Wait + Sync, K: Sink, G: Gate>(
     requires sink { (K.seen sink.old).faults < 2 ^ 64 - 1 }
     ensures { IsDoing (GivesAnOutput mode trace.now) (K.seen sink.old) (K.seen sink.new) result }
 {
+    let mut runs = Vec::with_capacity(alloc, 1)?;
     let run = closed_run(rt, alloc, mode, trace, gate)?;
-    let runs = list_of(alloc, run)?;
+    runs.push_reserved(run);
     give_alone(alloc, sink, mode, trace, &runs[0])?;
     Ok(Runs::of(runs))
-}
-
-/// A list of one run.
-fn list_of(alloc: Global, run: Closed) -> Result<Vec<Closed>, NoMemory>
-    ensures { IfOk result (λ runs. runs.items ≡ run ∷ []) }
-{
-    let mut runs = Vec::with_capacity(alloc, 1)?;
-    runs.push(run)?;
-    Ok(runs)
 }
 
 /// Gives a sink the text of a closed run.
@@ -63,6 +55,7 @@ fn give_alone<K: Sink>(
     run: &Closed,
 ) -> Result<(), PrintError>
     requires trace { IsTraceValue trace.now }
+    requires alone { list_any (λ line. is_some (child_of line.op)) trace.now.lines ≡ false }
     requires run { IsRunOf mode trace.now run.now }
     requires sink { (K.seen sink.old).faults < 2 ^ 64 - 1 }
     ensures { IsGivingText (K.seen sink.old) (K.seen sink.new)
@@ -83,6 +76,7 @@ fn print_alone<K: Sink>(
     run: &Closed,
 ) -> Result<(), PrintError>
     requires trace { IsTraceValue trace.now }
+    requires alone { list_any (λ line. is_some (child_of line.op)) trace.now.lines ≡ false }
     requires run { IsRunOf mode trace.now run.now }
     requires held { length piece.old.items < MOST_GIVEN }
     requires sink { (K.seen sink.old).faults < 2 ^ 64 - 1 }

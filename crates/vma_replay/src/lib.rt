@@ -4,6 +4,7 @@
 //! it did.
 #![tactic(auto)]
 
+mod answering;
 mod families;
 mod forks;
 mod generating;
@@ -19,6 +20,7 @@ mod status;
 mod summary;
 mod words;
 
+pub use answering::answer_without_space;
 pub use forks::Fork;
 pub use history::label;
 pub use laws::{retraced_texts_come_back, serial_outputs_are_equal};
@@ -27,4 +29,4 @@ pub use run::replay;
 pub use status::{Status, status_line, status_number};
 pub use summary::Summary;
 pub use text_lexer::Cause;
-pub use words::{Conversion, Job, Mode};
+pub use words::{Conversion, Job, Mode, Run};

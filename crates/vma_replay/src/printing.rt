@@ -62,7 +62,7 @@ pub(crate) fn give_family<K: Sink>(
     give_all(sink, &piece)
 }
 
-/// The history that a closed run stands for.
+/// The history that a closed run of the parent of a trace stands for.
 pub(crate) fn run_history(
     alloc: Global,
     mode: Mode,
@@ -70,8 +70,8 @@ pub(crate) fn run_history(
     run: &Closed,
 ) -> Result<History, NoMemory>
     requires trace { IsTraceValue trace.now }
-    requires run { IsRunOf mode trace.now run.now }
-    ensures { IfOk result (λ history. history ≡ history_of_run mode trace.now run.now) }
+    requires run { IsRunOf mode (parent_trace trace.now) run.now }
+    ensures { IfOk result (λ history. history ≡ history_of_run mode (parent_trace trace.now) run.now) }
 {
     match mode {
         Mode::Serial => label(alloc, trace, run.journal(), run.logs()[0].as_slice()),

@@ -7,14 +7,15 @@ ghost use Rattle.vma_replay.specs.declared.words.Mode.TheVariants.{Serial};
 ghost use Rattle.vma_replay.specs.Jobs.{are_accepted, are_tried, job_of_words};
 ghost use Rattle.vma_replay.specs.Replaying.{mode_of_words, most_of_words, opens_a_space, reads_the_source, work_of};
 ghost use Rattle.vma_replay.specs.Replaying.{status_of, ReadsEnough};
-ghost use Rattle.vma_replay.specs.Replaying.{GivesAll, GivesSerialOutput, GivesBeginning, GivesNothing, GivesProperBeginning};
+ghost use Rattle.vma_replay.specs.Replaying.{GivesAll, GivesSerialOutput, GivesBeginning, GivesNothing, GivesProperBeginning, OfInput};
 
+use crate::answering::answer_without_space;
 use crate::generating::give_summary;
-use crate::giving::{give_run, give_text};
-use crate::reading::{check_source, convert_source, read_source};
+use crate::giving::give_run;
+use crate::reading::read_source;
 use crate::replayed::Replayed;
 use crate::status::Status;
-use crate::words::{Job, WordsError, job_of};
+use crate::words::Run;
 use io_edge::{Gate, Sink, Source};
 use std::alloc::Global;
 use std::sync::Wait;
@@ -52,8 +53,9 @@ pub fn replay<R: Threads + Wait + Sync, S: Source, K: Sink, G: Gate>(
     // tells rightly what is judged of the input's text; in `generate`, it is the summary of the generated trace, which was run once, in the
     // order of its lines.
     ensures output { result.status ≡ Status.Done → IsSomeAnd (job_of_words words.now) (λ job.
-        GivesAll (work_of job) (S.seen source.old).left result.runs (K.seen sink.old) (K.seen sink.new)) }
-    ensures serial_output { result.status ≡ Status.Done → mode_of_words words.now ≡ Some Serial → IfSome (S.seen source.old).left (λ input.
+        GivesAll (work_of job) (S.seen source.old) (S.seen source.new) result.runs (K.seen sink.old) (K.seen sink.new)) }
+    ensures serial_output { result.status ≡ Status.Done → mode_of_words words.now ≡ Some Serial
+        → OfInput (most_of_words words.now) (S.seen source.old) (S.seen source.new) (λ input.
         GivesSerialOutput input (K.seen sink.old) (K.seen sink.new)) }
     ensures some_run { result.status ≡ Status.Done → opens_a_space words.now ≡ true → (parent : ClosedView) × (children : List ClosedView)
         × (result.runs ≡ parent ∷ children) × (reads_the_source words.now ≡ false → children ≡ []) }
@@ -89,26 +91,17 @@ pub fn replay<R: Threads + Wait + Sync, S: Source, K: Sink, G: Gate>(
 
     // What was given where not all was.
     ensures write_fault_gives_a_proper_front { result.status ≡ Status.WriteFault
-        → IsSomeAnd (job_of_words words.now) (λ job. GivesProperBeginning (work_of job) (S.seen source.old).left (K.seen sink.old) (K.seen sink.new)) }
+        → IsSomeAnd (job_of_words words.now) (λ job. GivesProperBeginning (work_of job) (S.seen source.old) (S.seen source.new) (K.seen sink.old) (K.seen sink.new)) }
     ensures no_memory_gives_a_front { result.status ≡ Status.NoMemory → Keeps (K.seen sink.old).written (K.seen sink.new).written
-        ⊎ IsSomeAnd (job_of_words words.now) (λ job. GivesBeginning (work_of job) (S.seen source.old).left (K.seen sink.old) (K.seen sink.new)) }
+        ⊎ IsSomeAnd (job_of_words words.now) (λ job. GivesBeginning (work_of job) (S.seen source.old) (S.seen source.new) (K.seen sink.old) (K.seen sink.new)) }
     ensures nothing_given { GivesNothing result.status → sink.new ≡ sink.old }
 {
-    match job_of(alloc, words) {
-        Ok(Job::Replay(mode)) => match read_source(alloc, source) {
+    match answer_without_space(alloc, words, source, sink) {
+        Ok(status) => Replayed::without_runs(alloc, status),
+        Err(Run::Replay(mode)) => match read_source(alloc, source) {
             Ok(trace) => give_run(rt, alloc, mode, sink, &trace, gate),
             Err(status) => Replayed::without_runs(alloc, status),
         },
-        Ok(Job::Convert(conversion)) => match convert_source(alloc, source, conversion) {
-            Ok(text) => give_text(alloc, sink, &text),
-            Err(status) => Replayed::without_runs(alloc, status),
-        },
-        Ok(Job::Check) => match check_source(alloc, source) {
-            Ok(text) => give_text(alloc, sink, &text),
-            Err(status) => Replayed::without_runs(alloc, status),
-        },
-        Ok(Job::Generate { count, seed }) => give_summary(rt, alloc, count, seed, sink),
-        Err(WordsError::Words) => Replayed::without_runs(alloc, Status::Words),
-        Err(WordsError::NoMemory) => Replayed::without_runs(alloc, Status::NoMemory),
+        Err(Run::Generate { count, seed }) => give_summary(rt, alloc, count, seed, sink),
     }
 }

@@ -2,9 +2,8 @@ ghost use Rattle.std.specs.Prelude.{◌≡◌, ◌≤◌, IfErr, IfOk, IfSome, E
 ghost use Rattle.std.specs.List.{list_any};
 ghost use Rattle.clap.specs.Words.{app_of, found_of, matches_of, rows_of, takes};
 ghost use Rattle.vma_replay.specs.Jobs.{alone, generate_job, generate_words, job_of_words, named_job, operation_count, query_words};
-ghost use Rattle.vma_replay.specs.Jobs.{are_tried, begin_with_mode, begins_with_dash, is_mode};
+ghost use Rattle.vma_replay.specs.Jobs.{IsInLimits, are_tried, begin_with_mode, begins_with_dash, is_mode};
 ghost use Rattle.vma_replay.specs.Internal.CommandLine.{job_of_rows, words_command};
-ghost use Rattle.vma_replay.specs.Internal.Tallies.{IsInLimits};
 
 use clap::error::ErrorKind;
 use clap::{Arg, ArgMatches, Command};
@@ -47,6 +46,15 @@ pub enum Job {
     Convert(Conversion),
     /// To read a trace and a text behind it, and tell whether the text is a legal output of the trace.
     Check,
+    /// To run the generated trace of so many operations and a seed in the order of its lines, and give its summary.
+    Generate { count: u32, seed: u64 },
+}
+
+/// A job for which a space is opened.
+#[derive(Clone, Copy, Debug, PartialEq, Eq)]
+pub enum Run {
+    /// To read a trace, run its lines in a mode, and give all replies and the final list of areas.
+    Replay(Mode),
     /// To run the generated trace of so many operations and a seed in the order of its lines, and give its summary.
     Generate { count: u32, seed: u64 },
 }

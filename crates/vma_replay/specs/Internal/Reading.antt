@@ -1,7 +1,7 @@
 -- What the functions result in that take bytes and read them.
-use Rattle.std.specs.Prelude.{ℕ, ◌≡◌, ◌+◌, List, Vec, Result, Ok, Err, IfSome, IsOkAnd}
+use Rattle.std.specs.Prelude.{ℕ, ◌≡◌, ◌+◌, List, Vec, Result, Ok, Err, IfSome, IsOk, IsOkAnd}
 use Rattle.std.specs.declared.alloc.Global.{Global}
-use Rattle.std.specs.Io.KnownBytes.{IsAtEnd}
+use Rattle.std.specs.Io.KnownBytes.{Consumes, IsAtEnd}
 use Rattle.io_edge.specs.Edge.{SourceView, FailedLast}
 use Rattle.text_lexer.specs.declared.error.ReadError.{ReadError}
 use Rattle.text_lexer.specs.declared.error.ReadError.TheVariants as reads
@@ -36,6 +36,7 @@ refused_as reads.NoMemory = statuses.NoMemory
 abbrev pub IsReading : {Y : Type 0} → (List ℕ → Result Y BadLine) → ℕ → SourceView → SourceView → Result Y Status → Type 0
 IsReading read most old new (Ok found) = (new.faults ≡ old.faults) × ReadsEnough most old.left new.left × IsAtEnd new.left
     × IfSome old.left (λ input. read input ≡ Ok found)
+    × ((input : List ℕ) × Consumes old.left new.left input × (read input ≡ Ok found))
 IsReading read most old new (Err (statuses.Trace line cause)) = (new.faults ≡ old.faults) × ReadsEnough most old.left new.left
     × IfSome old.left (λ input. read input ≡ Err (record { line = line; cause = cause }))
 IsReading read most old new (Err statuses.ReadFault) = (new.faults ≡ old.faults + 1) × FailedLast new.just_failed
@@ -47,5 +48,6 @@ IsReading read most old new (Err statuses.WriteFault) = ⊥
 -- what taking the bytes of a check and judging their text results in
 abbrev pub IsChecking : SourceView → SourceView → Result (List ℕ) Status → Type 0
 IsChecking old new (Ok text) = (new.faults ≡ old.faults) × ReadsEnough check_limit old.left new.left × IsAtEnd new.left
-    × IfSome old.left (λ input. IsOkAnd (input_of input) (λ parts. IsCheckedAs parts text))
+    × IfSome old.left (λ input. IsOk (input_of input))
+    × ((input : List ℕ) × Consumes old.left new.left input × IsOkAnd (input_of input) (λ parts. IsCheckedAs parts text))
 IsChecking old new (Err status) = IsReading input_of check_limit old new (Err status)

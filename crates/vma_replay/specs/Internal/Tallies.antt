@@ -1,11 +1,8 @@
 -- What is counted of a closed run.
-use Rattle.std.specs.Prelude.{◌≤◌, [], length, count_by, slice_get, unwrap_or}
+use Rattle.std.specs.Prelude.{[], length, count_by, slice_get, unwrap_or}
 use Rattle.history.specs.Runs.{content_of}
 use Rattle.mm_space.specs.Closing.{ClosedView}
-use Rattle.gen_load.specs.declared.loading.TheConstants.{MOST_OPERATIONS}
 use Rattle.vma_replay.specs.declared.summary.Summary.{Summary}
-use Rattle.vma_replay.specs.declared.words.Job.{Job}
-use Rattle.vma_replay.specs.declared.words.Job.TheVariants as jobs
 use Rattle.area_rules.specs.Tables.{is_refusal}
 use Rattle.vma_replay.specs.Summaries.{is_fault, is_served}
 
@@ -19,10 +16,3 @@ tally_of run = record {
   version = length run.journal;
   areas = length run.list;
 }
-
--- a job that is in its limits
-abbrev pub IsInLimits : Job → Type 0
-IsInLimits (jobs.Replay mode) = Unit {0}
-IsInLimits (jobs.Convert conversion) = Unit {0}
-IsInLimits jobs.Check = Unit {0}
-IsInLimits (jobs.Generate count seed) = count ≤ MOST_OPERATIONS

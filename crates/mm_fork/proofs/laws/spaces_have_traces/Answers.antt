@@ -1,5 +1,5 @@
 -- For `spaces_have_traces`: its goals.
-use Rattle.mm_fork.proofs.Traces.{parent_is_trace, child_is_trace, child_is_alone, child_lines_name_none}
+use Rattle.history.proofs.OneSpace.{parent_is_trace, child_is_trace, child_is_alone, child_lines_name_none}
 use Rattle.mm_fork.proofs.laws.spaces_have_traces.Goals as goal
 
 pub returns-clause-parent : goal.returns-clause-parent

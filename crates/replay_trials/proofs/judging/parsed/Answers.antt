@@ -3,4 +3,4 @@ use Rattle.trace_reader.proofs.TraceValues.{trace_of-value}
 use Rattle.replay_trials.proofs.judging.parsed.Goals as goal
 
 pub returns-in-Ok : goal.returns-in-Ok
-returns-in-Ok c = trace_of-value _ _ c.in-Ok.ensures
+returns-in-Ok c = trace_of-value _ _ c.in-Ok.ensures.trace

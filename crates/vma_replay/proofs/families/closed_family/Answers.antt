@@ -1,8 +1,13 @@
 -- The proof of `closed_family`: the parent's trace is one, its history is legal, and its forks are those of its children.
-use Rattle.std.proofs.Common.{◌∙◌, List, All, subst, sym, rules}
+use Rattle.std.proofs.Common.{◌≡◌, ◌∙◌, ap, List, [], ◌∷◌, ◌++◌, All, subst, sym, rules}
+use Rattle.history.specs.declared.items.Item.{Item}
+use Rattle.mm_space.specs.Closing.{ClosedView}
 use Rattle.mm_types.specs.declared.call.Entry.{Entry}
+use Rattle.trace_reader.specs.declared.trace.Trace.{Trace}
 use Rattle.trace_reader.specs.Values.{IsTraceValue}
 use Rattle.vma_replay.specs.Internal.Families.{AreRunsOfChildren, IsForkOf, IsOfParent}
+use Rattle.vma_replay.specs.Replaying.{IsRunOf, history_of_run}
+use Rattle.vma_replay.specs.declared.words.Mode.{Mode}
 use Rattle.vma_replay.proofs.Parents.{bears, family_made, few_lines, found_right, legal_items, low_threads, parent_value}
 use Rattle.vma_replay.proofs.families.closed_family.Goals as goal
 
@@ -11,8 +16,13 @@ closed_run-requires g c =
     let value : IsTraceValue c.args.parent.now = parent_value c.args.trace.now c.args.parent.now c.requires.parent c.requires.trace in
     search rules
 
-pub run_history-requires-clause-trace : goal.run_history-requires-clause-trace
-run_history-requires-clause-trace g c = parent_value c.args.trace.now c.args.parent.now c.requires.parent c.requires.trace
+pub run_history-requires-clause-run : goal.run_history-requires-clause-run
+run_history-requires-clause-run g c = subst (λ (p : Trace). IsRunOf c.args.mode p c.in_ok-run.run') c.requires.parent c.in_ok-run.ensures.run
+
+-- the history is that of the parent's trace, which is given
+made : (parent own : Trace) (mode : Mode) (run : ClosedView) (history : List Item) → parent ≡ own → history ≡ history_of_run mode own run
+    → history ≡ history_of_run mode parent run
+made parent own mode run history is of_own = of_own ∙ ap (λ (p : Trace). history_of_run mode p run) (sym is)
 
 pub forks_of-requires-clause-few : goal.forks_of-requires-clause-few
 forks_of-requires-clause-few g c =
@@ -26,7 +36,7 @@ pub forks_of-requires-clause-legal : goal.forks_of-requires-clause-legal
 forks_of-requires-clause-legal g c =
     legal_items c.args.mode c.args.parent.now c.in_ok-run.run' c.items.result.now c.in_ok-history.history c.items-2.result.now
     (parent_value c.args.trace.now c.args.parent.now c.requires.parent c.requires.trace) c.in_ok-run.ensures.run c.items.ensures
-    c.in_ok-history.ensures c.items-2.ensures
+    (made c.args.parent.now _ c.args.mode c.in_ok-run.run' c.in_ok-history.history c.requires.parent c.in_ok-history.ensures) c.items-2.ensures
 
 pub children_runs-requires-clause-parent : goal.children_runs-requires-clause-parent
 children_runs-requires-clause-parent g c lifetimes outlives =
@@ -37,15 +47,22 @@ pub children_runs-requires-clause-forks : goal.children_runs-requires-clause-for
 children_runs-requires-clause-forks g c lifetimes outlives =
     subst (λ (journal : List Entry). All (IsForkOf c.args.trace.now.lines journal) c.as_slice.result.now) (sym c.journal.ensures)
     (found_right c.args.trace.now c.args.parent.now c.args.mode c.in_ok-run.run' c.items.result.now
-    c.in_ok-history.history c.items-2.result.now _ c.requires.trace c.in_ok-run.ensures.run c.requires.parent c.items.ensures c.in_ok-history.ensures
+    c.in_ok-history.history c.items-2.result.now _ c.requires.trace c.in_ok-run.ensures.run c.requires.parent c.items.ensures
+    (made c.args.parent.now _ c.args.mode c.in_ok-run.run' c.in_ok-history.history c.requires.parent c.in_ok-history.ensures)
     c.items-2.ensures (c.as_slice.ensures.value ∙ c.in_ok-forks.ensures))
 
 pub returns : goal.returns
-returns g c = family_made c.args.trace.now c.args.parent.now c.args.mode c.in_ok-run.run' c.items.result.now c.in_ok-history.history
+returns g c =
+    let all : c.append.new.self.items ≡ c.in_ok-run.run' ∷ c.in_ok-children.children.items = c.in_ok-append.ensures.items
+    ∙ ap (λ (l : List ClosedView). l ++ c.in_ok-children.children.items) (c.push_reserved.ensures.items
+    ∙ ap (λ (l : List ClosedView). l ++ c.in_ok-run.run' ∷ []) c.in_ok-runs.ensures.items) in
+    family_made c.args.trace.now c.args.parent.now c.args.mode c.in_ok-run.run' c.items.result.now c.in_ok-history.history
     c.items-2.result.now c.in_ok-forks.forks.items c.as_slice.result.now _ c.in_ok-run.ensures.run c.in_ok-run.ensures.list c.requires.parent
-    c.items.ensures c.in_ok-history.ensures c.items-2.ensures c.in_ok-forks.ensures c.as_slice.ensures.value (
-      c.in_ok-runs.runs.items,
-      c.in_ok-insert.ensures.items,
-      subst (λ (journal : List Entry). AreRunsOfChildren c.args.trace.now journal c.as_slice.result.now c.in_ok-runs.runs.items) c.journal.ensures
-          c.in_ok-runs.ensures,
+    c.items.ensures
+    (made c.args.parent.now _ c.args.mode c.in_ok-run.run' c.in_ok-history.history c.requires.parent c.in_ok-history.ensures)
+    c.items-2.ensures c.in_ok-forks.ensures c.as_slice.ensures.value (
+      c.in_ok-children.children.items,
+      all,
+      subst (λ (journal : List Entry). AreRunsOfChildren c.args.trace.now journal c.as_slice.result.now c.in_ok-children.children.items) c.journal.ensures
+          c.in_ok-children.ensures,
     )

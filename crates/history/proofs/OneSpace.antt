@@ -1,17 +1,20 @@
--- For `spaces_have_traces`: the lines of the parent, and those of a child, make traces.
-use Rattle.std.proofs.Common.{ℕ, ◌≡◌, ◌≢◌, ◌+◌, ◌<◌, ◌≤◌, ◌∙◌, refl, sym, ap, subst, cond, Bool, true, false, not, nat_eq, List, [], ◌∷◌, ◌++◌, ◌||◌, suc, length, filter, filter_map, Option, Some, None, is_some, All, AllPairs, Contains, IfSome, arith}
+-- For `SpaceLines`: the lines of the parent, and those of a child, make traces by themselves, and are of one space.
+use Rattle.std.proofs.Common.{ℕ, ◌≡◌, ◌≢◌, ◌<◌, ◌≤◌, ◌∙◌, refl, sym, ap, subst, cond, Bool, true, false, not, nat_eq, List, [], ◌∷◌, ◌||◌, suc, length, filter, filter_map, get_or, Option, Some, None, is_some, All, AllPairs, Contains, IfSome, arith}
 use Rattle.std.specs.List.{list_any, cons_option}
-use Rattle.std.proofs.lemmas.Bool.{cond_both, eq-eqb, ne_eqb, eqb-true, not-false}
+use Rattle.std.proofs.lemmas.Bool.{cond_both, eq-eqb, ne_eqb, eqb-true}
 use Rattle.std.proofs.lemmas.List.Elements.{All-filter, All-nil, All-cons, All-head, All-tail, All-weaker, All-contains}
 use Rattle.std.proofs.lemmas.List.Kept.{AllPairs-filter, AllPairs-cons}
 use Rattle.trace_reader.specs.declared.trace.Trace.{Trace}
 use Rattle.trace_reader.specs.declared.trace.TraceLine.{TraceLine}
 use Rattle.trace_reader.specs.Lines.{has_child}
-use Rattle.trace_reader.specs.Values.{IsTraceValue, IsLineValue, AreForksRight, AreNamesRight, AreNumbered, NamesACall, NamesInSpace, ForksFromParent, IsOfParent, child_of, children_of, is_call_op, is_maps}
+use Rattle.trace_reader.specs.Values.{IsTraceValue, IsLineValue, NamesACall, NamesInSpace, ForksFromParent, IsOfParent, child_of, children_of, is_call_op, is_maps}
 use Rattle.split_merge.proofs.Lists.{length-filter_at_most}
 use Rattle.split_merge.proofs.Counting.{contains_filter}
+use Rattle.history.specs.declared.callers.TheConstants.{MOST_THREADS}
+use Rattle.history.specs.Histories.{AskThemselves}
 use Rattle.history.specs.Parents.{parent_lines}
-use Rattle.mm_fork.specs.Children.{child_lines, parent_trace, child_trace}
+use Rattle.history.specs.SpaceLines.{AreSpaceLines, child_lines}
+use Rattle.history.proofs.Calls.{values_ask}
 
 -- ---- what a test gives of some of the elements
 
@@ -167,7 +170,7 @@ parent_apart (child ∷ children) thread all =
     ap (λ (t : Bool). t || has_child children thread) (ne_eqb child thread (All-head (λ child. child ≢ thread) child children all))
     ∙ parent_apart children thread (All-tail (λ child. child ≢ thread) child children all)
 
-pub parent_is_trace : (trace : Trace) → IsTraceValue trace → IsTraceValue (parent_trace trace)
+pub parent_is_trace : (trace : Trace) → IsTraceValue trace → IsTraceValue (record trace { lines = parent_lines trace.lines })
 parent_is_trace trace value = trace_some (λ line. not (has_child (children_of trace.lines) line.thread)) trace value
     (All-weaker (NamesInSpace trace.lines) (NamesStay (λ line. not (has_child (children_of trace.lines) line.thread)) trace.lines)
     (λ line inside passes. if_some line.after
@@ -199,7 +202,7 @@ child_lines_name_none trace child value forked =
     passing (λ line. nat_eq line.thread child) (λ line. line.after ≡ None) trace.lines (child_names_none trace child value forked)
 
 pub child_is_trace : (trace : Trace) (child : ℕ) → IsTraceValue trace → Contains (children_of trace.lines) child
-    → IsTraceValue (child_trace trace child)
+    → IsTraceValue (record trace { lines = child_lines trace.lines child })
 child_is_trace trace child value forked = trace_some (λ line. nat_eq line.thread child) trace value
     (All-weaker (λ line. nat_eq line.thread child ≡ true → line.after ≡ None) (NamesStay (λ line. nat_eq line.thread child) trace.lines)
     (λ line none own. subst (λ (o : Option ℕ). IfSome o (λ number. All (λ other. other.number ≡ number → nat_eq other.thread child ≡ true) trace.lines))
@@ -208,3 +211,121 @@ child_is_trace trace child value forked = trace_some (λ line. nat_eq line.threa
 pub child_is_alone : (trace : Trace) (child : ℕ) → All (λ line. line.thread ≡ child) (child_lines trace.lines child)
 child_is_alone trace child = passing (λ line. nat_eq line.thread child) (λ line. line.thread ≡ child) trace.lines
     (λ i d within own. eqb-true _ child own)
+
+-- ---- they are of one space
+
+-- a thread that is among no children is forked by no line
+apart_from : (children : List ℕ) (thread : ℕ) → has_child children thread ≡ false → All (λ child. child ≢ thread) children
+apart_from [] thread none = All-nil (λ child. child ≢ thread)
+apart_from (child ∷ children) thread none = by_test (nat_eq child thread) refl none (apart_from children thread)
+  where
+    by_test : (test : Bool) → nat_eq child thread ≡ test → (test || has_child children thread) ≡ false
+        → (has_child children thread ≡ false → All (λ child. child ≢ thread) children) → All (λ child. child ≢ thread) (child ∷ children)
+    by_test true same none rest = absurd (cc)
+    by_test false other none rest = All-cons (λ child. child ≢ thread) child children
+        (λ same. absurd (cc (other, eq-eqb child thread same))) (rest none)
+
+-- where lines fork nobody there are no children
+pub forks_none : (lines : List TraceLine) → All (λ line. child_of line.op ≡ None) lines → children_of lines ≡ []
+forks_none [] none = refl
+forks_none (line ∷ lines) none =
+    let rest : children_of lines ≡ [] = forks_none lines (All-tail (λ line. child_of line.op ≡ None) line lines none) in
+    ap (λ (child : Option ℕ). cons_option child (children_of lines)) (All-head (λ line. child_of line.op ≡ None) line lines none) ∙ rest
+
+space_of : (trace : Trace) (own : List TraceLine) → IsTraceValue (record trace { lines = own })
+    → All (λ line. IsOfParent own line.thread) own → AreSpaceLines own
+space_of trace own value apart = record {
+  few = value.few;
+  values = value.lines;
+  numbered = value.numbered;
+  named = value.named;
+  apart = apart;
+}
+
+every : (P : TraceLine → Type 0) → ((line : TraceLine) → P line) → (lines : List TraceLine) → All P lines
+every P each lines = λ i d within. each (get_or lines i d)
+
+not_so : (b : Bool) → not b ≡ true → b ≡ false
+not_so true none = absurd (cc)
+not_so false none = refl
+
+-- a thread of the parent is forked by none of the parent's lines
+stays_apart : (lines : List TraceLine) (line : TraceLine) → not (has_child (children_of lines) line.thread) ≡ true
+    → IsOfParent (parent_lines lines) line.thread
+stays_apart lines line passes =
+    all_kept (λ (l : TraceLine). child_of l.op) (λ l. not (has_child (children_of lines) l.thread)) (λ child. child ≢ line.thread) lines
+    (apart_from (children_of lines) line.thread (not_so (has_child (children_of lines) line.thread) passes))
+
+pub parent_is_space : (trace : Trace) → IsTraceValue trace → AreSpaceLines (parent_lines trace.lines)
+parent_is_space trace value = space_of trace (parent_lines trace.lines) (parent_is_trace trace value)
+    (passing (λ line. not (has_child (children_of trace.lines) line.thread)) (λ line. IsOfParent (parent_lines trace.lines) line.thread) trace.lines
+    (every (λ line. not (has_child (children_of trace.lines) line.thread) ≡ true → IsOfParent (parent_lines trace.lines) line.thread)
+    (stays_apart trace.lines) trace.lines))
+
+-- no line of a child forks
+child_forks_none : (trace : Trace) (child : ℕ) → IsTraceValue trace → Contains (children_of trace.lines) child
+    → All (λ line. nat_eq line.thread child ≡ true → child_of line.op ≡ None) trace.lines
+child_forks_none trace child value forked = All-weaker (ForksFromParent trace.lines) (λ line. nat_eq line.thread child ≡ true → child_of line.op ≡ None)
+    (λ line forks own. by_fork line (child_of line.op) (eqb-true line.thread child own) forks) trace.lines value.forks.parent
+  where
+    by_fork : (line : TraceLine) (o : Option ℕ) → line.thread ≡ child → IfSome o (λ other. IsOfParent trace.lines line.thread) → o ≡ None
+    by_fork line None own forks = refl
+    by_fork line (Some other) own forks =
+        absurd (All-contains (λ c. c ≢ line.thread) (children_of trace.lines) child forks forked (sym own))
+
+pub child_is_space : (trace : Trace) (child : ℕ) → IsTraceValue trace → Contains (children_of trace.lines) child
+    → AreSpaceLines (child_lines trace.lines child)
+child_is_space trace child value forked =
+    let own : List TraceLine = child_lines trace.lines child in
+    let none : children_of own ≡ [] = forks_none own
+    (passing (λ line. nat_eq line.thread child) (λ line. child_of line.op ≡ None) trace.lines (child_forks_none trace child value forked)) in
+    space_of trace own (child_is_trace trace child value forked)
+    (every (λ line. IsOfParent own line.thread)
+    (λ line. subst (λ (l : List ℕ). All (λ c. c ≢ line.thread) l) (sym none) (All-nil (λ c. c ≢ line.thread))) own)
+
+all_stay : (lines : List TraceLine) → filter (λ (line : TraceLine). true) lines ≡ lines
+all_stay [] = refl
+all_stay (line ∷ lines) = ap (λ (l : List TraceLine). line ∷ l) (all_stay lines)
+
+no_children : (lines : List TraceLine) → list_any (λ line. is_some (child_of line.op)) lines ≡ false → children_of lines ≡ []
+no_children [] none = refl
+no_children (line ∷ lines) none = by_child (child_of line.op) none (λ rest. no_children lines rest)
+  where
+    by_child : (child : Option ℕ) → (is_some child || list_any (λ line. is_some (child_of line.op)) lines) ≡ false
+        → (list_any (λ line. is_some (child_of line.op)) lines ≡ false → children_of lines ≡ []) → cons_option child (children_of lines) ≡ []
+    by_child None none rest = rest none
+    by_child (Some child) none rest = absurd (cc)
+
+-- where no line forks, all lines are the parent's
+pub all_of_parent : (lines : List TraceLine) → list_any (λ line. is_some (child_of line.op)) lines ≡ false → parent_lines lines ≡ lines
+all_of_parent lines none =
+    ap (λ (children : List ℕ). filter (λ (line : TraceLine). not (has_child children line.thread)) lines) (no_children lines none) ∙ all_stay lines
+
+-- so they are of one space
+pub whole_is_space : (trace : Trace) (lines : List TraceLine) (some : Bool) → IsTraceValue trace → lines ≡ trace.lines
+    → some ≡ list_any (λ line. is_some (child_of line.op)) lines → some ≡ false → AreSpaceLines lines
+whole_is_space trace lines some value same is none =
+    let all : parent_lines lines ≡ lines = all_of_parent lines (sym is ∙ none) in
+    subst AreSpaceLines (ap parent_lines (sym same) ∙ all) (parent_is_space trace value)
+
+-- and they are the parent's
+pub whole_is_parent : (lines all : List TraceLine) (some : Bool) → lines ≡ all
+    → some ≡ list_any (λ line. is_some (child_of line.op)) lines → some ≡ false → lines ≡ parent_lines all
+whole_is_parent lines all some same is none = sym (all_of_parent lines (sym is ∙ none)) ∙ ap parent_lines same
+
+-- the same, of lists that are these lines
+pub space_of_parent : (trace : Trace) (lines own : List TraceLine) → IsTraceValue trace → lines ≡ trace.lines → own ≡ parent_lines lines
+    → AreSpaceLines own
+space_of_parent trace lines own value same is = subst AreSpaceLines (ap parent_lines (sym same) ∙ sym is) (parent_is_space trace value)
+
+pub space_of_child : (trace : Trace) (child : ℕ) (lines own : List TraceLine) → IsTraceValue trace → Contains (children_of trace.lines) child
+    → lines ≡ trace.lines → own ≡ child_lines lines child → AreSpaceLines own
+space_of_child trace child lines own value forked same is =
+    subst AreSpaceLines (ap (λ (l : List TraceLine). child_lines l child) (sym same) ∙ sym is) (child_is_space trace child value forked)
+
+-- what lines of one space are besides
+pub space_threads : (lines : List TraceLine) → AreSpaceLines lines → All (λ line. line.thread < MOST_THREADS) lines
+space_threads lines space = All-weaker IsLineValue (λ line. line.thread < MOST_THREADS) (λ line value. value.thread) lines space.values
+
+pub space_asks : (lines : List TraceLine) → AreSpaceLines lines → AskThemselves lines
+space_asks lines space = values_ask lines space.values
