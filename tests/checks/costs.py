@@ -107,8 +107,9 @@ def small_reads(count: int) -> list[str]:
 
 
 def opened(areas: int) -> list[str]:
-    """A space for so many areas, which has one, and a read of its list."""
-    return ["vmatrace 1", f"limit areas {areas}", f"0 mmap {place(0):#x} 4096 PROT_READ {ANONYMOUS} -1 0", "0 maps"]
+    """A space for so many areas, which has one, a read of its list, and as many lines as may need the most areas, three each."""
+    made = f"0 mmap {place(0):#x} 4096 PROT_READ {ANONYMOUS} -1 0"
+    return ["vmatrace 1", f"limit areas {areas}", made, "0 maps", *["0 fault 0x1000 r"] * (MOST_AREAS // 3)]
 
 
 def together(count: int) -> list[str]:
@@ -180,15 +181,15 @@ class Size(NamedTuple):
 
 # the words, what makes the input, and its sizes
 MEMORY: list[tuple[str, list[str], Input, tuple[Size, ...]]] = [
-    ("a header alone", ["serial"], given(calls), (Size(0, 80, 52),)),
+    ("a header alone", ["serial"], given(calls), (Size(0, 4, 6),)),
     ("calls", ["serial"], given(calls), (Size(200_000, 150, 84), Size(800_000, 345, 222))),
     ("faults", ["serial"], given(faults), (Size(200_000, 150, 76), Size(800_000, 345, 196))),
-    ("calls in threads", ["threads"], given(calls), (Size(0, 78, 52), Size(200_000, 147, 95), Size(800_000, 415, 316))),
+    ("calls in threads", ["threads"], given(calls), (Size(0, 4, 6), Size(200_000, 147, 95), Size(800_000, 415, 316))),
     ("faults in threads", ["threads"], given(faults), (Size(200_000, 156, 106), Size(800_000, 533, 418))),
     ("children", ["serial"], given(children), (Size(50_000, 188, 160), Size(100_000, 276, 233))),
     ("areas that come and leave", ["serial"], given(leaving), (Size(32_000, 36, 22), Size(128_000, 120, 77))),
     ("reads of many areas", ["serial"], given(reads), (Size(16, 1000, 108), Size(64, 1000, 252))),
-    ("reads of one area", ["serial"], given(small_reads), (Size(16, 80, 52), Size(64, 80, 52))),
+    ("reads of one area", ["serial"], given(small_reads), (Size(16, 4, 6), Size(64, 4, 6))),
     ("a load", ["generate", "{}", "1"], nothing, (Size(100_000, 115, 65), Size(400_000, 225, 153))),
     ("a text of calls", ["check"], judged(calls), (Size(200_000, 75, 50), Size(800_000, 205, 166))),
     ("a text of calls of many threads", ["check"], judged(shared), (Size(200_000, 75, 50),)),

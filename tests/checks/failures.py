@@ -177,10 +177,12 @@ def check_devices(program: str) -> None:
 def check_memory(program: str, session: str) -> None:
     """Memory runs out before a run, and in the midst of one."""
     short, maps, lists = b"vmatrace 1\n0 munmap 0x10000 4096\n", long_maps(), long_lists()
+    # So many lines that a space for them has room for as many areas as there may be.
+    many = short + 21_842 * b"0 munmap 0x10000 4096\n"
     runs: list[tuple[list[str], bytes, int]] = [
         ([], short, 12),
-        (["serial"], short, 24),
-        (["threads"], short, 24),
+        (["serial"], many, 24),
+        (["threads"], many, 24),
         (["check"], short + b"==\nL2 t0 v1 = 0\nmaps 0\n", 12),
         (["generate", "50000", "1"], b"", 48),
         (["query", "0"], maps, 5),

@@ -16,3 +16,4 @@ pub mod RanLines
 pub mod ClosedRuns
 pub mod Unused
 pub mod OnePass
+pub mod Limits

@@ -12,6 +12,7 @@ ghost use Rattle.vma_drive.specs.Sharing.{AreOfOneThread, NameNoLine};
 
 use crate::driving::in_order_with;
 use crate::watcher::Watcher;
+use area_limit::config_for;
 use mm_space::{Closed, Ready, Space, SpaceName};
 use mm_types::{Entry, NoMemory};
 use std::alloc::Global;
@@ -39,8 +40,8 @@ pub fn run_child<R: Wait, T: Watcher<R>>(
         × IsChildRun trace.now.config before.now trace.now.lines 1 own run.logs) }
     ensures list { IfOk result (λ run. run.list ≡ list_after trace.now.config run.journal) }
 {
-    let config = trace.config.copy(alloc)?;
     let count = trace.lines.items().len() as u64;
+    let config = config_for(alloc, &trace.config, before.len() as u64 + count)?;
     let ready = Ready::make_after(rt, alloc, config, before, &[count])?;
     run_alone::<Brand, R, T>(rt, alloc, ready, trace, watcher)
 }
@@ -55,10 +56,9 @@ pub(crate) fn run_alone<N: SpaceName, R: Wait, T: Watcher<R>>(
 ) -> Result<Closed, NoMemory>
     requires name { ready ≡ N.name }
     requires strangers { AreStrangers ready.before }
-    requires config { ready.config ≡ trace.now.config }
     requires one { ready.operations ≡ length trace.now.lines ∷ [] }
     requires lines { AskThemselves trace.now.lines }
-    ensures { IfOk result (RanAlone trace.now.config ready.before trace.now.lines) }
+    ensures { IfOk result (RanAlone ready.config ready.before trace.now.lines) }
 {
     let (space, mut passes) = Space::<N>::open(ready);
     in_order_with(rt, alloc, &space, &mut passes[0], trace, watcher)?;

@@ -12,6 +12,7 @@ use crate::alone::run_alone;
 use crate::driving::drive;
 use crate::places::shares;
 use crate::watcher::NoWatcher;
+use area_limit::config_for;
 use io_edge::Gate;
 use mm_space::{Closed, Ready, Space, SpaceName};
 use mm_types::NoMemory;
@@ -27,8 +28,9 @@ pub fn run_serial<R: Wait>(rt: &R, alloc: Global, trace: &Trace) -> Result<Close
     ensures run { IfOk result (λ run. (log : List Seen) × (run.logs ≡ log ∷ []) × IsSerialRun trace.now.config trace.now.lines run.journal log) }
     ensures list { IfOk result (λ run. run.list ≡ list_after trace.now.config run.journal) }
 {
-    let config = trace.config.copy(alloc)?;
-    let ready = Ready::make(alloc, config, &[trace.lines.items().len() as u64])?;
+    let calls = trace.lines.items().len() as u64;
+    let config = config_for(alloc, &trace.config, calls)?;
+    let ready = Ready::make(alloc, config, &[calls])?;
     run_alone::<Brand, R, NoWatcher>(rt, alloc, ready, trace, &NoWatcher)
 }
 
@@ -44,8 +46,9 @@ pub fn run_threads<R: Threads + Wait + Sync, G: Gate>(
     ensures run { IfOk result (λ run. IsRun trace.now.config [] trace.now.lines (callers_of trace.now.lines) run.journal run.logs) }
     ensures list { IfOk result (λ run. run.list ≡ list_after trace.now.config run.journal) }
 {
-    let config = trace.config.copy(alloc)?;
-    let operations = shares(alloc, trace.lines.items())?;
+    let lines = trace.lines.items();
+    let config = config_for(alloc, &trace.config, lines.len() as u64)?;
+    let operations = shares(alloc, lines)?;
     let ready = Ready::make(alloc, config, &operations)?;
     run_passes::<Brand, R, G>(rt, alloc, ready, trace, gate)
 }
@@ -60,11 +63,10 @@ fn run_passes<N: SpaceName + Send + Sync, R: Threads + Wait + Sync, G: Gate>(
 ) -> Result<Closed, NoMemory>
     requires name { ready ≡ N.name }
     requires before { ready.before ≡ [] }
-    requires config { ready.config ≡ trace.now.config }
     requires shares { AreShares trace.now.lines ready.operations }
     requires trace { IsTraceValue trace.now }
-    ensures run { IfOk result (λ run. IsRun trace.now.config [] trace.now.lines (callers_of trace.now.lines) run.journal run.logs) }
-    ensures list { IfOk result (λ run. run.list ≡ list_after trace.now.config run.journal) }
+    ensures run { IfOk result (λ run. IsRun ready.config [] trace.now.lines (callers_of trace.now.lines) run.journal run.logs) }
+    ensures list { IfOk result (λ run. run.list ≡ list_after ready.config run.journal) }
 {
     let (space, mut passes) = Space::<N>::open(ready);
     drive(rt, alloc, &space, passes.as_mut_slice(), trace, gate)?;

@@ -1,5 +1,5 @@
 -- The proof of `run_alone`: the space has one pass with which nothing was done, which ran all lines.
-use Rattle.std.proofs.Common.{◌∙◌, sym, ap, subst, List}
+use Rattle.std.proofs.Common.{sym, ap, subst, List}
 use Rattle.mm_types.specs.declared.call.Entry.{Entry}
 use Rattle.mm_space.specs.Names.{SpaceId, AreStrangers}
 use Rattle.vma_drive.proofs.OnePass.{only_pass, used_alone, alone_closed}
@@ -35,5 +35,5 @@ returns g c =
     (only_pass g.N.SpaceName.name _ _ c.index_mut.result.now c.args.trace.now.lines c.open-space.ensures strangers
     (ap (λ (r : SpaceId). r.operations) c.requires.name) c.requires.one c.index_mut.ensures.value)
     c.in_order_with.ensures.later c.close.ensures strangers (sym (ap (λ (r : SpaceId). r.before) c.requires.name))
-    (sym (ap (λ (r : SpaceId). r.config) c.requires.name) ∙ c.requires.config)
+    (sym (ap (λ (r : SpaceId). r.config) c.requires.name))
     c.in_order_with.ensures.grown c.in_ok-in_order_with.ensures.done c.in_order_with.ensures.late

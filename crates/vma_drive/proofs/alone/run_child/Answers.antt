@@ -1,15 +1,29 @@
--- The proof of `run_child`: the one pass ran the lines of the child's one thread.
-use Rattle.std.proofs.Common.{List, subst}
+-- The proof of `run_child`: the one pass ran the lines of the child's one thread, and the calls before them and theirs pass no limit of areas.
+use Rattle.std.proofs.Common.{◌+◌, ◌∙◌, ℕ, length, sym, ap, subst, arith}
 use Rattle.std.specs.Prelude.{IfOk}
-use Rattle.mm_types.specs.declared.call.Entry.{Entry}
+use Rattle.mm_types.specs.declared.config.Config.{Config}
+use Rattle.mm_types.specs.Config.{IsValidConfig}
+use Rattle.area_limit.proofs.Journals.{valid_for, legal_for}
+use Rattle.area_rules.specs.Steps.{IsLegalJournal}
 use Rattle.vma_drive.specs.Alone.{RanAlone}
+use Rattle.vma_drive.proofs.Limits.{alone_result}
 use Rattle.vma_drive.proofs.OnePass.{child_result, list_result}
 use Rattle.vma_drive.proofs.alone.run_child.Goals as goal
 
-pub returns-clause-run : goal.returns-clause-run
-returns-clause-run g c = child_result _ _ _ _
-    (subst (λ (b : List Entry). IfOk c.run_alone.result (RanAlone c.args.trace.now.config b c.args.trace.now.lines)) c.in_ok-ready.ensures.before c.run_alone.ensures)
-    c.requires.strangers c.requires.own c.requires.alone
+pub make_after-requires-clause-config : goal.make_after-requires-clause-config
+make_after-requires-clause-config g c = subst (λ (s : Config). IsValidConfig s) (sym c.in_ok-config.ensures) (valid_for _ _ c.requires.config)
 
-pub returns-clause-list : goal.returns-clause-list
-returns-clause-list g c = list_result _ _ _ _ c.run_alone.ensures
+pub make_after-requires-clause-legal : goal.make_after-requires-clause-legal
+make_after-requires-clause-legal g c =
+    subst (λ (s : Config). IsLegalJournal s c.args.before.now) (sym c.in_ok-config.ensures)
+    ((legal_for (length c.args.before.now + length c.items.result.now) c.args.trace.now.config c.requires.config
+    (omega (arith, c.requires.few, ap length c.items.ensures)) c.args.before.now (omega arith)).1 c.requires.legal)
+
+pub returns : goal.returns
+returns g c =
+    let calls : ℕ = length c.args.before.now + length c.items.result.now in
+    let lines = ap length c.items.ensures in
+    let ran : IfOk c.run_alone.result (RanAlone c.args.trace.now.config c.args.before.now c.args.trace.now.lines) =
+    alone_result calls _ c.requires.config (omega (arith, c.requires.few, lines)) _ _ c.args.before.now _ _
+    (c.in_ok-ready.ensures.config ∙ c.in_ok-config.ensures) c.in_ok-ready.ensures.before (omega (arith, lines)) c.run_alone.ensures in
+    record { run = child_result _ _ _ _ ran c.requires.strangers c.requires.own c.requires.alone; list = list_result _ _ _ _ ran }

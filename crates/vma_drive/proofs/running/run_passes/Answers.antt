@@ -19,7 +19,7 @@ close-requires g c = subst (λ (l : List PassView). ArePasses g.N.SpaceName.name
 pub returns-clause-run : goal.returns-clause-run
 returns-clause-run g c =
     subst (λ (s : Config). IsRun s [] c.args.trace.now.lines (callers_of c.args.trace.now.lines) c.close.result.journal c.close.result.logs)
-    (sym (ap (λ (r : SpaceId). r.config) c.requires.name) ∙ c.requires.config)
+    (sym (ap (λ (r : SpaceId). r.config) c.requires.name))
     (threads_run g.N.SpaceName.name c.args.trace.now.lines _ c.close.result
     (sym (ap (λ (r : SpaceId). r.before) c.requires.name) ∙ c.requires.before) c.in_ok-drive.ensures.passes
     (subst (λ (l : List PassView). Closes g.N.SpaceName.name l c.close.result)

@@ -1,0 +1,4 @@
+pub mod Lengths
+pub mod Changes
+pub mod Steps
+pub mod Journals
