@@ -92,18 +92,31 @@ HOLDS_END = """        held.unlock();
 LOCKS_HEAD = """//! A program above a lock.
 #![tactic(auto)]
 
-use mmap_lock::MmapLock;
+ghost use Rattle.std.specs.Prelude.{◌≡◌, ◌+◌};
+
+use mm_types::Steps;
+use mmap_lock::{CountsTakes, Lent, MmapLock};
 use std::sync::Wait;
 
 /// What says that a caller doesn't have the lock.
 #[derive(Drop)]
 pub struct Unlocked {
-    only: (),
+    takes: Steps<u8>,
+}
+
+impl CountsTakes for Unlocked {
+    ghost takes = { λ count. count.takes };
+
+    fn count_take(&mut self)
+        ensures { self.new.takes ≡ self.old.takes + 1 }
+    {
+        self.takes.tick();
+    }
 }
 
 /// The value.
 pub fn read<R: Wait>(rt: &R, lock: &MmapLock<u64, Unlocked>, unlocked: &mut Unlocked) -> u64 {
-    let mut guard = lock.take(rt, unlocked);
+    let mut guard = lock.take(rt, Lent::of(unlocked));
     *guard.value()
 }
 
@@ -113,9 +126,33 @@ pub fn read_twice<R: Wait>(rt: &R, lock: &MmapLock<u64, Unlocked>, unlocked: &mu
 
 READS = "    let first = read(rt, lock, unlocked);\n    (first, read(rt, lock, unlocked))\n}\n"
 
-TAKES = "    let mut guard = lock.take(rt, unlocked);\n"
+TAKES = "    let mut guard = lock.take(rt, Lent::of(unlocked));\n"
 
-TAKES_AGAIN = TAKES + "    let mut again = lock.take(rt, unlocked);\n    (*guard.value(), *again.value())\n}\n"
+TAKES_AGAIN = TAKES + "    let mut again = lock.take(rt, Lent::of(unlocked));\n    (*guard.value(), *again.value())\n}\n"
+
+LENDS_ONCE = """    let lent = Lent::of(unlocked);
+    let first = {
+        let mut guard = lock.take(rt, lent);
+        *guard.value()
+    };
+    let mut again = lock.take(rt, lent);
+    (first, *again.value())
+}
+"""
+
+FORGES = """//! A program above passes.
+#![tactic(auto)]
+
+use fault_path::Unlocked;
+use mm_types::Steps;
+
+/// Another token.
+pub fn forge() -> Unlocked {
+    Unlocked {
+        takes: Steps::new(),
+    }
+}
+"""
 
 READS_AGAIN = TAKES + "    let again = read(rt, lock, unlocked);\n    (*guard.value(), again)\n}\n"
 
@@ -147,13 +184,15 @@ PROGRAMS = [
     ("reads_under_a_lock", LOCKS_HEAD + READS, None),
     ("takes_a_lock_twice", LOCKS_HEAD + TAKES_AGAIN, "borrow"),
     ("reads_while_it_has_the_lock", LOCKS_HEAD + READS_AGAIN, "borrow"),
+    ("takes_a_lock_twice_with_one_loan", LOCKS_HEAD + LENDS_ONCE, "moved"),
+    ("forges_a_token", FORGES, "private"),
 ]
 
 # a file of mm_space, a line that stands in it once, and what stands in its place
 TAKES_TWICE = (
     "crates/mm_space/src/space.rt",
     "        let path = Path::Slow(miss);\n",
-    "        let path = Path::Slow(miss);\n        let _again = self.state.take(rt, &mut pass.unlocked);\n",
+    "        let path = Path::Slow(miss);\n        let _again = self.state.take(rt, Lent::of(&mut pass.unlocked));\n",
 )
 
 

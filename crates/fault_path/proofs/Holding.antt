@@ -66,9 +66,10 @@ look_locked area old new seq config locked sees looks look =
 pub locks : (page : ℕ) (old : PassView) (held : HeldView) → GoesOn (view old.reader) (view held.pass.reader) → HasTurn old.reader
     → held.pass.reader.seat.table_id ≡ old.reader.seat.table_id → held.pass.nodes.seat.table_id ≡ old.nodes.seat.table_id
     → (walker held.pass).size ≡ (walker old).size → held.pass.log ≡ old.log → held.pass.left ≡ old.left → held.pass.operations ≡ old.operations
+    → held.pass.takes ≡ old.takes
     → WalksOnce (walker old) (walker held.pass) → IsLocked held.area (view held.pass.reader)
     → IsFound page held.area (view old.reader) (view held.pass.reader) (walker held.pass) → Locks page old held
-locks page old held on turn table nodes size log left operations walk locked found = record {
+locks page old held on turn table nodes size log left operations takes walk locked found = record {
   alike = record {
     later = record {
       by = on.caller;
@@ -82,6 +83,7 @@ locks page old held on turn table nodes size log left operations walk locked fou
     log = log;
     left = left;
     own = ap (λ c. calls_by c (seen_by held.pass)) on.caller ∙ on.own (caller old) turn;
+    takes = takes;
   };
   walk = walk;
   found = found;

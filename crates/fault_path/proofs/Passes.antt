@@ -27,7 +27,7 @@ use Rattle.fault_path.specs.Locking.{GoesOn}
 pub noted : (pass : PassView) (reserved : ℕ) (read : Seen) → IsPass pass reserved
     → length (made_by pass) + length pass.log + pass.left + 1 ≤ pass.operations
     → IsReadRight (config pass) (seen_by pass) read → All (λ earlier. version_of earlier ≤ version_of read) pass.log
-    → IsPass (record { reader = pass.reader; nodes = pass.nodes; log = pass.log ++ read ∷ []; left = pass.left; operations = pass.operations }) reserved
+    → IsPass (record { reader = pass.reader; nodes = pass.nodes; log = pass.log ++ read ∷ []; left = pass.left; operations = pass.operations; takes = pass.takes }) reserved
 noted pass reserved read kept room right rises = record {
   keeps = record {
     legal = kept.keeps.legal;
@@ -43,7 +43,7 @@ noted pass reserved read kept room right rises = record {
 
 -- a pass that new seats begin
 pub fresh_pass : (viewed : ViewedTable) (most : List ℕ) (place count : ℕ) (seat : ReaderSeat) (walker : NodeSeat) (pass : PassView)
-    → pass ≡ record { reader = seat; nodes = walker; log = []; left = count; operations = count }
+    → pass ≡ record { reader = seat; nodes = walker; log = []; left = count; operations = count; takes = 0 }
     → seat.seat.table_id ≡ viewed.table → view seat ≡ new_reader (opened_view viewed.config place)
     → walker.seat.table_id ≡ viewed.nodes → node_seats.view walker ≡ reader_view (node_size viewed.config viewed.callers) place
     → count ≡ get_or most place 0
@@ -67,7 +67,7 @@ fresh_pass viewed most place count seat walker pass is table view_is walked_is w
 
 -- it never looked, nor walked
 pub unused_pass : (settings : Config) (size : Size) (place number count : ℕ) (seat : ReaderSeat) (walker : NodeSeat) (pass : PassView)
-    → pass ≡ record { reader = seat; nodes = walker; log = []; left = count; operations = count }
+    → pass ≡ record { reader = seat; nodes = walker; log = []; left = count; operations = count; takes = 0 }
     → view seat ≡ new_reader (opened_view settings place) → node_seats.view walker ≡ reader_view size number → (looks_of pass ≡ 0) × (walks_of pass ≡ 0)
 unused_pass settings size place number count seat walker pass is view_is walks_is = (
   ap (λ (p : PassView). looks_of p) is ∙ ap (λ v. v.trace.looks) view_is,

@@ -21,13 +21,14 @@ pub record IsHeld (table : TableId) (held : HeldView) (reserved : ℕ) : Type 0 
   pub locked : IsLocked held.area (view held.pass.reader)
   pub keeps : KeepsPass held.pass reserved
 
--- A pass went on in a call that read nothing into its log and took no operation: it has seen what it had seen, and no new entry
--- of its caller.
+-- A pass went on in a call that read nothing into its log, took no operation and didn't take the mmap lock: it has seen what it
+-- had seen, and no new entry of its caller.
 pub record StaysAlike (old new : PassView) : Type 0 where
   pub later : IsLater old new
   pub log : new.log ≡ old.log
   pub left : new.left ≡ old.left
   pub own : made_by new ≡ made_by old
+  pub takes : new.takes ≡ old.takes
 
 -- An area was locked by one walk: it was found at the page in the call, has the page, and is one of the list after all of the
 -- journal that the pass has seen.

@@ -44,18 +44,20 @@ pub record IsNewWriter (settings : Config) (callers : ℕ) (writer : NodeWriter)
   pub free : IsFreeFrom 1 (rows_for settings.areas) (node_seats.free_of writer)
   pub left : node_seats.left_of writer ≡ []
 
--- a pass as contracts see it: the seats at both tables, the reads so far, how many operations are left, and how many it was
--- made with
+-- a pass as contracts see it: the seats at both tables, the reads so far, how many operations are left, how many it was made with,
+-- and how often it took the mmap lock
 pub record PassView : Type 0 where
   pub reader : ReaderSeat
   pub nodes : NodeSeat
   pub log : List Seen
   pub left : ℕ
   pub operations : ℕ
+  pub takes : ℕ
 
--- the pass of a seat at the table of areas, with the rest that a pass has
-abbrev pub pass_of : ReaderSeat → Rest → PassView
-pass_of reader rest = record { reader = reader; nodes = rest.nodes; log = rest.log.items; left = rest.left; operations = rest.operations }
+-- the pass of a seat at the table of areas, with how often it took the mmap lock, and the rest that a pass has
+abbrev pub pass_of : ReaderSeat → ℕ → Rest → PassView
+pass_of reader takes rest =
+    record { reader = reader; nodes = rest.nodes; log = rest.log.items; left = rest.left; operations = rest.operations; takes = takes }
 
 -- whose pass it is
 abbrev pub caller : PassView → ℕ

@@ -29,9 +29,9 @@ impl<'a> Model for Held<'a> {
 
     ghost Value = { HeldView };
 
-    ghost view = { λ h. record { area = h.area; pass = pass_of h.reader h.rest } };
+    ghost view = { λ h. record { area = h.area; pass = pass_of h.reader h.unlocked h.rest } };
 
-    ghost invariant = { λ h. IsHeld (table_of h.table.now) (record { area = h.area; pass = pass_of h.reader h.rest }) (vec_capacity h.rest.log) };
+    ghost invariant = { λ h. IsHeld (table_of h.table.now) (record { area = h.area; pass = pass_of h.reader h.unlocked h.rest }) (vec_capacity h.rest.log) };
 }
 
 impl<'a> Held<'a> {

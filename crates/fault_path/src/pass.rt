@@ -7,7 +7,8 @@ ghost use Rattle.vma_lock.specs.Seats.{seen, stage, HasTurn};
 ghost use Rattle.node_slots.specs.Seats.{IsClosed};
 ghost use Rattle.fault_path.specs.Passes.{caller, config, seen_by, made_by, looks_of, walks_of};
 
-use mm_types::{NoMemory, Seen};
+use mm_types::{NoMemory, Seen, Steps};
+use mmap_lock::CountsTakes;
 use node_slots::NodeSeat;
 use std::alloc::Global;
 use std::marker::Model;
@@ -24,10 +25,32 @@ pub struct Pass {
 }
 
 /// What says that a caller doesn't have the mmap lock. It has no bytes. One is made with each pass, and none is copied: so a caller
-/// that lent it can't take the lock again, and no function that it hands its pass to can.
+/// that lent it can't take the lock again, and no function that it hands its pass to can. Contracts see it as how often the caller
+/// took the lock.
 #[derive(Drop)]
 pub struct Unlocked {
-    only: (),
+    takes: Steps<Takes>,
+}
+
+/// Names the count of takes.
+struct Takes;
+
+impl Model for Unlocked {
+    ghost use Rattle.std.specs.Prelude.{ℕ};
+
+    ghost Value = { ℕ };
+
+    ghost view = { λ u. u.takes };
+}
+
+impl CountsTakes for Unlocked {
+    ghost takes = { λ count. count };
+
+    fn count_take(&mut self)
+        ensures { self.new ≡ self.old + 1 }
+    {
+        self.takes.tick();
+    }
 }
 
 /// What a pass has beside its seat at the table of areas.
@@ -45,9 +68,9 @@ impl Model for Pass {
 
     ghost Value = { PassView };
 
-    ghost view = { λ p. pass_of p.reader p.rest };
+    ghost view = { λ p. pass_of p.reader p.unlocked p.rest };
 
-    ghost invariant = { λ p. IsPass (pass_of p.reader p.rest) (vec_capacity p.rest.log) };
+    ghost invariant = { λ p. IsPass (pass_of p.reader p.unlocked p.rest) (vec_capacity p.rest.log) };
 }
 
 impl Pass {
@@ -63,7 +86,7 @@ impl Pass {
         requires free { stage reader ≡ Out }
         requires closed { IsClosed nodes }
         requires few { operations < 2 ^ 32 }
-        ensures { IfOk result (λ pass. pass ≡ record { reader = reader; nodes = nodes; log = []; left = operations; operations = operations }) }
+        ensures { IfOk result (λ pass. pass ≡ record { reader = reader; nodes = nodes; log = []; left = operations; operations = operations; takes = 0 }) }
     {
         let rest = Rest {
             nodes,
@@ -71,7 +94,9 @@ impl Pass {
             left: operations,
             operations,
         };
-        let unlocked = Unlocked { only: () };
+        let unlocked = Unlocked {
+            takes: Steps::new(),
+        };
         Ok(Pass {
             reader,
             unlocked,

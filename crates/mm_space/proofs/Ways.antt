@@ -98,7 +98,7 @@ pub fast_answers : (page : Page) (access : Access) (old new : PassView) (answer 
     → new ≡ record old { reader = new.reader; nodes = new.nodes } → made_by new ≡ made_by old → IsAnswer page.0 access answer version old new
     → Answers page access old new (record { verdict = answer; path = Fast; version = version })
 fast_answers page access old new answer version same own is = record {
-  same = same;
+  same = same ∙ ap (λ (t : ℕ). record old { reader = new.reader; nodes = new.nodes; takes = t }) (sym (ap (λ (p : PassView). p.takes) same));
   own = own;
   version = is.version_is;
   still = is.still;
@@ -131,7 +131,7 @@ pub found_after : (page : Page) (access : Access) (old between new : PassView) (
     → between ≡ record old { reader = between.reader; nodes = between.nodes } → made_by between ≡ made_by old → IsLater old between
     → Finds page access between new found → Finds page access old new found
 found_after page access old between new (Answered done) same own later is = record {
-  same = is.same ∙ ap (λ (p : PassView). record p { reader = new.reader; nodes = new.nodes }) same;
+  same = is.same ∙ ap (λ (p : PassView). record p { reader = new.reader; nodes = new.nodes; takes = new.takes }) same;
   own = is.own ∙ own;
   version = is.version;
   still = is.still;
@@ -251,14 +251,14 @@ met_by_look name before journal old new legal table found is turn later own = re
 }
 
 -- a pass that looked under the lock and holds nothing
-pub met_pass : (old shown : PassView) (seat : ReaderSeat) (reserved : ℕ) (settings : Config) (now before : List Entry) → IsPass old reserved → old ≡ shown
+pub met_pass : (old shown : PassView) (seat : ReaderSeat) (takes reserved : ℕ) (settings : Config) (now before : List Entry) → IsPass old reserved → old ≡ shown
     → config shown ≡ settings → IsLegalJournal settings now → seen seat ≡ now → now ≡ before → HasTurn seat → stage seat ≡ Out
     → ((areas.view seat).caller ≡ caller old) × ((areas.view seat).config ≡ config old) → StartsWith before (seen_by old)
-    → calls_by (caller old) before ≡ calls_by (caller old) (seen_by old) → IsPass (record old { reader = seat }) reserved
-met_pass old shown seat reserved settings now before kept shown_is settings_is legal seen_is now_is turn free same later own =
+    → calls_by (caller old) before ≡ calls_by (caller old) (seen_by old) → IsPass (record old { reader = seat; takes = takes }) reserved
+met_pass old shown seat takes reserved settings now before kept shown_is settings_is legal seen_is now_is turn free same later own =
     let config_is : (areas.view seat).config ≡ settings = same.1 ∙ ap config shown_is ∙ settings_is in
     let all : seen seat ≡ before = seen_is ∙ now_is in
-    gone_on old (record old { reader = seat }) reserved kept
+    gone_on old (record old { reader = seat; takes = takes }) reserved kept
     (record {
       caller = same.0;
       config = same.1;
@@ -271,21 +271,21 @@ met_pass old shown seat reserved settings now before kept shown_is settings_is l
     }) free kept.keeps.closed refl refl refl
 
 -- a fault that grew an area under the lock, of a pass that one operation was taken from
-pub grew : (page : Page) (access : Access) (old kept : PassView) (seat : ReaderSeat) (settings : Config) (before now : List Entry) (area : Record)
+pub grew : (page : Page) (access : Access) (old kept : PassView) (seat : ReaderSeat) (takes : ℕ) (settings : Config) (before now : List Entry) (area : Record)
     (miss : Miss) (version : ℕ) → kept ≡ record old { left = old.left - 1 } → 0 < old.left → config old ≡ settings
     → grows settings (list_after settings before) page.0 access ≡ true
     → now ≡ before ++ entry_by kept (Touch page access) (Grown area 0) ∷ [] → seen seat ≡ now
     → ((areas.view seat).caller ≡ caller kept) × ((areas.view seat).config ≡ config kept) → StartsWith before (seen_by kept)
     → calls_by (caller kept) before ≡ calls_by (caller kept) (seen_by kept) → version ≡ length (seen seat)
-    → Grows page access old (record kept { reader = seat }) (record { verdict = Served area 0; path = Slow miss; version = version })
-grew page access old kept seat settings before now area miss version is some settings_is does now_is seen_is same later own version_is =
+    → Grows page access old (record kept { reader = seat; takes = takes }) (record { verdict = Served area 0; path = Slow miss; version = version })
+grew page access old kept seat takes settings before now area miss version is some settings_is does now_is seen_is same later own version_is =
     let entry : entry_by kept (Touch page access) (Grown area 0) ≡ entry_by old (Touch page access) (Grown area 0) =
     ap (λ (p : PassView). entry_by p (Touch page access) (Grown area 0)) is in
     let by : caller kept ≡ caller old = ap caller is in
     let left : kept.left ≡ old.left - 1 = ap (λ (p : PassView). p.left) is in
     record {
       area = area;
-      call = entered old (record kept { reader = seat }) before (Touch page access) (Grown area 0) version
+      call = entered old (record kept { reader = seat; takes = takes }) before (Touch page access) (Grown area 0) version
           (seen_is ∙ now_is ∙ ap (λ (e : Entry). before ++ e ∷ []) entry)
           (subst (λ (l : List Entry). StartsWith before l) (ap seen_by is) later)
           (sym (ap (λ (c : ℕ). calls_by c before) by) ∙ own ∙ ap made_by is) (same.0 ∙ by) version_is (ap (λ (p : PassView). p.log) is)

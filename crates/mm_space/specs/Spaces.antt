@@ -72,6 +72,7 @@ pub record Tells (old new : PassView) : Type 0 where
   pub left : new.left + 1 ≡ old.left
   pub looks : looks_of new ≡ looks_of old
   pub walker : walker new ≡ walker old
+  pub takes : new.takes ≡ old.takes
 
 -- A pass heard a note of this list: it has then seen the longer of both, which this list begins, and nothing else changed.
 pub record Hears (old : PassView) (told : List Entry) (new : PassView) : Type 0 where
@@ -82,6 +83,7 @@ pub record Hears (old : PassView) (told : List Entry) (new : PassView) : Type 0 
   pub left : new.left ≡ old.left
   pub looks : looks_of new ≡ looks_of old
   pub walker : walker new ≡ walker old
+  pub takes : new.takes ≡ old.takes
 
 -- a seat looked once, and took no other step
 abbrev pub LooksOnce : ReaderSeat → ReaderSeat → Type 0
@@ -114,6 +116,11 @@ abbrev pub IsWay : ℕ → Access → PassView → PassView → Verdict → ℕ 
 IsWay page access old new answer version Fast = IsAnswer page access answer version old new
 IsWay page access old new answer version (Slow miss) = MissesFirst page miss old new
 
+-- how often a fault takes the mmap lock on its way
+abbrev pub takes_on : Path → ℕ
+takes_on Fast = 0
+takes_on (Slow miss) = 1
+
 -- One fault grew an area: where the list before its entry grows at the page, the touch is entered, which replies with the area as it
 -- is then, and this area serves the fault at its first page. It had missed without the lock.
 pub record Grows (page : Page) (access : Access) (old new : PassView) (done : Faulted) : Type 0 where
@@ -128,9 +135,9 @@ abbrev pub IsDone : Page → Access → PassView → PassView → Faulted → Ty
 IsDone page access old new done = Reads old new (Fault done.version page access done.verdict) ⊎ Grows page access old new done
 
 -- A fault that grows no area was answered, and is not in the log yet: its verdict is that over the list after all that the pass has
--- then seen, and nothing else was done.
+-- then seen, and nothing else was done but that the lock may have been taken.
 pub record Answers (page : Page) (access : Access) (old new : PassView) (done : Faulted) : Type 0 where
-  pub same : new ≡ record old { reader = new.reader; nodes = new.nodes }
+  pub same : new ≡ record old { reader = new.reader; nodes = new.nodes; takes = new.takes }
   pub own : made_by new ≡ made_by old
   pub version : done.version ≡ length (seen_by new)
   pub still : grows (config new) (list_after (config new) (seen_by new)) page.0 access ≡ false

@@ -7,7 +7,7 @@ ghost use Rattle.fault_path.specs.Passes.{config, seen_by, looks_of, walker, IsL
 ghost use Rattle.fault_path.specs.Faults.{WalksOnce};
 ghost use Rattle.mm_space.specs.declared.space.Path.TheVariants.{Slow};
 ghost use Rattle.mm_space.specs.Names.{IsViewOf, IsPassOf, ArePasses};
-ghost use Rattle.mm_space.specs.Spaces.{Calls, Reads, DoesNothing, LooksOnce, IsWay, IsDone, Finds, faulted_of, Tells, Hears};
+ghost use Rattle.mm_space.specs.Spaces.{Calls, Reads, DoesNothing, LooksOnce, IsWay, takes_on, IsDone, Finds, faulted_of, Tells, Hears};
 ghost use Rattle.mm_space.specs.Closing.{Closes};
 ghost use Rattle.mm_space.specs.Opening.{AreOpened};
 
@@ -18,7 +18,7 @@ use crate::named::Named;
 use crate::ready::Ready;
 use fault_path::{Fast, FaultView, Miss, Note, Pass, Unlocked};
 use mm_types::{Access, Call, NoMemory, Page, Reply, Seen, Verdict};
-use mmap_lock::MmapLock;
+use mmap_lock::{Lent, MmapLock};
 use std::alloc::Global;
 use std::sync::Wait;
 
@@ -92,19 +92,20 @@ impl<N: SpaceName> Space<N> {
         &self.view
     }
 
-    /// Makes a call with a pass of this space, under the lock.
+    /// Makes a call with a pass of this space, under the lock, which it takes once.
     pub fn call<R: Wait>(&self, rt: &R, pass: &mut Pass, call: &Call) -> Called
         requires pass { IsPassOf N.name pass.old }
         requires left { 0 < pass.old.left }
         ensures pass { IsPassOf N.name pass.new }
         ensures later { IsLater pass.old pass.new }
         ensures call { Calls pass.old pass.new call.now result.reply result.version }
+        ensures takes { pass.new.takes ≡ pass.old.takes + 1 }
         ensures looks { looks_of pass.new ≡ looks_of pass.old + 1 }
         // it walks no tree
         ensures nodes { pass.new.nodes ≡ pass.old.nodes }
     {
         pass.spend();
-        let mut guard = self.state.take(rt, &mut pass.unlocked);
+        let mut guard = self.state.take(rt, Lent::of(&mut pass.unlocked));
         let reply = guard.value().apply(rt, &mut pass.reader, call);
         Called {
             reply,
@@ -112,9 +113,10 @@ impl<N: SpaceName> Space<N> {
         }
     }
 
-    /// A fault: the verdict, as one operation. It is looked for without the lock first, which waits for nobody. Where that misses, it
-    /// is the verdict over the list under the lock. A fault that grows an area in that list is entered in the journal, as a touch, and
-    /// is in no log; any other is in the log, and makes no entry.
+    /// A fault: the verdict, as one operation. It is looked for without the lock first, which waits for nobody: a fault that is
+    /// answered so never takes the lock. Where that misses, it takes the lock once, and is the verdict over the list under the lock.
+    /// A fault that grows an area in that list is entered in the journal, as a touch, and is in no log; any other is in the log, and
+    /// makes no entry.
     pub fn fault<R: Wait>(&self, rt: &R, pass: &mut Pass, page: Page, access: Access) -> Faulted
         requires pass { IsPassOf N.name pass.old }
         requires left { 0 < pass.old.left }
@@ -123,6 +125,7 @@ impl<N: SpaceName> Space<N> {
         ensures done { IsDone page access pass.old pass.new result }
         ensures walk { WalksOnce (walker pass.old) (walker pass.new) }
         ensures way { IsWay page.0 access pass.old pass.new result.verdict result.version result.path }
+        ensures takes { pass.new.takes ≡ pass.old.takes + takes_on result.path }
     {
         match self.find(rt, pass, page, access) {
             Found::Entered(faulted) => faulted,
@@ -142,6 +145,7 @@ impl<N: SpaceName> Space<N> {
         ensures found { Finds page access pass.old pass.new result }
         ensures walk { WalksOnce (walker pass.old) (walker pass.new) }
         ensures way { IsWay page.0 access pass.old pass.new (faulted_of result).verdict (faulted_of result).version (faulted_of result).path }
+        ensures takes { pass.new.takes ≡ pass.old.takes + takes_on (faulted_of result).path }
     {
         match self.view.fault_fast(pass, page, access) {
             Fast::Answer { verdict, version } => Found::Answered(Faulted {
@@ -171,9 +175,10 @@ impl<N: SpaceName> Space<N> {
         ensures nodes { pass.new.nodes ≡ pass.old.nodes }
         ensures look { LooksOnce pass.old.reader pass.new.reader }
         ensures path { (faulted_of result).path ≡ Slow miss }
+        ensures takes { pass.new.takes ≡ pass.old.takes + 1 }
     {
         pass.facts();
-        let mut guard = self.state.take(rt, &mut pass.unlocked);
+        let mut guard = self.state.take(rt, Lent::of(&mut pass.unlocked));
         let state = guard.value();
         let path = Path::Slow(miss);
         if state.grows(page, access) {
@@ -194,21 +199,22 @@ impl<N: SpaceName> Space<N> {
         })
     }
 
-    /// Reads the list of areas under the lock, and answers how many entries the journal had then. Refused where memory for
-    /// the copy runs out: then no operation is taken.
+    /// Reads the list of areas under the lock, which it takes once, and answers how many entries the journal had then. Refused where
+    /// memory for the copy runs out: then no operation is taken.
     pub fn maps<R: Wait>(&self, rt: &R, alloc: Global, pass: &mut Pass) -> Result<u64, NoMemory>
         requires pass { IsPassOf N.name pass.old }
         requires left { 0 < pass.old.left }
         ensures pass { IsPassOf N.name pass.new }
         ensures later { IsLater pass.old pass.new }
         ensures read { IfOk result (λ version. (list : List Record) × Reads pass.old pass.new (Maps version list)) }
+        ensures takes { pass.new.takes ≡ pass.old.takes + 1 }
         ensures looks { looks_of pass.new ≡ looks_of pass.old + 1 }
         ensures err { OnErr result (DoesNothing pass.old pass.new) }
         // it walks no tree
         ensures nodes { pass.new.nodes ≡ pass.old.nodes }
     {
         let list = {
-            let mut guard = self.state.take(rt, &mut pass.unlocked);
+            let mut guard = self.state.take(rt, Lent::of(&mut pass.unlocked));
             let state = guard.value();
             state.meet(&mut pass.reader);
             state.copy_list(alloc)?

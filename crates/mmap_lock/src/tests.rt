@@ -1,6 +1,9 @@
 //! Four threads count under one lock.
 
-use crate::MmapLock;
+ghost use Rattle.std.specs.Prelude.{◌≡◌, ◌+◌};
+
+use crate::{CountsTakes, Lent, MmapLock};
+use mm_types::Steps;
 use std::process::Abort;
 use std::sync::Wait;
 use std::thread;
@@ -21,11 +24,36 @@ struct Pair {
 
 /// What says that its owner doesn't have the lock.
 #[derive(Drop)]
-struct Unlocked;
+struct Unlocked {
+    takes: Steps<Pair>,
+}
 
-/// Counts once.
-fn count<R: Wait>(rt: &R, lock: &MmapLock<Pair, Unlocked>, unlocked: &mut Unlocked) {
-    let mut guard = lock.take(rt, unlocked);
+impl Unlocked {
+    /// Of a caller that never took the lock.
+    fn new() -> Unlocked
+        ensures { result.takes ≡ 0 }
+    {
+        Unlocked {
+            takes: Steps::new(),
+        }
+    }
+}
+
+impl CountsTakes for Unlocked {
+    ghost takes = { λ unlocked. unlocked.takes };
+
+    fn count_take(&mut self)
+        ensures { self.new.takes ≡ self.old.takes + 1 }
+    {
+        self.takes.tick();
+    }
+}
+
+/// Counts once, and takes the lock once.
+fn count<R: Wait>(rt: &R, lock: &MmapLock<Pair, Unlocked>, unlocked: &mut Unlocked)
+    ensures { unlocked.new.takes ≡ unlocked.old.takes + 1 }
+{
+    let mut guard = lock.take(rt, Lent::of(unlocked));
     let pair = guard.value();
     pair.first = pair.first.wrapping_add(1);
     pair.second = pair.second.wrapping_add(1);
@@ -40,7 +68,12 @@ fn count_all<R: Wait>(rt: &R, lock: &MmapLock<Pair, Unlocked>, unlocked: &mut Un
 
 /// All threads count under the lock.
 fn count_together<R: Threads + Wait + Sync>(rt: &R, lock: &MmapLock<Pair, Unlocked>) {
-    let mut callers = [Unlocked, Unlocked, Unlocked, Unlocked];
+    let mut callers = [
+        Unlocked::new(),
+        Unlocked::new(),
+        Unlocked::new(),
+        Unlocked::new(),
+    ];
     thread::for_each_mut(
         rt,
         &mut callers,

@@ -21,8 +21,8 @@ returns-in-Ok-clause-fast c =
     let config_is = ap (λ (v : View). v.config) c.sub.ensures.view ∙ c.lock_page.ensures.goes_on.config
     ∙ ap config c.pass.view_is ∙ c.requires.config_is ∙ sym (ap (λ (v : ViewedTable). v.config) c.self.view_is) in
     let inside = c.pass.inside in
-    let old : PassView = pass_of inside.reader inside.rest in
-    let new : PassView = pass_of c.sub.new.seat (record inside.rest { nodes = c.lock_page.new.walker }) in
+    let old : PassView = pass_of inside.reader inside.unlocked inside.rest in
+    let new : PassView = pass_of c.sub.new.seat inside.unlocked (record inside.rest { nodes = c.lock_page.new.walker }) in
     subst (λ (was : PassView). IsAnswer c.args.page.0 c.args.access c.area_verdict.result c.version.result was new) c.pass.view_is
     (answered c.args.page.0 c.args.access c.area_verdict.result c.version.result c.in-Ok.area c.items.result.now old new (view held)
     c.in-Ok.ensures.locked.0 c.in-Ok.ensures.locked.1 c.sub.ensures.view c.area_verdict.ensures

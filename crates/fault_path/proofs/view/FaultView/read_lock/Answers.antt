@@ -22,11 +22,11 @@ pub returns-in-Ok-clause-held : goal.returns-in-Ok-clause-held
 returns-in-Ok-clause-held c =
     let lock = c.lock_page.ensures in
     let inside = c.pass.inside in
-    let old : PassView = pass_of inside.reader inside.rest in
-    let new : PassView = pass_of c.lock_page.new.reader (record inside.rest { nodes = c.lock_page.new.walker }) in
+    let old : PassView = pass_of inside.reader inside.unlocked inside.rest in
+    let new : PassView = pass_of c.lock_page.new.reader inside.unlocked (record inside.rest { nodes = c.lock_page.new.walker }) in
     let held : HeldView = record { area = c.in-Ok.area; pass = new } in
     let table : new.reader.seat.table_id ≡ old.reader.seat.table_id = search rules in
     let nodes : new.nodes.seat.table_id ≡ old.nodes.seat.table_id = search rules in
     let size : (walker new).size ≡ (walker old).size = search rules in
     subst (λ (was : PassView). Locks c.args.page.0 was held) c.pass.view_is
-    (locks c.args.page.0 old held lock.goes_on c.pass.invariant.keeps.turn table nodes size refl refl refl lock.walk c.in-Ok.ensures.locked.0 c.in-Ok.ensures.locked.1)
+    (locks c.args.page.0 old held lock.goes_on c.pass.invariant.keeps.turn table nodes size refl refl refl refl lock.walk c.in-Ok.ensures.locked.0 c.in-Ok.ensures.locked.1)
