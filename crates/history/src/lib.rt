@@ -39,5 +39,5 @@ pub use run_laws::{
     callers_share_the_lines, labels_make_the_serial_history, no_lines_past_the_callers,
     one_operation_more, run_makes_a_legal_history, touches_that_grew_are_made,
 };
-pub use space_lines::SpaceLines;
+pub use space_lines::{SpaceLines, has_forks};
 pub use turns::{Turn, Turns, in_turn};

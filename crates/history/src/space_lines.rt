@@ -91,7 +91,7 @@ impl<'a> SpaceLines<'a> {
 }
 
 /// Whether a line forks.
-fn has_forks(lines: &[TraceLine]) -> bool
+pub fn has_forks(lines: &[TraceLine]) -> bool
     ensures { result ≡ list_any (λ line. is_some (child_of line.op)) lines.now }
 {
     lines.iter().any(|line| is_fork(line.op))

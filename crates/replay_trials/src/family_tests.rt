@@ -1,12 +1,15 @@
 //! Traces that fork, and traces in which a line names another, worked by hand: a trace for each, and its output in both modes.
 
+use crate::judging::{gathered, parsed};
 use crate::tests::run_trace;
+use history::check;
 use io_edge::PlainGate;
 use std::alloc::Global;
 use std::process::Abort;
 use std::sync::Wait;
 use std::test::Fail;
 use std::thread::Threads;
+use vma_drive::run_threads;
 
 /// A parent that maps a page, forks and unmaps it, while the child has it still.
 const FORKED: &[u8] = b"vmatrace 1\n\
@@ -139,6 +142,19 @@ fn each_family_gives_its_row(rt: HostRuntime) -> Result<(), Fail> {
     for (trace, output, runs) in rows {
         expect_output(&rt, rt.alloc(), "serial", trace, output, runs)?;
         expect_output(&rt, rt.alloc(), "threads", trace, output, runs)?;
+    }
+    Ok(())
+}
+
+#[test]
+fn a_run_of_a_trace_that_forks_is_accepted_as_its_parents(rt: HostRuntime) -> Result<(), Fail> {
+    let alloc = rt.alloc();
+    let traces: [&[u8]; 4] = [FORKED, TWO_CHILDREN, NO_LINES, GROWN];
+    for text in traces {
+        let trace = parsed(alloc, text)?;
+        let run = run_threads(&rt, alloc, &trace, &PlainGate)?;
+        let history = gathered(&rt, alloc, &run)?;
+        assert!(rt; check(alloc, &trace, &history).is_ok());
     }
     Ok(())
 }

@@ -18,7 +18,7 @@ use mm_types::{Entry, NoMemory};
 use std::alloc::Global;
 use std::marker::Brand;
 use std::sync::Wait;
-use trace_reader::Trace;
+use trace_reader::{Trace, TraceLine};
 
 /// Runs the lines of a child, of its one thread, over a space that begins with what the child inherits, and closes it. Each line is told
 /// before and after its operation. Refused where memory runs out.
@@ -40,10 +40,11 @@ pub fn run_child<R: Wait, T: Watcher<R>>(
         × IsChildRun trace.now.config before.now trace.now.lines 1 own run.logs) }
     ensures list { IfOk result (λ run. run.list ≡ list_after trace.now.config run.journal) }
 {
-    let count = trace.lines.items().len() as u64;
+    let lines = trace.lines.items();
+    let count = lines.len() as u64;
     let config = config_for(alloc, &trace.config, before.len() as u64 + count)?;
     let ready = Ready::make_after(rt, alloc, config, before, &[count])?;
-    run_alone::<Brand, R, T>(rt, alloc, ready, trace, watcher)
+    run_alone::<Brand, R, T>(rt, alloc, ready, lines, watcher)
 }
 
 /// Opens a space of one caller, runs all lines with its pass, and closes it.
@@ -51,16 +52,16 @@ pub(crate) fn run_alone<N: SpaceName, R: Wait, T: Watcher<R>>(
     rt: &R,
     alloc: Global,
     ready: Ready,
-    trace: &Trace,
+    lines: &[TraceLine],
     watcher: &T,
 ) -> Result<Closed, NoMemory>
     requires name { ready ≡ N.name }
     requires strangers { AreStrangers ready.before }
-    requires one { ready.operations ≡ length trace.now.lines ∷ [] }
-    requires lines { AskThemselves trace.now.lines }
-    ensures { IfOk result (RanAlone ready.config ready.before trace.now.lines) }
+    requires one { ready.operations ≡ length lines.now ∷ [] }
+    requires lines { AskThemselves lines.now }
+    ensures { IfOk result (RanAlone ready.config ready.before lines.now) }
 {
     let (space, mut passes) = Space::<N>::open(ready);
-    in_order_with(rt, alloc, &space, &mut passes[0], trace, watcher)?;
+    in_order_with(rt, alloc, &space, &mut passes[0], lines, watcher)?;
     Ok(space.close(passes))
 }

@@ -43,6 +43,10 @@ pub alone_run : (mode : Mode) (trace : Trace) (run : ClosedView) → list_any (�
     → IsRunOf mode trace run → IsRunOf mode (parent_trace trace) run
 alone_run mode trace run none is = subst (λ (t : Trace). IsRunOf mode t run) (own_parent trace trace.lines false refl (sym none) refl) is
 
+pub own_run : (mode : Mode) (trace : Trace) (run : ClosedView) → list_any (λ line. is_some (child_of line.op)) trace.lines ≡ false
+    → IsRunOf mode (parent_trace trace) run → IsRunOf mode trace run
+own_run mode trace run none is = subst (λ (t : Trace). IsRunOf mode t run) (sym (own_parent trace trace.lines false refl (sym none) refl)) is
+
 pub alone_history : (mode : Mode) (trace : Trace) (run : ClosedView) (history : List Item)
     → list_any (λ line. is_some (child_of line.op)) trace.lines ≡ false → history ≡ history_of_run mode (parent_trace trace) run
     → history ≡ history_of_run mode trace run

@@ -7,6 +7,7 @@ pub mod Parents
 pub mod ChildSpaces
 pub mod FamilyTexts
 pub mod Alone
+pub mod Loads
 pub mod Fronts
 pub mod SerialRuns
 pub mod Alike

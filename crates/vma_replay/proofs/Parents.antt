@@ -62,7 +62,7 @@ no_children (line ∷ lines) none = by_child (child_of line.op) none (λ rest. n
     by_child None none rest = rest none
     by_child (Some child) none rest = absurd (cc)
 
-all_kept : (lines : List TraceLine) → filter (λ (line : TraceLine). true) lines ≡ lines
+pub all_kept : (lines : List TraceLine) → filter (λ (line : TraceLine). true) lines ≡ lines
 all_kept [] = refl
 all_kept (line ∷ lines) = ap (λ (l : List TraceLine). line ∷ l) (all_kept lines)
 

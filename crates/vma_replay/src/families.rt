@@ -1,9 +1,8 @@
 //! The closed runs of a trace: that of its parent, and those of its children.
-ghost use Rattle.std.specs.Prelude.{◌≡◌, ◌<◌, ◌≤◌, [], All, IfOk, Ok, Some, is_some, length, map, slice_get};
-ghost use Rattle.std.specs.List.{list_any};
+ghost use Rattle.std.specs.Prelude.{◌≡◌, ◌<◌, ◌≤◌, [], All, IfOk, Ok, Some, length, map, slice_get};
 ghost use Rattle.std.specs.Vec.{vec_capacity};
 ghost use Rattle.mm_fork.specs.Children.{parent_trace, child_trace};
-ghost use Rattle.trace_reader.specs.Values.{IsTraceValue, child_of};
+ghost use Rattle.trace_reader.specs.Values.{IsTraceValue};
 ghost use Rattle.vma_replay.specs.Internal.Families.{AreRunsOfChildren, IsFamily, IsForkOf, IsOfParent};
 ghost use Rattle.vma_replay.specs.Replaying.{IsRunOfChild};
 ghost use Rattle.vma_replay.specs.declared.forks.Fork.{Fork};
@@ -21,7 +20,7 @@ use std::alloc::Global;
 use std::sync::Wait;
 use std::thread;
 use std::thread::Threads;
-use trace_reader::{Lines, MOST_FORKS, Op, Trace, TraceLine};
+use trace_reader::{Lines, MOST_FORKS, Trace};
 use vma_drive::{GateWatcher, NoWatcher, Watcher, run_child};
 
 /// The closed runs of a trace, the parent's first and then one for each child, by ascending child, with the history and the forks of the
@@ -31,20 +30,6 @@ pub(crate) struct Family {
     pub(crate) history: History,
     pub(crate) forks: Vec<Fork>,
     pub(crate) runs: Vec<Closed>,
-}
-
-/// Whether a line forks.
-pub(crate) fn has_forks(lines: &[TraceLine]) -> bool
-    ensures { result ≡ list_any (λ line. is_some (child_of line.op)) lines.now }
-{
-    lines.iter().any(|line| is_fork(line.op))
-}
-
-/// Whether an operation makes a child.
-fn is_fork(op: Op) -> bool
-    ensures { result ≡ is_some (child_of op) }
-{
-    matches!(op, Op::Fork { .. })
 }
 
 /// The trace of the parent.
@@ -84,7 +69,7 @@ pub(crate) fn closed_family<R: Threads + Wait + Sync, G: Gate>(
     ensures { IfOk result (λ family. IsFamily mode trace.now family.history family.forks.items family.runs.items) }
 {
     let mut runs = Vec::with_capacity(alloc, 1 + MOST_FORKS)?;
-    let run = closed_run(rt, alloc, mode, parent, gate)?;
+    let run = closed_run(rt, alloc, mode, trace, gate)?;
     let history = run_history(alloc, mode, trace, &run)?;
     let forks = forks_of(alloc, parent.lines.items(), history.items())?;
     let mut children = children_runs(

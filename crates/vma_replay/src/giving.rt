@@ -4,12 +4,13 @@ ghost use Rattle.trace_reader.specs.Values.{IsTraceValue};
 ghost use Rattle.mm_fork.specs.Children.{parent_trace};
 ghost use Rattle.vma_replay.specs.Internal.Giving.{GivesAnOutput, IsDoing, IsDone};
 
-use crate::families::{closed_family, has_forks, parent_of};
+use crate::families::{closed_family, parent_of};
 use crate::in_turn::alone_given;
 use crate::printing::give_family;
 use crate::replayed::{Replayed, Runs};
 use crate::status::Status;
 use crate::words::Mode;
+use history::has_forks;
 use io_edge::{Gate, Sink};
 use std::alloc::Global;
 use std::sync::Wait;

@@ -1,6 +1,7 @@
 //! A closed run of a trace, in a mode.
 ghost use Rattle.std.specs.Prelude.{◌≡◌, IfOk};
 ghost use Rattle.lock_core.specs.Facts.{list_after};
+ghost use Rattle.mm_fork.specs.Children.{parent_trace};
 ghost use Rattle.trace_reader.specs.Values.{IsTraceValue};
 ghost use Rattle.vma_replay.specs.Replaying.{IsRunOf};
 
@@ -14,7 +15,7 @@ use std::thread::Threads;
 use trace_reader::Trace;
 use vma_drive::{run_serial, run_threads};
 
-/// Runs a trace over a new space, and closes it. Refused where memory runs out.
+/// Runs the parent of a trace over a new space, and closes it. Refused where memory runs out.
 pub(crate) fn closed_run<R: Threads + Wait + Sync, G: Gate>(
     rt: &R,
     alloc: Global,
@@ -23,7 +24,7 @@ pub(crate) fn closed_run<R: Threads + Wait + Sync, G: Gate>(
     gate: &G,
 ) -> Result<Closed, NoMemory>
     requires { IsTraceValue trace.now }
-    ensures run { IfOk result (λ run. IsRunOf mode trace.now run) }
+    ensures run { IfOk result (λ run. IsRunOf mode (parent_trace trace.now) run) }
     ensures list { IfOk result (λ run. run.list ≡ list_after trace.now.config run.journal) }
 {
     match mode {

@@ -1,7 +1,8 @@
 -- The proof of `run_child`: the one pass ran the lines of the child's one thread, and the calls before them and theirs pass no limit of areas.
-use Rattle.std.proofs.Common.{◌+◌, ◌∙◌, ℕ, length, sym, ap, subst, arith}
+use Rattle.std.proofs.Common.{◌+◌, ◌∙◌, ℕ, List, length, sym, ap, subst, arith}
 use Rattle.std.specs.Prelude.{IfOk}
 use Rattle.mm_types.specs.declared.config.Config.{Config}
+use Rattle.trace_reader.specs.declared.trace.TraceLine.{TraceLine}
 use Rattle.mm_types.specs.Config.{IsValidConfig}
 use Rattle.area_limit.proofs.Journals.{valid_for, legal_for}
 use Rattle.area_rules.specs.Steps.{IsLegalJournal}
@@ -16,14 +17,15 @@ make_after-requires-clause-config g c = subst (λ (s : Config). IsValidConfig s)
 pub make_after-requires-clause-legal : goal.make_after-requires-clause-legal
 make_after-requires-clause-legal g c =
     subst (λ (s : Config). IsLegalJournal s c.args.before.now) (sym c.in_ok-config.ensures)
-    ((legal_for (length c.args.before.now + length c.items.result.now) c.args.trace.now.config c.requires.config
-    (omega (arith, c.requires.few, ap length c.items.ensures)) c.args.before.now (omega arith)).1 c.requires.legal)
+    ((legal_for (length c.args.before.now + length c.items-lines.result.now) c.args.trace.now.config c.requires.config
+    (omega (arith, c.requires.few, ap length c.items-lines.ensures)) c.args.before.now (omega arith)).1 c.requires.legal)
 
 pub returns : goal.returns
 returns g c =
-    let calls : ℕ = length c.args.before.now + length c.items.result.now in
-    let lines = ap length c.items.ensures in
+    let calls : ℕ = length c.args.before.now + length c.items-lines.result.now in
     let ran : IfOk c.run_alone.result (RanAlone c.args.trace.now.config c.args.before.now c.args.trace.now.lines) =
-    alone_result calls _ c.requires.config (omega (arith, c.requires.few, lines)) _ _ c.args.before.now _ _
-    (c.in_ok-ready.ensures.config ∙ c.in_ok-config.ensures) c.in_ok-ready.ensures.before (omega (arith, lines)) c.run_alone.ensures in
+    subst (λ (l : List TraceLine). IfOk c.run_alone.result (RanAlone c.args.trace.now.config c.args.before.now l)) c.items-lines.ensures
+    (alone_result calls _ c.requires.config (omega (arith, c.requires.few, ap length c.items-lines.ensures)) _ _ c.args.before.now
+    c.items-lines.result.now _
+    (c.in_ok-ready.ensures.config ∙ c.in_ok-config.ensures) c.in_ok-ready.ensures.before (omega arith) c.run_alone.ensures) in
     record { run = child_result _ _ _ _ ran c.requires.strangers c.requires.own c.requires.alone; list = list_result _ _ _ _ ran }

@@ -1,67 +1,16 @@
--- The proof of `drive`: with unused passes the first round can begin.
-use Rattle.std.proofs.Common.{ℕ, ◌≡◌, ◌∙◌, ap, sym, subst, List, length, get_or, slice_get, take, Some}
-use Rattle.trace_reader.specs.declared.trace.TraceLine.{TraceLine}
-use Rattle.history.specs.Histories.{AskThemselves, lines_of}
-use Rattle.history.specs.Runs.{asked}
-use Rattle.fault_path.specs.Passes.{PassView}
-use Rattle.history.proofs.Calls.{values_ask}
+-- The proof of `drive`: where memory runs out before a round nothing was done, and the lines that were run are the parent's.
+use Rattle.std.proofs.Common.{◌≡◌, ◌∙◌, subst, List}
 use Rattle.std.specs.Prelude.{OnOk}
-use Rattle.vma_drive.specs.Hearing.{AreToldBy, done_by}
-use Rattle.vma_drive.specs.Sharing.{AreEnough}
-use Rattle.vma_drive.proofs.Standing.{settle, begun_fresh, grown_fresh, at_first}
+use Rattle.trace_reader.specs.declared.trace.TraceLine.{TraceLine}
+use Rattle.history.specs.Parents.{parent_lines}
+use Rattle.vma_drive.specs.Hearing.{AreToldBy}
+use Rattle.vma_drive.proofs.Standing.{begun_fresh}
 use Rattle.vma_drive.proofs.driving.drive.Goals as goal
 
-pub returns-in_err-places-clause-begun : goal.returns-in_err-places-clause-begun
-returns-in_err-places-clause-begun g c = begun_fresh _ _ c.requires.unused
-
-pub returns-in_err-places-clause-grown : goal.returns-in_err-places-clause-grown
-returns-in_err-places-clause-grown g c = grown_fresh _ c.requires.unused
-
-pub returns-in_err-rounds-clause-begun : goal.returns-in_err-rounds-clause-begun
-returns-in_err-rounds-clause-begun g c = begun_fresh _ _ c.requires.unused
-
-pub returns-in_err-rounds-clause-grown : goal.returns-in_err-rounds-clause-grown
-returns-in_err-rounds-clause-grown g c = grown_fresh _ c.requires.unused
-
-pub returns-in_err-tellings-clause-begun : goal.returns-in_err-tellings-clause-begun
-returns-in_err-tellings-clause-begun g c = begun_fresh _ _ c.requires.unused
-
-pub returns-in_err-tellings-clause-grown : goal.returns-in_err-tellings-clause-grown
-returns-in_err-tellings-clause-grown g c = grown_fresh _ c.requires.unused
-
-pub returns-in_err-owed-clause-begun : goal.returns-in_err-owed-clause-begun
-returns-in_err-owed-clause-begun g c = begun_fresh _ _ c.requires.unused
-
-pub returns-in_err-owed-clause-grown : goal.returns-in_err-owed-clause-grown
-returns-in_err-owed-clause-grown g c = grown_fresh _ c.requires.unused
-
-pub run_rounds-requires-clause-lines : goal.run_rounds-requires-clause-lines
-run_rounds-requires-clause-lines g c lifetimes outlives = subst (λ (l : List TraceLine). AskThemselves l) (sym c.items-lines.ensures)
-    (values_ask c.args.trace.now.lines c.requires.trace.lines)
-
-pub run_rounds-requires-clause-settled : goal.run_rounds-requires-clause-settled
-run_rounds-requires-clause-settled g c lifetimes outlives =
-    settle g.N.SpaceName.name c.args.trace.now.lines c.items-lines.result.now _ c.as_slice-places.result.now _ c.as_slice-rounds.result.now
-    _ c.as_slice-tellings.result.now c.items-lines.ensures c.as_slice-places.ensures.value c.as_slice-rounds.ensures.value
-    c.as_slice-tellings.ensures.value c.requires.trace.numbered c.in_ok-places.ensures c.in_ok-rounds.ensures c.in_ok-tellings.ensures
-    (sym c.requires.passes.all ∙ c.requires.enough.all)
-
-pub run_rounds-requires-clause-first : goal.run_rounds-requires-clause-first
-run_rounds-requires-clause-first g c lifetimes outlives =
-    at_first g.N.SpaceName.name c.items-lines.result.now c.as_slice-places.result.now c.as_slice-rounds.result.now c.as_slice-tellings.result.now
-    (settle g.N.SpaceName.name c.args.trace.now.lines c.items-lines.result.now _ c.as_slice-places.result.now _ c.as_slice-rounds.result.now
-    _ c.as_slice-tellings.result.now c.items-lines.ensures c.as_slice-places.ensures.value c.as_slice-rounds.ensures.value
-    c.as_slice-tellings.ensures.value c.requires.trace.numbered c.in_ok-places.ensures c.in_ok-rounds.ensures c.in_ok-tellings.ensures
-    (sym c.requires.passes.all ∙ c.requires.enough.all))
-    c.args.passes.now c.as_mut_slice-owed.result.now c.requires.passes c.requires.unused
-    (subst (λ (l : List TraceLine). AreEnough l c.args.passes.now) (sym c.items-lines.ensures) c.requires.enough)
-    (ap (λ (l : List ℕ). length l) c.as_mut_slice-owed.ensures.value ∙ c.in_ok-owed.ensures.count)
-    (λ caller pass found. ap (λ (l : List ℕ). get_or l caller 0) c.as_mut_slice-owed.ensures.value ∙ c.in_ok-owed.ensures.each caller pass found)
+pub returns-in_err-own-clause-begun : goal.returns-in_err-own-clause-begun
+returns-in_err-own-clause-begun g c = begun_fresh _ _ c.requires.unused
 
 pub returns-clause-told : goal.returns-clause-told
 returns-clause-told g c =
-    subst (λ (l : List TraceLine). OnOk c.run_rounds.result (AreToldBy l c.run_rounds.new.passes)) c.items-lines.ensures c.run_rounds.ensures.told
-
-pub returns-clause-begun : goal.returns-clause-begun
-returns-clause-begun g c = subst (λ (l : List TraceLine). (caller : ℕ) (pass : PassView) → slice_get c.run_rounds.new.passes caller ≡ Some pass
-    → (count : ℕ) × (done_by pass ≡ asked (take count (lines_of l caller)))) c.items-lines.ensures c.run_rounds.ensures.begun
+    let own : c.items.result.now ≡ parent_lines c.args.trace.now.lines = c.items.ensures.lines ∙ c.in_ok-own.ensures.own in
+    subst (λ (l : List TraceLine). OnOk c.drive_lines.result (AreToldBy l c.drive_lines.new.passes)) own c.drive_lines.ensures.told

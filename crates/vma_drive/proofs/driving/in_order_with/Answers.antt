@@ -1,6 +1,5 @@
 -- The proof of `in_order_with`: it ran a beginning of the lines, and all of them at the end.
-use Rattle.std.proofs.Common.{◌≤◌, List, length, subst}
-use Rattle.trace_reader.specs.declared.trace.TraceLine.{TraceLine}
+use Rattle.std.proofs.Common.{refl}
 use Rattle.vma_drive.proofs.RanLines.{ran_none, ran_shown, ran_no_more, asks_shown}
 use Rattle.vma_drive.proofs.Unused.{begun_alone, done_alone, late_alone, grown_alone}
 use Rattle.vma_drive.proofs.driving.in_order_with.Goals as goal
@@ -16,11 +15,10 @@ pub returns-clause-begun : goal.returns-clause-begun
 returns-clause-begun g c = (c.loop-line.line-index, begun_alone _ _ _ _ c.requires.unused c.loop-line.invariant.ran)
 
 pub returns-clause-done : goal.returns-clause-done
-returns-clause-done g c = done_alone _ _ _ _ c.requires.unused c.loop-line.invariant.ran
-    (subst (λ (l : List TraceLine). length l ≤ c.loop-line.line-index) c.items-line-items.ensures c.loop-line-test.false)
+returns-clause-done g c = done_alone _ _ _ _ c.requires.unused c.loop-line.invariant.ran c.loop-line-test.false
 
 pub run_op-requires-clause-op : goal.run_op-requires-clause-op
-run_op-requires-clause-op g c = asks_shown _ _ _ _ c.requires.lines c.items-line-items.ensures c.loop-line-test.true
+run_op-requires-clause-op g c = asks_shown _ _ _ _ c.requires.lines refl c.loop-line-test.true
 
 pub returns-in_err-run_op-clause-grown : goal.returns-in_err-run_op-clause-grown
 returns-in_err-run_op-clause-grown g c = grown_alone _ _ _ _ c.requires.unused
@@ -37,11 +35,11 @@ pub returns-clause-late : goal.returns-clause-late
 returns-clause-late g c = late_alone _ _ _ _ c.requires.unused c.loop-line.invariant.ran
 
 pub loop-line-init : goal.loop-line-init
-loop-line-init g c = record { pass = c.requires.pass; ran = ran_none c.args.pass.now c.args.trace.now.lines }
+loop-line-init g c = record { pass = c.requires.pass; ran = ran_none c.args.pass.now c.args.lines.now }
 
 pub loop-line-preserved : goal.loop-line-preserved
 loop-line-preserved g c = record {
   pass = c.run_op.ensures.pass;
-  ran = ran_shown _ _ _ c.items-line-items.result.now _ _ _ c.loop-line.invariant.ran c.run_op.ensures.later c.items-line-items.ensures
+  ran = ran_shown _ _ _ c.args.lines.now _ _ _ c.loop-line.invariant.ran c.run_op.ensures.later refl
       c.loop-line-test.true c.in_ok-run_op.ensures.ok;
 }

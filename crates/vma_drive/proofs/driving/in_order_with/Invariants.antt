@@ -6,5 +6,5 @@ use Rattle.vma_drive.proofs.driving.in_order_with.Given as goal
 abbrev pub invariant-loop-line : goal.invariant-loop-line
 invariant-loop-line g l = record {
   pass : IsPassOf g.N.SpaceName.name l.pass;
-  ran : RanTo l.fn.pass l.pass l.fn.trace.lines l.line-index;
+  ran : RanTo l.fn.pass l.pass l.fn.lines l.line-index;
 }

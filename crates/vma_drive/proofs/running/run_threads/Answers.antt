@@ -1,12 +1,16 @@
 -- The proof of `run_threads`: the callers are few, and so are their operations, and no calls of theirs pass the limit of areas.
-use Rattle.std.proofs.Common.{◌≤◌, ◌∙◌, length, filter, arith, sym, ap, subst, List}
-use Rattle.std.specs.Prelude.{is_some}
+use Rattle.std.proofs.Common.{◌≡◌, ◌≤◌, ◌∙◌, length, filter, arith, sym, subst, List, []}
+use Rattle.std.specs.Prelude.{IfOk, is_some}
 use Rattle.mm_types.specs.declared.config.Config.{Config}
 use Rattle.mm_types.specs.Config.{IsValidConfig}
 use Rattle.trace_reader.specs.declared.trace.TraceLine.{TraceLine}
-use Rattle.trace_reader.specs.declared.limits.TheConstants.{MOST_LINES, MOST_NAMED}
+use Rattle.trace_reader.specs.declared.limits.TheConstants.{MOST_NAMED}
+use Rattle.trace_reader.specs.Values.{IsTraceValue}
 use Rattle.area_limit.proofs.Journals.{valid_for}
 use Rattle.history.specs.CallerPlaces.{callers_of}
+use Rattle.history.specs.Parents.{parent_lines}
+use Rattle.history.specs.Runs.{IsRun}
+use Rattle.history.proofs.OneSpace.{parent_is_trace}
 use Rattle.vma_drive.proofs.Limits.{run_result}
 use Rattle.vma_drive.proofs.NamesShared.{few_shown}
 use Rattle.vma_drive.proofs.running.run_threads.Goals as goal
@@ -22,15 +26,20 @@ make-requires-clause-callers g c =
 pub make-requires-clause-few : goal.make-requires-clause-few
 make-requires-clause-few g c =
     let few = few_shown c.items-lines.result.now _ c.deref.result.now c.in_ok-operations.ensures c.deref.ensures.value in
-    let lines : length c.items-lines.result.now ≤ MOST_LINES = subst (λ (l : List TraceLine). length l ≤ MOST_LINES) (sym c.items-lines.ensures) c.requires.trace.few in
+    let value : IsTraceValue (record c.args.trace.now { lines = parent_lines c.args.trace.now.lines }) =
+    parent_is_trace c.args.trace.now c.requires.trace in
+    let own : c.items-lines.result.now ≡ parent_lines c.args.trace.now.lines = c.items-lines.ensures.lines ∙ c.in_ok-own.ensures.own in
     let named : length (filter (λ line. is_some line.after) c.items-lines.result.now) ≤ MOST_NAMED =
-    subst (λ (l : List TraceLine). length (filter (λ line. is_some line.after) l) ≤ MOST_NAMED) (sym c.items-lines.ensures) c.requires.trace.few_named in
-    omega (arith, few.few, lines, named)
+    subst (λ (l : List TraceLine). length (filter (λ line. is_some line.after) l) ≤ MOST_NAMED) (sym own) value.few_named in
+    omega (arith, few.few, c.items-lines.ensures.kept.few, named)
 
 pub returns : goal.returns
 returns g c =
-    let lines = ap length c.items-lines.ensures in
+    let own : c.items-lines.result.now ≡ parent_lines c.args.trace.now.lines = c.items-lines.ensures.lines ∙ c.in_ok-own.ensures.own in
     let both = run_result (length c.items-lines.result.now) c.args.trace.now.config c.requires.trace.config
-    (omega (arith, c.requires.trace.few, lines)) c.in_ok-ready.ready.config c.args.trace.now.lines (callers_of c.args.trace.now.lines) c.run_passes.result
-    (c.in_ok-ready.ensures.config ∙ c.in_ok-config.ensures) (omega (arith, lines)) c.run_passes.ensures.run c.run_passes.ensures.list in
-    record { run = both.0; list = both.1 }
+    (omega (arith, c.items-lines.ensures.kept.few)) c.in_ok-ready.ready.config c.items-lines.result.now (callers_of c.items-lines.result.now)
+    c.run_passes.result (c.in_ok-ready.ensures.config ∙ c.in_ok-config.ensures) (omega arith) c.run_passes.ensures.run c.run_passes.ensures.list in
+    record {
+      run = subst (λ (l : List TraceLine). IfOk c.run_passes.result (λ run. IsRun c.args.trace.now.config [] l (callers_of l) run.journal run.logs)) own both.0;
+      list = both.1;
+    }
