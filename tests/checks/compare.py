@@ -196,30 +196,6 @@ def check_baseline(program: str, folder: str) -> None:
             fail(f"--baseline with {text!r}: status {status}\n{report[-2000:]}")
 
 
-def check_parts(program: str, folder: str) -> None:
-    """The parts of a comparison give one report, that of the whole; and a run that was cut goes on to the same end."""
-    words = ["--runs", "24", "--program", program, "--profile", "few,edges", "--lines", "12"]
-    _, whole = compared([*words, "--", "munmap-past-end"], InProcess)
-    parts = [os.path.join(folder, f"part{number}") for number in (1, 2)]
-    for number, part in enumerate(parts, 1):
-        compared([*words, "--shard", f"{number}/2", "--json", part, "--", "munmap-past-end"], InProcess)
-    merged = ran("merge", parts)
-    if titles(merged) != titles(whole):
-        fail(f"merge of two parts has {titles(merged)}, and the whole {titles(whole)}")
-    state = pathlib.Path(folder) / "state"
-    compared([*words, "--resume", str(state), "--", "munmap-past-end"], InProcess)
-    lines = state.read_text().splitlines(keepends=True)
-    state.write_text("".join(lines[:10]) + lines[10][:20])
-    _, again = compared([*words, "--resume", str(state), "--", "munmap-past-end"], InProcess)
-    if titles(again) != titles(whole):
-        fail(f"--resume comes to {titles(again)}, and not to {titles(whole)}")
-
-
-def titles(report: str) -> list[str]:
-    """The kinds of a report, and its last line."""
-    return re.findall(r"^\d+\. (.*?; --ignore '.*')\)$", report, re.MULTILINE) + report.splitlines()[-1:]
-
-
 def ran(command: str, words: list[str]) -> str:
     """What another command of the tools prints."""
     text = io.StringIO()
@@ -259,9 +235,8 @@ def check_reports(program: str) -> None:
     began = time.monotonic()
     with tempfile.TemporaryDirectory() as folder:
         check_baseline(program, folder)
-        check_parts(program, folder)
         check_files(program, folder)
-    told("--baseline, --shard, merge, --resume, emit, --traces, --junit and --coverage", began)
+    told("--baseline, emit, --traces, --junit and --coverage", began)
     began = time.monotonic()
     check_threads(program)
     told("--threads", began)

@@ -3,7 +3,6 @@ from __future__ import annotations
 
 import io
 import json
-import tempfile
 import unittest
 from collections import Counter
 from pathlib import Path
@@ -187,24 +186,6 @@ class Reports(unittest.TestCase):
             with self.assertRaises(console.Failure):
                 self.baseline(text)
 
-    def test_parts_make_one_report(self) -> None:
-        with tempfile.TemporaryDirectory() as folder:
-            path = Path(folder) / "part"
-            found = self.finding()
-            events = [
-                {"event": "begin", "identity": {"shard": "1/1"}},
-                found.event("finding", number=3),
-                found.event("smallest", count=1),
-            ]
-            end = findings.Findings(traces=5, differing=1, aside=Counter({"border": 2})).end_event(1, None)
-            path.write_text("".join(json.dumps(event) + "\n" for event in [*events, end]) + '{"cut', encoding="utf-8")
-            whole = findings.Findings()
-            part = findings.Part.read(path)
-            part.add_to(whole)
-        self.assertTrue(part.has_ended)
-        self.assertEqual((whole.traces, whole.differing, whole.aside), (5, 1, Counter({"border": 2})))
-        self.assertTrue(whole.kinds[found.name].is_shrunk)
-
     def test_junit_counts(self) -> None:
         told = findings.Findings(self.baseline("munmap/*/0 # it takes any\nmmap/a/b # gone\n"))
         told.add([self.finding(), self.finding("brk/\x00/b")], Counter())
@@ -213,7 +194,7 @@ class Reports(unittest.TestCase):
 
 
 class Runs(unittest.TestCase):
-    """A run of many traces: what it finds, and that it goes on where it stopped."""
+    """A run of many traces, and what it finds."""
 
     def campaign(
         self, told: findings.Findings, runs: int, journal: findings.Journal | None = None
@@ -233,34 +214,6 @@ class Runs(unittest.TestCase):
         self.assertIn("--lines 12 --only", kind.shortest.repeat)
         events = [json.loads(line)["event"] for line in stream.getvalue().splitlines()]
         self.assertEqual(events, ["finding"] * kind.count + ["smallest"])
-
-    def test_a_run_goes_on_where_it_stopped(self) -> None:
-        whole = findings.Findings()
-        self.campaign(whole, 12).run()
-        with tempfile.TemporaryDirectory() as folder:
-            state = Path(folder) / "state"
-            first = self.campaign(findings.Findings(), 5)
-            first.go_on(state)
-            first.run()
-            first.close()
-            told = findings.Findings()
-            second = self.campaign(told, 12)
-            second.go_on(state)
-            self.assertEqual(told.traces, 5)
-            second.run()
-            second.close()
-            other = self.campaign(findings.Findings(), 12)
-            other.settings.seed = 2
-            with self.assertRaises(console.Failure):
-                other.go_on(state)
-        self.assertEqual((told.traces, told.differing), (whole.traces, whole.differing))
-
-    def test_shards_part_the_traces(self) -> None:
-        numbers = []
-        for part in (1, 2, 3):
-            settings = campaign.Settings([], ["few"], 10, shard=(part, 3))
-            numbers += [source.number for source in campaign.sources(settings)]
-        self.assertEqual(sorted(numbers), list(range(10)))
 
     def test_an_output_of_threads_is_blamed_on_its_line(self) -> None:
         trace = read_trace(TWO)

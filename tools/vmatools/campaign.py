@@ -1,5 +1,4 @@
-"""A comparison of many traces: runs them, groups what differs, shrinks the shortest of each kind, and keeps all of it
-for a run that is to go on."""
+"""A comparison of many traces: runs them, groups what differs, and shrinks the shortest of each kind."""
 from __future__ import annotations
 
 import itertools
@@ -19,9 +18,9 @@ from typing import Any, NamedTuple, Optional, Union
 
 from . import coverage, generator, outputs, program, shrinking
 from .comparison import HANGS, Examined, Sides, Stopped, examine, is_trace, may_answer
-from .console import Failure, Progress, open_file, say
+from .console import Failure, Progress, say
 from .fitting import fitted
-from .findings import Finding, Findings, Journal, Kind, events_of
+from .findings import Finding, Findings, Journal, Kind
 from .traces import BadLine, Trace, read_trace
 from .windows import EmptyFit, Fit
 
@@ -46,13 +45,12 @@ class Settings:
     for_seconds: Optional[float] = None
     only: list[int] = field(default_factory=list)
     folder: Optional[Path] = None
-    shard: tuple[int, int] = (1, 1)
     has_coverage: bool = False
     fit: Optional[Union[Fit, EmptyFit]] = None  # how traces become such as the system can run
     words: list[str] = field(default_factory=list)  # those that a command needs to repeat a finding
 
     def identity(self) -> dict[str, Any]:
-        """What a run that goes on has to have alike."""
+        """What the findings depend on."""
         return {
             "command": self.command,
             "profiles": self.profiles,
@@ -61,7 +59,6 @@ class Settings:
             "kernel": self.is_kernel,
             "threads": self.threads,
             "traces": str(self.folder) if self.folder else None,
-            "shard": "/".join(map(str, self.shard)),
         }
 
 
@@ -75,17 +72,15 @@ class Source(NamedTuple):
 
 
 def sources(settings: Settings) -> Iterator[Source]:
-    """The traces of a run, those of this shard alone."""
+    """The traces of a run."""
     if settings.folder:
         numbered: Iterator[tuple[int, Optional[Path]]] = enumerate(files_of(settings.folder))
     elif settings.only:
         numbered = ((number, None) for number in settings.only)
     else:
         numbered = ((number, None) for number in (itertools.count() if settings.runs is None else range(settings.runs)))
-    first, count = settings.shard
     for number, path in numbered:
-        if number % count == first - 1:
-            yield kept_trace(number, path) if path else drawn_trace(settings, number)
+        yield kept_trace(number, path) if path else drawn_trace(settings, number)
 
 
 def files_of(folder: Path) -> list[Path]:
@@ -128,8 +123,6 @@ class Campaign:
         self.progress, self.pool = Progress(), ThreadPoolExecutor(max_workers=settings.jobs)
         self.stopped: Optional[str] = None  # the signal that ended the run
         self.stopped_at = 0.0
-        self.done: set[int] = set()
-        self.state: Optional[Journal] = None
         self.begin = self.last_told = time.monotonic()
 
     # Stopping
@@ -161,40 +154,12 @@ class Campaign:
         """Whether the time was over before a trace was."""
         return self.stopped is None and not self.findings.traces and self.is_over
 
-    # Going on
-
-    def go_on(self, path: Path) -> None:
-        """Takes what an earlier run has written there, and writes on."""
-        if path.exists():
-            events = list(events_of(path))
-            if events and events[0].get("identity") != self.settings.identity():
-                raise Failure(
-                    f"{path}: it is of another comparison: {shlex.join(events[0].get('identity', {}).get('command', []))}"
-                )
-            for event in events:
-                self.take(event)
-        fresh = not self.done and not self.findings.traces
-        self.state = Journal(open_file(path, "w" if fresh else "a"))
-        if fresh:
-            self.state.write({"event": "begin", "identity": self.settings.identity()})
-
-    def close(self) -> None:
-        """Ends what is kept for a run that goes on."""
-        if self.state:
-            self.state.stream.close()
-
-    def take(self, event: dict[str, Any]) -> None:
-        if event["event"] == "trace" and event["number"] not in self.done:
-            self.done.add(event["number"])
-            self.findings.add([Finding.of_event(found) for found in event["findings"]], Counter(event["aside"]))
-            self.findings.coverage.update(event["coverage"])
-
     # Running
 
     def run(self) -> None:
         """Examines the traces, in the order of their numbers."""
         waiting: deque[tuple[Source, Future[tuple[Examined, Counter[str]]]]] = deque()
-        rest = (source for source in sources(self.settings) if source.number not in self.done)
+        rest = sources(self.settings)
         while not self.is_over:
             while len(waiting) < 2 * self.settings.jobs and (source := next(rest, None)):
                 waiting.append((source, self.pool.submit(self.examined, source)))
@@ -211,7 +176,7 @@ class Campaign:
         self.progress.clear()
 
     def give_up(self, running: list[Future[tuple[Examined, Counter[str]]]]) -> None:
-        """Ends what still runs: it is run again where the run goes on."""
+        """Ends what still runs."""
         self.sides.is_stopped = True
         if self.stopped:
             program.end_all()
@@ -252,17 +217,6 @@ class Campaign:
                 )
         self.findings.add(found, told.aside)
         self.findings.coverage.update(rows)
-        self.done.add(source.number)
-        if self.state:
-            self.state.write(
-                {
-                    "event": "trace",
-                    "number": source.number,
-                    "aside": dict(told.aside),
-                    "coverage": dict(rows),
-                    "findings": [finding.event("finding") for finding in found],
-                }
-            )
 
     def repeat(self, source: Source) -> str:
         """The one command that repeats a finding."""

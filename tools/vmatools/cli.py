@@ -36,7 +36,6 @@ class Command:
 GROUPS = {
     "Compare a system with the program": (
         Command("compare", "compare --runs 40 -- examples/page-table"),
-        Command("merge", "merge first.json second.json"),
         Command("emit", "emit --runs 100 traces"),
         Command("conform", "conform -- examples/page-table"),
         Command("kernel", "kernel < examples/tour.trace"),

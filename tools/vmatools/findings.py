@@ -1,8 +1,5 @@
 """What a comparison has found: kinds of differences, which of them are known, and all of it as lines of JSON and as
-JUnit's XML.
-
-A run that was stopped goes on from its lines of JSON, and `vma merge` makes one report of those of several machines.
-"""
+JUnit's XML."""
 from __future__ import annotations
 
 import json
@@ -43,12 +40,6 @@ class Finding:
             "repeat": self.repeat,
             **more,
         }
-
-    @classmethod
-    def of_event(cls, event: dict[str, Any]) -> Finding:
-        operation, here, there = event["name"].split("/", 2)
-        difference = Difference(operation, here, there, event["line"], event["program"], event["yours"])
-        return cls(event["name"], difference, event["trace"], event["source"], event["repeat"])
 
 
 @dataclass
@@ -143,12 +134,6 @@ class Findings:
         if known:
             known.count += count
 
-    def shrunk(self, finding: Finding) -> None:
-        """Takes the smallest trace of a kind that a part has found."""
-        kind = self.kinds.get(finding.name)
-        if kind and (not kind.is_shrunk or len(finding.trace) < len(kind.shortest.trace)):
-            kind.shortest, kind.is_shrunk = finding, True
-
     def in_order(self) -> list[tuple[str, Kind]]:
         """The kinds that are not known, the most frequent first."""
         new = [(name, kind) for name, kind in self.kinds.items() if not self.baseline.of(name)]
@@ -190,54 +175,6 @@ class Journal:
     def write(self, event: dict[str, Any]) -> None:
         self.stream.write(json.dumps(event, ensure_ascii=False) + "\n")
         self.stream.flush()
-
-
-def events_of(path: Path) -> Iterator[dict[str, Any]]:
-    """The lines of a file of JSON. A last line that is cut short, by a run that was killed, is left out."""
-    lines = utf8_of(path).splitlines()
-    for place, line in enumerate(lines, 1):
-        try:
-            event = json.loads(line)
-        except json.JSONDecodeError:
-            if place == len(lines):
-                return
-            raise Failure(f"{path}: line {place}: it is no JSON") from None
-        if not isinstance(event, dict) or "event" not in event:
-            raise Failure(f"{path}: line {place}: it is no line of `vma compare --json`")
-        yield event
-
-
-@dataclass
-class Part:
-    """What a file of `vma compare --json FILE` says."""
-
-    identity: dict[str, Any]
-    events: list[dict[str, Any]]
-    has_ended: bool
-
-    @classmethod
-    def read(cls, path: Path) -> Part:
-        events = list(events_of(path))
-        if not events or events[0]["event"] != "begin":
-            raise Failure(f"{path}: it is none of `vma compare --json`")
-        end = events[-1] if events[-1]["event"] == "end" else {}
-        return cls(events[0]["identity"], events, bool(end) and not end["stopped"])
-
-    def add_to(self, whole: Findings) -> None:
-        """Counts all of it."""
-        by_trace: dict[int, list[Finding]] = {}
-        for event in self.events:
-            if event["event"] == "finding":
-                by_trace.setdefault(event["number"], []).append(Finding.of_event(event))
-            elif event["event"] == "end":
-                whole.aside.update(event["aside"])
-                whole.coverage.update(event["coverage"])
-                whole.traces += event["traces"] - event["differ"]
-        for found in by_trace.values():
-            whole.add(found, Counter())
-        for event in self.events:
-            if event["event"] == "smallest":
-                whole.shrunk(Finding.of_event(event))
 
 
 # JUnit

@@ -23,7 +23,6 @@ import argparse
 import difflib
 import fnmatch
 import os
-import shlex
 import sys
 from contextlib import ExitStack
 from pathlib import Path
@@ -80,13 +79,6 @@ def rule(text: str) -> str:
     return text
 
 
-def shard_of(text: str) -> tuple[int, int]:
-    first, _, of = text.partition("/")
-    if not (first.isdecimal() and of.isdecimal() and 1 <= int(first) <= int(of)):
-        raise argparse.ArgumentTypeError(f"{text} is no I/N, with I from 1 to N")
-    return int(first), int(of)
-
-
 def thread_count(text: str) -> int:
     value = count(text)
     if not 2 <= value <= 64:
@@ -128,7 +120,6 @@ def add_arguments(parser: argparse.ArgumentParser) -> None:
     group.add_argument(
         "--traces", type=Path, metavar="FOLDER", help="the files *.trace there, or one file, in place of random traces"
     )
-    group.add_argument("--shard", type=shard_of, default=(1, 1), metavar="I/N", help="the Ith of N parts of the traces")
     aside = parser.add_argument_group("what is set aside")
     aside.add_argument(
         "--ignore",
@@ -161,9 +152,6 @@ def add_arguments(parser: argparse.ArgumentParser) -> None:
     )
     report.add_argument(
         "--coverage", action="store_true", help="which rows of the tables of docs/MODEL.md the traces reached"
-    )
-    report.add_argument(
-        "--resume", type=Path, metavar="FILE", help="keep there how far the run is, and go on from there"
     )
     report.add_argument(
         "--mutants",
@@ -222,7 +210,6 @@ def settings_of(options: argparse.Namespace) -> Settings:
         options.for_seconds,
         options.only,
         options.traces,
-        options.shard,
         options.coverage,
     )
     words: list[str] = []
@@ -347,12 +334,9 @@ def compare_sides(options: argparse.Namespace, settings: Settings, sides: compar
             journal.write({"event": "begin", "identity": settings.identity(), "runs": settings.runs})
         junit = stack.enter_context(console.open_file(options.junit)) if options.junit else None
         campaign = Campaign(settings, sides, findings, journal)
-        if options.resume:
-            campaign.go_on(options.resume)
         with campaign.stoppable():
             campaign.run()
             campaign.shrink()
-        campaign.close()
         if campaign.stopped:
             program.end_all()
         status = status_of(findings, options.strict, campaign.stopped)
@@ -366,8 +350,6 @@ def compare_sides(options: argparse.Namespace, settings: Settings, sides: compar
         for pattern in sides.rules.patterns:
             if not findings.aside[f"--ignore {pattern}"]:
                 console.say(f"--ignore {pattern}: no difference is of this kind")
-        if campaign.stopped and options.resume:
-            console.say(f"`--resume {shlex.quote(str(options.resume))}` goes on from here")
         if junit:
             junit.write(found.junit(findings, options.strict, campaign.stopped))
         if options.keep:
