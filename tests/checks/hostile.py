@@ -22,7 +22,6 @@ import hostile_inputs as inputs
 import script_model
 import session_model
 from vmatools import judging, live, maps_texts, serial, traces
-from vmatools.checked_traces import Checker
 
 Answer = tuple[int, bytes, bytes]  # status, standard output, standard error
 Modelled = Callable[[bytes], Answer]
@@ -68,9 +67,8 @@ def judged(data: bytes) -> Answer:
 
 def explained(data: bytes) -> Answer:
     """What `vma explain` takes for the first bad line of a trace."""
-    checker = Checker(data)
     try:
-        for _ in checker.counts_of_operations():
+        for _ in traces.Reader(data):
             pass
     except traces.BadLine as bad:
         return refused(bad)

@@ -10,7 +10,6 @@ from pathlib import Path
 TOP = Path(__file__).resolve().parents[2]
 sys.path.insert(0, str(TOP / "tools"))
 from vmatools import generator, loads, traces
-from vmatools.checked_traces import Checker, is_too_long
 
 HEAD = b"vmatrace 1\n"
 
@@ -70,62 +69,21 @@ class Reading(unittest.TestCase):
                 traces.read_trace(HEAD + b"0 brk " + word + b"\n")
             self.assertEqual(caught.exception.cause, "Number")
 
-
-def read_fully(data: bytes) -> str:
-    """How many operations a trace has, or its first bad line with all that is told of it."""
-    try:
-        return f"{len(traces.read_trace(data).lines)} operations"
-    except traces.BadLine as bad:
-        return f"{bad} {bad.raw!r} {bad.word} {bad.about} {bad.facts}"
-
-
-def checked(data: bytes) -> str:
-    count = 0
-    try:
-        for count in Checker(data).counts_of_operations():
-            pass
-    except traces.BadLine as bad:
-        return f"{bad} {bad.raw!r} {bad.word} {bad.about} {bad.facts}"
-    return f"{count} operations"
-
-
-class Checking(unittest.TestCase):
-    """A trace that is checked alone is as bad as one that is read."""
-
-    LINES = (
-        b"0 munmap 0x10000 4096",
-        b"0 mmap 0x10000 4096 PROT_READ MAP_PRIVATE|MAP_ANONYMOUS -1 0",
-        b"1 brk 0",
-        b"1 fault 0x10000 r",
-        b"0 mremap 0x10000 4096 8192 MREMAP_MAYMOVE",
-        b"# a comment",
-        b"",
-        b"0 maps",
-    )
-
-    def test_each_cause(self) -> None:
-        for data, _, _ in BAD.values():
-            self.assertEqual(checked(data), read_fully(data))
-
-    def test_any_lines(self) -> None:
-        draw = random.Random(3)
-        bad = (b"0 munmap 1", b"0 mprotect 0 0 PROT_READ|PROT_READ", b"#\xff", b"#" * 4097, b"x", b"7 brk 0 after=%d")
-        for _ in range(100):
-            lines = [b"# %d" % at for at in range(200)] * draw.randrange(2) + draw.choices(self.LINES, k=60)
-            draw.shuffle(lines)
-            lines.insert(draw.randrange(len(lines)), draw.choice(bad).replace(b"%d", b"%d" % draw.randrange(300)))
-            data = HEAD + b"\n".join(lines) + b"\n" * draw.randrange(2)
-            self.assertEqual(checked(data), read_fully(data))
-
     def test_the_limits(self) -> None:
         operations = HEAD + b"0 brk 0\n" * traces.LIMITS["operations"]
-        self.assertEqual(checked(operations), "1000000 operations")
-        self.assertTrue(checked(operations + b"# one\n0 brk 0\n").startswith("line 1000003 cause 8 TooMany"))
+        self.assertEqual(first_bad(operations), "none in 1000000 operations")
+        self.assertEqual(first_bad(operations + b"# one\n0 brk 0\n"), "line 1000003 cause 8 TooMany")
         line, fits = b"# one\n", (traces.LIMITS["bytes"] - len(HEAD)) // 6
-        data = HEAD + line * (fits + 1)
-        self.assertTrue(checked(data).startswith(f"line {fits + 2} cause 2 TooLong b'# one'"))
-        self.assertEqual(checked(HEAD + line * fits), "0 operations")
-        self.assertEqual((is_too_long(data), is_too_long(HEAD + line * fits)), (True, False))
+        self.assertEqual(first_bad(HEAD + line * (fits + 1)), f"line {fits + 2} cause 2 TooLong")
+        self.assertEqual(first_bad(HEAD + line * fits), "none in 0 operations")
+
+
+def first_bad(data: bytes) -> str:
+    """The first bad line of a trace."""
+    try:
+        return f"none in {sum(1 for _ in traces.Reader(data))} operations"
+    except traces.BadLine as bad:
+        return str(bad)
 
 
 class BothWays(unittest.TestCase):

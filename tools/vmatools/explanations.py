@@ -1,13 +1,11 @@
 """Says in a sentence what is wrong with the first bad line of a trace, and which word it is."""
 from __future__ import annotations
 
-import collections
 import difflib
 import re
 from collections.abc import Callable, Iterable, Mapping
 
 from . import console
-from .checked_traces import Checker, is_too_long
 from .linux_calls import ADVICE, BEGINNINGS, CHANGES
 from .traces import (
     CALLS,
@@ -104,8 +102,6 @@ def read(source: Source, path: str) -> Trace:
     """The trace of a file, or a failure that explains its first bad line."""
     try:
         with console.reading(path):
-            if is_too_long(source):
-                collections.deque(Checker(source).counts_of_operations(), 0)  # a line of it is bad
             return read_trace(source)
     except BadLine as bad:
         raise refusal(bad, path) from None

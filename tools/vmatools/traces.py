@@ -447,14 +447,10 @@ class Reader:
     def test_note(self, line: Line, place: int) -> None:
         if line.after is None:
             return
-        teller = self.teller(line.after)
+        teller = self.call_threads.get(line.after)  # of the call above that has this number, if there is one
         is_told = teller not in (None, line.thread) and teller not in self.children and line.thread not in self.children
         if not is_told:
             raise BadLine("After", "after", place, line=line, teller=teller, children=self.children)
-
-    def teller(self, number: int) -> int | None:
-        """The thread of the call above that has this number, if there is one."""
-        return self.call_threads.get(number)
 
     def test_fork(self, line: Line) -> None:
         if line.word != "fork":

@@ -12,7 +12,6 @@ from __future__ import annotations
 import argparse
 
 from .. import console, explanations, maps_texts, traces
-from ..checked_traces import Checker
 
 SUMMARY = "say what is wrong with a trace, and mark the word"
 WIDTH = 110  # a longer line is shown in part
@@ -26,14 +25,15 @@ def run(options: argparse.Namespace) -> int:
     with console.open_input(options.trace) as source, console.reading(options.trace):
         if maps_texts.seems_one(source.peek(maps_texts.MOST_LINE)):
             return explain_maps(source.read(traces.LIMITS["bytes"] + 1))
-        return explain_trace(Checker(source))
+        return explain_trace(traces.Reader(source))
 
 
-def explain_trace(checker: Checker) -> int:
+def explain_trace(reader: traces.Reader) -> int:
     progress, count = console.Progress(), 0
     try:
-        for count in checker.counts_of_operations():
-            progress.tell(f"{count:,} operations read")
+        for count, _ in enumerate(reader, 1):
+            if count % 10_000 == 0:
+                progress.tell(f"{count:,} operations read")
     except traces.BadLine as bad:
         place = f"line {bad.line}" + (f", word {bad.word}" if bad.word else "")
         show(f"{place}: {explanations.explain(bad)}", *explanations.marked_span(bad))
@@ -41,7 +41,7 @@ def explain_trace(checker: Checker) -> int:
         return console.FOUND
     finally:
         progress.clear()
-    print(f"a trace of version {checker.trace.version}, with {count} operations: no line is bad")
+    print(f"a trace of version {reader.trace.version}, with {count} operations: no line is bad")
     return console.DONE
 
 
