@@ -6,6 +6,3 @@ mod slots;
 
 pub use leaving::Leaving;
 pub use slots::AreaSlots;
-
-#[cfg(test)]
-mod tests;

@@ -6,7 +6,6 @@ pub mod Finding
 pub mod Above
 pub mod Fitting
 pub mod Changing
-pub mod Holding
 pub mod Unsealed
 pub mod Freeing
 pub mod Paging

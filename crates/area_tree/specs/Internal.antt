@@ -1,3 +1,2 @@
 -- What no clause of a public function cites: it follows the code, and may change with it.
 pub mod Records
-pub mod Tests

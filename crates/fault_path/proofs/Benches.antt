@@ -5,8 +5,8 @@ use Rattle.lock_core.specs.Facts.{list_after}
 use Rattle.lock_core.specs.Rows.{Exactly}
 use Rattle.vma_lock.specs.declared.view.View.{View}
 use Rattle.vma_lock.specs.Views.{begin_at, mark_at, write_at}
-use Rattle.vma_lock.specs.Internal.Small.{AreFree, ShowsOne}
-use Rattle.vma_lock.proofs.Small.{enters_exactly}
+use Rattle.fault_path.specs.Internal.Small.{AreFree, ShowsOne}
+use Rattle.fault_path.proofs.Small.{enters_exactly}
 use Rattle.fault_path.specs.Passes.{PassView, ViewedTable, SitsAt, ArePasses}
 
 -- the last of some passes

@@ -6,4 +6,6 @@ pub mod Walking
 pub mod Tries
 pub mod Answers
 pub mod Holding
+pub mod Leaves
+pub mod Small
 pub mod Benches

@@ -1,2 +1,4 @@
--- What no clause of a public function cites: it follows the code, and may change with it.
+-- What no clause of a public function cites: what the test of both tables says of them.
+pub mod Leaves
+pub mod Small
 pub mod Benches

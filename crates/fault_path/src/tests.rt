@@ -1,4 +1,4 @@
-//! Faults and held areas while both tables are written by hand.
+//! Faults while both tables are written by hand, which no caller of this crate can do.
 
 mod bench;
 mod leaf;
@@ -10,7 +10,7 @@ use crate::{Fast, Miss};
 use bench::Bench;
 use mm_types::{
     ADDRESS_LIMIT, Access, Call, Config, DEFAULT_MIN, DEFAULT_TOP, Files, MAP_ANONYMOUS,
-    MAP_PRIVATE, MmapArgs, PAGE_SIZE, Page, Prot, Slot, Verdict,
+    MAP_PRIVATE, MmapArgs, PAGE_SIZE, Page, Prot, Verdict,
 };
 use std::alloc::Global;
 use std::process::Abort;
@@ -65,37 +65,6 @@ fn a_slot_is_marked_serves_and_is_detached(rt: HostRuntime) -> Result<(), Fail> 
         bench.fault(PAGE),
         Fast::Miss(Miss::Elsewhere { row: DETACHED })
     );
-    Ok(())
-}
-
-/// An area that is held is not marked until it is unlocked, and stays in the list.
-#[test]
-fn a_held_area_stays(rt: HostRuntime) -> Result<(), Fail> {
-    let alloc = rt.alloc();
-    let bench = Bench::open(&rt, alloc, config(alloc))?;
-    let (bench, _marked) = called(&rt, bench.call(alloc, mapping(), PAGE)?);
-    let Bench {
-        view,
-        pass,
-        mut writer,
-        config: _,
-        list: _,
-        counters: _,
-    } = bench;
-    let Ok(mut held) = view.read_lock(pass, PAGE) else {
-        panic!(rt; "the area is not locked")
-    };
-    assert_eq!(rt; (held.record().span.lo, held.version()), (PAGE.0, 1));
-    assert_eq!(rt; writer.version(), 1);
-    view.table.begin(&mut writer);
-    let Err(left) = view.table.try_mark(&mut writer, Slot(0)) else {
-        panic!(rt; "the area is marked")
-    };
-    assert_eq!(rt; left.readers, 1);
-    assert_eq!(rt; (held.look(), held.record().span.lo), (1, PAGE.0));
-    let pass = held.unlock();
-    assert_eq!(rt; (pass.looks(), pass.walks()), (3, 2));
-    assert!(rt; view.table.try_mark(&mut writer, Slot(0)).is_ok());
     Ok(())
 }
 

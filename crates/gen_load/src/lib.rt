@@ -9,6 +9,5 @@ mod draw;
 mod laws;
 mod loading;
 
-pub use draw::FIRST_ADDRESS;
 pub use laws::{flags_are_printed, generator_numbers, loads_are_traces};
 pub use loading::{MOST_OPERATIONS, load};

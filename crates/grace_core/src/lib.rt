@@ -17,5 +17,3 @@ pub use events::{GraceAnswer, GraceEvent, GraceRefusal};
 pub use laws::{clearings_rise, pins_turn, rows_become_free, rows_stand_once, snapshots_stay};
 pub use rows::Rows;
 pub use state::GraceState;
-pub use tree::GraceTree;
-pub use writer_state::GraceWriter;

@@ -8,12 +8,18 @@ ghost use Rattle.mm_types.specs.declared.call.Entry.{Entry};
 ghost use Rattle.mm_types.specs.declared.config.Config.{Config};
 ghost use Rattle.trace_reader.specs.Values.{IsLineValue, AreNumbered, AreNamesRight};
 ghost use Rattle.history.specs.declared.answers.BadEntry.{BadEntry};
+ghost use Rattle.history.specs.declared.callers.TheConstants.{MOST_THREADS};
 ghost use Rattle.history.specs.declared.items.Item.{Item};
 ghost use Rattle.trace_reader.specs.declared.trace.TraceLine.{TraceLine};
 ghost use Rattle.area_rules.specs.Tables.{AddressSpace};
 ghost use Rattle.area_rules.specs.Steps.{opening, after};
 ghost use Rattle.history.specs.Histories.{occurs, caller_of, AskThemselves, makes_call, journal_of, line_of, IsLegalHistory, serial_history, space_after_all, sort_by_caller, leading_reads, after_reads, answered_by, answered};
 ghost use Rattle.history.specs.Checking.{IsRefused};
+
+/// A trace has at most 64 threads.
+pub fn most_threads()
+    ensures { MOST_THREADS ≡ 64 }
+{}
 
 /// The history of a trace in the order of its lines goes version by version: the reads before a call, by caller, and
 /// then the call. Each of its items answers the line that it stands with, where each line that names a call is what asks

@@ -27,8 +27,8 @@ pub use gathering::gather;
 pub use items::{Content, History, Item};
 pub use labelling::{label, label_space};
 pub use laws::{
-    lines_of_a_trace_ask_for_themselves, refused_is_not_legal, serial_history_by_version,
-    serial_history_is_legal, sort_by_caller_is_stable,
+    lines_of_a_trace_ask_for_themselves, most_threads, refused_is_not_legal,
+    serial_history_by_version, serial_history_is_legal, sort_by_caller_is_stable,
 };
 pub use made::made_call;
 pub use numbered::are_numbered;

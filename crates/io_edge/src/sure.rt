@@ -99,22 +99,3 @@ impl Sink for SureSink {
         Ok(piece.len())
     }
 }
-
-#[cfg(test)]
-mod tests {
-    use super::*;
-    use std::test::Fail;
-
-    #[test]
-    fn moves_all(rt: HostRuntime) -> Result<(), Fail> {
-        let mut source = SureSource::new(Vec::from_slice(rt.alloc(), b"areas")?);
-        let mut sink = SureSink::new(rt.alloc());
-        let mut piece = [0u8; 3];
-        for count in [3, 2, 0] {
-            assert_eq!(rt; source.take(&mut piece), Ok(count));
-            assert_eq!(rt; sink.give(&piece[..count]), Ok(count));
-        }
-        assert_eq!(rt; sink.bytes(), b"areas".as_slice());
-        Ok(())
-    }
-}

@@ -9,10 +9,17 @@ ghost use Rattle.trace_reader.specs.declared.trace.Trace.{Trace};
 ghost use Rattle.trace_reader.specs.declared.trace.TraceLine.{TraceLine};
 ghost use Rattle.history.specs.Histories.{gather, serial_history, space_after_all};
 ghost use Rattle.output_text.specs.Output.{listed_text, serial_output};
+ghost use Rattle.live_session.specs.declared.held.TheConstants.{MOST_KEPT, PIECE};
 ghost use Rattle.live_session.specs.Items.{IsTextOfItem, after_operations, items_made, output_in_turn};
 ghost use Rattle.live_session.specs.Sessions.{IsWithinLimits, answered, answers_of, begun, opened_by, read_at, session_after, session_text, space_of};
 
 use crate::asking::Asked;
+
+/// A read asks for at most 8,192 bytes, and at most 4,097 of a line are kept, one more than a line may have.
+pub fn session_pieces()
+    ensures piece { PIECE ≡ 8192 }
+    ensures kept { MOST_KEPT ≡ 4097 }
+{}
 
 /// What was answered stays: the answers to a longer input begin with those to its whole lines.
 pub fn answers_stay()

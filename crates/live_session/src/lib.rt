@@ -19,6 +19,6 @@ mod status;
 pub use conversing::converse;
 pub use laws::{
     a_space_is_within_limits, a_trace_is_answered_by_its_items, answers_stay,
-    operations_are_answered_by_items, session_gives_a_front,
+    operations_are_answered_by_items, session_gives_a_front, session_pieces,
 };
 pub use status::{Status, status_line, status_number};

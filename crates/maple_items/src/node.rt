@@ -46,33 +46,3 @@ pub fn share(leaf: bool, rest: usize) -> usize
         (rest - least(leaf)).min(most(leaf))
     }
 }
-
-#[cfg(test)]
-mod tests {
-    use super::share;
-
-    #[test]
-    fn items_shared_out(rt: HostRuntime) {
-        let examples = [
-            (true, 1, [1, 0, 0]),
-            (true, 16, [16, 0, 0]),
-            (true, 17, [11, 6, 0]),
-            (true, 32, [16, 16, 0]),
-            (true, 33, [16, 11, 6]),
-            (false, 10, [10, 0, 0]),
-            (false, 11, [7, 4, 0]),
-            (false, 21, [10, 7, 4]),
-        ];
-        for (leaf, items, counts) in examples {
-            let mut rest = items;
-            for count in counts {
-                if rest > 0 {
-                    let taken = share(leaf, rest);
-                    assert_eq!(rt; taken, count, "of {rest}");
-                    rest -= taken;
-                }
-            }
-            assert_eq!(rt; rest, 0, "of {items}");
-        }
-    }
-}

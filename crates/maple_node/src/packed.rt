@@ -47,7 +47,7 @@ impl NodeWords {
     }
 
     /// All 32 words, by value.
-    pub fn into_words(self) -> [u64; 32]
+    pub(crate) fn into_words(self) -> [u64; 32]
         ensures { result ≡ padded self }
     {
         self.words
@@ -103,59 +103,4 @@ pub fn node_words(leaf: bool, items: &[NodeItem]) -> [u64; 32]
     let mut words = NodeWords::new();
     words.push_items(leaf, items);
     words.into_words()
-}
-
-#[cfg(test)]
-mod tests {
-    use super::node_words;
-    use crate::item::NodeItem;
-
-    /// Two pages of a gap, one with slot 0, and five of a gap.
-    const ENTRIES: [NodeItem; 3] = [
-        NodeItem {
-            end: 2,
-            word: 0,
-            gap: 0,
-        },
-        NodeItem {
-            end: 3,
-            word: 1,
-            gap: 0,
-        },
-        NodeItem {
-            end: 8,
-            word: 0,
-            gap: 0,
-        },
-    ];
-
-    /// Row 7 up to page 0x20, and row 9 up to page 0x30 with a gap of 4 pages.
-    const CHILDREN: [NodeItem; 2] = [
-        NodeItem {
-            end: 0x20,
-            word: 7,
-            gap: 0,
-        },
-        NodeItem {
-            end: 0x30,
-            word: 9,
-            gap: 4,
-        },
-    ];
-
-    #[test]
-    fn words_of_a_leaf(rt: HostRuntime) {
-        let words = node_words(true, &ENTRIES);
-        let (used, unused) = words.split_at(6);
-        assert_eq!(rt; used, [2, 0, 3, 1, 8, 0].as_slice());
-        assert_eq!(rt; unused, [0; 26].as_slice());
-    }
-
-    #[test]
-    fn words_of_an_inner_node(rt: HostRuntime) {
-        let words = node_words(false, &CHILDREN);
-        let (used, unused) = words.split_at(6);
-        assert_eq!(rt; used, [0x20, 7, 0, 0x30, 9, 4].as_slice());
-        assert_eq!(rt; unused, [0; 26].as_slice());
-    }
 }

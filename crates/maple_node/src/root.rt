@@ -43,27 +43,3 @@ pub fn root_packing_is_undone()
     ensures fits { (word : ℕ) → word < 2 ^ 64 → FitsRoot (unpacked_root word) }
     ensures word_fits { (root : Root) → FitsRoot root → packed_root root < 2 ^ 64 }
 {}
-
-#[cfg(test)]
-mod tests {
-    use super::{Root, pack_root, unpack_root};
-    use mm_types::Row;
-
-    #[test]
-    fn root_words(rt: HostRuntime) {
-        let roots = [
-            (0, 1, 0, 0x10_0000),
-            (1, 9, 0x8_7654, 0x198_7654),
-            ((1 << 40) - 1, 15, (1 << 20) - 1, u64::MAX),
-        ];
-        for (tree, height, row, word) in roots {
-            let root = Root {
-                tree,
-                height,
-                row: Row(row),
-            };
-            assert_eq!(rt; unpack_root(word), root);
-            assert_eq!(rt; pack_root(unpack_root(word)), word);
-        }
-    }
-}

@@ -4,4 +4,3 @@ pub mod Pairs
 pub mod Descent
 pub mod Reading
 pub mod Loaded
-pub mod Seated

@@ -22,7 +22,7 @@ mod maps;
 mod querying;
 mod reading;
 
-pub use answering::{answer_of, query_text};
+pub use answering::answer_of;
 pub use laws::{first_bad_line, front_is_enough, lines_are_read, maps_are_within, maps_limits};
 pub use maps::{MapsLine, MapsText};
 pub use querying::query;

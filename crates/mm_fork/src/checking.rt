@@ -1,27 +1,15 @@
-//! Whether a history is legal and of the lines of a parent, or of a child.
+//! Whether a history is legal and of the lines of a child.
 ghost use Rattle.std.specs.Prelude.{◌≡◌, ◌≤◌, ◌^◌, Err, [], Contains, OnOk, length};
 ghost use Rattle.trace_reader.specs.Values.{IsTraceValue, children_of};
 ghost use Rattle.history.specs.declared.answers.BadEntry.{BadEntry};
 ghost use Rattle.history.specs.Checking.{IsRefused};
 ghost use Rattle.history.specs.Histories.{IsLegalHistory};
-ghost use Rattle.history.specs.Parents.{parent_lines};
 ghost use Rattle.history.specs.SpaceLines.{child_lines};
 
-use history::{CheckError, History, SpaceLines, check, check_after};
+use history::{CheckError, History, SpaceLines, check_after};
 use mm_types::Entry;
 use std::alloc::Global;
 use trace_reader::Trace;
-
-/// Judges the history of the parent of a trace, as `check` does: `Ok` exactly where it is legal and of the lines of threads that are no
-/// child's, and else the first item that is bad, or its end. The only other error is out of memory.
-pub fn check_parent(alloc: Global, trace: &Trace, history: &History) -> Result<(), CheckError>
-    requires { IsTraceValue trace.now }
-    ensures legal { OnOk result (IsLegalHistory trace.now.config [] (parent_lines trace.now.lines) history.now) }
-    ensures refused { (bad : BadEntry) → result ≡ Err (CheckError.Bad bad)
-        → IsRefused trace.now.config [] (parent_lines trace.now.lines) history.now bad }
-{
-    check(alloc, trace, history)
-}
 
 /// Judges the history of a child of a trace, which began with these entries, as `check` does that of a space that began empty: `Ok` exactly
 /// where it is legal and of the child's lines, and else the first item that is bad, or its end. The only other error is out of memory.

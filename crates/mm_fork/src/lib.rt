@@ -7,7 +7,7 @@ mod inheriting;
 mod laws;
 mod lines;
 
-pub use checking::{check_child, check_parent};
+pub use checking::check_child;
 pub use histories::child_history;
 pub use inheriting::inherit;
 pub use laws::{

@@ -57,16 +57,3 @@ impl<L> Drop for Steps<L> {
         } = self;
     }
 }
-
-#[cfg(test)]
-mod tests {
-    use super::Steps;
-    use std::mem::size_of;
-
-    struct Visits;
-
-    #[test]
-    fn has_no_bytes(rt: HostRuntime) {
-        assert_eq!(rt; size_of::<Steps<Visits>>(), 0);
-    }
-}

@@ -81,6 +81,3 @@ impl<T> MmapGuard<'_, T> {
         &mut self.guard
     }
 }
-
-#[cfg(test)]
-mod tests;

@@ -13,6 +13,4 @@ pub mod Spots
 pub mod Chosen
 pub mod Gone
 pub mod Writers
-pub mod Leaves
-pub mod Seated
 pub mod Zeros

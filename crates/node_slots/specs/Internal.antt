@@ -1,4 +1,3 @@
 -- What no clause of a public function cites: it follows the code, and may change with it.
-pub mod Leaves
 pub mod Stores
 pub mod Places

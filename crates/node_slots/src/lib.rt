@@ -19,6 +19,6 @@ mod writing;
 
 pub use first_words::FirstWords;
 pub use left::Left;
-pub use seats::{NodeSeat, NodeTable, NodeWriter, NodeWriterSeat};
+pub use seats::{NodeSeat, NodeTable, NodeWriter};
 pub use tree::Tree;
 pub use view::{Known, NodeSeatKind, NodeView, SeenTree, SeenWriterState, ShownTree, Size};

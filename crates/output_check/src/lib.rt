@@ -17,6 +17,4 @@ mod stop;
 
 pub use checking::checked;
 pub use input::TEXT_LIMIT;
-pub use judgement::{Judgement, judgement_text};
-pub use judging::judge_output;
 pub use laws::{check_limits, first_bad_is_not_legal, front_is_enough, inputs_are_within};

@@ -1,12 +1,18 @@
 //! Texts that are given to a sink a piece after the other.
 ghost use Rattle.std.specs.Prelude.{◌≡◌, ◌≤◌, ◌<◌, ◌^◌, ◌-◌, [], codes, drop, length, take};
 ghost use Rattle.output_print.specs.Giving.{IsGivingText, IsPrinting};
+ghost use Rattle.output_print.specs.declared.giving.TheConstants.{MOST_GIVEN};
 
 use crate::error::PrintError;
 use io_edge::{GiveError, Sink};
 
 /// How many bytes are given at a call at most.
 pub const MOST_GIVEN: usize = 65_536;
+
+/// The bytes of a piece.
+pub fn most_given()
+    ensures { MOST_GIVEN ≡ 65536 }
+{}
 
 /// Gives all of a text to a sink, in pieces of at most `MOST_GIVEN` bytes. Where the sink takes part of a piece, the next begins with
 /// the rest.

@@ -10,6 +10,6 @@ mod turns;
 
 pub use answered::AnsweredLines;
 pub use error::PrintError;
-pub use giving::{MOST_GIVEN, give_all, give_full};
+pub use giving::{MOST_GIVEN, give_all, give_full, most_given};
 pub use printing::{ROOM, print_history, print_maps};
 pub use turns::print_turns;

@@ -10,4 +10,3 @@ pub mod Storing
 pub mod Publishing
 pub mod Preparing
 pub mod Opening
-pub mod Rowed

@@ -1,4 +1,3 @@
 pub mod SpanTrees
 pub mod Rows
 pub mod Kept
-pub mod Internal

@@ -31,4 +31,4 @@ mod texts;
 
 pub use laws::{first_bad_line, front_is_enough, script_limits, scripts_are_within};
 pub use run::run_script;
-pub use script::{CoreScript, EventLine, EventLines, MOST_LINES, MOST_PARTS, Script};
+pub use script::{MOST_LINES, MOST_PARTS};

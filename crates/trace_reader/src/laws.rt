@@ -9,6 +9,8 @@ ghost use Rattle.trace_reader.specs.Values.{IsTraceValue};
 ghost use Rattle.text_lexer.specs.declared.error.Cause.TheVariants.{Header};
 ghost use Rattle.text_lexer.specs.declared.error.BadLine.{BadLine};
 ghost use Rattle.trace_reader.specs.declared.limits.TheConstants.{MOST_LINES, MOST_MAPS, MOST_NAMED, MOST_FORKS, GREATEST_THREAD, MOST_FILE_BYTES, MAJOR_DIGITS, MINOR_DIGITS};
+ghost use Rattle.trace_reader.specs.declared.builder.TheConstants.{WORDS_BEFORE_PATH};
+ghost use Rattle.trace_reader.specs.declared.calls.TheConstants.{WORDS_WITH_NEW};
 ghost use Rattle.trace_reader.specs.declared.trace.Trace.{Trace};
 
 /// The line that is named in place of a trace is the first bad one, or line 1 where there are no bytes.
@@ -30,7 +32,8 @@ pub fn traces_fit()
 {}
 
 /// The limits: 1,000,000 lines with a thread, of which 64 read the list of areas, 1,000 name a line and 8 fork; thread 63, files of
-/// 2^63 - 1 bytes, and 3 and 5 digits of the halves of a device number.
+/// 2^63 - 1 bytes, 3 and 5 digits of the halves of a device
+/// number, 6 words of a `file` line before its path, and 6 of an mremap(2) with a new address.
 pub fn trace_limits()
     ensures lines { MOST_LINES ≡ 1000000 }
     ensures maps { MOST_MAPS ≡ 64 }
@@ -40,4 +43,6 @@ pub fn trace_limits()
     ensures size { MOST_FILE_BYTES ≡ 2 ^ 63 - 1 }
     ensures major { MAJOR_DIGITS ≡ 3 }
     ensures minor { MINOR_DIGITS ≡ 5 }
+    ensures path { WORDS_BEFORE_PATH ≡ 6 }
+    ensures new { WORDS_WITH_NEW ≡ 6 }
 {}

@@ -79,8 +79,3 @@ fn main(rt: HostRuntime) -> ExitCode {
         None => ExitCode::from(2),
     }
 }
-
-#[cfg(test)]
-mod tests;
-#[cfg(test)]
-mod words_tests;

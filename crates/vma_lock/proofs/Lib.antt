@@ -9,4 +9,3 @@ pub mod Turning
 pub mod Starting
 pub mod Seating
 pub mod Meeting
-pub mod Small

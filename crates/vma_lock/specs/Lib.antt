@@ -5,4 +5,3 @@ pub mod Plays
 pub mod Kept
 pub mod Opening
 pub mod Seats
-pub mod Internal

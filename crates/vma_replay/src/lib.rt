@@ -27,6 +27,5 @@ pub use laws::{retraced_texts_come_back, serial_outputs_are_equal};
 pub use replayed::{Replayed, Runs};
 pub use run::replay;
 pub use status::{Status, status_line, status_number};
-pub use summary::Summary;
 pub use text_lexer::Cause;
-pub use words::{Conversion, Job, Mode, Run};
+pub use words::{Mode, Run};

@@ -2,7 +2,7 @@
 use Rattle.std.specs.Prelude.{◌≡◌, ◌%◌, [], ◌∷◌, ◌++◌, None}
 use Rattle.mm_types.specs.declared.call.Entry.{Entry}
 use Rattle.vma_lock.specs.declared.view.View.{View}
-use Rattle.vma_lock.specs.Internal.Small.{AreFree}
+use Rattle.fault_path.specs.Internal.Small.{AreFree}
 
 -- The entry was made: no call is open, it is nobody's turn, and the slots but the first are detached.
 pub record IsEntered (old new : View) (entry : Entry) : Type 0 where

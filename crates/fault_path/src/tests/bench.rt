@@ -5,7 +5,7 @@ ghost use Rattle.area_rules.specs.Steps.{step, after};
 ghost use Rattle.lock_core.specs.Facts.{list_after};
 ghost use Rattle.vma_lock.specs.Views.{opened_view};
 ghost use Rattle.vma_lock.specs.Seats.{sight, journal, slots, IsClosed};
-ghost use Rattle.vma_lock.specs.Internal.Small.{AreFree, ShowsOne, IsSmall};
+ghost use Rattle.fault_path.specs.Internal.Small.{AreFree, ShowsOne, IsSmall};
 ghost use Rattle.fault_path.specs.Passes.{SitsAt, IsNewWriter};
 ghost use Rattle.fault_path.specs.Internal.Benches.{IsEntered};
 

@@ -1,7 +1,7 @@
 //! A tree that is one leaf.
 ghost use Rattle.std.specs.Prelude.{◌≡◌, ◌<◌};
 ghost use Rattle.node_slots.specs.Seats.{Writes, writer_state};
-ghost use Rattle.node_slots.specs.Internal.Leaves.{IsOneLeaf};
+ghost use Rattle.fault_path.specs.Internal.Leaves.{IsOneLeaf};
 
 use maple_node::Layout;
 use mm_types::{Page, Row, Slot};

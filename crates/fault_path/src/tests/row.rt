@@ -3,7 +3,7 @@ ghost use Rattle.std.specs.Prelude.{◌≡◌, true, false, IfSome};
 ghost use Rattle.mm_types.specs.Packed.{packed};
 ghost use Rattle.mm_types.specs.Records.{IsValid};
 ghost use Rattle.lock_core.specs.Rows.{is_detached};
-ghost use Rattle.vma_lock.specs.Internal.Small.{ShowsOne};
+ghost use Rattle.fault_path.specs.Internal.Small.{ShowsOne};
 
 use mm_types::{AreaList, Record, pack};
 

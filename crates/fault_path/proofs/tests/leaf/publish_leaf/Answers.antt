@@ -5,7 +5,7 @@ use Rattle.maple_node.specs.Levels.{at_of}
 use Rattle.node_slots.specs.declared.view.NodeView.{NodeView}
 use Rattle.node_slots.specs.declared.view.Size.{Size}
 use Rattle.node_slots.specs.Seats.{sight, writer_state, free_of, left_of, row_count, is_present}
-use Rattle.node_slots.proofs.Leaves.{leaf_rows, leaf_layout, next_alone, alone_reached}
+use Rattle.fault_path.proofs.Leaves.{leaf_rows, leaf_layout, next_alone, alone_reached}
 use Rattle.node_slots.proofs.Writers.{writer_taken}
 use Rattle.fault_path.proofs.tests.leaf.publish_leaf.Goals as goal
 

@@ -5,8 +5,8 @@ use Rattle.area_rules.specs.Tables.{space_of}
 use Rattle.area_model.specs.Stepped.{outcome_of}
 use Rattle.area_rules.specs.Steps.{after}
 use Rattle.vma_lock.specs.Seats.{sight}
-use Rattle.vma_lock.specs.Internal.Small.{ShowsOne}
-use Rattle.vma_lock.proofs.Small.{small_after}
+use Rattle.fault_path.specs.Internal.Small.{ShowsOne}
+use Rattle.fault_path.proofs.Small.{small_after}
 use Rattle.fault_path.proofs.tests.bench.Bench.call.Goals as goal
 
 pub enter-requires-clause-shows : goal.enter-requires-clause-shows

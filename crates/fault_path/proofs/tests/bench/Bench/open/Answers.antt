@@ -2,10 +2,10 @@
 use Rattle.std.proofs.Common.{◌≡◌, ◌+◌, ◌∙◌, [], sym, ap, arith}
 use Rattle.node_slots.specs.declared.view.NodeView.{NodeView}
 use Rattle.node_slots.specs.Seats.{free_of, left_of}
-use Rattle.node_slots.proofs.Leaves.{first_alone}
+use Rattle.fault_path.proofs.Leaves.{first_alone}
 use Rattle.vma_lock.specs.declared.view.View.{View}
 use Rattle.vma_lock.specs.Seats.{sight}
-use Rattle.vma_lock.proofs.Small.{opened_is_small}
+use Rattle.fault_path.proofs.Small.{opened_is_small}
 use Rattle.fault_path.proofs.tests.bench.Bench.open.Goals as goal
 
 pub publish_leaf-requires-clause-alone : goal.publish_leaf-requires-clause-alone
