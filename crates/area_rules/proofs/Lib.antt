@@ -25,3 +25,7 @@ pub mod Sealing
 pub mod SealedPages
 pub mod PageLaws
 pub mod PagesAbout
+pub mod AreaLengths
+pub mod FewAreas
+pub mod SameSteps
+pub mod SameJournals

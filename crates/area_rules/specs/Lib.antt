@@ -16,3 +16,4 @@ pub mod Journals
 pub mod Laws
 pub mod Pages
 pub mod Internal
+pub mod Limits

@@ -2,12 +2,14 @@
 //! tests of requests and the areas that calls make, which run; and laws of the definitions.
 #![tactic(auto)]
 
+mod area_limit;
 mod brk_request;
 mod faults;
 mod growth;
 mod growth_brk_seal_laws;
 mod growth_laws;
 mod laws;
+mod limit_laws;
 mod mmap_request;
 mod mprotect_request;
 mod mremap_request;
@@ -19,6 +21,7 @@ mod placement_laws;
 mod seals;
 mod tables;
 
+pub use area_limit::{AREAS_BY_CALL, config_for};
 pub use brk_request::{heap_area, is_below_heap, pages_between};
 pub use faults::{area_verdict, permits};
 pub use growth::{grown_to, is_above};
@@ -31,6 +34,7 @@ pub use laws::{
     journal_laws, legal_journal_is_sound, move_carries_the_pages, new_object_is_fresh,
     protect_changes_the_prefix, step_keeps_soundness,
 };
+pub use limit_laws::{calls_make_few_areas, changes_make_few_areas, limit_is_not_reached};
 pub use mmap_request::{is_fixed, is_noreplace, mmap_refusal, new_area, objects_numbered};
 pub use mprotect_request::{mprotect_answer, stopped_reply};
 pub use mremap_request::{

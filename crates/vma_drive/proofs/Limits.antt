@@ -17,9 +17,9 @@ use Rattle.trace_reader.specs.declared.trace.TraceLine.{TraceLine}
 use Rattle.area_rules.specs.Journals.{calls_by, IsReadRight}
 use Rattle.area_rules.specs.Steps.{after}
 use Rattle.area_rules.specs.Tables.{AddressSpace}
-use Rattle.area_limit.specs.Limits.{with_areas, config_for}
-use Rattle.area_limit.proofs.Journals.{after_for, legal_for, right_for}
-use Rattle.area_limit.proofs.Steps.{grows_same}
+use Rattle.area_rules.specs.Limits.{with_areas, config_for}
+use Rattle.area_rules.proofs.SameJournals.{after_for, legal_for, right_for}
+use Rattle.area_rules.proofs.SameSteps.{grows_same}
 use Rattle.history.specs.declared.items.Item.{Item}
 use Rattle.history.specs.Histories.{lines_of, items_of, gather, goes_first, call_of, asks_for, op_of, read_as}
 use Rattle.history.specs.Runs.{own_of, ops_of, asked, entry_items, log_items, IsReadRightAfter, IsRun}

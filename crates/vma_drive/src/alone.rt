@@ -12,7 +12,7 @@ ghost use Rattle.vma_drive.specs.Sharing.{AreOfOneThread, NameNoLine};
 
 use crate::driving::in_order_with;
 use crate::watcher::Watcher;
-use area_limit::config_for;
+use area_rules::config_for;
 use mm_space::{Closed, Ready, Space, SpaceName};
 use mm_types::{Entry, NoMemory};
 use std::alloc::Global;

@@ -14,7 +14,7 @@ use crate::alone::run_alone;
 use crate::driving::drive_lines;
 use crate::places::shares;
 use crate::watcher::NoWatcher;
-use area_limit::config_for;
+use area_rules::config_for;
 use history::SpaceLines;
 use io_edge::Gate;
 use mm_space::{Closed, Ready, Space, SpaceName};

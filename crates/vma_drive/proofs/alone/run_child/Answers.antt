@@ -4,7 +4,7 @@ use Rattle.std.specs.Prelude.{IfOk}
 use Rattle.mm_types.specs.declared.config.Config.{Config}
 use Rattle.trace_reader.specs.declared.trace.TraceLine.{TraceLine}
 use Rattle.mm_types.specs.Config.{IsValidConfig}
-use Rattle.area_limit.proofs.Journals.{valid_for, legal_for}
+use Rattle.area_rules.proofs.SameJournals.{valid_for, legal_for}
 use Rattle.area_rules.specs.Steps.{IsLegalJournal}
 use Rattle.vma_drive.specs.Alone.{RanAlone}
 use Rattle.vma_drive.proofs.Limits.{alone_result}

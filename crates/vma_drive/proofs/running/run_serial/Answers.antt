@@ -3,7 +3,7 @@ use Rattle.std.proofs.Common.{◌≡◌, ◌∙◌, List, [], length, refl, sym,
 use Rattle.std.specs.Prelude.{IfOk}
 use Rattle.mm_types.specs.declared.config.Config.{Config}
 use Rattle.mm_types.specs.Config.{IsValidConfig}
-use Rattle.area_limit.proofs.Journals.{valid_for}
+use Rattle.area_rules.proofs.SameJournals.{valid_for}
 use Rattle.trace_reader.specs.declared.trace.TraceLine.{TraceLine}
 use Rattle.history.specs.Parents.{parent_lines}
 use Rattle.vma_drive.specs.Alone.{RanAlone}

@@ -6,7 +6,7 @@ use Rattle.mm_types.specs.Config.{IsValidConfig}
 use Rattle.trace_reader.specs.declared.trace.TraceLine.{TraceLine}
 use Rattle.trace_reader.specs.declared.limits.TheConstants.{MOST_NAMED}
 use Rattle.trace_reader.specs.Values.{IsTraceValue}
-use Rattle.area_limit.proofs.Journals.{valid_for}
+use Rattle.area_rules.proofs.SameJournals.{valid_for}
 use Rattle.history.specs.CallerPlaces.{callers_of}
 use Rattle.history.specs.Parents.{parent_lines}
 use Rattle.history.specs.Runs.{IsRun}

@@ -1,6 +1,6 @@
 -- For `limit_is_not_reached`: its goals.
-use Rattle.area_limit.proofs.Journals.{valid_for, after_for, step_for, legal_for, right_for}
-use Rattle.area_limit.proofs.laws.limit_is_not_reached.Goals as goal
+use Rattle.area_rules.proofs.SameJournals.{valid_for, after_for, step_for, legal_for, right_for}
+use Rattle.area_rules.proofs.limit_laws.limit_is_not_reached.Goals as goal
 
 pub returns-clause-valid : goal.returns-clause-valid
 returns-clause-valid c = valid_for

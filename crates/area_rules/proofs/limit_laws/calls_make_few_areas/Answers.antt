@@ -1,7 +1,7 @@
 -- For `calls_make_few_areas`: its goals.
-use Rattle.area_limit.proofs.Journals.{length-after}
-use Rattle.area_limit.proofs.Steps.{length-step}
-use Rattle.area_limit.proofs.laws.calls_make_few_areas.Goals as goal
+use Rattle.area_rules.proofs.SameJournals.{length-after}
+use Rattle.area_rules.proofs.SameSteps.{length-step}
+use Rattle.area_rules.proofs.limit_laws.calls_make_few_areas.Goals as goal
 
 pub returns-clause-step : goal.returns-clause-step
 returns-clause-step c = length-step

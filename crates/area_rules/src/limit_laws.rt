@@ -13,8 +13,8 @@ ghost use Rattle.area_list.specs.declared.attributes.AttrChange.{AttrChange};
 ghost use Rattle.area_rules.specs.Journals.{IsReadRight};
 ghost use Rattle.area_rules.specs.Steps.{step, IsReady, after, IsLegalJournal};
 ghost use Rattle.area_rules.specs.Tables.{AddressSpace};
-ghost use Rattle.area_limit.specs.Limits.{config_for};
-ghost use Rattle.area_limit.specs.declared.limit.TheConstants.{AREAS_BY_CALL};
+ghost use Rattle.area_rules.specs.Limits.{config_for};
+ghost use Rattle.area_rules.specs.declared.area_limit.TheConstants.{AREAS_BY_CALL};
 
 /// A cut leaves at most one area more, since only one goes past both ends of the span; a put leaves at most two, its own among them; and new
 /// attributes leave at most two, one at each end of the span.

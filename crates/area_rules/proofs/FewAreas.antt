@@ -23,7 +23,7 @@ use Rattle.area_rules.specs.Tables.{AddressSpace, pages_of}
 use Rattle.area_rules.proofs.ProtectLaws.{stop_is}
 use Rattle.area_rules.proofs.RemapLaws.{IsRemappable, some_range, moved_good, grown_good, change_both}
 use Rattle.area_rules.proofs.Stepping.{in_order}
-use Rattle.area_limit.proofs.Lengths.{canonical_above, length-cut, length-put, length-changed_list}
+use Rattle.area_rules.proofs.AreaLengths.{canonical_above, length-cut, length-put, length-changed_list}
 
 module _ (end : ℕ) (areas : List Record) (canonical : IsCanonical end areas) where
   -- a range that is cut out makes one area more at most

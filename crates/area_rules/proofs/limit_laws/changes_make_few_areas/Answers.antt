@@ -1,6 +1,6 @@
 -- For `changes_make_few_areas`: its goals.
-use Rattle.area_limit.proofs.Lengths.{canonical_above, length-cut, length-put, length-changed_list}
-use Rattle.area_limit.proofs.laws.changes_make_few_areas.Goals as goal
+use Rattle.area_rules.proofs.AreaLengths.{canonical_above, length-cut, length-put, length-changed_list}
+use Rattle.area_rules.proofs.limit_laws.changes_make_few_areas.Goals as goal
 
 pub returns-clause-cut : goal.returns-clause-cut
 returns-clause-cut c = λ end span areas order canonical. length-cut span 0 areas order (canonical_above end areas canonical)

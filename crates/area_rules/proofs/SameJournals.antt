@@ -16,8 +16,8 @@ use Rattle.area_rules.specs.Steps.{step, opening, after, IsLegalJournal}
 use Rattle.area_rules.specs.Tables.{AddressSpace, Outcome}
 use Rattle.area_rules.specs.Verdicts.{verdict}
 use Rattle.area_rules.proofs.Journals.{after_ready, after-nil, after-push}
-use Rattle.area_limit.specs.Limits.{with_areas, config_for}
-use Rattle.area_limit.proofs.Steps.{length-step, grows_same, verdict_same, step_same}
+use Rattle.area_rules.specs.Limits.{with_areas, config_for}
+use Rattle.area_rules.proofs.SameSteps.{length-step, grows_same, verdict_same, step_same}
 
 -- what holds of no entry, and stays with one more, holds of each journal
 by_entries : (P : List Entry → Type 0) → P [] → ((journal : List Entry) (entry : Entry) → P journal → P (journal ++ entry ∷ []))

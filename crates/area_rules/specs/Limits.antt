@@ -1,7 +1,7 @@
 -- The limit of areas that so many calls need.
 use Rattle.std.specs.Prelude.{ℕ, ◌+◌, ◌*◌, min}
 use Rattle.mm_types.specs.declared.config.Config.{Config}
-use Rattle.area_limit.specs.declared.limit.TheConstants.{AREAS_BY_CALL}
+use Rattle.area_rules.specs.declared.area_limit.TheConstants.{AREAS_BY_CALL}
 
 -- the same configuration with this limit of areas
 abbrev pub with_areas : ℕ → Config → Config

@@ -33,8 +33,8 @@ use Rattle.area_rules.proofs.Growing.{grown_length}
 use Rattle.area_rules.proofs.RemapLaws.{IsRemappable, remappable_from_rows, mremap_both}
 use Rattle.area_rules.proofs.Rows.{rows_false}
 use Rattle.area_rules.proofs.Stepping.{step_both}
-use Rattle.area_limit.specs.Limits.{with_areas}
-use Rattle.area_limit.proofs.Changes.{length-cut_range, length-mapped_list, length-protected_prefix, length-sealed_list, length-lowered_list, length-raised_list, length-change}
+use Rattle.area_rules.specs.Limits.{with_areas}
+use Rattle.area_rules.proofs.FewAreas.{length-cut_range, length-mapped_list, length-protected_prefix, length-sealed_list, length-lowered_list, length-raised_list, length-change}
 
 -- ---- how many areas a call makes
 

@@ -1,4 +1,0 @@
-pub mod Lengths
-pub mod Changes
-pub mod Steps
-pub mod Journals
