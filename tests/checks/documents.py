@@ -4,8 +4,9 @@
 Each name in `code` that can only be one of the sources is one. Each path in `code` and each link of a page leads
 somewhere, headings too. Each block of code below `<!-- from FILE -->` has lines of this file, in their order, where `..`
 stands for any, and each block of Rust has such a line. Each crate of crates.txt is in docs/ARCHITECTURE.md.
-docs/reference is what dev/make-reference makes. Each picture of docs/pictures is what dev/chart draws of the table
-beside it. The manual page passes `mandoc -T lint`, where that is installed.
+docs/reference is what dev/make-reference makes, and docs/HEADLINE.md what dev/make-headline makes.
+Each picture of docs/pictures is what dev/chart draws of the table beside it. The manual page passes `mandoc -T lint`,
+where that is installed.
 
 Exit status: 0 where all is so, 1 where not, with a line for each, 2 on wrong use.
 """
@@ -23,6 +24,7 @@ from pathlib import Path
 TOP = Path(__file__).resolve().parents[2]
 sys.path.insert(0, str(TOP))
 
+from dev.reference import headline  # noqa: E402
 from dev.reference.__main__ import differences  # noqa: E402
 from dev.reference.pages import pages as reference_pages  # noqa: E402
 
@@ -189,6 +191,13 @@ def check_reference() -> Iterator[str]:
         yield "run dev/make-reference"
 
 
+def check_headline() -> Iterator[str]:
+    """A page of the headline that is not what the sources say."""
+    yield from headline.without_words(Path())
+    if read(headline.PAGE) != headline.page(Path()):
+        yield f"{headline.PAGE} is not what the sources say now: run dev/make-headline"
+
+
 def check_pictures() -> Iterator[str]:
     """Pictures that are not of the table beside them."""
     for front in sorted({path.with_suffix("") for path in Path("docs/pictures").iterdir()}):
@@ -214,7 +223,8 @@ def main() -> int:
         prog="tests/run documents", description=__doc__, formatter_class=argparse.RawDescriptionHelpFormatter
     ).parse_args()
     os.chdir(TOP)
-    checks = (check_names, check_links, check_paths, check_excerpts, check_crates, check_reference, check_pictures, check_manual)
+    of_pages = (check_names, check_links, check_paths, check_excerpts, check_crates, check_manual)
+    checks = (*of_pages, check_reference, check_headline, check_pictures)
     wrong = [line for check in checks for line in check()]
     right = (
         "documents: every name, path and link leads somewhere, and the reference and each picture are of their sources"
