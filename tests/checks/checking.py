@@ -20,7 +20,7 @@ from typing import Any, NoReturn
 TOP = Path(__file__).resolve().parents[2]
 LIVE = TOP / "crates/vma_live/out/vma_live"
 sys.dont_write_bytecode = True
-sys.path[:0] = [str(TOP / "tools"), str(TOP)]
+sys.path[:0] = [str(TOP / "tools"), str(TOP / "tests"), str(TOP)]
 from vmatools import console, program as programs
 
 TOOL = Path(sys.argv[0]).stem

@@ -24,7 +24,7 @@ PROGRAMS = (
     "dev/measure-faults",
     "dev/measure-live",
     "dev/real-programs",
-    "dev/suite-linux",
+    "dev/suite-case",
 )
 MOST = 4_000  # characters of what is printed
 
@@ -48,7 +48,7 @@ def check(_options: argparse.Namespace) -> None:
     settings = tomllib.loads((TOP / "pyproject.toml").read_text(encoding="utf-8"))["tool"]["flake8"]
     words = [f"--{name}={','.join(value) if isinstance(value, list) else value}" for name, value in settings.items()]
     check_tool("flake8", [*words, *FOLDERS, *PROGRAMS])
-    check_tool("mypy", ["tools/vmatools", "tests/checks", "tests/unit", "dev/reference", "dev/suite"])
+    check_tool("mypy", ["tools/vmatools", "tests/checks", "tests/models", "tests/unit", "dev/reference"])
     for program in PROGRAMS:
         check_tool("mypy", ["--scripts-are-modules", program])
 

@@ -11,9 +11,9 @@ from dataclasses import replace
 from pathlib import Path
 
 TOP = Path(__file__).resolve().parents[2]
-sys.path[:0] = [str(TOP), str(TOP / "tools")]
+sys.path[:0] = [str(TOP / "tools"), str(TOP / "tests")]
 
-from dev.suite import linux  # noqa: E402
+from models import cases  # noqa: E402
 from vmatools import conformance  # noqa: E402
 from vmatools.commands import conform  # noqa: E402
 from vmatools.conformance import Case, Verdict  # noqa: E402
@@ -134,15 +134,15 @@ class Versions(unittest.TestCase):
     """What versions of Linux answer."""
 
     def test_a_part_for_each_answer(self) -> None:
-        one = linux.with_answer("", "brk-limit", "6.18.44", "a\n")
+        one = cases.with_answer("", "brk-limit", "6.18.44", "a\n")
         self.assertEqual(one, "# brk-limit of docs/KERNEL.md; Linux 6.18.44 answers\na\n")
-        two = linux.with_answer(linux.with_answer(one, "brk-limit", "6.1.192", "b\n"), "brk-limit", "6.12.117", "a\n")
-        first, second = two.split(linux.PART)
+        two = cases.with_answer(cases.with_answer(one, "brk-limit", "6.1.192", "b\n"), "brk-limit", "6.12.117", "a\n")
+        first, second = two.split(conformance.PART)
         self.assertEqual(first, "# brk-limit of docs/KERNEL.md; Linux 6.12.117 and 6.18.44 answer\na\n")
         self.assertEqual(second, "# brk-limit of docs/KERNEL.md; Linux 6.1.192 answers\nb\n")
-        three = linux.with_answer(two, "brk-limit", "6.1.192", "a\n")
+        three = cases.with_answer(two, "brk-limit", "6.1.192", "a\n")
         self.assertEqual(three, "# brk-limit of docs/KERNEL.md; Linux 6.1.192, 6.12.117 and 6.18.44 answer\na\n")
-        self.assertEqual(linux.with_answer(three, "brk-limit", "6.12.117", "a\n"), three)
+        self.assertEqual(cases.with_answer(three, "brk-limit", "6.12.117", "a\n"), three)
 
 
 if __name__ == "__main__":

@@ -2,46 +2,102 @@
 from __future__ import annotations
 
 import inspect
+import subprocess
 import sys
+import tempfile
 import unittest
 from pathlib import Path
 from unittest import mock
 
 TOP = Path(__file__).resolve().parents[2]
-sys.path[:0] = [str(TOP), str(TOP / "tools"), str(TOP / "tests/checks")]
+sys.path[:0] = [str(TOP / "tools"), str(TOP / "tests"), str(TOP / "tests/checks")]
 
 import suite as check  # noqa: E402
 
-from dev.suite import drawn, mutations  # noqa: E402
-from dev.suite.__main__ import all_cases, faults_of  # noqa: E402
-from dev.suite.cases import Case, read_cases  # noqa: E402
-from vmatools import coverage, model  # noqa: E402
+from models import cases, drawn, mutations  # noqa: E402
+from vmatools import conformance, coverage, model  # noqa: E402
+from vmatools.conformance import PART  # noqa: E402
+from vmatools.console import Failure  # noqa: E402
 from vmatools.serial import serial_output  # noqa: E402
-from vmatools.traces import Trace, read_trace  # noqa: E402
+from vmatools.traces import read_trace  # noqa: E402
 
-CASES = all_cases()
-
-
-def trace_of(case: Case) -> Trace:
-    return read_trace(case.trace.encode())
+TEXTS = {cases.where(path): path.read_text(encoding="utf-8") for path in conformance.SUITE.glob("*/*.trace")}
+TRACES = {name: read_trace(text.encode()) for name, text in TEXTS.items()}
+SAYS = "vmatrace 1\n# A page is cut out: munmap(2).\n"
+ONE = SAYS + "0 munmap 0x10000 4096\n"
 
 
 class Faults(unittest.TestCase):
-    def faults(self, text: str) -> list[str]:
-        return faults_of(read_cases("munmap", "munmap(2)", text))
+    def faults(self, **texts: str) -> list[str]:
+        return list(cases.faults_of(texts))
 
     def test_the_cases_have_none(self) -> None:
-        self.assertEqual(faults_of(CASES), [])
+        self.assertEqual(list(cases.faults_of(TEXTS)), [])
 
-    def test_a_sentence_that_goes_on_from_another(self) -> None:
-        self.assertIn("munmap/a: `Nor here` is no sentence that can be read alone", self.faults("a | Nor here\n  maps"))
+    def test_a_sentence_that_goes_on_from_another_or_has_no_page(self) -> None:
+        for says in ("# Nor here: munmap(2).", "# A page is cut out", "0 maps"):
+            told = f"a: line 2, `{says}`, is no `# SENTENCE: PAGE.` that can be read alone"
+            self.assertEqual(self.faults(a=f"vmatrace 1\n{says}\n"), [told])
+        self.assertEqual(len(self.faults(a="")), 1)
 
     def test_a_sentence_twice(self) -> None:
-        found = self.faults("a | It's said\n  maps\nb | It's said\n  munmap 0 1")
-        self.assertIn("munmap/b: says what munmap/a does", found)
+        self.assertEqual(self.faults(a=ONE, b=SAYS + "0 maps\n"), ["b: says what a does"])
 
     def test_a_trace_twice(self) -> None:
-        self.assertIn("munmap/b: repeats munmap/a", self.faults("a | One\n  maps\nb | Two\n  maps"))
+        self.assertEqual(self.faults(a=ONE, b=ONE.replace("A page", "One page")), ["b: repeats a"])
+
+    def test_too_many_lines(self) -> None:
+        self.assertEqual(self.faults(a=SAYS + "0 maps\n" * 11), ["a: has 13 lines, and not 12 at most"])
+
+
+class Beside(unittest.TestCase):
+    """What has to be beside a trace."""
+
+    def setUp(self) -> None:
+        folder = tempfile.TemporaryDirectory()
+        self.addCleanup(folder.cleanup)
+        self.trace, self.program = Path(folder.name) / "threads/new.trace", Path(folder.name) / "program"
+        self.trace.parent.mkdir()
+        self.program.write_text("#!/bin/sh\nwc -l\n")
+        self.program.chmod(0o755)
+
+    def test_the_output_and_each_legal_one(self) -> None:
+        self.trace.write_text(SAYS + "0 brk 0\n1 brk 0\n")
+        command = [sys.executable, str(TOP / "dev/suite-case"), "--program", str(self.program), str(self.trace)]
+        done = subprocess.run(command, capture_output=True, text=True)
+        self.assertEqual((done.returncode, done.stderr), (0, ""))
+        self.assertEqual(self.trace.with_suffix(".out").read_text(), "4\n")
+        legal = self.trace.with_suffix(".legal").read_text().split(PART)
+        self.assertEqual(legal[0], serial_output(read_trace(self.trace.read_bytes())))
+        self.assertEqual([text.splitlines()[0] for text in legal], ["L3 t0 v1 = 0x0", "L4 t1 v1 = 0x0"])
+        done = subprocess.run(command, capture_output=True, text=True)
+        self.assertEqual((done.returncode, done.stdout), (0, ""))  # nothing is new
+
+    def test_a_bad_trace_and_a_program_that_fails(self) -> None:
+        self.trace.write_text("vmatrace 1\n0 touch\n")
+        with self.assertRaisesRegex(Failure, "new.trace: line 2 cause 3 Word"):
+            cases.beside(str(self.program), self.trace)
+        self.trace.write_text(ONE)
+        self.program.write_text("#!/bin/sh\nexit 3\n")
+        with self.assertRaisesRegex(Failure, "new.trace: the program ends with status 3"):
+            cases.beside(str(self.program), self.trace)
+
+
+class AsLinux(unittest.TestCase):
+    def check(self, text: str) -> list[str]:
+        with tempfile.TemporaryDirectory() as name:
+            folder = Path(name) / "brk"
+            folder.mkdir()
+            (folder / "a.out").write_text("a\n")
+            (folder / "a.linux").write_text(text)
+            return [line.removeprefix(f"{folder}/") for line in check.check_linux(Path(name))]
+
+    def test_a_row_that_is_not_there_and_an_answer_that_is_the_programs(self) -> None:
+        head = "# {} of docs/KERNEL.md; Linux 6.1 answers\n"
+        self.assertEqual(self.check(head.format("brk-limit") + "b\n"), [])
+        self.assertEqual(self.check(head.format("brk-limit") + "a\n"), ["a.linux: no version answers otherwise than the program"])
+        for text, rows in ((head.format("brk-other") + "b\n", "brk-other"), ("b\n", "none")):
+            self.assertEqual(self.check(text), [f"a.linux: each part has to name one row of docs/KERNEL.md, and has {rows}"])
 
 
 class Missing(unittest.TestCase):
@@ -49,25 +105,25 @@ class Missing(unittest.TestCase):
 
     def test_a_row_that_one_case_alone_decides(self) -> None:
         row = "mremap/object-overflows"
-        deciding = [case for case in CASES if row in coverage.rows_of(trace_of(case))]
-        left = [case for case in CASES if case not in deciding[1:]]
+        deciding = [trace for trace in TRACES.values() if row in coverage.rows_of(trace)]
+        left = [trace for trace in TRACES.values() if trace not in deciding[1:]]
         self.assertEqual(
             list(check.check_coverage(left)), [f"docs/MODEL.md: the row {row} decides 1 cases, and not {check.LEAST}"]
         )
 
     def test_a_change_that_one_case_alone_notices(self) -> None:
         by_where = {change.where: change for change in mutations.changes(inspect.getsource(model))}
-        pairs = [(trace, serial_output(trace)) for trace in map(trace_of, CASES)]
+        pairs = {name: (trace, serial_output(trace)) for name, trace in TRACES.items()}
         for where, name in (
-            ("brk: without the test `new == old`", "raise-within-a-page-beside-a-mapping"),  # a test
-            ("mprotect: `end * PAGE >= 2 ** 64` as `end * PAGE > 2 ** 64`", "wraps-from-a-mapping"),  # a boundary
+            ("brk: without the test `new == old`", "brk/raise-within-a-page-beside-a-mapping"),  # a test
+            ("mprotect: `end * PAGE >= 2 ** 64` as `end * PAGE > 2 ** 64`", "mprotect/wraps-from-a-mapping"),  # a boundary
             (
                 "mremap_refusal: the test `old_end > self.limit` before `old_length == 0`",  # an order
-                "mremap-empty-old-length-before-old-range-past-user-memory",
+                "order/mremap-empty-old-length-before-old-range-past-user-memory",
             ),
         ):
-            left = [pair for case, pair in zip(CASES, pairs) if case.name != name]
-            self.assertTrue(mutations.is_noticed(by_where[where], pairs), where)
+            left = [pair for case, pair in pairs.items() if case != name]
+            self.assertTrue(mutations.is_noticed(by_where[where], [*pairs.values()]), where)
             self.assertFalse(mutations.is_noticed(by_where[where], left), where)
 
     def test_a_change_said_to_change_no_answer_that_a_random_trace_notices(self) -> None:

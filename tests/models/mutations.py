@@ -18,11 +18,10 @@ from collections import Counter
 from collections.abc import Iterator, Sequence
 from dataclasses import dataclass
 
+from models.drawn import traces_of
 from vmatools import model
 from vmatools.serial import serial_output
 from vmatools.traces import Trace
-
-from .drawn import traces_of
 
 SECONDS = 20.0  # of processor time: a changed model that takes longer for all cases is noticed, as it doesn't end
 NEAR: dict[type[ast.cmpop], type[ast.cmpop]] = {
