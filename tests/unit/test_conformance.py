@@ -130,6 +130,59 @@ class Systems(unittest.TestCase):
             self.assertEqual(conform.searched_place(replace(CASE, right=(right,))), line)
 
 
+class Reports(unittest.TestCase):
+    """What a user reads of the cases that aren't as they should be."""
+
+    def conform(self, answers: str, *only: str) -> subprocess.CompletedProcess[str]:
+        """Cases on an adapter that writes these answers, whatever it is asked."""
+        with tempfile.TemporaryDirectory() as folder:
+            adapter = Path(folder, "adapter")
+            adapter.write_text(f"#!/bin/sh\n{answers}\n", encoding="utf-8")
+            adapter.chmod(0o755)
+            words = [word for name in only for word in ("--only", name)]
+            command = [sys.executable, str(TOP / "tools/vma"), "conform", *words, "--", str(adapter)]
+            return subprocess.run(command, capture_output=True, text=True, timeout=300)
+
+    def test_a_failed_case_has_its_trace_both_answers_and_its_command(self) -> None:
+        done = self.conform("echo 'L3 t0 v1 = -1 EINVAL'", "munmap/again")
+        case = conformance.read_suite(names=["munmap/again"])[0]
+        shown = "\n".join(f"    {line}" for line in case.trace.splitlines())
+        right = case.right[0].splitlines()[0]
+        self.assertIn(f"failed: munmap/again: {case.says}\n  the trace:\n{shown}\n", done.stdout)
+        self.assertIn(f"  right:\n    {right}\n  yours:\n    L3 t0 v1 = -1 EINVAL\n  again: ", done.stdout)
+        self.assertRegex(done.stdout, "  again: .*vma conform --only munmap/again -- .*/adapter\n")
+
+    def test_a_call_that_is_not_there_is_told_once(self) -> None:
+        answers = "n=0; while read t w r; do n=$((n+1)); case $t in 0) echo \"L$n t0 v1 = -1 ENOSYS\";; esac; done"
+        done = self.conform(answers, "munmap/again", "munmap/whole")
+        self.assertEqual(done.returncode, 1)
+        self.assertEqual(done.stdout.count("failed: mmap: not there, as each answer is -1 ENOSYS: 2 cases"), 1)
+        self.assertNotIn("munmap/again", done.stdout)
+
+    def test_what_counts_most_stands_first(self) -> None:
+        def result(output: str, fault: str | None = None) -> conformance.Result:
+            return conformance.judged(replace(CASE, trace=trace, right=("L2 t0 v1 = 0x1000\nmaps 0\n",)), Ran(output, fault, ""))
+
+        trace = "vmatrace 1\n0 mmap 0x1000 4096 PROT_READ MAP_PRIVATE|MAP_ANONYMOUS -1 0\n"
+        place, reply = result("L2 t0 v1 = 0x2000\nmaps 0\n"), result("L2 t0 v1 = -1 EINVAL\nmaps 0\n")
+        mapped = result("L2 t0 v1 = 0x1000\nmaps 1\n00001000-00002000 r--p 00000000 00:00 0 \n")
+        crash, hang = result("", "ends by signal SIGSEGV"), result("", "does not end")
+        shown = conformance.wrong_ones([place, reply, mapped, crash, hang])
+        self.assertEqual(shown, [hang, crash, mapped, reply, place])
+
+
+class PageTable(unittest.TestCase):
+    def test_lengths_that_no_dictionary_holds_are_refused_at_once(self) -> None:
+        for length in (1 << 47, 0x7FFFFFFEF000, (1 << 63) - 4096, 1 << 63):
+            for flags in ("MAP_PRIVATE|MAP_ANONYMOUS", "MAP_PRIVATE|MAP_ANONYMOUS|MAP_FIXED"):
+                lines = [f"0 mmap 0x10000 {length} PROT_READ {flags} -1 0", f"0 mprotect 0x10000 {length} PROT_READ"]
+                trace = "\n".join(["vmatrace 1", *lines, f"0 munmap 0x10000 {length}", ""])
+                done = subprocess.run(
+                    [sys.executable, str(TOP / "examples/page-table")], input=trace, capture_output=True, text=True, timeout=60
+                )
+                self.assertTrue(done.stdout.startswith("L2 t0 v1 = -1 ENOMEM\nL3 t0 v2 = -1 ENOMEM\n"), done.stdout)
+
+
 class Versions(unittest.TestCase):
     """What versions of Linux answer."""
 

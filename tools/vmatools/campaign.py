@@ -3,26 +3,25 @@ from __future__ import annotations
 
 import itertools
 import os
-import shlex
 import signal
-import sys
 import time
 from collections import Counter, deque
 from collections.abc import Callable, Iterator
 from concurrent.futures import Future, ThreadPoolExecutor, TimeoutError as NotYet
-from contextlib import contextmanager, suppress
+from contextlib import contextmanager
 from dataclasses import dataclass, field
 from pathlib import Path
 from types import FrameType
 from typing import Any, NamedTuple, Optional, Union
 
-from . import coverage, generator, outputs, program, shrinking
-from .comparison import HANGS, Examined, Sides, Stopped, examine, is_trace, may_answer
+from . import children, coverage, generator, outputs, shrinking
+from .comparison import HANGS, Examined, Sides, examine, is_trace, may_answer
 from .console import Failure, Progress, say
 from .fitting import fitted
 from .findings import Finding, Findings, Journal, Kind
 from .traces import BadLine, Trace, read_trace
 from .windows import EmptyFit, Fit
+from .words import repeated
 
 QUIET_SECONDS = 30  # a line says how far the run is, where nobody looks at a terminal
 
@@ -140,7 +139,7 @@ class Campaign:
     def stop(self, number: int, _: Optional[FrameType]) -> None:
         now = time.monotonic()
         if self.stopped and now - self.stopped_at > 1:  # a first one may come twice, to the process and to its group
-            program.end_all()
+            children.stop_all()
             os._exit(128 + number)
         self.stopped, self.stopped_at = signal.Signals(number).name, now
 
@@ -178,12 +177,7 @@ class Campaign:
     def give_up(self, running: list[Future[tuple[Examined, Counter[str]]]]) -> None:
         """Ends what still runs."""
         self.sides.is_stopped = True
-        if self.stopped:
-            program.end_all()
-        for future in running:
-            if not future.cancel():
-                with suppress(Stopped, Failure):  # what was ended failed
-                    future.result()
+        children.stop_work(running)
         self.sides.is_stopped = False
 
     def examined(self, source: Source) -> tuple[Examined, Counter[str]]:
@@ -220,9 +214,8 @@ class Campaign:
 
     def repeat(self, source: Source) -> str:
         """The one command that repeats a finding."""
-        tool = [sys.argv[0]] if Path(sys.argv[0]).name == "vma" else ["vma"]
         system = self.settings.command if self.settings.command[:1] == ["--system"] else ["--", *self.settings.command]
-        return shlex.join([*tool, "compare", *self.settings.words, *source.words, *system])
+        return repeated("compare", [*self.settings.words, *source.words, *system])
 
     def tell(self) -> None:
         """Says how far the run is."""

@@ -11,8 +11,11 @@ from dataclasses import dataclass
 from enum import Enum
 from pathlib import Path
 
+from . import ranking
 from .console import Failure
+from .outputs import Difference, first_difference
 from .program import TOP, Ran
+from .traces import read_trace
 
 SUITE = TOP / "suite"
 # What parts the legal outputs of a case with threads, and the outputs of versions of Linux.
@@ -21,6 +24,8 @@ PART = "==\n"
 CANNOT_RUN = "ends with status 4"
 # How an adapter of many traces answers whose system can't be run at all, as where a package is missing.
 NO_SYSTEM = "ends with status 5"
+NOT_THERE = "-1 ENOSYS"  # what a system answers to an operation that it hasn't
+MOST_LINES = 12  # of a trace or an answer that is shown
 # What a case of Linux begins with: the row of docs/KERNEL.md and the versions that were seen to answer so.
 COMMENT = "#"
 
@@ -60,6 +65,19 @@ class Result:
     found: str = ""
     wanted: str = ""
     message: str = ""
+    difference: Difference | None = None
+
+    @property
+    def rank(self) -> int:
+        """Where it stands among those that aren't as they should be: a hang first, a place last."""
+        if self.verdict in (Verdict.HUNG, Verdict.CRASHED) or self.difference is None:
+            return ranking.RANKS.index("hang" if self.verdict is Verdict.HUNG else "crash")
+        return ranking.rank_of(self.difference)
+
+    @property
+    def missing_call(self) -> str | None:
+        """The operation that the system hasn't, if that is what is wrong."""
+        return self.difference.operation if self.difference and self.difference.there == NOT_THERE else None
 
     @property
     def why(self) -> str:
@@ -124,8 +142,10 @@ def judged(case: Case, ran: Ran) -> Result:
     if ran.output in case.right:
         return Result(case, Verdict.PASSED)
     # Of several right outputs the one that goes along the longest.
-    line, found, wanted = max((first_wrong(ran.output, right) for right in case.right), key=lambda wrong: wrong[0])
-    return Result(case, Verdict.FAILED, line, found, wanted)
+    right = max(case.right, key=lambda right: first_wrong(ran.output, right)[0])
+    words: dict[int | None, str] = {line.number: line.word for line in read_trace(case.trace.encode()).lines}
+    difference = first_difference(right, ran.output, words)
+    return Result(case, Verdict.FAILED, *first_wrong(ran.output, right), difference=difference)
 
 
 def table(results: Iterable[Result]) -> list[str]:
@@ -146,6 +166,24 @@ def left_out(results: Iterable[Result]) -> list[str]:
         re.sub(r"^line \d+: ", "", result.why) for result in results if result.verdict is Verdict.LEFT_OUT
     )
     return [f"left out: {count}: {why}" for why, count in whys.most_common()]
+
+
+def wrong_ones(results: Iterable[Result]) -> list[Result]:
+    """The cases that aren't as they should be, what counts most first."""
+    wrong = (result for result in results if result.verdict not in (Verdict.PASSED, Verdict.LEFT_OUT))
+    return sorted(wrong, key=lambda result: result.rank)
+
+
+def described(result: Result) -> list[str]:
+    """What a case that isn't as it should be shows: its trace, and both answers."""
+    lines = result.case.trace.splitlines()
+    more = [f"... ({len(lines)} lines)"] if len(lines) > MOST_LINES else []
+    told = [("the trace", [*lines[:MOST_LINES], *more])]
+    if result.difference:
+        told += [("right", result.difference.here_lines[:MOST_LINES]), ("yours", result.difference.there_lines[:MOST_LINES])]
+    else:
+        told += [("yours", result.message.strip().splitlines()[-3:])]
+    return [text for head, own in told for text in (f"  {head}:", *(f"    {line[:300]}" for line in own or ["(nothing)"]))]
 
 
 def as_tap(results: Sequence[Result]) -> Iterator[str]:
@@ -185,7 +223,8 @@ def as_junit(results: Sequence[Result]) -> Iterator[str]:
         if result.verdict is Verdict.LEFT_OUT:
             ElementTree.SubElement(case, "skipped", message=printable(result.why))
         elif result.verdict is not Verdict.PASSED:
-            ElementTree.SubElement(case, "failure", message=printable(result.why)).text = printable(result.case.trace)
+            failure = ElementTree.SubElement(case, "failure", message=printable(result.why))
+            failure.text = printable("\n".join(described(result)))
     yield ElementTree.tostring(suite, encoding="unicode")
 
 

@@ -15,7 +15,7 @@ from dataclasses import dataclass
 from pathlib import Path
 from typing import IO
 
-from . import console
+from . import children, console
 
 TOP = Path(__file__).resolve().parents[2]
 DEFAULT_PROGRAM = TOP / "crates/vma_main/out/vma_main"
@@ -133,32 +133,30 @@ def why_not_run(name: str | os.PathLike[str], error: OSError) -> str:
 
 
 def begin(command: Sequence[str | os.PathLike[str]], source: IO[bytes]) -> subprocess.Popen[bytes]:
-    """Starts a command in a session of its own, with a file as its standard input."""
+    """Starts a command, with a file as its standard input."""
     try:
-        return subprocess.Popen(
-            command, stdin=source, stdout=subprocess.PIPE, stderr=subprocess.PIPE, start_new_session=True
-        )
+        return children.start(command, stdin=source, stdout=subprocess.PIPE, stderr=subprocess.PIPE)
     except OSError as error:
         raise console.Failure(why_not_run(command[0], error)) from None
 
 
 def run(command: Sequence[str | os.PathLike[str]], text: bytes, seconds: float) -> Ran:
     """Runs a command over a text on its standard input, for so many seconds at most."""
-    end = time.monotonic() + seconds
+    end, status = time.monotonic() + seconds, None
     with tempfile.TemporaryFile() as source:
         source.write(text)
         source.seek(0)
         with begin(command, source) as process:
-            RUNNING.add(process)
-            output, message, fault = read_both(process, end)
-            status = None
             try:
-                status = None if fault else process.wait(max(end - time.monotonic(), 0.1))
+                output, message, fault = read_both(process, end)
+                if not fault:
+                    status = process.wait(max(end - time.monotonic(), 0.1))
             except subprocess.TimeoutExpired:
                 fault = "does not end"
-            if fault:
-                stop(process)
-            RUNNING.discard(process)
+            finally:
+                if process.returncode is None:
+                    children.stop(process)
+                children.end(process)
     if fault is None and status:
         fault = f"ends with status {status}" if status > 0 else f"ends by signal {signal.Signals(-status).name}"
     return Ran(output.decode("utf-8", "replace"), fault, message.decode("utf-8", "replace"))
@@ -185,20 +183,3 @@ def read_both(process: subprocess.Popen[bytes], end: float) -> tuple[bytes, byte
             if size > MOST_OUTPUT:
                 fault = "writes on and on"
     return b"" if fault else b"".join(read[process.stdout]), b"".join(read[process.stderr])[-10_000:], fault
-
-
-RUNNING: set[subprocess.Popen[bytes]] = set()
-
-
-def end_all() -> None:
-    """Ends all that runs, where the command itself is ended."""
-    for process in list(RUNNING):
-        stop(process)
-
-
-def stop(process: subprocess.Popen[bytes]) -> None:
-    """Ends a process with all that it started in its session."""
-    try:
-        os.killpg(process.pid, signal.SIGKILL)
-    except ProcessLookupError:
-        pass

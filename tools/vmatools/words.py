@@ -1,8 +1,12 @@
-"""Numbers and times among the words of a command line."""
+"""Words of a command line: numbers and times, and the command that is to be called again."""
 from __future__ import annotations
 
 import argparse
 import re
+import shlex
+import sys
+from collections.abc import Sequence
+from pathlib import Path
 
 
 def number(text: str) -> int:
@@ -29,6 +33,12 @@ def time_limit(text: str) -> float:
     if not 0 < value < 1e6:
         raise argparse.ArgumentTypeError(f"{shortened(text)} is no number of seconds")
     return value
+
+
+def repeated(command: str, words: Sequence[str]) -> str:
+    """A command of `vma`, as it was called, for a shell."""
+    tool = sys.argv[0] if Path(sys.argv[0]).name == "vma" else "vma"
+    return shlex.join([tool, command, *words])
 
 
 def shortened(text: str) -> str:

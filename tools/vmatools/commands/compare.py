@@ -29,6 +29,7 @@ from pathlib import Path
 from typing import Optional, TextIO
 
 from .. import (
+    children,
     comparison,
     console,
     coverage,
@@ -338,7 +339,7 @@ def compare_sides(options: argparse.Namespace, settings: Settings, sides: compar
             campaign.run()
             campaign.shrink()
         if campaign.stopped:
-            program.end_all()
+            children.stop_all()
         status = status_of(findings, options.strict, campaign.stopped)
         if campaign.is_too_short:
             console.say(f"no trace came to its end in {settings.for_seconds:g} seconds: give it more by --for")

@@ -18,17 +18,17 @@ from __future__ import annotations
 
 import argparse
 import contextlib
-import itertools
 import os
 import shutil
 import sys
 import threading
+from collections import Counter
 from collections.abc import Callable, Iterator, Sequence
 from concurrent.futures import ThreadPoolExecutor
 from pathlib import Path
 from typing import TextIO
 
-from .. import conformance, console, program
+from .. import children, conformance, console, program
 from ..conformance import Case, Result, Verdict
 from ..live import LiveAdapter
 from ..outputs import parts_of
@@ -39,9 +39,10 @@ from ..systems.known import KNOWN, MACHINE_SECONDS, system_of
 from ..systems.places import NOT_EMPTY, finds_place
 from ..systems.searches import is_place_of_search
 from ..traces import read_trace
-from ..words import count, time_limit
+from ..words import count, repeated, time_limit
 
 VMA = (sys.executable, str(TOP / "tools/vma"))
+SECONDS = 10.0
 SUMMARY = "measure a system case by case, with the conformance suite"
 FORMS: dict[str, Callable[[Sequence[Result]], Iterator[str]]] = {
     "tap": conformance.as_tap,
@@ -67,7 +68,7 @@ def add_arguments(parser: argparse.ArgumentParser) -> None:
         help="what is right: this project's profile, or what Linux was seen to answer (profile)",
     )
     parser.add_argument(
-        "--seconds", type=time_limit, default=10, metavar="T", help="how long COMMAND may take for a case (10)"
+        "--seconds", type=time_limit, default=SECONDS, metavar="T", help="how long COMMAND may take for a case (10)"
     )
     parser.add_argument(
         "--jobs", type=count, default=os.cpu_count() or 1, metavar="N", help="cases at once (as many as processors)"
@@ -128,10 +129,10 @@ def searched_place(case: Case) -> int | None:
     return min(found, default=None)
 
 
-def all_results(cases: Sequence[Case], options: argparse.Namespace) -> list[Result]:
+def each_result(cases: Sequence[Case], options: argparse.Namespace) -> Iterator[Result]:
     """What a system makes of each case, with a line that says how far it is. Where it doesn't run at all, the first case is
     the last: a machine that doesn't boot takes minutes to say so."""
-    progress, results, has_run = console.Progress(), [], threading.Event()
+    progress, has_run = console.Progress(), threading.Event()
 
     def result_of(case: Case, run_case: Callable[[Case], Ran]) -> Result:
         line = searched_place(case) if options.is_windowed else None
@@ -145,11 +146,14 @@ def all_results(cases: Sequence[Case], options: argparse.Namespace) -> list[Resu
         return conformance.judged(case, ran)
 
     with runs(options) as run_case, ThreadPoolExecutor(max_workers=options.jobs) as pool:
-        for result in pool.map(result_of, cases, itertools.repeat(run_case)):
-            results.append(result)
-            progress.tell(f"{len(results)} of {len(cases)} cases")
-    progress.clear()
-    return results
+        work = [pool.submit(result_of, case, run_case) for case in cases]
+        try:
+            for place, future in enumerate(work, 1):
+                yield future.result()
+                progress.tell(f"{place} of {len(cases)} cases")
+        finally:
+            children.stop_work(work)
+            progress.clear()
 
 
 def take_own_kernel(options: argparse.Namespace) -> None:
@@ -181,12 +185,29 @@ def take_live(options: argparse.Namespace) -> None:
     options.command, options.batch = [program.find(options.live, named=program.LIVE)], True
 
 
-def report(results: Sequence[Result]) -> None:
-    """The table, why cases were left out, and each case that isn't as it should be with the sentence that it shows."""
+def repeating(given: argparse.Namespace, case: Case) -> str:
+    """The command that runs a case again, by the words that were given."""
+    words = ["--only", case.where]
+    words += ["--as", given.profile] if given.profile != "profile" else []
+    words += ["--suite", str(given.suite)] if given.suite != conformance.SUITE else []
+    words += ["--seconds", f"{given.seconds:g}"] if given.seconds != SECONDS else []
+    words += ["--batch"] if given.batch else []
+    words += ["--system", given.system] if given.system else []
+    words += ["--live", *([given.live] if given.live else [])] if given.live is not None else []
+    return repeated("conform", [*words, *(["--", *given.command] if given.command else [])])
+
+
+def report(results: Sequence[Result], given: argparse.Namespace) -> None:
+    """The table, why cases were left out, and each case that isn't as it should be: what counts most first, and a call that
+    the system hasn't once."""
     print("\n".join([*conformance.table(results), *conformance.left_out(results)]))
-    for result in results:
-        if result.verdict not in (Verdict.PASSED, Verdict.LEFT_OUT):
-            print(f"\n{result.verdict.value}: {result.case.where}: {result.case.says}\n  {result.why}")
+    wrong = conformance.wrong_ones(results)
+    for call, times in Counter(result.missing_call for result in wrong if result.missing_call).items():
+        print(f"\nfailed: {call}: not there, as each answer is {conformance.NOT_THERE}: {console.counted(times, 'case')}")
+    for result in wrong:
+        if not result.missing_call:
+            print(f"\n{result.verdict.value}: {result.case.where}: {result.case.says}")
+            print("\n".join([*conformance.described(result), f"  again: {repeating(given, result.case)}"]))
 
 
 def open_forms(options: argparse.Namespace, stack: contextlib.ExitStack) -> dict[str, TextIO]:
@@ -207,6 +228,7 @@ def run(options: argparse.Namespace) -> int:
     if options.list:
         print("\n".join(f"{case.where}: {case.says}" for case in cases))
         return 0
+    given = argparse.Namespace(**vars(options))
     take_live(options)
     take_system(options)
     if not options.command:
@@ -215,9 +237,16 @@ def run(options: argparse.Namespace) -> int:
     take_own_kernel(options)
     with contextlib.ExitStack() as stack:
         forms = open_forms(options, stack)
-        results = all_results(cases, options)
+        results, is_interrupted = list[Result](), False
+        try:
+            for result in each_result(cases, options):
+                results.append(result)
+        except KeyboardInterrupt:
+            is_interrupted = True
         for form, file in forms.items():
             file.writelines(f"{line}\n" for line in FORMS[form](results))
     if sys.stdout not in forms.values():
-        report(results)
+        report(results, given)
+    if is_interrupted:
+        raise console.Failure(f"interrupted: {len(results)} of {len(cases)} cases", console.INTERRUPTED)
     return 0 if all(result.verdict in (Verdict.PASSED, Verdict.LEFT_OUT) for result in results) else 1

@@ -17,9 +17,10 @@ from collections.abc import Iterator, Sequence
 from dataclasses import dataclass
 from typing import IO
 
+from .. import children
 from ..console import Failure
 from ..program import why_not_run
-from .running import end_group, ended, read_some, write_all
+from .running import ended, read_some, write_all
 
 MOST_OUTPUT = 64 << 20
 END_SECONDS = 2.0  # for an adapter to end by itself, with what it started
@@ -68,9 +69,7 @@ class Adapter:
     def begin(self) -> subprocess.Popen[bytes]:
         errors = tempfile.TemporaryFile()
         try:
-            self.process = subprocess.Popen(
-                self.command, stdin=subprocess.PIPE, stdout=subprocess.PIPE, stderr=errors, start_new_session=True
-            )
+            self.process = children.start(self.command, stdin=subprocess.PIPE, stdout=subprocess.PIPE, stderr=errors)
         except OSError as error:
             errors.close()
             raise Failure(why_not_run(self.command[0], error)) from None
@@ -113,7 +112,9 @@ class Adapter:
                 self.process.stdin.close()
         with contextlib.suppress(subprocess.TimeoutExpired):
             self.process.wait(END_SECONDS)
-        end_group(self.process)
+        if self.process.returncode is None:
+            children.stop(self.process)
+        children.end(self.process)
         for stream in (self.process.stdin, self.process.stdout, self.errors):
             if stream is not None:
                 with contextlib.suppress(OSError):

@@ -12,8 +12,9 @@ import tempfile
 from collections.abc import Callable, Sequence
 from pathlib import Path
 
+from .. import children
 from .places import Refused
-from .running import Port, die_with_parent
+from .running import Port
 
 BURST = 2048  # bytes that a serial line takes at once; runner.c has the same
 IMAGES = "/boot/vmlinuz-*-cloud-amd64"
@@ -134,14 +135,12 @@ def starts(runner: Path, command: Callable[[str, int], Sequence[str]]) -> Callab
         if not shutil.which(words[0]):
             raise Refused(5, f"`{words[0]}` is not there")
         with theirs:
-            process = subprocess.Popen(
+            process = children.start(
                 words,
                 stdin=subprocess.DEVNULL,
                 stdout=errors,
                 stderr=errors,
                 pass_fds=[theirs.fileno()],
-                start_new_session=True,
-                preexec_fn=die_with_parent,
                 env={**os.environ, "TMPDIR": folder.name},
             )
         return Port(process, ours.fileno(), ours.fileno(), errors, [ours, folder], BURST)

@@ -17,10 +17,10 @@ from dataclasses import dataclass, field
 from pathlib import Path
 from typing import IO, Protocol
 
+from .. import children
 from .places import Refused
 
 NO_RANDOMISATION = 0x0040000
-PR_SET_PDEATHSIG = 1
 LIBRARY = ctypes.CDLL(None)  # the C library
 MOST_OUTPUT = 256 << 20
 HUNG = "hung"
@@ -54,11 +54,6 @@ def turn_randomisation_off() -> None:
         LIBRARY.personality(ctypes.c_ulong(now | NO_RANDOMISATION))
 
 
-def die_with_parent() -> None:
-    """In a process that is started: it is killed where the one that started it ends, by whatever."""
-    LIBRARY.prctl(PR_SET_PDEATHSIG, signal.SIGKILL, 0, 0, 0)
-
-
 def make_first_to_go(process: subprocess.Popen[bytes]) -> None:
     """Where memory runs out, this process is the one to be killed."""
     with contextlib.suppress(OSError):
@@ -76,13 +71,6 @@ def ending_of(status: int) -> str | None:
     if status < 0:
         return f"killed by signal {-status}"
     return f"ended with status {status}" if status else None
-
-
-def end_group(process: subprocess.Popen[bytes]) -> None:
-    """Ends a process with all that it started in its session. SIGTERM would do nothing in an emulator that hangs."""
-    with contextlib.suppress(ProcessLookupError):
-        os.killpg(process.pid, signal.SIGKILL)
-    process.wait()
 
 
 def whole_lines(data: bytes) -> list[str]:
@@ -108,15 +96,13 @@ class Once:
             source.write(script)
             source.seek(0)
             try:
-                process = subprocess.Popen(
+                process = children.start(
                     self.command,
                     stdin=source,
                     stdout=output,
                     stderr=errors,
-                    start_new_session=True,
                     env=self.environment,
                     pass_fds=self.descriptors,
-                    preexec_fn=die_with_parent if self.environment is None else None,
                 )
             except OSError as error:
                 raise Refused(5, f"{self.command[0]} cannot be run: {error.strerror}") from None
@@ -124,7 +110,7 @@ class Once:
                 make_first_to_go(process)
                 ending = HUNG if not has_ended(process, seconds) else ending_of(process.returncode)
             finally:
-                end_group(process)
+                children.end(process)
             return Ran(whole_lines(contents(output)), ending, contents(errors).decode(errors="replace"))
 
     def close(self) -> None:
@@ -160,14 +146,7 @@ def started(command: Sequence[str]) -> Port:
     """Starts a process that serves scripts on its standard input and output."""
     errors = tempfile.TemporaryFile()
     try:
-        process = subprocess.Popen(
-            command,
-            stdin=subprocess.PIPE,
-            stdout=subprocess.PIPE,
-            stderr=errors,
-            start_new_session=True,
-            preexec_fn=die_with_parent,
-        )
+        process = children.start(command, stdin=subprocess.PIPE, stdout=subprocess.PIPE, stderr=errors)
     except OSError as error:
         raise Refused(5, f"{command[0]} cannot be run: {error.strerror}") from None
     assert process.stdin is not None and process.stdout is not None
@@ -236,7 +215,7 @@ class Served:
     def close(self) -> None:
         if self.port is None:
             return
-        end_group(self.port.process)
+        children.end(self.port.process)
         for stream in (self.port.process.stdin, self.port.process.stdout, self.port.errors):
             if stream is not None:
                 with contextlib.suppress(OSError):

@@ -1,0 +1,120 @@
+"""What the tools start ends with them, whatever ends them, and so does what that has started."""
+from __future__ import annotations
+
+import os
+import signal
+import subprocess
+import sys
+import tempfile
+import time
+import unittest
+from collections.abc import Callable
+from pathlib import Path
+
+TOP = Path(__file__).resolve().parents[2]
+sys.path.insert(0, str(TOP / "tools"))
+from vmatools import children, keeper
+
+SECONDS = 60  # for what is done at once on a machine that is not busy
+# An adapter that hangs, with a child in its group and one in a session of its own. Each writes its number.
+HANGS = """
+echo $$ >> {pids}
+sh -c 'echo $$ >> {pids}; while :; do sleep 1; done' &
+setsid sh -c 'echo $$ >> {pids}; while :; do sleep 1; done' &
+{says}
+while :; do sleep 1; done
+"""
+
+
+def waited(is_done: Callable[[], object]) -> bool:
+    """Whether something comes true in time."""
+    end = time.monotonic() + SECONDS
+    while not is_done() and time.monotonic() < end:
+        time.sleep(0.02)
+    return bool(is_done())
+
+
+class Children(unittest.TestCase):
+    def setUp(self) -> None:
+        folder = tempfile.TemporaryDirectory()
+        self.addCleanup(folder.cleanup)
+        self.top = Path(folder.name)
+        self.pids = self.top / "pids"
+        self.pids.touch()
+
+    def adapter(self, says: str = "") -> list[str]:
+        """The command of an adapter that hangs."""
+        script = self.top / "adapter"
+        script.write_text(HANGS.format(pids=self.pids, says=says), encoding="utf-8")
+        return ["sh", str(script)]
+
+    def started(self) -> list[int]:
+        return [int(line) for line in self.pids.read_text(encoding="ascii").split()]
+
+    def left(self) -> list[int]:
+        """Which of them still run."""
+        return sorted(set(self.started()) & set(keeper.families()))
+
+    def ended_by(self, number: int, *words: str) -> tuple[int, str, str]:
+        """Ends a tool in the middle of a case that hangs; its status, and what it wrote, where all it started is gone."""
+        command = [sys.executable, str(TOP / "tools/vma"), *words]
+        with subprocess.Popen(command, stdout=subprocess.PIPE, stderr=subprocess.PIPE, text=True) as tool:
+            self.assertTrue(waited(lambda: len(self.started()) >= 3), "the adapter doesn't begin")
+            begin = time.monotonic()
+            tool.send_signal(number)
+            output, message = tool.communicate(timeout=SECONDS)
+            self.assertLess(time.monotonic() - begin, SECONDS / 2)
+        self.assertTrue(waited(lambda: not self.left()), f"{self.left()} of {self.started()} still run")
+        return tool.returncode, output, message
+
+    def test_conform_that_is_ended(self) -> None:
+        for batch in list[str](), ["--batch"]:
+            for number in (signal.SIGTERM, signal.SIGKILL, signal.SIGINT):
+                with self.subTest(batch=batch, number=number):
+                    self.pids.write_text("")
+                    words = ["conform", "--jobs", "1", "--seconds", "600", "--only", "brk", *batch, "--"]
+                    status, output, message = self.ended_by(number, *words, *self.adapter())
+                    if number == signal.SIGINT:  # with a report of what there was
+                        self.assertEqual(status, 130)
+                        self.assertRegex(message, "interrupted: 0 of [0-9]+ cases")
+                        self.assertIn("all ", output)
+
+    def test_compare_that_is_ended(self) -> None:
+        program = self.top / "program"
+        program.write_text("#!/bin/sh\necho maps 0\n", encoding="utf-8")
+        program.chmod(0o755)
+        trace = self.top / "a.trace"
+        trace.write_text("vmatrace 1\n", encoding="utf-8")
+        for batch in list[str](), ["--batch"]:
+            for number, wanted in ((signal.SIGTERM, 143), (signal.SIGKILL, -9), (signal.SIGINT, 130)):
+                with self.subTest(batch=batch, number=number):
+                    self.pids.write_text("")
+                    words = ["--jobs", "1", "--seconds", "600", "--program", str(program), "--traces", str(trace), *batch]
+                    status, _, _ = self.ended_by(number, "compare", *words, "--", *self.adapter())
+                    self.assertEqual(status, wanted)
+
+    def test_an_adapter_that_is_too_slow(self) -> None:
+        process = children.start(self.adapter())
+        self.assertTrue(waited(lambda: len(self.started()) >= 3))
+        children.stop(process)
+        children.end(process)
+        self.assertEqual(process.returncode, -signal.SIGKILL)
+        self.assertTrue(waited(lambda: not self.left()))
+        self.assertNotIn(process, children.RUNNING)
+
+    def test_the_keeper_lets_be_what_was_taken_back(self) -> None:
+        source, target = os.pipe()
+        with subprocess.Popen(["sleep", "100"], start_new_session=True) as kept:
+            with subprocess.Popen(["sleep", "100"], start_new_session=True) as gone:
+                with subprocess.Popen([sys.executable, "-I", "-S", keeper.__file__], stdin=source) as process:
+                    os.close(source)
+                    os.write(target, f"+{kept.pid}\n+{gone.pid}\n-{kept.pid}\n".encode())
+                    os.close(target)
+                    self.assertEqual(process.wait(SECONDS), 0)
+                self.assertEqual(gone.wait(SECONDS), -signal.SIGKILL)
+            self.assertIsNone(kept.poll())
+            kept.kill()
+
+
+if __name__ == "__main__":
+    unittest.main()
