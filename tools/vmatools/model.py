@@ -457,6 +457,9 @@ class Space:
             return self.by("fault/past-end", "SIGBUS BUS_ADRERR")
         return self.by("fault/served", f"served {permissions(area)} page {index}")
 
+    def answer(self, line: Line) -> tuple[list[str], bool]:
+        return answer(self, line)
+
     def maps(self) -> list[str]:
         """The list, as lines."""
         return [f"maps {len(self.areas)}", *map(self.maps_line, self.areas)]

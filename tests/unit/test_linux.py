@@ -1,0 +1,157 @@
+"""Linux's model: its versions, its settings, and what it says of single rules."""
+from __future__ import annotations
+
+import sys
+import unittest
+from pathlib import Path
+
+TOP = Path(__file__).resolve().parents[2]
+sys.path.insert(0, str(TOP / "tools"))
+from vmatools import oracles, traces
+from vmatools.linux import versions
+from vmatools.linux.areas import NotModelled
+from vmatools.linux.kernel import Kernel, Settings, kernel_of
+from vmatools.linux.space import LinuxSpace
+from vmatools.linux.versions import WrongOracle
+
+ANONYMOUS = "MAP_PRIVATE|MAP_ANONYMOUS|MAP_FIXED -1 0"
+READ, WRITE = f"PROT_READ {ANONYMOUS}", f"PROT_READ|PROT_WRITE {ANONYMOUS}"
+
+
+def trace_of(*lines: str) -> traces.Trace:
+    return traces.read_trace("\n".join(["vmatrace 1", "min 0x1000", *lines, ""]).encode())
+
+
+def answers(name: str, *lines: str) -> list[str]:
+    """What each line is answered, without the last list."""
+    output = oracles.oracle_of(name).output(trace_of(*lines))
+    return [line.split(" = ")[1] for line in output.splitlines() if " = " in line]
+
+
+def borders(name: str, *lines: str) -> list[str]:
+    """The last list: where each VMA begins and ends."""
+    output = oracles.oracle_of(name).output(trace_of(*lines)).splitlines()
+    return [line.split()[0] for line in output[output.index(next(one for one in output if one.startswith("maps"))) + 1 :]]
+
+
+class Versions(unittest.TestCase):
+    def test_the_table_has_every_rule(self) -> None:
+        found = versions.table()
+        self.assertEqual(list(found), sorted(found))
+        self.assertTrue(found[6, 18, 44].merges_unfaulted)
+        self.assertFalse(found[6, 12, 117].merges_unfaulted)
+
+    def test_a_series_means_its_newest_version(self) -> None:
+        self.assertEqual(versions.known("6.18"), (6, 18, 44))
+        self.assertEqual(versions.known("6.18.15"), (6, 18, 15))
+        for name in ("5.4", "6.18.16", "", "6", "6.18x", "x"):
+            with self.subTest(name), self.assertRaises(WrongOracle):
+                print(versions.known(name))
+
+    def test_a_version_that_was_not_run_has_the_rules_of_the_nearest(self) -> None:
+        for given, wanted in (
+            ((6, 18, 16), (6, 18, 15)),
+            ((6, 18, 90), (6, 18, 44)),
+            ((6, 14, 2), (6, 12, 117)),
+            ((7, 9, 0), (7, 2, 12)),
+            ((5, 4, 0), (6, 1, 192)),
+            ((6, 18), (6, 18, 15)),
+        ):
+            self.assertEqual(versions.nearest(given), wanted)
+
+    def test_a_release_has_a_version(self) -> None:
+        self.assertEqual(versions.version_of("6.18.44-fc-v595"), (6, 18, 44))
+        self.assertEqual(versions.version_of("6.1.0+x"), (6, 1, 0))
+
+
+class Names(unittest.TestCase):
+    def test_settings_are_words(self) -> None:
+        settings = Settings().changed(["keys=0", "memory=1000", "built=0x2000"])
+        self.assertEqual((settings.keys, settings.memory, settings.built), (0, 1000, 0x2000))
+        self.assertEqual(Settings().changed(settings.words().split()), settings)
+
+    def test_wrong_words_are_named(self) -> None:
+        for word, said in (
+            ("key=0", "key=0 is no setting"),
+            ("keys", "keys is no setting"),
+            ("keys=2", "keys=2: it is from 0 to 1"),
+            ("memory=-1", "memory=-1: it is from 0"),
+            ("memory=x", "memory=x: it is no number"),
+            ("huge=yes", "huge=yes: it is always, madvise or never"),
+            ("built=5", "built=5: it is no multiple of 4096"),
+            ("keys=0 keys=1", "keys is set twice"),
+        ):
+            with self.subTest(word), self.assertRaisesRegex(WrongOracle, said):
+                Settings().changed(word.split())
+
+    def test_an_oracle_is_named_with_its_settings(self) -> None:
+        oracle = oracles.oracle_of("linux-6.12,keys=0 huge=never")
+        self.assertEqual(oracles.oracle_of(oracle.words()), oracle)
+        self.assertIn("linux-6.12.117 built=0x10000", oracles.described(oracle))
+        self.assertEqual(oracles.oracle_of("profile"), oracles.PROFILE)
+        self.assertIn("not proved", oracles.described(oracles.oracle_of("linux")))
+        for name in ("profile keys=0", "windows", "linux-5", ""):
+            with self.subTest(name), self.assertRaises(WrongOracle):
+                oracles.oracle_of(name)
+
+
+class Rules(unittest.TestCase):
+    def test_a_written_vma_joins_one_that_was_not(self) -> None:
+        lines = [f"0 mmap 0x100000 4096 {WRITE}", f"0 mmap 0x101000 4096 {READ}", "0 fault 0x100000 w"]
+        lines += ["0 mprotect 0x101000 4096 PROT_READ|PROT_WRITE"]
+        self.assertEqual(borders("linux-6.18", *lines), ["00100000-00102000"])
+
+    def test_only_new_kernels_join_a_written_vma_to_an_unwritten_one(self) -> None:
+        lines = [f"0 mmap 0x100000 4096 {WRITE}", f"0 mmap 0x101000 4096 PROT_READ|PROT_WRITE|PROT_EXEC {ANONYMOUS}"]
+        lines += ["0 fault 0x101000 w", "0 mprotect 0x101000 4096 PROT_READ|PROT_WRITE"]
+        self.assertEqual(borders("linux-6.18", *lines), ["00100000-00102000"])
+        self.assertEqual(borders("linux-6.12", *lines), ["00100000-00101000", "00101000-00102000"])
+
+    def test_a_refused_call_leaves_a_split(self) -> None:
+        lines = (f"0 mmap 0x100000 8192 {WRITE}", f"0 mmap 0x102000 4096 {READ}", "0 mseal 0x102000 4096 0")
+        self.assertEqual(answers("linux-6.18", *lines, "0 munmap 0x101000 8192")[-1], "-1 EPERM")
+        self.assertEqual(borders("linux-6.18", *lines, "0 munmap 0x101000 8192")[0], "00100000-00101000")
+        self.assertEqual(borders("profile", *lines, "0 munmap 0x101000 8192")[0], "00100000-00102000")
+
+    def test_settings_decide_answers(self) -> None:
+        line = f"0 mmap 0x100000 4096 PROT_EXEC {ANONYMOUS}"
+        self.assertEqual(answers("linux-6.18", line, "0 fault 0x100000 r")[-1], "SIGSEGV SEGV_PKUERR")
+        self.assertIn("served", answers("linux-6.18 keys=0", line, "0 fault 0x100000 r")[-1])
+        much = f"0 mmap 0x100000 8192 {WRITE}"
+        self.assertEqual(answers("linux-6.18 memory=1", much), ["-1 ENOMEM"])
+        self.assertEqual(answers("linux-6.18 memory=2", much), ["0x100000"])
+
+    def test_state_tells_what_a_list_hides(self) -> None:
+        trace = trace_of(f"0 mmap 0x100000 4096 {WRITE}", "0 fault 0x100000 w", "0 fork 1")
+        space = LinuxSpace(trace, kernel_of("6.18"))
+        for line in trace.lines[:2]:
+            space.answer(line)
+        (state,) = space.state()
+        self.assertEqual((state.lo, state.hi, state.pgoff, state.anon), (0x100, 0x101, 0x100, (0, False)))
+        self.assertEqual(space.child().state()[0].anon, (0, True))
+
+
+class NotGuessed(unittest.TestCase):
+    def says(self, kernel: Kernel, *lines: str) -> str:
+        with self.assertRaises(NotModelled) as caught:
+            print(oracles.Oracle(kernel).output(trace_of(*lines)))
+        return str(caught.exception)
+
+    def test_what_is_not_modelled_is_told_by_line(self) -> None:
+        kernel = kernel_of("6.18", Settings(memory=10))
+        self.assertIn("line 3: every process has a break", self.says(kernel, "0 brk 0x100000"))
+        many = [f"0 mmap {0x100000 + place * 0x1000:#x} 4096 {WRITE}" for place in range(11)]
+        self.assertIn("line 14: a fork", self.says(kernel, *many, "0 fork 1"))
+        self.assertIn("line 3: this version has no mseal", self.says(kernel_of("6.1"), "0 mseal 0x100000 4096 0"))
+        wide = traces.read_trace(b"vmatrace 2\n0 munmap 0x800000000000 4096\n")
+        with self.assertRaisesRegex(NotModelled, "line 2: what Linux does with addresses above 47 bits"):
+            oracles.Oracle(kernel).output(wide)
+
+    def test_other_lines_are_kept(self) -> None:
+        trace, gaps = oracles.Oracle(kernel_of("6.18")).modelled(trace_of("0 brk 0x100000", "0 munmap 0x100000 4096"))
+        self.assertEqual([line.word for line in trace.lines], ["munmap"])
+        self.assertEqual([gap.line for gap in gaps], [3])
+
+
+if __name__ == "__main__":
+    unittest.main()
