@@ -261,10 +261,11 @@ def check_statuses(program: str) -> None:
         (os.path.join(HERE, f"{name}.py"), ["/no/program"], 2, "rt run")
         for name in ("program", "compare", "judged_runs", "memory")
     ]
-    jobs += [(os.path.join(DEV, name), ["/no/program"], 2, "rt run") for name in ("measure", "measure-faults", "measure-live")]
+    jobs += [(measure, [what, "/no/program"], 2, "rt run") for what in ("runs", "faults", "sessions")]
     jobs += [
         (vma, ["compare", "--program", "/no/program", "--", "true"], 2, "rt run"),
-        (measure, ["--only", "nosuch", program], 2, "nosuch"),
+        (measure, ["runs", "--only", "nosuch", program], 2, "nosuch"),
+        (measure, ["runs", "--only", "many", "/bin/false"], 1, "status 1"),
         (vma, ["explain", "/no/trace"], 2, "/no/trace"),
         (vma, ["judge", "/no/trace", "/no/output"], 2, "/no/trace"),
     ]

@@ -1,12 +1,11 @@
 #!/usr/bin/env python3
-"""Checks the documents: names, paths, links, pictures, the reference, and the manual page. Takes a few seconds.
+"""Checks the documents: names, paths, links, the reference, and the manual page. Takes a few seconds.
 
 Each name in `code` that can only be one of the sources is one. Each path in `code` and each link of a page leads
 somewhere, headings too. Each block of code below `<!-- from FILE -->` has lines of this file, in their order, where `..`
 stands for any, and each block of Rust has such a line. Each crate of crates.txt is in docs/ARCHITECTURE.md.
 docs/reference is what dev/make-reference makes, and docs/HEADLINE.md what dev/make-headline makes.
-Each picture of docs/pictures is what dev/chart draws of the table beside it. The manual page passes `mandoc -T lint`,
-where that is installed.
+The manual page passes `mandoc -T lint`, where that is installed.
 
 Exit status: 0 where all is so, 1 where not, with a line for each, 2 on wrong use.
 """
@@ -198,17 +197,6 @@ def check_headline() -> Iterator[str]:
         yield f"{headline.PAGE} is not what the sources say now: run dev/make-headline"
 
 
-def check_pictures() -> Iterator[str]:
-    """Pictures that are not of the table beside them."""
-    for front in sorted({path.with_suffix("") for path in Path("docs/pictures").iterdir()}):
-        table, picture = front.with_suffix(".txt"), front.with_suffix(".svg")
-        drawn = subprocess.run([sys.executable, "dev/chart", str(table)], capture_output=True)
-        if drawn.returncode:
-            yield f"{picture}: {drawn.stderr.decode(errors='replace').strip()}"
-        elif not picture.exists() or picture.read_bytes() != drawn.stdout:
-            yield f"{picture} is not what `dev/chart {table}` draws"
-
-
 def check_manual() -> Iterator[str]:
     """What mandoc warns of in the manual pages."""
     if not shutil.which("mandoc"):
@@ -224,11 +212,9 @@ def main() -> int:
     ).parse_args()
     os.chdir(TOP)
     of_pages = (check_names, check_links, check_paths, check_excerpts, check_crates, check_manual)
-    checks = (*of_pages, check_reference, check_headline, check_pictures)
+    checks = (*of_pages, check_reference, check_headline)
     wrong = [line for check in checks for line in check()]
-    right = (
-        "documents: every name, path and link leads somewhere, and the reference and each picture are of their sources"
-    )
+    right = "documents: every name, path and link leads somewhere, and the reference is of its sources"
     print("\n".join(wrong) if wrong else right)
     return 1 if wrong else 0
 

@@ -18,11 +18,8 @@ FOLDERS = ("tools/vmatools", "tests", "dev")
 PROGRAMS = (
     "tools/vma",
     "tests/run",
-    "dev/chart",
     "dev/conform-systems",
     "dev/measure",
-    "dev/measure-faults",
-    "dev/measure-live",
     "dev/real-programs",
     "dev/suite-case",
 )

@@ -1,10 +1,9 @@
 #!/usr/bin/env python3
-"""Checks from-strace, record, draw and chart on what stands in the repository, and compares all that they answer.
+"""Checks from-strace, record and draw on what is in the repository, and compares all that they answer.
 
 from-strace makes the saved traces of the saved logs of tests/logs again, and refuses what is no log. draw draws each
 example with its output, and docs/tour.svg is what it draws of the tour; an output that says otherwise is marked.
-chart draws what measure and measure-faults print as it draws a table with the same numbers, and refuses what is no
-table. record runs a command, where strace is there and may trace.
+record runs a command, where strace is there and may trace.
 
 It ends with status 1 at the first thing that differs, and takes some ten seconds.
 """
@@ -27,7 +26,7 @@ from vmatools.model import Space, answer
 from vmatools.traces import read_trace
 
 TESTS, EXAMPLES = os.path.join(TOP, "tests/logs"), os.path.join(TOP, "examples")
-TOOLS = {"chart": [os.path.join(TOP, "dev/chart")], "from-strace": [os.path.join(TOP, "tools/vma"), "import"]}
+TOOLS = {"from-strace": [os.path.join(TOP, "tools/vma"), "import"]}
 SECONDS = 600
 MAY_NOT_TRACE = 125  # the status of record where strace may not trace
 
@@ -139,69 +138,6 @@ def check_pictures(folder: str) -> None:
     passed("draw, what it marks and refuses")
 
 
-# chart
-
-MEASURED = b"""few, serial: 400001 lines, 9 bytes in, 9 bytes out; 0.747 0.851 1.012 s; 470,036 lines/s; 109 MiB
-turns1000, serial: 201001 lines, 9 bytes in, 9 bytes out; 0.426 0.464 0.472 s; 433,192 lines/s; 86 MiB
-turns1000-4, threads: 201001 lines, 9 bytes in, 9 bytes out; 0.369 0.373 0.374 s; 538,877 lines/s; 86 MiB
-turns20000, serial: 220001 lines, 9 bytes in, 9 bytes out; 0.778 0.778 0.785 s; 282,778 lines/s; 89 MiB
-"""
-MEASURED_TABLE = b"""title: Time of a call by number of areas
-up: microseconds a line
-areas   {0}, {2}  {0}, {3}  {0}, {4}  {1}, {2}  {1}, {3}  {1}, {4}
-1,000   2.12  2.31  2.35  1.84  1.86  1.86
-20,000  3.54  3.54  3.57  -     -     -
-"""
-for sign, meant in {
-    "{0}": "serial",
-    "{1}": "threads of 4",
-    "{2}": "least of three",
-    "{3}": "middle of three",
-    "{4}": "most of three",
-}.items():
-    MEASURED_TABLE = MEASURED_TABLE.replace(sign.encode(), meant.encode())
-FAULTS = b"""        | shared                                   | own
-threads |  areas  alone missed beside calls missed |  areas  alone missed beside calls missed
-      1 |  65000    5.7      0          4.2      0 |  65000    5.6      0          4.1      0
-      2 |  65000    9.3      0          6.9      0 |  32500   10.1      0          7.5      0
-"""
-FAULTS_TABLE = b"""title: Faults a second by threads
-up: millions of faults a second
-threads	{}, shared, alone	{}, shared, beside calls	{}, own, alone	{}, own, beside calls
-1  5.7  4.2   5.6  4.1
-2  9.3  6.9  10.1  7.5
-""".replace(
-    b"{}", b"65,000 areas"
-)
-
-
-def check_charts(folder: str) -> None:
-    for name, printed, table in (("measure", MEASURED, MEASURED_TABLE), ("measure-faults", FAULTS, FAULTS_TABLE)):
-        pictures = [run(f"chart, what {name} prints", "chart", "-", input=text).stdout for text in (printed, table)]
-        compare(f"chart, what {name} prints", *pictures)
-    drawn = run("chart, signs of XML", "chart", "-", input=b'title: <&">\na  b & <c>\n0  0\n0.25  0\n').stdout
-    if "b & <c>" not in [element.text for element in ElementTree.fromstring(drawn)]:
-        fail("chart, signs of XML", "a name is lost")
-    many = "  ".join(f"n{n}" for n in range(22)).encode() + b"\n" + b" 1" * 22 + b"\n"
-    cases = (
-        ("nothing", b""),
-        ("names alone", b"a  b\n"),
-        ("a word for a number", b"a  b\n1 x\n"),
-        ("a number below 0", b"a  b\n1 -1\n"),
-        ("too few numbers", b"a  b  c\n1 2\n"),
-        ("too many", b"a  b\n1 2 3\n"),
-        ("nothing across", b"a  b\n- 2\n"),
-        ("a name twice", b"a  b  b\n1 2 3\n"),
-        ("lines beyond telling apart", many),
-        ("a control", b"a  \x01\n1 2\n"),
-        ("no text", b"\xff"),
-    )
-    for name, text in cases:
-        run(f"chart, {name}", "chart", "-", input=text, status=2)
-    run("chart, no such table", "chart", os.path.join(folder, "none.txt"), status=2)
-    passed("chart, what it draws and refuses")
-
-
 # record
 
 
@@ -252,7 +188,6 @@ def check(_options: argparse.Namespace) -> None:
         check_logs(folder)
         check_refused(folder)
         check_pictures(folder)
-        check_charts(folder)
         check_record(folder)
 
 
