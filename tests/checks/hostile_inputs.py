@@ -109,8 +109,8 @@ def valid_trace(draw: Draw) -> bytes:
         return judged_runs.Trace(str(draw.random())).text().encode()
     profile, lines = draw.choice([name for name in PROFILES if name != "many"]), draw.choice([4, 12, 30])
     drawn = Generator(profile, str(draw.random()), lines, draw.choice([0, 2, 4])).draw()
-    # With a limit the program takes little memory, and so starts fast.
-    drawn.settings.setdefault("limit", draw.choice([2, 8, 500]))
+    if draw.randrange(2):
+        drawn.settings.setdefault("limit", draw.choice([2, 8]))
     return drawn.numbered().text().encode()
 
 

@@ -82,9 +82,8 @@ class Trace:
 
     def settings(self) -> list[str]:
         settings: list[str] = []
-        if self.often(97):
-            # With a limit the program takes little memory, and so starts fast. One of 500 is never met.
-            settings.append(f"limit areas {self.random.randint(1, 8) if self.often(25) else 500}")
+        if self.often(25):
+            settings.append(f"limit areas {self.random.randint(1, 8)}")
         if self.often(20):
             # With a low top there is little room for the first search, or none.
             settings.append(

@@ -280,9 +280,7 @@ def check_drawn(program: str, runs: int) -> None:
         check_text(program, f"the random maps text {number}", text, address)
         status, trace, _ = maps_texts.retrace(text)
         if status == 0 and text:
-            # With a limit the program takes little memory, and so starts fast.
-            limited = trace.replace(HEAD, HEAD + b"limit areas 500\n")
-            done, _, _ = ended(program, f"what comes of the maps text {number}", ["serial"], limited)
+            done, _, _ = ended(program, f"what comes of the maps text {number}", ["serial"], trace)
             compare(
                 f"the random maps text {number}, back", done.stdout.partition(b"maps ")[2].partition(b"\n")[2], text
             )
