@@ -3,7 +3,8 @@
 
 Each name in `code` that can only be one of the sources is one. Each path in `code` and each link of a page leads
 somewhere, headings too. Each block of code below `<!-- from FILE -->` has lines of this file, in their order, where `..`
-stands for any, and each block of Rust has such a line. Each crate of crates.txt is in docs/ARCHITECTURE.md.
+stands for any, and each block of Rust has such a line. Each crate of crates.txt is in docs/ARCHITECTURE.md. The tables
+of calls, numbers and flags are those of the sources.
 docs/reference is what dev/make-reference makes, and docs/HEADLINE.md what dev/make-headline makes.
 The manual page passes `mandoc -T lint`, where that is installed.
 
@@ -20,6 +21,8 @@ import sys
 from collections.abc import Iterator
 from pathlib import Path
 
+import model_tables
+
 TOP = Path(__file__).resolve().parents[2]
 sys.path.insert(0, str(TOP))
 
@@ -30,7 +33,9 @@ from dev.reference.pages import pages as reference_pages  # noqa: E402
 REFERENCE = Path("docs/reference")
 MANUALS = [Path("docs/diltzekun.1"), Path("docs/diltzekun-live.1")]
 # Pages whose names in `code` are those of the sources.
-OF_SOURCES = ("PROOF.md", "MODEL.md", "ARCHITECTURE.md", "LIBRARY.md", "PROVING.md")
+OF_SOURCES = ("PROOF.md", "MODEL.md", "PROTOCOLS.md", "ARCHITECTURE.md", "LIBRARY.md", "PROVING.md")
+# The pages, and of one the part, that name the kernel's.
+OF_KERNEL = (("GLOSSARY.md", ""), ("PROTOCOLS.md", "## Beside Linux"))
 NOT_OURS = ("/", "Documentation/")  # paths of a system, or of Linux
 PLACEHOLDER = re.compile(r"(?:^|/)(NAME|FOLDER|FILE|TYPE|METHOD|FUNCTION|CRATE|GROUP|out)(/|\.|$)")
 PATH = re.compile(r"(?<![\w/.=$~-])(?:\.ci|\.github|\w[\w-]*)(?:/[\w.-]+)+/?|\w+\.(?:antt|rt|edit|md)\b")
@@ -73,8 +78,9 @@ def source_words() -> set[str]:
                 and "__pycache__" not in path.parts
             ):
                 words.update(re.findall(r"\w+", path.read_text(encoding="utf-8", errors="replace")))
-    # The kernel's names are those of the glossary.
-    words.update(re.findall(r"\w+", read(Path("docs/GLOSSARY.md"))))
+    for page, start in OF_KERNEL:
+        part = read(Path("docs") / page).partition(start)[2] if start else read(Path("docs") / page)
+        words.update(re.findall(r"\w+", part.partition("\n## ")[0] if start else part))
     return words | {path.name for path in Path("crates").iterdir()}
 
 
@@ -190,6 +196,11 @@ def check_reference() -> Iterator[str]:
         yield "run dev/make-reference"
 
 
+def check_tables() -> Iterator[str]:
+    """Tables that say otherwise than the sources."""
+    yield from model_tables.faults(Path())
+
+
 def check_headline() -> Iterator[str]:
     """A page of the headline that is not what the sources say."""
     yield from headline.without_words(Path())
@@ -211,7 +222,7 @@ def main() -> int:
         prog="tests/run documents", description=__doc__, formatter_class=argparse.RawDescriptionHelpFormatter
     ).parse_args()
     os.chdir(TOP)
-    of_pages = (check_names, check_links, check_paths, check_excerpts, check_crates, check_manual)
+    of_pages = (check_names, check_links, check_paths, check_excerpts, check_crates, check_tables, check_manual)
     checks = (*of_pages, check_reference, check_headline)
     wrong = [line for check in checks for line in check()]
     right = "documents: every name, path and link leads somewhere, and the reference is of its sources"
