@@ -2,8 +2,10 @@
 from __future__ import annotations
 
 import contextlib
+import io
 import os
 import re
+import shutil
 import signal
 import subprocess
 import sys
@@ -18,7 +20,7 @@ from unittest import mock
 TOP = Path(__file__).resolve().parents[2]
 sys.path.insert(0, str(TOP / "tools"))
 from vmatools import cli, console, program
-from vmatools.systems import batch
+from vmatools.systems import adapter, batch
 
 VMA = str(TOP / "tools/vma")
 TRACE = str(TOP / "examples/readme.trace")
@@ -85,6 +87,17 @@ class Program(unittest.TestCase):
             program.find("/no/program")
         self.assertEqual(caught.exception.status, console.WRONG_USE)
         self.assertIn("rt run", str(caught.exception))
+
+    def test_one_that_is_missing_away_from_a_checkout(self) -> None:
+        with tempfile.TemporaryDirectory() as folder:
+            shutil.copytree(TOP / "tools", Path(folder, "tools"), ignore=shutil.ignore_patterns("__pycache__"))
+            words = [sys.executable, str(Path(folder, "tools/vma")), "compare"]
+            no_other = {"PATH": "/usr/bin:/bin"}
+            ways = "; name one by --program PATH or $DILTZEKUN, or put `diltzekun` on the PATH\n"
+            for given, told in ((list[str](), "diltzekun"), (["--program", "/nowhere"], "/nowhere")):
+                done = subprocess.run([*words, *given, "--", "true"], capture_output=True, text=True, env=no_other)
+                self.assertEqual(done.stderr, f"vma compare: the program {told} is not there{ways}")
+                self.assertEqual(done.returncode, console.WRONG_USE)
 
     def test_a_command_that_is_not_there(self) -> None:
         with tempfile.TemporaryDirectory() as folder:
@@ -195,9 +208,16 @@ class Ends(unittest.TestCase):
         self.assertEqual((process.returncode, message), (console.INTERRUPTED, b"vma explain: interrupted\n"))
 
     def test_a_trace_that_is_given_as_a_word(self) -> None:
-        done = run("kernel", TRACE, stdin=subprocess.DEVNULL)
-        self.assertEqual(done.stderr, f"vma kernel: the trace comes on standard input: `tools/vma kernel < {TRACE}`\n")
-        self.assertEqual(done.returncode, console.WRONG_USE)
+        given = run("kernel", TRACE, stdin=subprocess.DEVNULL)
+        with open(TRACE, "rb") as source:
+            read = run("kernel", stdin=source)
+        self.assertEqual((given.returncode, given.stdout, given.stderr), (read.returncode, read.stdout, read.stderr))
+        done = run("kernel", "/no/trace")
+        told = "vma kernel: /no/trace: No such file or directory\n"
+        self.assertEqual((done.returncode, done.stderr), (console.WRONG_USE, told))
+        done = run("kernel", "--batch", TRACE)
+        told = f"vma kernel: with --batch the traces come on standard input, and not in {TRACE}\n"
+        self.assertEqual((done.returncode, done.stderr), (console.WRONG_USE, told))
 
     def test_an_input_that_is_closed(self) -> None:
         done = run("kernel", preexec_fn=partial(os.close, 0))
@@ -227,6 +247,25 @@ class Ends(unittest.TestCase):
     def test_a_row_of_nearly_this_name(self) -> None:
         done = run("rows", "--here", "--program", sys.executable, "limit-jion")
         self.assertIn("no row has the name limit-jion; did you mean limit-join?", done.stderr)
+
+    def test_a_row_of_a_trace_of_ones_own(self) -> None:
+        with tempfile.TemporaryDirectory() as folder:
+            program = Path(folder, "program")
+            program.write_text("#!/bin/sh\ncat > /dev/null\necho maps 0\n", encoding="utf-8")
+            program.chmod(0o755)
+            trace = Path(folder, "my.trace")
+            trace.write_text("vmatrace 1\n0 brk 0\n", encoding="utf-8")
+            answer = "L2 t0 v1 = 0x7fffff17d000\nmaps 0\n"  # the break of the process that makes the calls
+            with mock.patch.object(adapter.Adapter, "answer", lambda _, __: answer):
+                for name in (str(trace), "-"):
+                    with self.subTest(name=name), contextlib.redirect_stdout(io.StringIO()) as text:
+                        with mock.patch.object(console, "whole_text", lambda path: trace.read_text(encoding="utf-8")):
+                            options = cli.parser_of(cli.COMMANDS["rows"])[0].parse_args(["--program", str(program), name])
+                            self.assertEqual(cli.COMMANDS["rows"].load().run(options), 1)
+                    shown = f"== {name}\nvmatrace 1\n0 brk 0\n+L2 t0 v1 = BREAK\n\n1 row, 1 otherwise\n"
+                    self.assertEqual(text.getvalue(), shown)
+            done = run("rows", "--here", "--program", str(program), str(trace))
+            self.assertIn("--here leaves the kernel out", done.stderr)
 
     def test_a_file_that_cannot_be_read(self) -> None:
         for path, why in (("/no/trace", "No such file or directory"), ("/", "Is a directory")):

@@ -46,6 +46,13 @@ class Named:
         ]
         return next((place, source) for place, source in places if place)
 
+    @property
+    def ways(self) -> str:
+        """How to come to one: a checkout builds it, and elsewhere it has to be named."""
+        if (TOP / "crates").is_dir():
+            return self.builds
+        return f"name one by {self.option} PATH or ${self.variable}, or put `{self.on_path}` on the PATH"
+
 
 PROGRAM = Named("--program", VARIABLE, ON_PATH, DEFAULT_PROGRAM, BUILDS)
 LIVE = Named("--live", f"{VARIABLE}_LIVE", f"{ON_PATH}-live", TOP / "crates/vma_live/out/vma_live", LIVE_BUILDS)
@@ -73,7 +80,9 @@ def add_arguments(parser: argparse.ArgumentParser) -> None:
 def find(given: str | os.PathLike[str] | None = None, verbose: bool = False, named: Named = PROGRAM) -> str:
     """The path of a program that is to be run, from the first place that names one."""
     place, source = named.place(given)
-    path = existing(place, named.builds)
+    if place == named.default and not (TOP / "crates").is_dir():
+        raise console.Failure(f"the program {named.on_path} is not there; {named.ways}")
+    path = existing(place, named.ways)
     if verbose:
         console.say(f"{'the program' if named is PROGRAM else named.on_path} is {path} ({source})")
     return path
@@ -97,13 +106,13 @@ def is_program(path: str) -> bool:
     return os.path.isfile(path) and os.access(path, os.X_OK)
 
 
-def existing(place: str | os.PathLike[str], builds: str = BUILDS) -> str:
+def existing(place: str | os.PathLike[str], ways: str = BUILDS) -> str:
     """The whole path of a program, which has to be there."""
     path = os.path.abspath(place)
     if is_program(path):
         return path
     missing = "is not there" if not os.path.exists(path) else "cannot be run"
-    raise console.Failure(f"the program {path} {missing}; {builds}")
+    raise console.Failure(f"the program {path} {missing}; {ways}")
 
 
 def check_command(command: Sequence[str]) -> None:

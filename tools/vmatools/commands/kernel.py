@@ -1,8 +1,8 @@
 """Makes the calls of a trace for real, on the running Linux or on another system, and writes what was answered, in the form
 of `diltzekun serial`.
 
-The trace comes on standard input. docs/TRACE.md has the form of both. docs/KERNEL.md lists where Linux differs from the
-program, and docs/SYSTEMS.md has emulators, sandboxes and other kernels. The output says what the system did, right or wrong: it
+TRACE is a file, or - for standard input, which is read by default. docs/TRACE.md has the form of both. docs/KERNEL.md lists
+where Linux differs from the program, and docs/SYSTEMS.md has emulators, sandboxes and other kernels. The output says what the system did, right or wrong: it
 may have `SIGSEGV SEGV_PKUERR`, an error that the manual pages don't name, `hung`, or `killed by signal 11`.
 
 A small program makes the calls. At first use a C compiler makes it from tools/vmatools/systems/runner.c, in the cache
@@ -65,7 +65,7 @@ def add_arguments(parser: argparse.ArgumentParser) -> None:
     told = "\n".join(f"  {system.name:13} {system.says}" for system in known.KNOWN.values())
     parser.usage = (
         "vma kernel [--system NAME | --under COMMAND] [--window LO-HI] [--shift N] [--link N] [--processor NAME]"
-        " [--folder FOLDER] [--seconds N] [--batch] < TRACE"
+        " [--folder FOLDER] [--seconds N] [--batch] [TRACE]"
     )
     parser.epilog = (
         f"systems:\n{told}\n\n`machine:IMAGE` takes that kernel, and otherwise the newest of {machines.IMAGES}."
@@ -89,7 +89,7 @@ def add_arguments(parser: argparse.ArgumentParser) -> None:
         "--seconds", metavar="N", type=seconds_of, help="gives a trace so long (60, in a window 5, in a machine 20)"
     )
     parser.add_argument("--batch", action="store_true", help="answers many traces, one after the other")
-    parser.add_argument("files", nargs="*", help=argparse.SUPPRESS)  # by mistake: a trace comes on standard input
+    parser.add_argument("trace", nargs="?", metavar="TRACE", default="-", help="the file of the trace (standard input)")
 
 
 def system_of(options: argparse.Namespace) -> known.System:
@@ -119,17 +119,17 @@ def folder_of(name: str | None) -> Path | None:
 
 def run(options: argparse.Namespace) -> int:
     """Answers a trace, or many."""
-    if options.files:
-        raise Refused(2, f"the trace comes on standard input: `tools/vma kernel < {console.printable(options.files[0])}`")
+    if options.batch and options.trace != "-":
+        raise Refused(2, f"with --batch the traces come on standard input, and not in {console.printable(options.trace)}")
     system = system_of(options)
     packages = measuring.missing(system) if system.packages else None
     if packages:
         raise Refused(5, f"{system.name} is not installed (Debian: apt-get install {packages})")
     adapter = Adapter(system, options.batch, folder_of(options.folder))
-    with contextlib.closing(adapter), console.open_input("-") as traces:
+    with contextlib.closing(adapter), console.open_input(options.trace) as traces:
         if options.batch:
             return serve(adapter, traces, sys.stdout.buffer)
-        with console.reading("-"):
+        with console.reading(options.trace):
             data = traces.read(LIMITS["bytes"] + 1)
         try:
             output = adapter.answer(data)

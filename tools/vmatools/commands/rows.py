@@ -2,10 +2,12 @@
 
 examples/kernel-rows.txt has the rows by name: the trace, the program's output, and the one of `vma kernel` on Linux 6.18.
 Without a NAME all rows run again, and each that has another answer than in that file is named. With names, these rows are
-shown: the trace, and the lines in which the program (-) and the running kernel (+) differ. A row that this machine can't
-run, such as one with another lowest address, is named and passed over.
+shown: the trace, and the lines in which the program (-) and the running kernel (+) differ. A NAME that is a file, or - for
+standard input, is a trace of yours, which is shown in the same way. A row that this machine can't run, such as one with
+another lowest address, is named and passed over.
 
-Exit status: 0 if all rows are as in the file, 1 if one isn't, 2 on wrong use, or if a run fails.
+Exit status: 0 if all rows are as in the file, and both answer a trace of yours alike, 1 if one isn't, 2 on wrong use, or if
+a run fails.
 """
 from __future__ import annotations
 
@@ -51,6 +53,10 @@ def program_of(options: argparse.Namespace) -> str | None:
     return None
 
 
+def is_trace(name: str) -> bool:
+    return name == "-" or "/" in name or os.path.isfile(name)
+
+
 def run_all(chosen: list[rows.Row], path: str | None, kernel: rows.Kernel | None) -> list[rows.Row]:
     """The rows with what is answered now."""
     again, progress = [], console.Progress()
@@ -64,12 +70,16 @@ def run_all(chosen: list[rows.Row], path: str | None, kernel: rows.Kernel | None
 def run(options: argparse.Namespace) -> int:
     path = program_of(options)
     head, known = rows.read_rows()
-    unknown = [name for name in options.names if name not in {row.name for row in known}]
+    by_name = {row.name: row for row in known}
+    own = {name: rows.row_of(name) for name in options.names if name not in by_name and is_trace(name)}
+    unknown = [name for name in options.names if name not in by_name | own]
     if unknown:
         near = difflib.get_close_matches(unknown[0], [row.name for row in known], 1)
         hint = f"did you mean {near[0]}?" if near else "examples/kernel-rows.txt has them"
         raise console.Failure(f"no row has the name {console.printable(unknown[0])}; {hint}")
-    chosen = [row for row in known if not options.names or row.name in options.names]
+    if own and (path is None or options.here):
+        raise console.Failure("a trace of yours runs on both: the program has to be there, and --here leaves the kernel out")
+    chosen = [(by_name | own)[name] for name in options.names or by_name]
     kernel = None if options.here else rows.Kernel(options.system)
     with contextlib.closing(kernel) if kernel else contextlib.nullcontext():
         again = run_all(chosen, path, kernel)
@@ -78,6 +88,8 @@ def run(options: argparse.Namespace) -> int:
         rows.write_rows(head, [made.get(row.name, row) for row in known])
     for row in again if options.names else []:
         rows.show(row)
-    others = sum(not rows.check(row, now) for row, now in zip(chosen, again))
+    others = sum(
+        now.here != now.there if row.name in own else not rows.check(row, now) for row, now in zip(chosen, again)
+    )
     print(f"{len(chosen)} {'row' if len(chosen) == 1 else 'rows'}, {others} otherwise")
     return 1 if others else 0

@@ -7,12 +7,15 @@ from dataclasses import dataclass, replace
 from pathlib import Path
 
 from .. import console, program
+from ..traces import BadLine
 from .adapter import Adapter
 from .known import system_of
 from .places import Refused
 
 ROWS = program.TOP / "examples/kernel-rows.txt"
 CANNOT = 4  # the status of a trace that asks for what the machine cannot do
+OWN_BREAK = re.compile(r"= 0x7fffff[01][0-9a-f]{5}$", re.MULTILINE)  # among the addresses of the process that makes the calls
+SOME_BREAK = "= BREAK"
 HERE, THERE = "-- program", "-- Linux 6.18"
 PROGRAM_SECONDS = 600.0
 ON_DISK = ("aligned-file", "aligned-file-moved")  # the row of files on a disk: the others' are memory
@@ -42,6 +45,11 @@ def read_rows(path: Path = ROWS) -> tuple[str, list[Row]]:
     return parts[0], rows
 
 
+def row_of(path: str) -> Row:
+    """A trace of somebody else's, as a row whose answers nobody knows."""
+    return Row(path, console.whole_text(path), "", "")
+
+
 def write_rows(head: str, rows: list[Row], path: Path = ROWS) -> None:
     path.write_text(head + "\n".join(row.text() for row in rows), encoding="utf-8")
 
@@ -58,7 +66,9 @@ class Kernel:
         """What it answers to a row, or None where it cannot run it."""
         adapter = self.on_disk if row.name in ON_DISK else self.in_memory
         try:
-            return adapter.answer(row.trace.encode())
+            return OWN_BREAK.sub(SOME_BREAK, adapter.answer(row.trace.encode(errors="surrogateescape")))
+        except BadLine as bad:
+            raise console.Failure(f"{row.name}: trace {bad}") from None
         except Refused as refused:
             if refused.status == CANNOT:
                 return None
@@ -70,7 +80,7 @@ class Kernel:
 
 
 def program_output(path: str, row: Row) -> str:
-    ran = program.run([path, "serial"], row.trace.encode(), PROGRAM_SECONDS)
+    ran = program.run([path, "serial"], row.trace.encode(errors="surrogateescape"), PROGRAM_SECONDS)
     if ran.fault:
         raise console.Failure(f"{path} {ran.fault}: {ran.message.strip()[:300]}")
     return ran.output
