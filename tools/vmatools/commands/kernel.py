@@ -2,8 +2,9 @@
 of `diltzekun serial`.
 
 TRACE is a file, or - for standard input, which is read by default. docs/TRACE.md has the form of both. docs/KERNEL.md lists
-where Linux differs from the program, and docs/SYSTEMS.md has emulators, sandboxes and other kernels. The output says what the system did, right or wrong: it
-may have `SIGSEGV SEGV_PKUERR`, an error that the manual pages don't name, `hung`, or `killed by signal 11`.
+where Linux differs from the program, and docs/SYSTEMS.md has emulators, sandboxes and other kernels. The output says what
+the system did, right or wrong: it may have `SIGSEGV SEGV_PKUERR`, an error that the manual pages don't name, `hung`, or
+`killed by signal 11`.
 
 A small program makes the calls. At first use a C compiler makes it from tools/vmatools/systems/runner.c, in the cache
 ${XDG_CACHE_HOME:-~/.cache}/diltzekun, or in a folder for temporary files if that can't be written. It runs for this trace
