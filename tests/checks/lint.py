@@ -18,10 +18,10 @@ FOLDERS = ("tools/vmatools", "tests", "dev")
 PROGRAMS = (
     "tools/vma",
     "tests/run",
-    "dev/conform-systems",
     "dev/measure",
     "dev/real-programs",
     "dev/suite-case",
+    "dev/systems",
 )
 MOST = 4_000  # characters of what is printed
 

@@ -175,7 +175,7 @@ class Ends(unittest.TestCase):
             ("compare", "--runs", long, "--", "true"),
             ("import", "--most", "-1", TRACE),
             ("lists", "--child", "-1", TRACE, TRACE),
-            ("systems", "--for", "0"),
+            ("compare", "--for", "0", "--", "true"),
         ):
             done = run(*words)
             self.assertEqual((done.returncode, done.stdout), (console.WRONG_USE, ""), words[:2])

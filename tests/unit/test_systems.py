@@ -2,17 +2,21 @@
 from __future__ import annotations
 
 import gzip
+import importlib.util
 import io
 import struct
 import sys
 import tempfile
 import unittest
+from importlib.machinery import SourceFileLoader
 from pathlib import Path
+from types import ModuleType
 from unittest import mock
 
-sys.path.insert(0, str(Path(__file__).resolve().parents[2] / "tools"))
+TOP = Path(__file__).resolve().parents[2]
+sys.path.insert(0, str(TOP / "tools"))
 from vmatools import console, generator, model, windows  # noqa: E402
-from vmatools.commands import kernel, systems  # noqa: E402
+from vmatools.commands import kernel  # noqa: E402
 from vmatools.systems import (
     batch,
     empty,
@@ -35,6 +39,16 @@ WINDOW = Window(0x10000, 0x2000000)
 
 def trace_of(*lines: str) -> Trace:
     return read_trace("".join(line + "\n" for line in ("vmatrace 1", *lines)).encode())
+
+
+def module_of(path: Path) -> ModuleType:
+    """A program that is no module by its name."""
+    loader = SourceFileLoader(path.name, str(path))
+    spec = importlib.util.spec_from_loader(path.name, loader)
+    assert spec
+    module = sys.modules[path.name] = importlib.util.module_from_spec(spec)
+    loader.exec_module(module)
+    return module
 
 
 class Places(unittest.TestCase):
@@ -367,14 +381,15 @@ class Tables(unittest.TestCase):
         model.Space(trace)
 
     def test_a_page_gets_its_table(self) -> None:
+        write, begin, end = module_of(TOP / "dev/systems").write, "<!-- made by dev/systems suite -->", "<!-- end of suite -->"
         with tempfile.TemporaryDirectory() as folder:
             page = Path(folder, "page.md")
-            page.write_text(f"a\n{systems.BEGIN}\nold\n{systems.END}\nb\n", encoding="utf-8")
-            systems.write(page, ["new \\1"])
-            self.assertEqual(page.read_text(encoding="utf-8"), f"a\n{systems.BEGIN}\nnew \\1\n{systems.END}\nb\n")
+            page.write_text(f"a\n{begin}\nold\n{end}\nb\n", encoding="utf-8")
+            write("suite", ["new \\1"], page)
+            self.assertEqual(page.read_text(encoding="utf-8"), f"a\n{begin}\n\nnew \\1\n\n{end}\nb\n")
             page.write_text("none", encoding="utf-8")
             with self.assertRaises(console.Failure):
-                systems.write(page, [])
+                write("suite", [], page)
 
     def test_the_rows_are_written_as_they_are_read(self) -> None:
         head, found = rows.read_rows()

@@ -40,7 +40,7 @@ GROUPS = {
         Command("conform", "conform -- examples/page-table"),
         Command("kernel", "kernel < examples/tour.trace"),
         Command("rows", "rows limit-join"),
-        Command("systems", "systems --table"),
+        Command("systems", "systems native gvisor"),
     ),
     "Make traces of real programs": (
         Command("record", "record ls /", wrong_use=125),

@@ -31,11 +31,6 @@ def add_arguments(parser: argparse.ArgumentParser) -> None:
     parser.add_argument(
         "--here", action="store_true", help="runs the program alone, and not the kernel, which may be another one"
     )
-    parser.add_argument(
-        "--write",
-        action="store_true",
-        help="makes the file anew from what both answer now (for those who keep this page)",
-    )
     parser.add_argument("names", metavar="NAME", nargs="*", help="these rows alone, which are shown")
 
 
@@ -69,7 +64,7 @@ def run_all(chosen: list[rows.Row], path: str | None, kernel: rows.Kernel | None
 
 def run(options: argparse.Namespace) -> int:
     path = program_of(options)
-    head, known = rows.read_rows()
+    _, known = rows.read_rows()
     by_name = {row.name: row for row in known}
     own = {name: rows.row_of(name) for name in options.names if name not in by_name and is_trace(name)}
     unknown = [name for name in options.names if name not in by_name | own]
@@ -83,9 +78,6 @@ def run(options: argparse.Namespace) -> int:
     kernel = None if options.here else rows.Kernel(options.system)
     with contextlib.closing(kernel) if kernel else contextlib.nullcontext():
         again = run_all(chosen, path, kernel)
-    if options.write:
-        made = {row.name: row for row in again}
-        rows.write_rows(head, [made.get(row.name, row) for row in known])
     for row in again if options.names else []:
         rows.show(row)
     others = sum(
