@@ -1,7 +1,0 @@
--- For `mark`: what the writer knows stays, but for its tries.
-use Rattle.vma_lock.specs.Seats.{Writes, sight}
-use Rattle.vma_lock.specs.Internal.Small.{IsMarking}
-use Rattle.protocol_trials.proofs.seat_tests.entering.mark.Given as goal
-
-abbrev pub invariant-loop : goal.invariant-loop
-invariant-loop g l = record { table : Writes l.writer l.fn.table; trying : IsMarking (sight l.fn.writer) (sight l.writer) }

@@ -1,5 +1,0 @@
--- For `each_operation_is_taken`: the space has the name of what it is opened with.
-use Rattle.space_trials.proofs.space_tests.operations.each_operation_is_taken.Given as goal
-
-abbrev pub ghosts-use_all : goal.ghosts-use_all
-ghosts-use_all g a = record { name = a.ready }

@@ -1,5 +1,0 @@
--- For `run`: the space has the name of what it is opened with.
-use Rattle.space_trials.proofs.space_tests.together.run.Given as goal
-
-abbrev pub ghosts-play_all : goal.ghosts-play_all
-ghosts-play_all g a = record { name = a.ready }

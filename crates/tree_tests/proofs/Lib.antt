@@ -1,0 +1,4 @@
+pub mod Leaves
+pub mod Seated
+pub mod Rows
+pub mod Small

@@ -1,0 +1,4 @@
+pub mod Leaves
+pub mod Benches
+pub mod Rows
+pub mod Small

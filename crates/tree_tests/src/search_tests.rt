@@ -1,0 +1,88 @@
+//! Searches among areas of one page each.
+ghost use Rattle.std.specs.Prelude.{◌≡◌, false, [], IfOk};
+ghost use Rattle.tree_tests.specs.Rows.{IsWide, IsRow};
+
+use mm_types::{NoMemory, Page, Slot, Span};
+use node_slots::NodeTable;
+use span_tree::SpanTree;
+use std::alloc::Global;
+use std::process::Abort;
+
+/// How many areas there are.
+const AREAS: u32 = 17;
+
+/// The page where the tree ends.
+const LIMIT: u64 = 0x7_ffff_ffff;
+
+/// A tree without pairs.
+fn open(alloc: Global) -> Result<SpanTree, NoMemory>
+    ensures wide { IfOk result IsWide }
+    ensures still { IfOk result (λ tree. tree.changed ≡ false) }
+    ensures empty { IfOk result (λ tree. tree.pairs ≡ []) }
+{
+    let (_nodes, writer, _seats) = NodeTable::new(alloc, AREAS + 128, 2 * AREAS + 2, 1)?;
+    SpanTree::new(AREAS, Page(LIMIT), writer)
+}
+
+/// Stores areas of one page at pages 16, 18 and on to 48, with slots 0 to 16.
+fn store_row(tree: &mut SpanTree)
+    requires { IsRow tree.old 0 }
+    ensures { IsRow tree.new 17 }
+{
+    for place in 0..17 {
+        let page = 16 + 2 * u64::from(place);
+        tree.store(
+            Span {
+                lo: page,
+                hi: page + 1,
+            },
+            Some(Slot(place)),
+        );
+    }
+}
+
+/// Looks for so many free pages from one page up to another.
+fn look(
+    rt: &impl Abort,
+    tree: &SpanTree,
+    window: (u64, u64, u64),
+    greatest: Option<u64>,
+    least: Option<u64>,
+)
+    requires { IsWide tree.now }
+{
+    let (len, lo, hi) = window;
+    assert!(rt; len > 0 && hi <= LIMIT);
+    assert_eq!(rt; tree.highest(len, lo, hi), greatest.map(Page));
+    assert_eq!(rt; tree.lowest(len, lo, hi), least.map(Page));
+}
+
+/// Looks for the areas beside a page.
+fn look_beside(
+    rt: &impl Abort,
+    tree: &SpanTree,
+    page: u64,
+    before: Option<u32>,
+    next: Option<u32>,
+) {
+    assert_eq!(rt; tree.before_slot(Page(page)), before.map(Slot));
+    assert_eq!(rt; tree.next_slot(Page(page)), next.map(Slot));
+}
+
+/// All pages of a tree without pairs are free. Between each two areas of another one page is.
+#[test]
+fn free_pages_and_areas(rt: HostRuntime) -> Result<(), NoMemory> {
+    let mut tree = open(rt.alloc())?;
+    look(&rt, &tree, (2, 16, 49), Some(47), Some(16));
+    look(&rt, &tree, (34, 16, 49), None, None);
+    look_beside(&rt, &tree, 49, None, None);
+    tree.prepare(&rt);
+    store_row(&mut tree);
+    look(&rt, &tree, (1, 16, 49), Some(47), Some(17));
+    look(&rt, &tree, (2, 16, 49), None, None);
+    look(&rt, &tree, (2, 1, LIMIT), Some(LIMIT - 2), Some(1));
+    look_beside(&rt, &tree, 16, None, Some(0));
+    look_beside(&rt, &tree, 36, Some(9), Some(10));
+    look_beside(&rt, &tree, u64::MAX, Some(16), None);
+    Ok(())
+}

@@ -1,6 +1,0 @@
--- For `open`: the readers of a new table are beside its writer.
-use Rattle.node_slots.proofs.Seated.{beside_first}
-use Rattle.tree_trials.proofs.table_tests.open.Goals as goal
-
-pub walkers-requires : goal.walkers-requires
-walkers-requires c = beside_first _ _ _ _ c.in_ok-table.ensures.writer.0 c.in_ok-table.ensures.fresh
