@@ -64,7 +64,7 @@ def main(
 def program_of(given: str | None = None) -> str:
     """The path of the program, or an end with status 2 that says how to build it."""
     try:
-        return programs.find(given)
+        return programs.find_built(given)
     except console.Failure as failure:
         print(f"{TOOL}: {failure}", file=sys.stderr)
         sys.exit(failure.status)

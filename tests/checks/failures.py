@@ -22,7 +22,7 @@ from pathlib import Path
 from typing import Any
 
 from checking import LIVE, TOP, answer, bytes_of, check_ended, compare, fail, limit, live_of, main, passed
-import session_model
+from vmatools.unproved import sessions
 
 SECONDS = 10
 PIECE = 65_536  # the program gives so many bytes at a time
@@ -124,7 +124,7 @@ def check_reads(program: str, words: list[str], text: bytes) -> None:
             done, _ = answer(name, [program, *words], SECONDS, stdin=here)
         at = f"{name} behind {place} bytes"
         check_ended(at, done, 4, b"read fault\n")
-        given = b"" if words else session_model.answers(text[:place], has_end=False)
+        given = b"" if words else sessions.answers(text[:place], has_end=False)
         compare(f"{at}, standard output", done.stdout, given)
     passed(f"{name} behind {len(text) + 1} places")
 

@@ -2,8 +2,8 @@
 """Gives the programs hostile inputs: mutated and random ones, with numbers at borders, long lines and bytes that are no text.
 
 PROGRAM is crates/vma_main/out/vma_main by default, and LIVE crates/vma_live/out/vma_live. Of N inputs of each mode, all of
-which come from the seed S, status, standard output and standard error have to be those that the models of tools/vmatools and
-of this folder give, of `threads` an output that `vma judge` accepts; words that are none of the modes' are refused. `vma
+which come from the seed S, status, standard output and standard error have to be those that the models of tools/vmatools
+give, of `threads` an output that `vma judge` accepts; words that are none of the modes' are refused. `vma
 explain` has to name the same line and cause. 10 N times an input is an address space of a session, each of which has to
 answer as its model does, and as `serial` does where it is a trace. A run that takes too long fails. It ends with status 1 at
 the first input that differs, which it leaves in FOLDER, and 2 on wrong use, or where a program is missing.
@@ -19,9 +19,8 @@ from pathlib import Path
 
 from checking import LIVE, Failed, answer, check_ended, compare, fail, live_of, main, passed
 import hostile_inputs as inputs
-import script_model
-import session_model
 from vmatools import judging, live, maps_texts, serial, traces
+from vmatools.unproved import scripts, sessions
 
 Answer = tuple[int, bytes, bytes]  # status, standard output, standard error
 Modelled = Callable[[bytes], Answer]
@@ -167,7 +166,7 @@ def check_sessions(session: str, runs: Runs) -> None:
         try:
             done, _ = answer(name, [session], SECONDS, input=data)
             check_ended(name, done, 0)
-            compare(name, done.stdout, session_model.answers(data))
+            compare(name, done.stdout, sessions.answers(data))
         except Failed as failed:
             runs.leave(name, data, failed)
         spaces += TOGETHER
@@ -212,7 +211,7 @@ def check(options: argparse.Namespace) -> None:
     runs.check("serial", inputs.trace, replayed)
     runs.check("check", inputs.answered_trace, judged)
     runs.check("retrace", inputs.maps_text, maps_texts.retrace)
-    runs.check("steps", inputs.script, script_model.steps)
+    runs.check("steps", inputs.script, scripts.steps)
     runs.check_query()
     runs.check_threads()
     runs.check_words()

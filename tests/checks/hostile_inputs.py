@@ -6,10 +6,10 @@ from collections.abc import Callable
 
 import judged_runs
 import limits
-import script_model
 from vmatools import model, serial, traces
 from vmatools.generator import PROFILES, Generator
 from vmatools.traces import PAGE
+from vmatools.unproved import scripts
 
 Draw = random.Random
 
@@ -191,8 +191,8 @@ def random_events(draw: Draw) -> list[str]:
     core, readers, parts = draw.choice(["lock", "grace"]), draw.randint(1, 8), draw.randint(1, 8)
     lines, tree = [f"{core} {readers} {parts}"], 1
     for _ in range(draw.choice([3, 10, 40])):
-        name, form = draw.choice(list(script_model.FORMS[core].items()))
-        most = {"R": readers, "P": parts, "I": script_model.FIELDS, "X": 3}
+        name, form = draw.choice(list(scripts.FORMS[core].items()))
+        most = {"R": readers, "P": parts, "I": scripts.FIELDS, "X": 3}
         words = [str(draw.randrange(most[kind])) for kind in form if kind != "T"]
         if name == "publish":
             words[0], tree = str(tree), tree + draw.randrange(2)
@@ -204,7 +204,7 @@ def random_events(draw: Draw) -> list[str]:
 def whole_calls(draw: Draw) -> list[str]:
     """Calls each of which stores the rows of the list after it, so that it may end."""
     parts = draw.randint(3, 8)
-    lines, rows = [f"lock {draw.randint(1, 3)} {parts}"], [script_model.DETACHED] * parts
+    lines, rows = [f"lock {draw.randint(1, 3)} {parts}"], [scripts.DETACHED] * parts
     space = model.Space(traces.Trace())
     for _ in range(draw.randint(1, 10)):
         words, after = call(draw).split(), space.child()
@@ -212,11 +212,11 @@ def whole_calls(draw: Draw) -> list[str]:
         model.answer(after, traces.Line(1, 0, words[0], arguments, None))
         if len(after.areas) > parts:
             continue
-        wanted, space = [script_model.words_of(area) for area in after.areas], after
+        wanted, space = [scripts.words_of(area) for area in after.areas], after
         missing = [row for row in wanted if row not in rows]
         lines.append("begin")
         for slot in (slot for slot, row in enumerate(rows) if row not in wanted):
-            row = missing.pop() if missing else script_model.DETACHED
+            row = missing.pop() if missing else scripts.DETACHED
             lines += [f"mark {slot}", *(f"store {slot} {place} {word:#x}" for place, word in enumerate(row))]
             rows[slot] = row
         lines += [f"end {draw.randrange(64)} {' '.join(words)}", "look 0"]

@@ -12,6 +12,7 @@ import sys
 import tempfile
 import time
 import unittest
+from dataclasses import replace
 from functools import partial
 from pathlib import Path
 from typing import Any
@@ -19,7 +20,7 @@ from unittest import mock
 
 TOP = Path(__file__).resolve().parents[2]
 sys.path.insert(0, str(TOP / "tools"))
-from vmatools import cli, console, program
+from vmatools import VERSION, cli, console, program, versions
 from vmatools.systems import adapter, batch
 
 VMA = str(TOP / "tools/vma")
@@ -47,7 +48,6 @@ class Commands(unittest.TestCase):
 
     def test_an_unknown_word_has_the_nearest(self) -> None:
         self.assertEqual(cli.unknown("compair"), "'compair' is no command; did you mean compare?")
-        self.assertEqual(cli.unknown("frm-strace"), "'frm-strace' is no command; did you mean import?")
         self.assertEqual(cli.unknown("xyzzy"), "'xyzzy' is no command; `vma --help` lists them")
         self.assertEqual(run("expalin").returncode, console.WRONG_USE)
 
@@ -61,11 +61,79 @@ class Commands(unittest.TestCase):
             self.assertEqual((done.returncode, done.stdout), (status, ""), words)
             self.assertRegex(done.stderr, rf"^vma {words[0]}: [^\n]*; `vma {words[0]} --help` lists the words\n$")
 
-    def test_old_names_are_there(self) -> None:
-        for old in ("compare", "draw", "explain", "judge", "on-kernel", "kernel-rows", "record", "from-strace"):
-            done = subprocess.run([str(TOP / "tools" / old), "--help"], capture_output=True, text=True)
-            self.assertEqual(done.returncode, 0, old)
-            self.assertIn("usage: vma ", done.stdout)
+
+class Modes(unittest.TestCase):
+    """The modes of the program, by the model, which answers where no program is found."""
+
+    def setUp(self) -> None:
+        self.bare = {**os.environ, "PATH": "/usr/bin:/bin", program.VARIABLE: str(program.PROGRAM.model)}
+        self.bare[program.LIVE.variable] = str(program.LIVE.model)
+
+    def vma(self, *words: str, text: str | None = None) -> tuple[int, str, str]:
+        given: dict[str, Any] = {"stdin": subprocess.DEVNULL} if text is None else {"input": text}
+        done = run(*words, env=self.bare, **given)
+        return done.returncode, done.stdout, done.stderr.replace(f"vma {words[0]}: {program.NOT_BUILT}\n", "")
+
+    def test_a_trace_from_a_file_and_from_a_pipe(self) -> None:
+        output, text = Path(TRACE.replace("trace", "out")).read_text(), Path(TRACE).read_text()
+        self.assertEqual(self.vma("serial", TRACE), (0, output, ""))
+        self.assertEqual(self.vma("threads", "-", text=text), (0, output, ""))
+        self.assertEqual(self.vma("live", TRACE), (0, output, ""))
+        self.assertEqual(self.vma("serial", TRACE, TRACE)[1], f"==> {TRACE} <==\n{output}\n==> {TRACE} <==\n{output}")
+
+    def test_a_model_says_once_that_it_is_one(self) -> None:
+        done = run("serial", TRACE, TRACE, env=self.bare)
+        self.assertEqual(done.stderr, f"vma serial: {program.NOT_BUILT}\n")
+
+    def test_a_bad_line_is_told_in_words(self) -> None:
+        text = "vmatrace 1\n0 mmap 0 4096 PROT_RW MAP_PRIVATE|MAP_ANONYMOUS -1 0\n"
+        status, output, said = self.vma("serial", text=text)
+        self.assertEqual((status, output), (console.WRONG_USE, ""))
+        self.assertIn("vma serial: standard input is no trace: line 2: PROT_RW", said)
+        self.assertIn("line 1: this is no line of a maps text", self.vma("query", "0", text="x\n")[2])
+        self.assertIn("cause 1, Header (docs/SCRIPTS.md)", self.vma("steps", TRACE)[2])
+
+    def test_a_bad_output_ends_with_1(self) -> None:
+        output = TRACE.replace("trace", "out")
+        other = str(TOP / "examples/tour.out")
+        self.assertEqual(self.vma("check", TRACE, output), (0, "legal\n", ""))
+        status, said, why = self.vma("check", TRACE, other)
+        self.assertEqual((status, said), (console.FOUND, "bad 1\n"))
+        self.assertIn(f"`tools/vma judge {TRACE} {other}` says why", why)
+        joined = f"{Path(TRACE).read_text()}==\n{Path(output).read_text()}"
+        self.assertEqual(self.vma("check", text=joined), (0, "legal\n", ""))
+
+    def test_what_check_refuses(self) -> None:
+        fork = str(TOP / "examples/fork.trace")
+        self.assertIn("it forks", self.vma("check", fork, fork)[2])
+        self.assertIn("no line `==`", self.vma("check", TRACE)[2])
+        self.assertIn("give OUTPUT or that, not both", self.vma("check", "-", TRACE, text="vmatrace 1\n==\n")[2])
+
+    def test_other_modes(self) -> None:
+        self.assertEqual(self.vma("generate", "20000", "1")[1].splitlines()[0], "calls 15001")
+        line = "00010000-00011000 rw-p 00000000 00:00 0 \n"
+        self.assertEqual(self.vma("query", "0x10fff", text=line)[1], line.rstrip(" \n") + "\n")
+        self.assertIn("0 mmap 0x10000 4096", self.vma("retrace", text=line)[1])
+        script = TOP / "examples/reader-inside.steps"
+        self.assertEqual(self.vma("steps", str(script))[1], script.with_suffix(".out").read_text())
+
+    def test_a_full_device(self) -> None:
+        with open("/dev/full", "w") as full:
+            done = run("serial", TRACE, env=self.bare, capture_output=False, stdout=full, stderr=subprocess.PIPE)
+        self.assertEqual(done.returncode, console.NOT_WRITTEN)
+        self.assertIn("vma serial: standard output: not all of it could be written\n", done.stderr)
+
+    def test_the_version_tells_which_program_and_whether_it_is_proved(self) -> None:
+        first, main, live = self.vma("--version")[1].splitlines()
+        self.assertEqual(first, f"diltzekun {VERSION}")
+        for line, named in ((main, program.PROGRAM), (live, program.LIVE)):
+            self.assertIn(f"{named.on_path}: {named.model} (${named.variable}): not proved", line)
+        with tempfile.TemporaryDirectory() as folder:
+            sums = Path(folder, "sums")
+            with mock.patch.object(versions, "SUMS", sums):
+                self.assertIn("not known to be proved", versions.standing(Path("/bin/true"), program.PROGRAM))
+                sums.write_text(f"{versions.sum_of(Path('/bin/true'))}  usr/bin/diltzekun\n")
+                self.assertIn("the proved one", versions.standing(Path("/bin/true"), program.PROGRAM))
 
 
 class Program(unittest.TestCase):
@@ -82,6 +150,14 @@ class Program(unittest.TestCase):
                 del os.environ[program.VARIABLE]
                 self.assertEqual(program.find(), made[program.ON_PATH])
 
+    def test_the_model_stands_in_where_none_is_built(self) -> None:
+        named = replace(program.PROGRAM, default=Path("/no/program"))
+        with mock.patch.dict(os.environ, {"PATH": "/no/such/folder"}, clear=True):
+            with mock.patch.object(program, "PROGRAM", named), mock.patch.object(program, "DEFAULT_PROGRAM", named.default):
+                self.assertEqual(program.find(named=named), str(named.model))
+                with self.assertRaisesRegex(console.Failure, "is not there"):
+                    program.find_built()
+
     def test_one_that_is_missing(self) -> None:
         with self.assertRaises(console.Failure) as caught:
             program.find("/no/program")
@@ -94,10 +170,10 @@ class Program(unittest.TestCase):
             words = [sys.executable, str(Path(folder, "tools/vma")), "compare"]
             no_other = {"PATH": "/usr/bin:/bin"}
             ways = "; name one by --program PATH or $DILTZEKUN, or put `diltzekun` on the PATH\n"
-            for given, told in ((list[str](), "diltzekun"), (["--program", "/nowhere"], "/nowhere")):
-                done = subprocess.run([*words, *given, "--", "true"], capture_output=True, text=True, env=no_other)
-                self.assertEqual(done.stderr, f"vma compare: the program {told} is not there{ways}")
-                self.assertEqual(done.returncode, console.WRONG_USE)
+            words += ["--program", "/nowhere", "--", "true"]
+            done = subprocess.run(words, capture_output=True, text=True, env=no_other)
+            self.assertEqual(done.stderr, f"vma compare: the program /nowhere is not there{ways}")
+            self.assertEqual(done.returncode, console.WRONG_USE)
 
     def test_a_command_that_is_not_there(self) -> None:
         with tempfile.TemporaryDirectory() as folder:

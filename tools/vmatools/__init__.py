@@ -1,1 +1,3 @@
-"""The tools around the program: what the command `vma` and the checks of the repository are made of."""
+"""What the tools around diltzekun, and their tests, are made of. docs/API.md says what of it others may import."""
+
+VERSION = "0.1.0"

@@ -8,16 +8,16 @@ import importlib
 import sys
 import traceback
 from dataclasses import dataclass
-from types import ModuleType
-from typing import NoReturn
+from typing import Any, NoReturn
 
-from . import console
+from . import console, versions
 
 ABOUT = """usage: vma COMMAND [WORDS]
 
-The tools around diltzekun, an oracle for the mmap family of Linux.
+diltzekun, an oracle for the mmap family of Linux, and the tools around it.
 """
-AFTER = "`vma COMMAND --help` has the words of each, with an example. The exit statuses are those of docs/COMPARE.md."
+AFTER = """`vma COMMAND --help` has the words of each, with an example; `vma --version` says which program answers.
+The exit statuses are those of docs/COMPARE.md."""
 
 
 @dataclass(frozen=True)
@@ -29,11 +29,23 @@ class Command:
     module: str = ""
     wrong_use: int = console.WRONG_USE
 
-    def load(self) -> ModuleType:
-        return importlib.import_module(f"vmatools.commands.{self.module or self.name}")
+    def load(self) -> Any:
+        """What has SUMMARY, the help, `add_arguments` and `run`: a module, or a mode of one that has several."""
+        module = importlib.import_module(f"vmatools.commands.{self.module or self.name}")
+        return module.MODES[self.name] if self.module == "modes" else module
 
 
 GROUPS = {
+    "Ask the program": (
+        Command("serial", "serial examples/readme.trace", "modes"),
+        Command("threads", "threads examples/readme.trace", "modes"),
+        Command("check", "check examples/readme.trace examples/readme.out", "modes"),
+        Command("live", "live examples/readme.trace", "modes"),
+        Command("query", "query 0x7ffff7fc1000 /proc/self/maps", "modes"),
+        Command("retrace", "retrace list", "modes"),
+        Command("generate", "generate 20000 1", "modes"),
+        Command("steps", "steps examples/reader-inside.steps", "modes"),
+    ),
     "Compare a system with the program": (
         Command("compare", "compare --runs 40 -- examples/page-table"),
         Command("emit", "emit --runs 100 traces"),
@@ -54,7 +66,6 @@ GROUPS = {
     ),
 }
 COMMANDS = {command.name: command for group in GROUPS.values() for command in group}
-OLD_NAMES = {"from-strace": "import", "kernel-rows": "rows", "on-kernel": "kernel"}  # of tools that are commands now
 
 
 class Parser(argparse.ArgumentParser):
@@ -77,12 +88,12 @@ def whole_help() -> str:
 
 
 def unknown(word: str) -> str:
-    near = difflib.get_close_matches(word, [*COMMANDS, *OLD_NAMES], 1, 0.5)
-    hint = f"did you mean {OLD_NAMES.get(near[0], near[0])}?" if near else "`vma --help` lists them"
+    near = difflib.get_close_matches(word, COMMANDS, 1, 0.5)
+    hint = f"did you mean {near[0]}?" if near else "`vma --help` lists them"
     return f"{word[:100]!r} is no command; {hint}"
 
 
-def parser_of(command: Command) -> tuple[Parser, ModuleType]:
+def parser_of(command: Command) -> tuple[Parser, Any]:
     module = command.load()
     parser = Parser(
         prog=f"vma {command.name}", description=module.__doc__, formatter_class=argparse.RawDescriptionHelpFormatter
@@ -103,6 +114,9 @@ def dispatch(words: list[str]) -> int:
     if not words or words[0] in ("-h", "--help", "help"):
         print(whole_help(), file=sys.stdout if words else sys.stderr)
         return console.DONE if words else console.WRONG_USE
+    if words == ["--version"]:
+        print("\n".join(versions.told()))
+        return console.DONE
     if words[0] not in COMMANDS:
         raise console.Failure(unknown(words[0]))
     command = COMMANDS[words[0]]

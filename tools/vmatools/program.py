@@ -3,6 +3,7 @@ from __future__ import annotations
 
 import argparse
 import errno
+import functools
 import os
 import selectors
 import shutil
@@ -23,6 +24,8 @@ VARIABLE = "DILTZEKUN"
 ON_PATH = "diltzekun"
 MOST_OUTPUT = 64 * 1024 * 1024
 BUILDS = f"`(cd {TOP}/crates/vma_main && rt run -- serial < ../../examples/readme.trace)` proves and builds it"
+UNPROVED = Path(__file__).resolve().parent / "unproved"  # the model, as programs
+NOT_BUILT = "unproved model: the proved program isn't built (README.md)"
 LIVE_BUILDS = f"`(cd {TOP}/crates/vma_live && rt run < /dev/null)` proves and builds it"
 
 
@@ -36,15 +39,20 @@ class Named:
     default: Path
     builds: str
 
-    def place(self, given: str | os.PathLike[str] | None) -> tuple[str | os.PathLike[str], str]:
-        """The first place that names it, and which that is."""
+    @property
+    def model(self) -> Path:
+        """What is run where the program isn't built."""
+        return UNPROVED / self.on_path
+
+    def place(self, given: str | os.PathLike[str] | None = None) -> tuple[str | os.PathLike[str], str]:
+        """The first place that names it, and which that is; where none does and it isn't built, the model's."""
         places = [
             (given, self.option),
             (os.environ.get(self.variable), f"${self.variable}"),
             (shutil.which(self.on_path), "the PATH"),
-            (self.default, "the repository"),
+            (self.default if self.default.exists() else None, "the repository"),
         ]
-        return next((place, source) for place, source in places if place)
+        return next(((place, source) for place, source in places if place), (self.model, "the model"))
 
     @property
     def ways(self) -> str:
@@ -72,20 +80,33 @@ def add_arguments(parser: argparse.ArgumentParser) -> None:
     parser.add_argument(
         "--program",
         metavar="PATH",
-        help=f"the program (${VARIABLE}, {ON_PATH} on the PATH, or the repository's crates/vma_main/out/vma_main)",
+        help=f"the program (${VARIABLE}, {ON_PATH} on the PATH, the repository's crates/vma_main/out/vma_main, or else the "
+        "tools' model, which is not proved)",
     )
     parser.add_argument("-v", "--verbose", action="store_true", help="says on standard error which program is taken")
 
 
 def find(given: str | os.PathLike[str] | None = None, verbose: bool = False, named: Named = PROGRAM) -> str:
-    """The path of a program that is to be run, from the first place that names one."""
+    """The path of a program that is to be run, from the first place that names one. Where none does, and it isn't built,
+    that is the model, which is said."""
     place, source = named.place(given)
-    if place == named.default and not (TOP / "crates").is_dir():
-        raise console.Failure(f"the program {named.on_path} is not there; {named.ways}")
     path = existing(place, named.ways)
+    if Path(path) == named.model:
+        say_once(NOT_BUILT)
     if verbose:
         console.say(f"{'the program' if named is PROGRAM else named.on_path} is {path} ({source})")
     return path
+
+
+def find_built(given: str | os.PathLike[str] | None = None, verbose: bool = False) -> str:
+    """The path of the program alone: no model stands in for it."""
+    place, source = PROGRAM.place(given)
+    return find(DEFAULT_PROGRAM if source == "the model" else place, verbose)
+
+
+@functools.cache
+def say_once(text: str) -> None:
+    console.say(text)
 
 
 def live_beside(given: str | os.PathLike[str] | None, verbose: bool = False) -> str | None:
@@ -95,6 +116,7 @@ def live_beside(given: str | os.PathLike[str] | None, verbose: bool = False) -> 
         f"${PROGRAM.variable}": os.environ.get(LIVE.variable),
         "the PATH": shutil.which(LIVE.on_path),
         "the repository": LIVE.default,
+        "the model": LIVE.model,
     }
     place = beside.get(source)
     if not place or not is_program(os.path.abspath(place)):

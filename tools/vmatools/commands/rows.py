@@ -15,7 +15,6 @@ import argparse
 import contextlib
 import difflib
 import os
-import shutil
 
 from .. import console, program
 from ..systems import rows
@@ -34,25 +33,11 @@ def add_arguments(parser: argparse.ArgumentParser) -> None:
     parser.add_argument("names", metavar="NAME", nargs="*", help="these rows alone, which are shown")
 
 
-def program_of(options: argparse.Namespace) -> str | None:
-    """The program, or None where none is named, none is on the PATH, and the repository's is not built."""
-    if (
-        options.program
-        or options.here
-        or os.environ.get(program.VARIABLE)
-        or shutil.which(program.ON_PATH)
-        or os.access(program.DEFAULT_PROGRAM, os.X_OK)
-    ):
-        return program.find(options.program, options.verbose)
-    console.say("the program is not there: its outputs were not run again")
-    return None
-
-
 def is_trace(name: str) -> bool:
     return name == "-" or "/" in name or os.path.isfile(name)
 
 
-def run_all(chosen: list[rows.Row], path: str | None, kernel: rows.Kernel | None) -> list[rows.Row]:
+def run_all(chosen: list[rows.Row], path: str, kernel: rows.Kernel | None) -> list[rows.Row]:
     """The rows with what is answered now."""
     again, progress = [], console.Progress()
     for place, row in enumerate(chosen, 1):
@@ -63,7 +48,7 @@ def run_all(chosen: list[rows.Row], path: str | None, kernel: rows.Kernel | None
 
 
 def run(options: argparse.Namespace) -> int:
-    path = program_of(options)
+    path = program.find(options.program, options.verbose)
     _, known = rows.read_rows()
     by_name = {row.name: row for row in known}
     own = {name: rows.row_of(name) for name in options.names if name not in by_name and is_trace(name)}

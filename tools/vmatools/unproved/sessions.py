@@ -4,8 +4,13 @@ It is written from docs/diltzekun-live.1 alone, and has nothing of the program's
 """
 from __future__ import annotations
 
-from vmatools import model, traces
-from vmatools.traces import BadLine, Line
+import os
+import sys
+
+from .. import model, traces
+from ..traces import BadLine, Line
+
+PIECE = 65_536  # bytes of a read
 
 
 class Session:
@@ -112,3 +117,33 @@ def answers(data: bytes, has_end: bool = True) -> bytes:
     if has_end and rest:
         written += bytes_of(session.answer(rest, is_ended=False))
     return written + bytes_of(session.closing()) if has_end else written
+
+
+def main(words: list[str]) -> int:
+    """A session on standard input, whose lines are answered as they come, and its status."""
+    if words:
+        sys.stderr.write("words\n")
+        return 2
+    session, rest = Session(), b""
+    try:
+        while piece := os.read(0, PIECE):
+            *lines, rest = (rest + piece).split(b"\n")
+            give(b"".join(bytes_of(session.answer(line)) for line in lines))
+        last = session.answer(rest, is_ended=False) if rest else []
+        give(bytes_of(last + session.closing()))
+    except OSError as error:
+        sys.stderr.write("write fault\n" if isinstance(error, WriteFault) else "read fault\n")
+        return 5 if isinstance(error, WriteFault) else 4
+    return 0
+
+
+class WriteFault(OSError):
+    """Standard output can't be written."""
+
+
+def give(answers: bytes) -> None:
+    try:
+        while answers:
+            answers = answers[os.write(1, answers) :]
+    except OSError as error:
+        raise WriteFault(*error.args) from None

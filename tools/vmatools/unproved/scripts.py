@@ -8,9 +8,9 @@ from __future__ import annotations
 from collections.abc import Callable
 from typing import NamedTuple
 
-from session_model import text_of
-from vmatools import model, traces
-from vmatools.traces import BadLine, Line
+from .. import model, traces
+from ..traces import BadLine, Line
+from .sessions import text_of
 
 MOST_LINES = 10_000
 MOST_PARTS = 8
