@@ -1,8 +1,8 @@
 #!/usr/bin/env python3
-"""Checks the Python of the repository by mypy and flake8, with the settings of pyproject.toml, where they are installed.
+"""Checks that all that tests/shown.txt names is there, and the Python of the repository by mypy and flake8.
 
-mypy has to find every function typed, and flake8 nothing. What is not installed is named and passed (Debian packages mypy and
-flake8).
+mypy has to find every function typed, and flake8 nothing, with the settings of pyproject.toml. What is not installed is named
+and passed (Debian packages mypy and flake8).
 """
 from __future__ import annotations
 
@@ -12,6 +12,7 @@ import subprocess
 import sys
 import tomllib
 
+import shown
 from checking import TOP, fail, main, passed, skipped
 
 FOLDERS = ("tools/vmatools", "tests", "dev")
@@ -39,7 +40,17 @@ def check_tool(name: str, words: list[str]) -> None:
     passed(name)
 
 
+def check_shown() -> None:
+    try:
+        for line in shown.check(TOP):
+            skipped(f"tests/shown.txt: {line.promise}", line.where)
+    except shown.Wrong as wrong:
+        fail("tests/shown.txt", str(wrong))
+    passed("tests/shown.txt")
+
+
 def check(_options: argparse.Namespace) -> None:
+    check_shown()
     if sys.version_info < (3, 11):
         return skipped("all", "pyproject.toml is read by Python 3.11 and newer")
     settings = tomllib.loads((TOP / "pyproject.toml").read_text(encoding="utf-8"))["tool"]["flake8"]
