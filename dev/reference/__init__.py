@@ -1,1 +1,1 @@
-"""Makes docs/reference from the sources: a page a crate, an index, and a list of what has no comment."""
+"""Makes pages from the sources: one a crate, and that of the headline."""

@@ -1,6 +1,7 @@
-"""Writes the pages of docs/reference: one a crate, an index by name, and the list of what has no comment."""
+"""Writes the pages of the reference: one a crate, with an index of crates, and the list of what has no comment."""
 from __future__ import annotations
 
+import os
 import re
 from dataclasses import dataclass
 from pathlib import Path
@@ -9,6 +10,8 @@ from .definitions import Definition, Topic, read_topics
 from .sources import Clause, Item, read_items
 
 MADE = "<!-- Made from the sources by dev/make-reference: change those. -->"
+UP = "](../../"  # how links to the repository begin, until `pages` knows from where they lead
+TESTS = "tests and examples"  # the group of crates whose items may have no comment
 
 
 @dataclass(frozen=True)
@@ -69,7 +72,7 @@ def read_crate(top: Path, name: str, group: str, stands_on: list[str]) -> Crate:
 
 
 def link_to(crate: str, file: str, line: int) -> str:
-    return f"[{file}:{line}](../../crates/{crate}/{file}#L{line})"
+    return f"[{file}:{line}{UP}crates/{crate}/{file}#L{line})"
 
 
 def anchor_of(title: str) -> str:
@@ -138,7 +141,7 @@ def page_of(crate: Crate, known: set[str]) -> str:
     if crate.planted_bugs:
         lines += ["## Planted bugs that the prover refuses", ""]
         lines += [
-            f"- [{name.replace('_', ' ')}](../../crates/{crate.name}/must-fail/{name}.edit)"
+            f"- [{name.replace('_', ' ')}{UP}crates/{crate.name}/must-fail/{name}.edit)"
             for name in crate.planted_bugs
         ] + [""]
     return "\n".join(lines).rstrip() + "\n"
@@ -172,71 +175,29 @@ def index_page(crates: list[Crate]) -> str:
         "",
         "Each crate with its public items, conditions, clauses and definitions, taken from the sources.",
         f"There are {len(crates)} crates, {said}.",
-        "Look a name up in [names](names.md), [definitions](definitions.md) or [clauses](clauses.md).",
-        "[PROOF.md](../PROOF.md#how-to-read-a-contract) says how to read a contract.",
+        f"[PROOF.md{UP}docs/PROOF.md#how-to-read-a-contract) says how to read a contract.",
         *index_lines(crates),
     ]
     return "\n".join(lines).rstrip() + "\n"
 
 
-def listed(title: str, entries: list[tuple[str, str]]) -> str:
-    """A page of names with what each leads to, by name."""
-    together: dict[str, list[str]] = {}
-    for name, place in sorted(set(entries)):
-        together.setdefault(name, []).append(place)
-    return (
-        "\n".join([MADE, f"# {title}", "", *(f"- `{name}`: {', '.join(places)}" for name, places in together.items())])
-        + "\n"
-    )
-
-
-def names_page(crates: list[Crate]) -> str:
-    return listed(
-        "Names",
-        [
-            (item.name, f"[{crate.name}]({crate.name}.md#{anchor_of(item.name)})")
-            for crate in crates
-            for item in crate.items
-        ],
-    )
-
-
-def definitions_page(crates: list[Crate]) -> str:
-    found = [
-        (definition.name, f"[{crate.name}]({crate.name}.md#{anchor_of(definition.name)})")
-        for crate in crates
-        for topic in crate.topics
-        for definition in topic.definitions
-    ]
-    return listed("Definitions", found)
-
-
-def clauses_page(crates: list[Crate]) -> str:
-    found = [
-        (clause.name, f"[{item.name}]({crate.name}.md#{anchor_of(item.name)})")
-        for crate in crates
-        for item in crate.items
-        for clause in item.clauses
-        if clause.name
-    ]
-    return listed("Clauses", found)
-
-
-def pages(top: Path) -> dict[str, str]:
-    """All pages by their file's name."""
+def pages(top: Path, out: Path) -> dict[str, str]:
+    """All pages by their file's name, as they are in a folder."""
     crates = read_crates(top)
     known = {crate.name for crate in crates}
-    made = {f"{crate.name}.md": page_of(crate, known) for crate in crates}
-    made |= {"README.md": index_page(crates), "names.md": names_page(crates)}
-    return made | {"definitions.md": definitions_page(crates), "clauses.md": clauses_page(crates)}
+    made = {"README.md": index_page(crates), **{f"{crate.name}.md": page_of(crate, known) for crate in crates}}
+    up = f"]({os.path.relpath(top, out)}/"
+    return {name: text.replace(UP, up) for name, text in made.items()}
 
 
 def faults(top: Path) -> list[str]:
-    """What has no comment, a line each: public items, definitions, files of definitions, crates."""
+    """What has no comment, a line each: crates, and of those that aren't tests public items and definitions."""
     found: list[str] = []
     for crate in read_crates(top):
         if not crate.docs:
             found.append(f"crates/{crate.name}: its root module has no comment")
+        if crate.group == TESTS:
+            continue
         found += [
             f"crates/{crate.name}/{item.file}:{item.line}: {item.name} has no comment"
             for item in crate.items

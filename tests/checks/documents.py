@@ -5,7 +5,7 @@ Each name in `code` that can only be one of the sources is one. Each path in `co
 somewhere, headings too. Each block of code below `<!-- from FILE -->` has lines of this file, in their order, where `..`
 stands for any, and each block of Rust has such a line. Each crate of crates.txt is in docs/ARCHITECTURE.md. The tables
 of calls, numbers and flags are those of the sources.
-docs/reference is what dev/make-reference makes, and docs/HEADLINE.md what dev/make-headline makes.
+dev/make-reference makes its pages, and finds no item without a comment. docs/HEADLINE.md is what dev/make-headline makes.
 The manual page passes `mandoc -T lint`, where that is installed.
 
 Exit status: 0 where all is so, 1 where not, with a line for each, 2 on wrong use.
@@ -18,6 +18,7 @@ import re
 import shutil
 import subprocess
 import sys
+import tempfile
 from collections.abc import Iterator
 from pathlib import Path
 
@@ -27,10 +28,8 @@ TOP = Path(__file__).resolve().parents[2]
 sys.path.insert(0, str(TOP))
 
 from dev.reference import headline  # noqa: E402
-from dev.reference.__main__ import differences  # noqa: E402
-from dev.reference.pages import pages as reference_pages  # noqa: E402
+from dev.reference.pages import faults, pages  # noqa: E402
 
-REFERENCE = Path("docs/reference")
 MANUALS = [Path("docs/diltzekun.1"), Path("docs/diltzekun-live.1")]
 # Pages whose names in `code` are those of the sources.
 OF_SOURCES = ("PROOF.md", "MODEL.md", "PROTOCOLS.md", "ARCHITECTURE.md", "LIBRARY.md", "PROVING.md")
@@ -189,11 +188,14 @@ def check_crates() -> Iterator[str]:
 
 
 def check_reference() -> Iterator[str]:
-    """Pages of the reference that are not what the sources say."""
-    found = differences(REFERENCE, reference_pages(Path()))
-    yield from found[:20]
-    if found:
-        yield "run dev/make-reference"
+    """Items and definitions without a comment, and links of the reference that lead nowhere."""
+    yield from faults(Path())
+    with tempfile.TemporaryDirectory() as name:
+        out = Path(name).resolve()
+        for page, text in pages(TOP, out).items():
+            for target in {target for target, _ in LINK.findall(text) if target.startswith("..")}:
+                if not (out / target).exists():
+                    yield f"dev/make-reference: {page}: there is no {target}"
 
 
 def check_tables() -> Iterator[str]:
@@ -225,7 +227,7 @@ def main() -> int:
     of_pages = (check_names, check_links, check_paths, check_excerpts, check_crates, check_tables, check_manual)
     checks = (*of_pages, check_reference, check_headline)
     wrong = [line for check in checks for line in check()]
-    right = "documents: every name, path and link leads somewhere, and the reference is of its sources"
+    right = "documents: every name, path and link leads somewhere, and each item has a comment"
     print("\n".join(wrong) if wrong else right)
     return 1 if wrong else 0
 

@@ -1,4 +1,4 @@
-"""The maker of docs/reference: what it reads of a source, and what it writes of it."""
+"""The maker of the reference: what it reads of a source, and what it writes of it."""
 from __future__ import annotations
 
 import sys
@@ -118,15 +118,18 @@ class Reading(unittest.TestCase):
         self.assertEqual(topic.definitions[0].text, "abbrev pub many : ℕ → ℕ\nmany sheep = sheep")
 
     def test_a_page_links_to_the_lines(self) -> None:
-        made = pages.pages(self.top)
+        made = pages.pages(self.top, self.top / "made/reference")
         self.assertIn("[src/flock.rt:18](../../crates/sheep/src/flock.rt#L18)", made["sheep.md"])
         self.assertIn("[one sheep is lost](../../crates/sheep/must-fail/one_sheep_is_lost.edit)", made["sheep.md"])
         self.assertIn("- [sheep](sheep.md): Counts sheep.", made["README.md"])
         self.assertIn("## Farm", made["README.md"])
-        self.assertIn("- `added`: [Flock::add](sheep.md#flockadd)", made["clauses.md"])
+        self.assertIn("](../docs/PROOF.md#", pages.pages(self.top, self.top / "made")["README.md"])
 
     def test_what_has_no_comment_is_listed(self) -> None:
         self.assertEqual(pages.faults(self.top), ["crates/sheep/specs/Flocks.antt:8: IsFlock has no comment"])
+        crates = self.top / "crates.txt"
+        crates.write_text(crates.read_text().replace("# farm", f"# {pages.TESTS}"))
+        self.assertEqual(pages.faults(self.top), [])
 
 
 if __name__ == "__main__":
