@@ -7,7 +7,8 @@ from typing import NamedTuple
 
 from ..model import Area
 
-MAP_WIDTH, FOLD, WIDE_FOLD, LEAST_CELL, MOST_CELL = 640, 26, 84, 9, 150
+MOST_WIDTH, FOLD, LEAST_CELL, MOST_CELL = 640, 26, 9, 150
+READABLE = 31  # the width of a cell of one page in which its protection can be read
 MOST_SHOWN = 30  # areas; where there are more, only those near a change are shown
 
 
@@ -27,7 +28,7 @@ class Axis:
     changes, are folded to a narrow one.
     """
 
-    def __init__(self, lists: list[list[Area]], faults: list[int]) -> None:
+    def __init__(self, lists: list[list[Area]], faults: list[int], room: float) -> None:
         shown = self.areas_shown(lists, faults)
         borders = sorted({page for area in shown for page in (area.lo, area.hi)})
         self.shown = set(shown)
@@ -45,7 +46,7 @@ class Axis:
         above = [area for area in quiet if borders and area.lo >= borders[-1]]
         if above:
             self.cells.append(Cell(None, None, None, len(above)))
-        self.measure()
+        self.measure(room)
 
     @staticmethod
     def covered(areas: Iterable[Area]) -> list[list[int]]:
@@ -73,12 +74,15 @@ class Axis:
         }
         return moving | near
 
-    def measure(self) -> None:
-        """Widths: by the logarithm of the pages, so that a page is seen beside a gigabyte."""
+    def measure(self, room: float) -> None:
+        """Widths: by the logarithm of the pages, so that a page is seen beside a gigabyte. They fill the room, or take more
+        where cells could not be read.
+        """
         weights = [weight for _, _, weight, _ in self.cells if weight]
-        self.fold = WIDE_FOLD if len(self.cells) <= 12 else FOLD
-        room = max(MAP_WIDTH - self.fold * (len(self.cells) - len(weights)), 200)
-        unit = min(room / sum(weights), MOST_CELL) if weights else 0
+        self.fold = FOLD
+        folds = FOLD * (len(self.cells) - len(weights))
+        wanted = min(max(room, folds + READABLE * sum(weights)), MOST_WIDTH)
+        unit = min(max(wanted - folds, 200) / sum(weights), MOST_CELL) if weights else 0
         self.x: dict[int, float] = {}
         self.starts: list[float] = []
         x = 0.0

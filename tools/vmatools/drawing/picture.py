@@ -11,7 +11,8 @@ from .runs import Item, Run
 from .svg import Attributes, COLOURS, FAINT, INK, RULE, circle, number, path, picture_of, rect, svg_front, words
 
 ROW, HEAD, LANE, NARROW_LANE, PAD = 24, 30, 22, 14, 14
-CALL_WIDTH = 428
+WIDTH, LEAST_CALL_WIDTH, MOST_CALL_WIDTH = 830, 250, 428
+MARGIN = 66  # right of the map: the last address, slanted, and the edge
 CHUNK = 25  # versions in one part of a page
 MONO = "ui-monospace,SFMono-Regular,Menlo,Consolas,'DejaVu Sans Mono',monospace"
 FILLS: dict[str, str] = {
@@ -118,15 +119,23 @@ class Picture:
         self.threads = sorted({item.line.thread for item in self.items})
         self.lane = LANE if len(self.threads) <= 12 else NARROW_LANE
         faults = [item.line.arguments[0] // PAGE for item in self.items if item.line.word == "fault"]
-        self.axis = Axis(self.lists, faults)
         self.out: list[str] = []
+        self.lanes_x = PAD + 46
+        self.text_x = self.lanes_x + self.lane * len(self.threads) + 6
+        self.call_width = min(max(map(self.text_width, self.items), default=0), MOST_CALL_WIDTH)
+        self.call_width = max(self.call_width, LEAST_CALL_WIDTH)
+        self.map_x = self.text_x + self.call_width + 26
+        self.axis = Axis(self.lists, faults, WIDTH - self.map_x - MARGIN)
 
     # Where things stand
 
+    def text_width(self, item: Item) -> float:
+        """The room that a line takes with its result."""
+        label = 6.5 * max(len(f"L{item.line.number}"), 3) + 8
+        result = short_result(item) + (f"  ≠ {item.expected}" if item.expected is not None else "")
+        return label + 6.7 * len(short_call(item.line, self.files)) + 6.2 * len(result) + 14
+
     def lay_out(self) -> None:
-        self.lanes_x = PAD + 46
-        self.text_x = self.lanes_x + self.lane * len(self.threads) + 6
-        self.map_x = self.text_x + CALL_WIDTH + 26
         spaces = sorted(self.axis.x.items())
         longest = max((len(f"{page * PAGE:x}") for page in self.axis.x), default=4)
         self.slanted = any(
@@ -166,7 +175,7 @@ class Picture:
         self.changes()
         for item, row in zip(self.items, self.rows):
             self.item(item, row)
-        label = f"Versions {self.first} to {self.last} of the list of areas, by address, with the calls and faults of each thread"
+        label = f"Versions {self.first} to {self.last} of the list of VMAs, by address, with the calls and faults of each thread"
         return picture_of(self.width, self.height, label, self.out)
 
     def version_bands(self) -> None:
@@ -208,7 +217,7 @@ class Picture:
         self.out.append(words(self.text_x, self.top - 13, "what each thread does", fill=FAINT, font_size=10))
         self.out.append(
             words(
-                self.text_x + CALL_WIDTH,
+                self.text_x + self.call_width,
                 self.top - 13,
                 "what it results in",
                 fill=FAINT,
@@ -217,10 +226,10 @@ class Picture:
             )
         )
         if self.axis.cells:
-            self.out.append(words(self.map_x, PAD + 6, "areas of the list, by address →", fill=FAINT, font_size=10))
+            self.out.append(words(self.map_x, PAD + 6, "VMAs by address →", fill=FAINT, font_size=10))
 
     def addresses(self) -> None:
-        """A rule at each border of an area, and its address where there is room."""
+        """A rule where a VMA begins or ends, and its address where there is room."""
         last = -1e9
         for page, x in sorted(self.axis.x.items()):
             x += self.map_x
@@ -241,7 +250,7 @@ class Picture:
 
     def folded(self, x: float, quiet: int) -> None:
         """A gap, or areas that stay as they are."""
-        said = f"{quiet} areas that stay as they are" if quiet else "a gap, folded"
+        said = f"{quiet} VMAs that stay as they are" if quiet else "a gap, folded"
         width = self.axis.fold
         middle = x + width / 2
         zigzag = "".join(f"l{'4' if step % 2 else '-4'} 6" for step in range(int((self.bottom - self.top + 4) // 6)))
@@ -387,7 +396,7 @@ class Picture:
         title += f"\nThe model says {item.expected}" if item.expected else ""
         wrong = item.expected is not None
         if wrong:
-            self.out.append(rect(self.text_x - 4, row, CALL_WIDTH + 12, ROW - 4, rx=3, fill="#fde7e7", stroke=RED))
+            self.out.append(rect(self.text_x - 4, row, self.call_width + 12, ROW - 4, rx=3, fill="#fde7e7", stroke=RED))
         dot, radius = RED if item.was_refused else colour, 4 if self.lane == LANE else 3
         if item.is_call:
             self.out.append(circle(x, y, radius + 1, title, fill=dot, stroke="#fff", stroke_width=1.5))
@@ -397,7 +406,7 @@ class Picture:
         label = f"L{line.number}"
         self.out.append(words(self.text_x, row + 14.5, label, font_size=10, fill=FAINT))
         begin = self.text_x + 6.5 * max(len(label), 3) + 8
-        room = self.text_x + CALL_WIDTH - begin - 6.2 * len(result) - 14
+        room = self.text_x + self.call_width - begin - 6.2 * len(result) - 14
         said = fitted(short_call(line, self.files), room, 6.7)
         self.out.append(
             words(
@@ -412,7 +421,7 @@ class Picture:
         )
         self.out.append(
             words(
-                self.text_x + CALL_WIDTH,
+                self.text_x + self.call_width,
                 row + 14.5,
                 result,
                 title,
@@ -434,7 +443,7 @@ class Picture:
         colour = RED if item.was_refused else thread_colour(item.line.thread)
         self.out.append(
             path(
-                f"M{number(self.text_x + CALL_WIDTH + 5)} {number(y)}H{number(x - 6)}",
+                f"M{number(self.text_x + self.call_width + 5)} {number(y)}H{number(x - 6)}",
                 stroke=colour,
                 stroke_width=1.1,
                 stroke_dasharray="2 3",
@@ -529,4 +538,4 @@ def picture(runs: list[Run], files: Files) -> str:
             parts.append(text.replace("<svg ", f'<svg y="{y}" ', 1).rstrip("\n"))
             y += math.ceil(drawn.height)
             width = max(width, drawn.width)
-    return picture_of(width, y, "The areas of a run, version by version", [*key, *parts])
+    return picture_of(width, y, "The VMAs of a run, version by version", [*key, *parts])
