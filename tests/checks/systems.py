@@ -18,13 +18,14 @@ from collections.abc import Iterator
 from pathlib import Path
 
 from checking import TOOL, fail, main, passed, skipped
-from vmatools import console, generator
+from vmatools import conformance, console, generator
 from vmatools.program import TOP
 from vmatools.systems import batch, building, known, measuring, seen
 from vmatools.systems.places import Refused
+from vmatools.traces import read_trace
 
 TRACES = 300
-WANTED = "L3 t0 v1 = -1 ENOSYS\nL4 t3 v1 = SIGSEGV SEGV_MAPERR\nL6 t0 v1 = maps 0\nmaps 0\n"
+WANTED = "L3 t0 v1 = 0\nL4 t3 v1 = SIGSEGV SEGV_MAPERR\nL6 t0 v1 = maps 0\nmaps 0\n"
 TRACE = b"vmatrace 1\n# a comment\n0 munmap 0x10000 4096\n3 fault 0x10000 r\n\n0 maps\n"
 ADAPTERS = TOP / "examples/batch"
 
@@ -33,8 +34,9 @@ def adapters(folder: Path) -> Iterator[tuple[str, list[str]]]:
     """The adapters of examples/batch that can be run here, each with its language."""
     yield "Python", [sys.executable, str(ADAPTERS / "adapter.py")]
     compilers = {
-        "C": ["cc", "-O2", "-Wall", "-Wextra", "-Werror", "-o", str(folder / "c"), str(ADAPTERS / "adapter.c")],
-        "Go": ["go", "build", "-o", str(folder / "go"), str(ADAPTERS / "adapter.go")],
+        "C": ["cc", "-O2", "-std=c99", "-Wall", "-Wextra", "-Werror", "-o", str(folder / "c"), str(ADAPTERS / "adapter.c")],
+        "Rust": ["rustc", "-O", "--edition", "2021", "-D", "warnings", "-o", str(folder / "rust"), str(ADAPTERS / "adapter.rs")],
+        "Go": ["go", "build", "-o", str(folder / "go"), str(ADAPTERS / "adapter.go"), str(ADAPTERS / "vma_adapter.go")],
     }
     for language, command in compilers.items():
         if not shutil.which(command[0]):
@@ -69,6 +71,7 @@ def check_batch() -> None:
                 answer = adapter.run(TRACE, 30)
                 if answer.output != WANTED or answer.fault:
                     fail(f"the adapter in {language}", f"answers {answer}")
+                check_cases(language, adapter)
                 begin = time.monotonic()
                 for number in range(TRACES):
                     if adapter.run(texts[number % len(texts)], 30).fault:
@@ -77,6 +80,17 @@ def check_batch() -> None:
                     f"{TOOL}: the adapter in {language}: {TRACES / (time.monotonic() - begin):.0f} traces a second",
                     flush=True,
                 )
+
+
+def check_cases(language: str, adapter: batch.Adapter) -> None:
+    """An adapter passes each case of the suite whose calls it has."""
+    assert adapter.has
+    cases = [case for case in conformance.read_suite() if adapter.has.keeps(read_trace(case.trace.encode()))]
+    for case in cases:
+        answer = adapter.run(case.trace.encode(), 30)
+        if answer.output not in case.right:
+            fail(f"the adapter in {language}", f"answers {case.where} by {answer}")
+    passed(f"the adapter in {language}, on {len(cases)} cases")
 
 
 def check_ends() -> None:

@@ -19,6 +19,7 @@ from .comparison import HANGS, Examined, Sides, examine, is_trace, may_answer
 from .console import Failure, Progress, say
 from .fitting import fitted
 from .findings import Finding, Findings, Journal, Kind
+from .systems.capabilities import Capabilities
 from .traces import BadLine, Trace, read_trace
 from .windows import EmptyFit, Fit
 from .words import repeated
@@ -45,7 +46,7 @@ class Settings:
     only: list[int] = field(default_factory=list)
     folder: Optional[Path] = None
     has_coverage: bool = False
-    fit: Optional[Union[Fit, EmptyFit]] = None  # how traces become such as the system can run
+    fit: Optional[Union[Fit, EmptyFit, Capabilities]] = None  # how traces become such as the system can run
     words: list[str] = field(default_factory=list)  # those that a command needs to repeat a finding
 
     def identity(self) -> dict[str, Any]:

@@ -48,6 +48,7 @@ GROUPS = {
     ),
     "Compare a system with the program": (
         Command("compare", "compare --runs 40 -- examples/page-table"),
+        Command("new-adapter", "new-adapter python my-adapter", "new_adapter"),
         Command("emit", "emit --runs 100 traces"),
         Command("conform", "conform -- examples/page-table"),
         Command("kernel", "kernel < examples/tour.trace"),
@@ -82,7 +83,7 @@ def whole_help() -> str:
     lines = [ABOUT]
     for title, commands in GROUPS.items():
         lines.append(f"{title}:")
-        lines += [f"  {command.name:10}{command.load().SUMMARY}" for command in commands]
+        lines += [f"  {command.name:12}{command.load().SUMMARY}" for command in commands]
         lines.append("")
     return "\n".join([*lines, AFTER])
 

@@ -110,8 +110,12 @@ def runs(options: argparse.Namespace) -> Iterator[Callable[[Case], Ran]]:
         yield lambda case: run_command(options.command, case.trace.encode(), options.seconds)
         return
     adapters = Adapters(options.command, Adapter if options.live is None else LiveAdapter)
+    has = adapters.capabilities(options.seconds) if options.live is None and not options.system else None
 
     def ran(case: Case) -> Ran:
+        lacked = has.lacked(read_trace(case.trace.encode())) if has else None
+        if lacked:
+            return Ran("", conformance.CANNOT_RUN, f"the adapter has no {lacked}")
         answer = adapters.run(case.trace.encode(), options.seconds)
         return Ran(answer.output, answer.fault, answer.message)
 

@@ -1,7 +1,8 @@
 """Many traces for one process, one after the other: the protocol of `--batch`, from both sides.
 
 To the adapter go a line `trace N SECONDS`, the lines of the trace, and a line `end N`. From it come the lines of the
-output, and a line `end N`; or `end N STATUS WHY` where it cannot run the trace. N counts the traces. SECONDS is how
+output, and a line `end N`; or `end N STATUS WHY` where it cannot run the trace. Before its first answer it may write a line
+`has WORD..`, as capabilities.py says. N counts the traces. SECONDS is how
 long the trace may take: an adapter that can end its system earlier does so, and answers `hung`.
 """
 from __future__ import annotations
@@ -20,11 +21,13 @@ from typing import IO
 from .. import children
 from ..console import Failure
 from ..program import why_not_run
+from .capabilities import PROBE, Capabilities, split
 from .running import ended, read_some, write_all
 
 MOST_OUTPUT = 64 << 20
 END_SECONDS = 2.0  # for an adapter to end by itself, with what it started
 DOES_NOT_END = "does not end"
+PROBE_SECONDS = 5.0  # for a trace without a line
 
 
 @dataclass(frozen=True)
@@ -46,6 +49,7 @@ class Adapter:
         self.command, self.number = command, 0
         self.process: subprocess.Popen[bytes] | None = None
         self.errors: IO[bytes] | None = None
+        self.has: Capabilities | None = None  # as it says before its first answer, if it does
 
     def run(self, text: bytes, seconds: float) -> Answer:
         process = self.process or self.begin()
@@ -64,7 +68,9 @@ class Adapter:
         last = data.rfind(b"\n", 0, len(data) - 1) + 1
         if not data.startswith(b"end %d" % self.number, last):
             return None
-        return answer_of(data[:last], data[last:].decode("utf-8", "replace").split(maxsplit=3))
+        has, output = split(data[:last])
+        self.has = has or self.has
+        return answer_of(output, data[last:].decode("utf-8", "replace").split(maxsplit=3))
 
     def begin(self) -> subprocess.Popen[bytes]:
         errors = tempfile.TemporaryFile()
@@ -160,6 +166,12 @@ class Adapters:
         finally:
             with self.lock:
                 self.idle.append(adapter)
+
+    def capabilities(self, seconds: float) -> Capabilities | None:
+        """What an adapter says that it has, in its answer to a trace without a line."""
+        self.run(PROBE, min(seconds, PROBE_SECONDS))
+        with self.lock:
+            return next((adapter.has for adapter in self.idle if adapter.has), None)
 
     def close(self) -> None:
         with self.lock:

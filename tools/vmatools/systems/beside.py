@@ -77,6 +77,8 @@ def prepared(options: argparse.Namespace, settings: Settings, sides: Sides) -> I
         if options.batch:
             sides.adapters = Adapters(sides.command)
             stack.callback(sides.adapters.close)
+            if not options.system:
+                take_capabilities(settings, sides, sides.adapters)
         if options.live and not options.threads:
             sides.live = Adapters([options.live], LiveAdapter)
             stack.callback(sides.live.close)
@@ -94,6 +96,16 @@ def prepared(options: argparse.Namespace, settings: Settings, sides: Sides) -> I
                 raise console.Failure(f"--linux: the running kernel cannot answer here: {why}")
             sides.rules.linux = reference.agrees
         yield
+
+
+def take_capabilities(settings: Settings, sides: Sides, adapters: Adapters) -> None:
+    """Makes traces of what COMMAND says that it has, if it says so."""
+    has = adapters.capabilities(settings.seconds)
+    if has is None or not has.missing:
+        return
+    console.say(f"COMMAND has no {', '.join(has.missing)}: traces are made without")
+    settings.fit = has
+    sides.rules.last_lists = sides.rules.last_lists and "maps" in has.words
 
 
 def fit_of(options: argparse.Namespace, sides: Sides) -> windows.Fit | windows.EmptyFit:

@@ -1,0 +1,177 @@
+"""Adapters: what `serve` makes of a class, what an adapter says that it has, and that traces are made of that alone."""
+from __future__ import annotations
+
+import contextlib
+import io
+import os
+import subprocess
+import sys
+import tempfile
+import unittest
+from pathlib import Path
+from typing import Any
+
+TOP = Path(__file__).resolve().parents[2]
+sys.path.insert(0, str(TOP / "tools"))
+from vmatools import adapter, model
+from vmatools.adapter import Area, File, Settings
+from vmatools.systems.batch import Adapter, Adapters
+from vmatools.systems.capabilities import Capabilities, split
+from vmatools.traces import PAGE, read_trace
+
+EXAMPLE = [sys.executable, str(TOP / "examples/batch/adapter.py")]
+ANONYMOUS = "MAP_PRIVATE|MAP_ANONYMOUS"
+
+
+class ByModel:
+    """A space that answers as the model does, through the methods of an adapter."""
+
+    def __init__(self, settings: Settings) -> None:
+        self.settings, self.space, self.known = settings, model.Space(read_trace(b"vmatrace 1\n")), dict[int, File]()
+        self.space.min, self.space.top, self.space.heap = (
+            place // PAGE for place in (settings.min, settings.top, settings.heap)
+        )
+        self.space.most_areas, self.space.break_ = settings.limit, settings.heap
+        self.munmap, self.mprotect, self.mseal = self.space.munmap, self.space.mprotect, self.space.mseal
+        self.brk, self.mremap = self.space.brk, self.space.mremap
+
+    def mmap(self, address: int, length: int, prot: int, flags: int, file: File | None, offset: int) -> int | str:
+        return self.space.mmap(address, length, prot, flags, -1, offset)
+
+    def areas(self) -> list[Area]:
+        return [Area(a.lo * PAGE, a.hi * PAGE, a.prot, a.shared, 0, None, a.heap) for a in self.space.areas]
+
+    def fault(self, address: int, access: str) -> Area | str:
+        grown = self.space.grow(address, access)
+        verdict = self.space.fault(address, access)
+        if not grown and not verdict.startswith("served"):
+            return verdict
+        return next(area for area in self.areas() if area.start <= address < area.end)
+
+
+class Few:
+    """A space with one call, which fails as it is asked."""
+
+    lacks = ("fork", "MAP_SHARED")
+
+    def __init__(self, settings: Settings) -> None:
+        self.replies = iter((0x10000, -12, "EFAULT", OSError(22, "Invalid"), None))
+
+    def munmap(self, address: int, length: int) -> Any:
+        reply = next(self.replies)
+        if isinstance(reply, OSError):
+            raise reply
+        return reply
+
+
+def output(space_type: Any, text: str) -> str:
+    with contextlib.redirect_stderr(io.StringIO()):
+        return adapter.answered(space_type, text.encode())[0]
+
+
+class Served(unittest.TestCase):
+    def test_what_the_model_answers(self) -> None:
+        text = (
+            f"vmatrace 1\nlimit areas 6\nheap 0x200000\n0 mmap 0x20000 4096 PROT_READ|PROT_WRITE {ANONYMOUS}|MAP_GROWSDOWN -1 0\n"
+            "2 fault 0x1f008 w\n1 fault 0x1f008 r\n0 brk 0x201000\n0 maps\n0 fork 5\n5 munmap 0x200000 4096\n5 maps\n"
+            "0 mremap 0x1f000 8192 4096 0\n0 mseal 0x1f000 4096 0\n0 mprotect 0x1f000 4096 PROT_READ\n"
+        )
+        from vmatools.serial import serial_output
+
+        self.assertEqual(output(ByModel, text), serial_output(read_trace(text.encode())))
+
+    def test_replies_of_every_kind(self) -> None:
+        text = "vmatrace 1\n" + "0 munmap 0x10000 4096\n" * 5
+        results = [line.split(" = ")[1] for line in output(Few, text).splitlines()[:-1]]
+        self.assertEqual(results, ["0x10000", "-1 ENOMEM", "-1 EFAULT", "-1 EINVAL", "0"])
+
+    def test_shared_memory_has_its_number_where_the_call_is_done(self) -> None:
+        numbers = []
+
+        class Shared:
+            def __init__(self, settings: Settings) -> None:
+                pass
+
+            def mmap(self, *arguments: Any) -> int:
+                numbers.append(arguments[4].inode)
+                return -22 if len(numbers) == 1 else 0x10000
+
+        line = "0 mmap 0 4096 PROT_READ MAP_SHARED|MAP_ANONYMOUS -1 0\n"
+        output(Shared, "vmatrace 1\nfile 3 r 1 0:0 1 /a\n" + line * 3)
+        self.assertEqual(numbers, [2, 2, 3])
+
+    def test_a_bad_trace_and_a_fault_of_the_class(self) -> None:
+        with contextlib.redirect_stderr(io.StringIO()) as said:
+            self.assertEqual(adapter.answered(Few, b"vmatrace 3\n"), ("", " 3 trace line 1 cause 1 Header"))
+            self.assertEqual(adapter.answered(Few, b"vmatrace 1\n" + b"0 munmap 0 1\n" * 6), ("", " 1 StopIteration: "))
+        self.assertIn("Traceback", said.getvalue())
+
+
+class Has(unittest.TestCase):
+    def test_what_a_class_has(self) -> None:
+        self.assertEqual(adapter.capabilities(Few), "has munmap limit top min file wide -MAP_SHARED")
+        self.assertEqual(adapter.capabilities(ByModel)[:20], "has mmap fault maps ")
+
+    def test_the_line_before_the_first_answer(self) -> None:
+        has, rest = split(b"has munmap -MAP_SHARED\nmaps 0\n")
+        self.assertEqual((has and has.words, rest), (frozenset({"munmap", "-MAP_SHARED"}), b"maps 0\n"))
+        self.assertEqual(split(b"maps 0\n"), (None, b"maps 0\n"))
+
+    def test_traces_are_made_of_it_alone(self) -> None:
+        has = Capabilities(frozenset("mmap munmap maps min -MAP_SHARED".split()))
+        trace = read_trace(
+            f"vmatrace 2\nlimit areas 9\nmin 0x20000\nfile 3 r 1 0:0 1 /a\n0 mmap 0 4096 PROT_READ {ANONYMOUS} -1 0\n"
+            "0 mmap 0 4096 PROT_READ MAP_SHARED|MAP_ANONYMOUS -1 0\n0 mmap 0 4096 PROT_READ MAP_PRIVATE 3 0\n"
+            "0 fork 4\n4 munmap 0x1000 4096\n1 munmap 0x1000 4096 after=5\n0 fault 0 r\n0 maps\n".encode()
+        )
+        self.assertEqual(has.lacked(trace), "wide")
+        self.assertEqual(
+            has.fitted(trace).text(),
+            f"vmatrace 1\nmin 0x20000\n0 mmap 0 4096 PROT_READ {ANONYMOUS} -1 0\n1 munmap 0x1000 4096 after=3\n0 maps\n",
+        )
+        self.assertTrue(has.keeps(has.fitted(trace)))
+
+    def test_an_adapter_that_says_so_and_one_that_does_not(self) -> None:
+        for command, has in ((EXAMPLE, True), ([sys.executable, "-c", OLDER], False)):
+            adapters = Adapters(command)
+            self.addCleanup(adapters.close)
+            self.assertEqual(bool(adapters.capabilities(60)), has)
+            self.assertEqual(adapters.run(b"vmatrace 1\n", 60).output, "maps 0\n")
+
+    def test_one_that_ends_says_it_again(self) -> None:
+        one = Adapter(EXAMPLE)
+        self.addCleanup(one.close)
+        for _ in range(2):
+            self.assertEqual(one.run(b"vmatrace 1\n", 60).output, "maps 0\n")
+            one.close()
+
+
+OLDER = """
+import sys
+for line in sys.stdin:
+    if line.startswith("end "):
+        print("maps 0", line, sep="\\n", end="", flush=True)
+"""
+
+
+class Example(unittest.TestCase):
+    def test_one_trace_without_batch(self) -> None:
+        text = (TOP / "examples/readme.trace").read_text()
+        done = subprocess.run(EXAMPLE, input=text, capture_output=True, text=True)
+        self.assertEqual((done.returncode, done.stdout), (0, (TOP / "examples/readme.out").read_text()))
+
+    def test_a_new_adapter_runs_where_it_is_written(self) -> None:
+        with tempfile.TemporaryDirectory() as folder:
+            words = [sys.executable, str(TOP / "tools/vma"), "new-adapter"]
+            for language, names in (("python", ["adapter.py"]), ("c", ["adapter.c", "vma_adapter.h"])):
+                done = subprocess.run([*words, language, f"{folder}/{language}"], capture_output=True, text=True)
+                self.assertEqual((done.returncode, sorted(os.listdir(f"{folder}/{language}"))), (0, names), done.stderr)
+            done = subprocess.run([*words, "c", f"{folder}/c"], capture_output=True, text=True)
+            self.assertEqual((done.returncode, done.stdout), (2, ""))
+            self.assertIn("adapter.c: it is there already", done.stderr)
+            own = subprocess.run([f"{folder}/python/adapter.py"], input="vmatrace 1\n0 maps\n", capture_output=True, text=True)
+            self.assertEqual(own.stdout, "L2 t0 v0 = maps 0\nmaps 0\n")
+
+
+if __name__ == "__main__":
+    unittest.main()

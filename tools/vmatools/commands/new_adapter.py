@@ -1,0 +1,66 @@
+"""Writes an adapter that runs: a small address space in Python, C, Rust or Go, in whose place your system comes.
+
+FOLDER gets the adapter and, but in Python, the file that reads traces and writes the results, which depends on nothing. The
+adapter is one of examples/batch, a sorted list of VMAs, and passes all cases of the suite that it has the calls for.
+
+Exit status: 0 if the files are written, 2 on wrong use, or if one of them is there already.
+"""
+from __future__ import annotations
+
+import argparse
+import os
+from dataclasses import dataclass
+from pathlib import Path
+
+from .. import console, program
+
+SUMMARY = "write an adapter that runs, in whose place your system comes"
+EXAMPLES = program.TOP / "examples/batch"
+OWN_PLACE = 'str(Path(__file__).resolve().parents[2] / "tools")'  # where the example in Python finds the tools
+
+
+@dataclass(frozen=True)
+class Language:
+    """Its files, and the command that makes a program of them, if one does."""
+
+    files: tuple[str, ...]
+    build: str = ""
+
+
+LANGUAGES = {
+    "python": Language(("adapter.py",)),
+    "c": Language(("adapter.c", "vma_adapter.h"), "cc -O2 -o adapter adapter.c"),
+    "rust": Language(("adapter.rs", "vma_adapter.rs"), "rustc -O --edition 2021 -o adapter adapter.rs"),
+    "go": Language(("adapter.go", "vma_adapter.go"), "go build -o adapter adapter.go vma_adapter.go"),
+}
+
+
+def add_arguments(parser: argparse.ArgumentParser) -> None:
+    parser.add_argument("language", metavar="LANGUAGE", choices=LANGUAGES, help=", ".join(LANGUAGES))
+    parser.add_argument("folder", metavar="FOLDER", type=Path, help="where the files come; it is made if it isn't there")
+
+
+def run(options: argparse.Namespace) -> int:
+    language = LANGUAGES[options.language]
+    console.make_folder(options.folder)
+    for name in language.files:
+        if os.path.lexists(options.folder / name):
+            raise console.Failure(f"{options.folder / name}: it is there already")
+    for name in language.files:
+        text = (EXAMPLES / name).read_text(encoding="utf-8")
+        tools = str(Path(program.__file__).resolve().parents[1])
+        console.write_file(options.folder / name, text.replace(OWN_PLACE, repr(tools)))
+    made = "./adapter.py" if options.language == "python" else "./adapter"
+    if options.language == "python":
+        (options.folder / "adapter.py").chmod(0o755)
+    print("\n".join(next_steps(options.folder, language, made)))
+    return console.DONE
+
+
+def next_steps(folder: Path, language: Language, made: str) -> list[str]:
+    lines = [f"{folder / name}" for name in language.files]
+    vma = program.TOP / "tools/vma"
+    vma_word = str(vma) if vma.exists() else "vma"
+    build = [f"  {language.build}"] if language.build else []
+    vma_words = [f"  {vma_word} {name} --batch -- {made}" for name in ("conform", "compare")]
+    return [*lines, "", f"In {folder}:", *build, *vma_words]
