@@ -12,6 +12,7 @@ CHECKS = Path(__file__).resolve().parents[1] / "checks"
 sys.path.insert(0, str(CHECKS))
 import checking
 import judged_runs
+import kit
 
 
 class Histories(unittest.TestCase):
@@ -54,6 +55,18 @@ class Peaks(unittest.TestCase):
         self.assertEqual(self.resident("/bin/sh", "-c", "exit 3")[0], 3)
         self.assertEqual(self.resident("/bin/sh", "-c", "kill -9 $$")[0], 137)
         self.assertNotEqual(self.resident(sys.executable, "-ISc", "bytearray(1 << 30)", addresses=1 << 29)[0], 0)
+
+
+class Kit(unittest.TestCase):
+    def test_its_letter_is_free_and_its_logic_is_not(self) -> None:
+        with mock.patch("builtins.print"):
+            kit.check_logic("0123abcd", "rattle-kit-13b logic 0123abcd\n")
+            for told, why in (
+                ("rattle-kit-14a logic 4567\n", r"its logic is 4567 \(rattle-kit-14a\), and kit-version has 0123abcd"),
+                ("rt: no kit\n", "names no logic"),
+            ):
+                with self.assertRaisesRegex(checking.Failed, why):
+                    kit.check_logic("0123abcd", told)
 
 
 if __name__ == "__main__":
