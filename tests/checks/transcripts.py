@@ -41,6 +41,8 @@ FILES = ("README.md", "CONTRIBUTING.md")
 FENCE = "```"
 DIRECTIVE = re.compile(r"<!-- (prints|file|lines of|not run:) (.*) -->")
 SECONDS = 300
+# What commands need that may not be installed. Their blocks are passed over then, which is said.
+NEEDS = {"tools/vma kernel": "cc", "tools/vma rows": "cc", "tools/vma record": "strace", "mandoc ": "mandoc"}
 
 
 @dataclass(frozen=True)
@@ -145,11 +147,21 @@ def check_beside(block: Block, words: str, folder: str, program: str) -> None:
             fail(block.name, f"the {side} shows\n" + "\n".join(shown) + "\nand not\n" + "\n".join(lines))
 
 
+def missing_for(block: Block) -> str | None:
+    """What a command of a block needs and is not installed."""
+    commands = [line for line in block.lines if line.startswith("$ ")] + [block.directive[1] if block.directive else ""]
+    needed = (tool for words, tool in NEEDS.items() for command in commands if words in command)
+    return next((tool for tool in needed if shutil.which(tool) is None), None)
+
+
 def check_block(block: Block, folder: str, program: str) -> bool:
     """Whether the block is one of a run, which has been made."""
     kind, words = block.directive or ("", "")
     if kind == "not run:":
         skipped(block.name, words)
+    elif missing := missing_for(block):
+        skipped(block.name, f"{missing} is not installed")
+        return False
     elif kind == "file":
         (Path(folder) / words).write_text("\n".join(block.lines) + "\n")
     elif kind == "prints":

@@ -4,6 +4,7 @@ from __future__ import annotations
 import os
 import subprocess
 import sys
+import tempfile
 import unittest
 from pathlib import Path
 from unittest import mock
@@ -11,8 +12,10 @@ from unittest import mock
 CHECKS = Path(__file__).resolve().parents[1] / "checks"
 sys.path.insert(0, str(CHECKS))
 import checking
+import examples
 import judged_runs
 import kit
+from models.loading import module_of
 
 
 class Histories(unittest.TestCase):
@@ -67,6 +70,48 @@ class Kit(unittest.TestCase):
             ):
                 with self.assertRaisesRegex(checking.Failed, why):
                     kit.check_logic("0123abcd", told)
+
+
+class Examples(unittest.TestCase):
+    """A wrong output beside a trace, and one that is not legal, are found; no fork is judged."""
+
+    def check(self, trace: str, output: str, judged: str) -> None:
+        with tempfile.TemporaryDirectory(dir=checking.TOP) as folder:
+            path, program = Path(folder, "a.trace"), Path(folder, "program")
+            path.write_text(trace)
+            path.with_suffix(".out").write_text("right\n")
+            program.write_text(f"#!/bin/sh\ncat > /dev/null\n[ $1 = check ] && echo {judged} || echo {output}\n")
+            program.chmod(0o755)
+            examples.check_output(str(program), "serial", path)
+
+    def test_what_is_found(self) -> None:
+        self.check("vmatrace 1\n0 maps\n", "right", "legal")
+        self.check("vmatrace 1\n0 fork 1\n", "right", "bad 2")
+        for output, judged in (("wrong", "legal"), ("right", "'bad 2'")):
+            with self.assertRaises(checking.Failed):
+                self.check("vmatrace 1\n0 maps\n", output, judged)
+
+
+class Running(unittest.TestCase):
+    """Under which Pythons checks run."""
+
+    def setUp(self) -> None:
+        self.tests = module_of(checking.TOP / "tests/run")
+
+    def pythons(self, said: str, *names: str) -> list[str]:
+        done = subprocess.CompletedProcess([], 0, said)
+        place = mock.patch.object(self.tests, "SYSTEM_PYTHON", "/bin/sh")
+        with place, mock.patch.object(subprocess, "run", return_value=done), mock.patch("builtins.print") as printed:
+            found = list(self.tests.pythons(list(names)))
+        self.assertEqual(printed.called, said.startswith("3 9 "))
+        return found
+
+    def test_another_version_is_tried_where_all_run(self) -> None:
+        own = sys.executable
+        self.assertEqual(self.pythons("3 99 0"), [own, "/bin/sh"])
+        self.assertEqual(self.pythons("3 99 0", "unit"), [own])
+        self.assertEqual(self.pythons(" ".join(map(str, sys.version_info[:3]))), [own])
+        self.assertEqual(self.pythons("3 9 2"), [own])
 
 
 if __name__ == "__main__":

@@ -19,12 +19,14 @@ from typing import Any
 from unittest import mock
 
 TOP = Path(__file__).resolve().parents[2]
-sys.path.insert(0, str(TOP / "tools"))
+sys.path[:0] = [str(TOP / "tools"), str(TOP / "tests")]
+from models.loading import needs
 from vmatools import VERSION, cli, console, program, versions
 from vmatools.systems import adapter, batch
 
 VMA = str(TOP / "tools/vma")
 TRACE = str(TOP / "examples/readme.trace")
+NEEDS_CC = needs("cc")
 
 
 def run(*words: str, **more: Any) -> subprocess.CompletedProcess[str]:
@@ -283,6 +285,7 @@ class Ends(unittest.TestCase):
                     _, message = process.communicate(timeout=300)
         self.assertEqual((process.returncode, message), (console.INTERRUPTED, b"vma explain: interrupted\n"))
 
+    @NEEDS_CC
     def test_a_trace_that_is_given_as_a_word(self) -> None:
         given = run("kernel", TRACE, stdin=subprocess.DEVNULL)
         with open(TRACE, "rb") as source:
@@ -295,6 +298,7 @@ class Ends(unittest.TestCase):
         told = f"vma kernel: with --batch the traces come on standard input, and not in {TRACE}\n"
         self.assertEqual((done.returncode, done.stderr), (console.WRONG_USE, told))
 
+    @NEEDS_CC
     def test_an_input_that_is_closed(self) -> None:
         done = run("kernel", preexec_fn=partial(os.close, 0))
         self.assertEqual((done.returncode, done.stderr), (console.WRONG_USE, "vma kernel: standard input: it is closed\n"))
@@ -324,6 +328,7 @@ class Ends(unittest.TestCase):
         done = run("rows", "--here", "--program", sys.executable, "limit-jion")
         self.assertIn("no row has the name limit-jion; did you mean limit-join?", done.stderr)
 
+    @NEEDS_CC
     def test_a_row_of_a_trace_of_ones_own(self) -> None:
         with tempfile.TemporaryDirectory() as folder:
             program = Path(folder, "program")

@@ -2,19 +2,17 @@
 from __future__ import annotations
 
 import gzip
-import importlib.util
 import io
 import struct
 import sys
 import tempfile
 import unittest
-from importlib.machinery import SourceFileLoader
 from pathlib import Path
-from types import ModuleType
 from unittest import mock
 
 TOP = Path(__file__).resolve().parents[2]
-sys.path.insert(0, str(TOP / "tools"))
+sys.path[:0] = [str(TOP / "tools"), str(TOP / "tests")]
+from models.loading import module_of  # noqa: E402
 from vmatools import console, generator, model, windows  # noqa: E402
 from vmatools.commands import kernel  # noqa: E402
 from vmatools.systems import (
@@ -39,16 +37,6 @@ WINDOW = Window(0x10000, 0x2000000)
 
 def trace_of(*lines: str) -> Trace:
     return read_trace("".join(line + "\n" for line in ("vmatrace 1", *lines)).encode())
-
-
-def module_of(path: Path) -> ModuleType:
-    """A program that is no module by its name."""
-    loader = SourceFileLoader(path.name, str(path))
-    spec = importlib.util.spec_from_loader(path.name, loader)
-    assert spec
-    module = sys.modules[path.name] = importlib.util.module_from_spec(spec)
-    loader.exec_module(module)
-    return module
 
 
 class Places(unittest.TestCase):

@@ -1,0 +1,52 @@
+#!/usr/bin/env python3
+"""Runs the program on each example: the output beside a trace is what `serial` gives, and `check` calls it legal. The output
+beside a script is what `steps` gives. Of each row of docs/KERNEL.md the program's side is as in examples/kernel-rows.txt.
+
+PROGRAM is crates/vma_main/out/vma_main by default. No trace that forks is judged. It ends with status 1 at the first output that
+differs, and 2 on wrong use, or where the program is missing.
+"""
+from __future__ import annotations
+
+import argparse
+import re
+import subprocess
+import sys
+from pathlib import Path
+
+from checking import TOP, answer, check_ended, compare, fail, main, passed
+
+FOLDER = TOP / "examples"
+SECONDS = 10
+FORK = re.compile(rb"^[0-9]+ +fork ", re.MULTILINE)
+
+
+def check_output(program: str, mode: str, path: Path) -> None:
+    """What a mode gives for a file is beside it, and is legal."""
+    name, text, right = str(path.relative_to(TOP)), path.read_bytes(), path.with_suffix(".out").read_bytes()
+    done, _ = answer(name, [program, mode], SECONDS, input=text)
+    check_ended(name, done, 0)
+    compare(name, done.stdout, right)
+    if mode == "serial" and not FORK.search(text):
+        judged, _ = answer(name, [program, "check"], SECONDS, input=text + b"==\n" + right)
+        check_ended(f"{name}, check", judged, 0)
+        compare(f"{name}, check", judged.stdout, b"legal\n")
+
+
+def check_rows(program: str) -> None:
+    command = [sys.executable, str(TOP / "tools/vma"), "rows", "--here", "--program", program]
+    done = subprocess.run(command, capture_output=True, text=True)
+    if done.returncode:
+        fail("the rows of docs/KERNEL.md", done.stdout + done.stderr)
+
+
+def check(options: argparse.Namespace) -> None:
+    found = {mode: sorted(FOLDER.rglob(f"*.{ending}")) for mode, ending in (("serial", "trace"), ("steps", "steps"))}
+    for mode, paths in found.items():
+        for path in paths:
+            check_output(options.program, mode, path)
+    check_rows(options.program)
+    passed(f"{len(found['serial'])} traces, {len(found['steps'])} scripts and the rows of docs/KERNEL.md")
+
+
+if __name__ == "__main__":
+    main(check)
