@@ -73,7 +73,6 @@ def add_arguments(parser: argparse.ArgumentParser) -> None:
     parser.add_argument(
         "--jobs", type=count, default=os.cpu_count() or 1, metavar="N", help="cases at once (as many as processors)"
     )
-    parser.add_argument("--suite", type=Path, default=conformance.SUITE, metavar="FOLDER", help="the suite (suite/)")
     parser.add_argument("--list", action="store_true", help="print the cases and what each shows, and run none")
     for form in FORMS:
         parser.add_argument(
@@ -193,7 +192,6 @@ def repeating(given: argparse.Namespace, case: Case) -> str:
     """The command that runs a case again, by the words that were given."""
     words = ["--only", case.where]
     words += ["--as", given.profile] if given.profile != "profile" else []
-    words += ["--suite", str(given.suite)] if given.suite != conformance.SUITE else []
     words += ["--seconds", f"{given.seconds:g}"] if given.seconds != SECONDS else []
     words += ["--batch"] if given.batch else []
     words += ["--system", given.system] if given.system else []
@@ -226,9 +224,9 @@ def open_forms(options: argparse.Namespace, stack: contextlib.ExitStack) -> dict
 
 def run(options: argparse.Namespace) -> int:
     """Runs the suite."""
-    cases = conformance.read_suite(options.suite, options.only, options.profile == "linux")
+    cases = conformance.read_suite(names=options.only, as_linux=options.profile == "linux")
     if not cases:
-        raise console.Failure(f"{options.suite} has no case")
+        raise console.Failure(f"{conformance.SUITE} has no case")
     if options.list:
         print("\n".join(f"{case.where}: {case.says}" for case in cases))
         return 0

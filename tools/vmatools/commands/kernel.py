@@ -65,7 +65,7 @@ def seconds_of(text: str) -> float:
 def add_arguments(parser: argparse.ArgumentParser) -> None:
     told = "\n".join(f"  {system.name:13} {system.says}" for system in known.KNOWN.values())
     parser.usage = (
-        "vma kernel [--system NAME | --under COMMAND] [--window LO-HI] [--shift N] [--link N] [--processor NAME]"
+        "vma kernel [--system NAME | --under COMMAND] [--window LO-HI] [--shift N] [--link N]"
         " [--folder FOLDER] [--seconds N] [--batch] [TRACE]"
     )
     parser.epilog = (
@@ -84,7 +84,6 @@ def add_arguments(parser: argparse.ArgumentParser) -> None:
     parser.add_argument(
         "--link", metavar="N", type=address_of, help=f"where the program that makes the calls lies ({known.LOW_LINK:#x})"
     )
-    parser.add_argument("--processor", choices=["x86_64", "aarch64"], help="that of the system (of this machine)")
     parser.add_argument("--folder", metavar="FOLDER", help="makes the trace's files there (they are gone at the end)")
     parser.add_argument(
         "--seconds", metavar="N", type=seconds_of, help="gives a trace so long (60, in a window 5, in a machine 20)"
@@ -107,7 +106,6 @@ def system_of(options: argparse.Namespace) -> known.System:
         system,
         window=window,
         link=options.link or system.link,
-        processor=options.processor or system.processor,
         seconds=options.seconds or system.seconds,
     )
 
