@@ -1,11 +1,9 @@
 #!/usr/bin/env python3
-"""Tries `vma compare` and `vma explain`: on the program itself, on systems that are wrong in one thing each, and on
-broken traces.
+"""Tries `vma compare` on the program itself, and on systems that are wrong in one thing each.
 
 PROGRAM is crates/vma_main/out/vma_main by default. The wrong systems are those of tools/vmatools/mutants.py. Each has to be
-found, with --kernel and without, and the smallest trace has at most five lines below the header. Of each broken trace the
-line and the cause that `vma explain` names have to be those of the program. Takes less than a minute; --runs 2000 --broken 500
-takes longer.
+found, with --kernel and without, and the smallest trace has at most five lines below the header. Takes less than a minute;
+--runs 2000 takes longer.
 
 Exit status: 0 where all is as it should be, 1 at the first thing that is not, 2 on wrong use, or where the program is
 missing.
@@ -17,7 +15,6 @@ import contextlib
 import io
 import os
 import pathlib
-import random
 import re
 import subprocess
 import sys
@@ -28,7 +25,7 @@ from typing import NoReturn
 from xml.etree import ElementTree
 
 from checking import Failed, main, passed
-from vmatools import cli, comparison, explanations, generator, mutants, program as programs, serial, traces
+from vmatools import cli, comparison, generator, mutants, program as programs, serial, traces
 from vmatools.commands import compare
 
 HERE = os.path.dirname(os.path.abspath(__file__))
@@ -284,134 +281,6 @@ def wrong_status(tool: str, words: list[str], wanted: int, named: str) -> str | 
     return None
 
 
-# Broken traces
-
-PIECES = [
-    "after=2",
-    "after=",
-    "0",
-    "-1",
-    "+5",
-    "64",
-    "0x",
-    "0xg",
-    "18446744073709551616",
-    "PROT_NONE",
-    "PROT_READ|PROT_READ",
-    "MAP_ANON",
-    "r",
-    "rw",
-    "x",
-    "3",
-    "maps",
-    "fork",
-    "1",
-    "file",
-    "limit",
-    "areas",
-    "heap",
-    "top",
-    "min",
-    "mmap",
-    "|",
-    "#",
-    "\t",
-    "\r",
-    "0x1000",
-    "65531",
-    "4095",
-    "MREMAP_FIXED",
-    "\ufeff",
-    "8:1",
-    "fffff:1",
-    "00000000000000000000001",
-    "0 fork 2",
-    "2 maps",
-]
-LINES = [
-    "0 maps",
-    "1 fork 2",
-    "0 fork 1",
-    "0 fork 0",
-    "1 brk 0 after=3",
-    "file 3 r 1 0:0 1 /a",
-    "# note",
-    "",
-    "0 maps\n" * 65,
-]
-
-
-def broken(draw: random.Random, text: str) -> bytes:
-    """A good trace with something changed in it, mostly so that a line is bad: words, bytes and lines."""
-    lines = text.split("\n")[:-1]
-    for _ in range(draw.choice([1, 1, 2])):
-        place = draw.randrange(len(lines))
-        words = lines[place].split(" ")
-        at = draw.randrange(len(words))
-        how = draw.randrange(9)
-        if how == 0:
-            del words[at]
-        elif how == 1:
-            words.insert(at, draw.choice(PIECES))
-        elif how in (2, 3):
-            words[at] = draw.choice(PIECES)
-        elif how == 4:
-            words.append(draw.choice(["after=2", "after=3", "after=x", f"after={place}", draw.choice(PIECES)]))
-        elif how == 5:
-            words[at] = words[at][:-1] + draw.choice(["x", "|", ":", "\r", "9", "é", ""])
-        elif how == 6:
-            words = draw.choice(lines).split(" ")
-        elif how == 7:
-            lines.insert(place, draw.choice([*lines, *LINES]))
-            continue
-        else:
-            words[at] += draw.choice(PIECES)
-        lines[place] = " ".join(words)
-    data = ("\n".join(lines) + "\n").encode()
-    end = draw.randrange(40)
-    ends = [
-        data[:-1],
-        data.replace(b"0", b"\xff", 1),
-        data.replace(b"\n", b"\r\n"),
-        b"\xef\xbb\xbf" + data,
-        data + b"#" * 4097 + b"\n",
-    ]
-    return ends[end] if end < len(ends) else data
-
-
-def explained(data: bytes) -> str:
-    """The program's line on standard error as `vma explain` has it, and its sentence."""
-    try:
-        traces.read_trace(data)
-    except traces.BadLine as bad:
-        sentence, (text, span) = explanations.explain(bad), explanations.marked_span(bad)
-        if not sentence or not 0 <= span[0] < span[1]:
-            fail(f"{bad}: no sentence or no mark for {text[:100]!r}")
-        return f"trace {bad}\n"
-    return ""
-
-
-def check_explanations(program: str, count: int) -> None:
-    """The line and the cause that are explained are the program's."""
-    began, draw, causes = time.monotonic(), random.Random("broken"), set[str]()
-    profiles = [name for name in generator.PROFILES if name != "many"]
-    goods = (
-        generator.Generator(profiles[number % len(profiles)], f"broken {number}", 6).draw().text()
-        for number in range(count)
-    )
-    texts = [broken(draw, good) for good in goods]
-    with ThreadPoolExecutor() as pool:
-        runs = list(pool.map(lambda data: subprocess.run([program, "serial"], input=data, capture_output=True), texts))
-    for number, (data, done) in enumerate(zip(texts, runs)):
-        ours, theirs = explained(data), done.stderr.decode()
-        causes.update(re.findall(r"\d+ (\w+)$", theirs.strip()))
-        if ours != theirs or done.returncode != (3 if theirs else 0):
-            fail(
-                f"broken trace {number}: explained as `{ours.strip()}`, and the program says `{theirs.strip()}`:\n{data[:2000]!r}"
-            )
-    told(f"{count} broken traces, with {len(causes)} causes, explained by the program's line and cause", began)
-
-
 def check_adapter() -> None:
     """The adapter of docs/COMPARE.md writes the form of an output."""
     for name in ("readme", "two-mappings"):
@@ -425,7 +294,6 @@ def check_adapter() -> None:
 def add_arguments(parser: argparse.ArgumentParser) -> None:
     what = "traces on which the program is compared with itself (40)"
     parser.add_argument("--runs", type=int, default=40, metavar="N", help=what)
-    parser.add_argument("--broken", type=int, default=40, metavar="N", help="broken traces (40)")
 
 
 def check(options: argparse.Namespace) -> None:
@@ -436,7 +304,6 @@ def check(options: argparse.Namespace) -> None:
     check_wrong(program)
     check_rules(program)
     check_reports(program)
-    check_explanations(program, options.broken)
     check_adapter()
     check_statuses(program)
 

@@ -3,8 +3,8 @@
 
 PROGRAM is crates/vma_main/out/vma_main by default, and LIVE crates/vma_live/out/vma_live. Of N inputs of each mode, all of
 which come from the seed S, status, standard output and standard error have to be those that the models of tools/vmatools
-give, of `threads` an output that `vma judge` accepts; words that are none of the modes' are refused. `vma
-explain` has to name the same line and cause. 10 N times an input is an address space of a session, each of which has to
+give, of `threads` an output that `vma judge` accepts; words that are none of the modes' are refused. `vma explain`
+has a sentence and a mark for each bad line. 10 N times an input is an address space of a session, each of which has to
 answer as its model does, and as `serial` does where it is a trace. A run that takes too long fails. It ends with status 1 at
 the first input that differs, which it leaves in FOLDER, and 2 on wrong use, or where a program is missing.
 """
@@ -19,7 +19,7 @@ from pathlib import Path
 
 from checking import LIVE, Failed, answer, check_ended, compare, fail, live_of, main, passed
 import hostile_inputs as inputs
-from vmatools import judging, live, maps_texts, serial, traces
+from vmatools import explanations, judging, live, maps_texts, serial, traces
 from vmatools.unproved import scripts, sessions
 
 Answer = tuple[int, bytes, bytes]  # status, standard output, standard error
@@ -62,16 +62,6 @@ def judged(data: bytes) -> Answer:
         return 3, b"", b"trace line %d cause 11 NoEnd\n" % (data.count(b"\n") + 1)
     wrong = judging.first_wrong(reader.trace.with_lines(lines), text)
     return 0, f"bad {wrong.line}\n".encode() if wrong else b"legal\n", b""
-
-
-def explained(data: bytes) -> Answer:
-    """What `vma explain` takes for the first bad line of a trace."""
-    try:
-        for _ in traces.Reader(data):
-            pass
-    except traces.BadLine as bad:
-        return refused(bad)
-    return 0, b"", b""
 
 
 # Runs
@@ -188,12 +178,18 @@ def check_beside_serial(session: str, runs: Runs) -> None:
 
 
 def check_explained(runs: Runs) -> None:
+    """Of each bad line a sentence is there, and a word or more is marked."""
+    causes: set[str] = set()
     for number, draw in enumerate(runs.draws("serial")):
         data = inputs.trace(draw)
-        wanted, got = replayed(data), explained(data)
-        if (got[0], got[2]) != (wanted[0], wanted[2]):
-            runs.leave(f"explain, input {number}", data, Failed(f"explain: {got[2]!r}, and not {wanted[2]!r}"))
-    passed(f"{runs.count} traces explained")
+        try:
+            traces.read_trace(data)
+        except traces.BadLine as bad:
+            causes.add(bad.cause)
+            text, (start, end) = explanations.marked_span(bad)
+            if not explanations.explain(bad) or not 0 <= start < end:
+                runs.leave(f"explain, input {number}", data, Failed(f"explain: {bad}: no sentence or no mark for {text[:100]!r}"))
+    passed(f"bad lines explained, of {len(causes)} causes")
 
 
 def add_arguments(parser: argparse.ArgumentParser) -> None:
