@@ -64,7 +64,7 @@ class Delaying:
     """Makes an order of calls, one after the other. Where a call can't answer as the kernel did, it may go back to the one that
     is in the way, which then waits for it. It ends where it has found that `most` or more calls are answered otherwise."""
 
-    def __init__(self, calls: Calls, goes_back: bool, most: int) -> None:
+    def __init__(self, calls: Calls, most: int) -> None:
         self.steps, self.most = calls.steps, most
         self.first = sorted((self.steps[thread[0]].end, thread[0]) for thread in calls.threads)
         self.behind = {one: other for thread in calls.threads for one, other in zip(thread, thread[1:])}
@@ -73,7 +73,7 @@ class Delaying:
         self.states: list[State | None] = []  # before each call of the order; old ones are let go
         self.done: set[int] = set()
         self.waits_for: dict[int, set[int]] = {}
-        self.left = MOST_PLACED * len(self.steps) + LEAST_PLACED if goes_back else 0
+        self.left = MOST_PLACED * len(self.steps) + LEAST_PLACED
 
     def found(self, model: Model) -> list[int]:
         """All places, in the order that was made; fewer where it has ended early."""
@@ -216,14 +216,13 @@ class Found(NamedTuple):
 
 
 def best_order(steps: list[Step], model: Model) -> Found:
-    """The order that explains the most, of a search, and of two that delay what makes room where that doesn't explain all."""
+    """The order that explains the most, of a search, and of one that delays what makes room where that doesn't explain all."""
     calls = Calls(steps)
     order = Order(calls)
     best = Found(order.found(model), order.different, order.was_ended)
-    for goes_back in (False, True):
-        delaying = Delaying(calls, goes_back, best.different)
-        places = delaying.found(model)
-        if len(places) == len(steps):
-            was_ended = best.was_ended or goes_back and delaying.left <= 0
-            best = Found(places, delaying.different, was_ended and delaying.different > 0)
-    return best
+    delaying = Delaying(calls, best.different)
+    places = delaying.found(model)
+    if len(places) < len(steps):
+        return best
+    was_ended = best.was_ended or delaying.left <= 0
+    return Found(places, delaying.different, was_ended and delaying.different > 0)
