@@ -62,17 +62,22 @@ class Remapping(Breaking):
     def lacks_areas(self) -> bool:
         return self.map_count + 2 >= self.max_map_count - 3
 
+    def is_near_limit(self, remap: Remap) -> bool:
+        """check_map_count_against_split_early; before 7.2 only a call with a place is tested."""
+        if self.rules.limits_each_mremap:
+            return self.map_count + (5 if remap.flags & MREMAP_DONTUNMAP else 4) > self.max_map_count
+        return remap.names_place and self.lacks_areas()
+
     # Since Linux 6.17
 
     def new_mremap(self, remap: Remap) -> int:
         """do_mremap: the page."""
         if remap.address % PAGE or not remap.news or remap.news > TASK_PAGES:
             raise Refusal("EINVAL")
-        if remap.names_place:
-            if self.is_bad_place(remap):
-                raise Refusal("EINVAL")
-            if self.lacks_areas():
-                raise Refusal("ENOMEM")
+        if remap.names_place and self.is_bad_place(remap):
+            raise Refusal("EINVAL")
+        if self.is_near_limit(remap):
+            raise Refusal("ENOMEM")
         if remap.flags & MREMAP_FIXED and remap.olds == remap.news:
             return self.remap_move(remap)
         vma = self.check_prep_vma(self.vma_lookup(remap.page), remap)
@@ -221,7 +226,8 @@ class Remapping(Breaking):
         return self.move_vma(vma, remap, place)
 
     def move_vma(self, vma: Vma, remap: Remap, place: int) -> int:
-        if self.map_count >= self.max_map_count - 3:
+        needed = 2 if self.rules.limits_each_mremap else 4
+        if self.map_count + needed > self.max_map_count:
             raise Refusal("ENOMEM")
         keeps_old = bool(remap.flags & MREMAP_DONTUNMAP)
         charged = remap.news if keeps_old else remap.news - remap.olds

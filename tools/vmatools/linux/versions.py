@@ -25,6 +25,7 @@ class Rules:
     loses_accounts: bool
     has_stale_seal: bool
     has_mseal: bool
+    limits_each_mremap: bool
 
 
 class WrongOracle(ValueError):
