@@ -13,6 +13,7 @@ from __future__ import annotations
 import argparse
 import contextlib
 import io
+import json
 import os
 import pathlib
 import re
@@ -25,7 +26,7 @@ from typing import NoReturn
 from xml.etree import ElementTree
 
 from checking import Failed, main, passed
-from vmatools import cli, comparison, generator, mutants, program as programs, serial, traces
+from vmatools import cli, comparison, generator, keeping, mutants, program as programs, serial, traces
 from vmatools.commands import compare
 
 HERE = os.path.dirname(os.path.abspath(__file__))
@@ -84,7 +85,7 @@ def compared(words: list[str], sides_type: type[comparison.Sides] | None = None)
 def smallest_traces(text: str) -> list[tuple[str, list[str]]]:
     """Of each kind in a report, its title and the lines below the header of its smallest trace."""
     kinds = re.findall(
-        r"^\d+\. (.*?) \(\d+ traces?; --ignore .*\n   the smallest trace:\n((?:     .*\n)+)", text, re.MULTILINE
+        r"^\d+\. (.*?) \(--ignore .*\n   the smallest trace:\n((?:     .*\n)+)", text, re.MULTILINE
     )
     return [(title, [line.strip() for line in trace.splitlines()[1:]]) for title, trace in kinds]
 
@@ -175,10 +176,72 @@ def check_rules(program: str) -> None:
             fail(f"--ignore {rule}: status {status}\n{text[-2000:]}")
     with tempfile.TemporaryDirectory() as folder:
         compared([*words, "--keep", folder, "--", "from-below"], OfModel)
-        kept = sorted(os.listdir(folder))
-        if kept[:3] != ["1-mmap.program", "1-mmap.trace", "1-mmap.yours"]:
+        kept = sorted(name for name in os.listdir(folder) if name.startswith("mmap-an-address-another-address-"))
+        if [pathlib.Path(name).suffix for name in kept] != [".program", ".trace", ".yours"]:
             fail(f"--keep leaves {kept}")
+        status, text = compared([*words[2:], "--only", "1000", "--keep", folder, "--", "right"], OfModel)
+        if status or "no difference now" not in text:
+            fail(f"--keep FOLDER doesn't run again what it has: status {status}\n{text[-2000:]}")
     told("--ignore and --keep", began)
+
+
+# An adapter of many traces that answers as a wrong model.
+ANSWERS = """
+import io, sys
+from vmatools import mutants, serial, traces
+from vmatools.systems.batch import requests
+model = mutants.MUTANTS.get(sys.argv[1], serial.Space)
+for request in requests(sys.stdin.buffer):
+    output = serial.serial_output(traces.read_trace(request.text), model)
+    print(f"{output}end {request.number}", flush=True)
+"""
+MOMENTS = 10  # at which a run is killed
+
+
+def check_kept(program: str) -> None:
+    """A run that was killed at any moment has lost nothing that it told, and no later one is green until its traces agree."""
+    began = time.monotonic()
+    with tempfile.TemporaryDirectory() as name:
+        folder, events, report = (pathlib.Path(name, what) for what in ("kept", "events", "report.xml"))
+        adapter = pathlib.Path(name, "adapter")
+        adapter.write_text(ANSWERS, encoding="utf-8")
+        words = ["--program", program, "--keep", str(folder), "--json", str(events), "--junit", str(report), "--batch"]
+        command = [sys.executable, os.path.join(TOOLS, "vma"), "compare", "--runs", "40", "--profile", "few", *words, "--"]
+        python = ["env", f"PYTHONPATH={TOOLS}", sys.executable, str(adapter)]
+        known: set[str] = set()
+        for moment in range(MOMENTS):
+            with subprocess.Popen([*command, *python, "from-below"], stdout=subprocess.DEVNULL, stderr=subprocess.DEVNULL) as run:
+                with contextlib.suppress(subprocess.TimeoutExpired):
+                    run.wait(0.3 + 0.4 * moment)
+                run.kill()
+            kept = kinds_in(folder)
+            missing = (known | told_in(events)) - kept
+            if missing or report.exists() and not report.read_text(encoding="utf-8").endswith("</testsuite>\n"):
+                fail(f"a run that was killed has lost {missing}, or left half a report")
+            known = kept
+        if not known:
+            fail("no run found anything before it was killed")
+        done = subprocess.run([*command, *python, "from-below"], capture_output=True, text=True)
+        names = {case.get("name") for case in ElementTree.parse(report).getroot()}
+        if done.returncode != 1 or not known <= told_in(events) & names:
+            fail(f"a run after ten that were killed: status {done.returncode}\n{done.stderr[-500:]}")
+        for system, wanted in (("from-below", 1), ("right", 0)):
+            done = subprocess.run([*command, *python, system], capture_output=True, text=True)
+            if done.returncode != wanted:
+                fail(f"{system} on the traces that were kept: status {done.returncode}\n{done.stdout[-2000:]}")
+    told(f"what is kept, over {MOMENTS} runs that are killed", began)
+
+
+def kinds_in(folder: pathlib.Path) -> set[str]:
+    """The kinds of whole traces in a folder."""
+    texts = (path.read_bytes() for path in folder.glob("*.trace"))
+    return {keeping.name_in(text.decode()) for text in texts if traces.read_trace(text)}
+
+
+def told_in(path: pathlib.Path) -> set[str]:
+    """The kinds that lines of JSON name, but for a last one that is cut off."""
+    lines = path.read_text(encoding="utf-8").split("\n")[:-1] if path.exists() else []
+    return {event["name"] for event in map(json.loads, lines) if "name" in event}
 
 
 def check_baseline(program: str, folder: str) -> None:
@@ -303,6 +366,7 @@ def check(options: argparse.Namespace) -> None:
     check_mutants()
     check_wrong(program)
     check_rules(program)
+    check_kept(program)
     check_reports(program)
     check_adapter()
     check_statuses(program)

@@ -18,10 +18,10 @@ from vmatools import children, keeper
 SECONDS = 60  # for what is done at once on a machine that is not busy
 # An adapter that hangs, with a child in its group and one in a session of its own. Each writes its number.
 HANGS = """
+{says}
 echo $$ >> {pids}
 sh -c 'echo $$ >> {pids}; while :; do sleep 1; done' &
 setsid sh -c 'echo $$ >> {pids}; while :; do sleep 1; done' &
-{says}
 while :; do sleep 1; done
 """
 
@@ -42,9 +42,10 @@ class Children(unittest.TestCase):
         self.pids = self.top / "pids"
         self.pids.touch()
 
-    def adapter(self, says: str = "") -> list[str]:
-        """The command of an adapter that hangs."""
+    def adapter(self, is_batch: bool = False) -> list[str]:
+        """The command of an adapter that hangs; of many traces, it answers the first, which has no line."""
         script = self.top / "adapter"
+        says = "read a; read b; read c; echo maps 0; echo end 1; read d" if is_batch else ""
         script.write_text(HANGS.format(pids=self.pids, says=says), encoding="utf-8")
         return ["sh", str(script)]
 
@@ -73,7 +74,7 @@ class Children(unittest.TestCase):
                 with self.subTest(batch=batch, number=number):
                     self.pids.write_text("")
                     words = ["conform", "--jobs", "1", "--seconds", "600", "--only", "brk", *batch, "--"]
-                    status, output, message = self.ended_by(number, *words, *self.adapter())
+                    status, output, message = self.ended_by(number, *words, *self.adapter(bool(batch)))
                     if number == signal.SIGINT:  # with a report of what there was
                         self.assertEqual(status, 130)
                         self.assertRegex(message, "interrupted: 0 of [0-9]+ cases")
@@ -90,7 +91,7 @@ class Children(unittest.TestCase):
                 with self.subTest(batch=batch, number=number):
                     self.pids.write_text("")
                     words = ["--jobs", "1", "--seconds", "600", "--program", str(program), "--traces", str(trace), *batch]
-                    status, _, _ = self.ended_by(number, "compare", *words, "--", *self.adapter())
+                    status, _, _ = self.ended_by(number, "compare", *words, "--", *self.adapter(bool(batch)))
                     self.assertEqual(status, wanted)
 
     def test_an_adapter_that_is_too_slow(self) -> None:

@@ -3,11 +3,17 @@ from __future__ import annotations
 
 import io
 import json
+import re
+import sys
+import tempfile
+import time
 import unittest
 from collections import Counter
 from pathlib import Path
+from typing import Any
 from xml.etree import ElementTree
 
+sys.path.insert(0, str(Path(__file__).resolve().parents[2] / "tools"))
 from vmatools import (
     campaign,
     comparison,
@@ -15,8 +21,11 @@ from vmatools import (
     coverage,
     findings,
     generator,
+    keeping,
     linux_cases,
     mutants,
+    ranking,
+    reports,
     shrinking,
     threaded,
 )
@@ -24,6 +33,7 @@ from vmatools.linux_borders import History
 from vmatools.linux_model import Kernel, Linux, predictions
 from vmatools.model import Space
 from vmatools.outputs import Difference, kind_of
+from vmatools.program import Ran
 from vmatools.traces import Trace, read_trace
 
 TWO = b"""vmatrace 1
@@ -193,27 +203,204 @@ class Reports(unittest.TestCase):
         self.assertEqual([suite.get(name) for name in ("tests", "failures", "skipped", "errors")], ["4", "2", "1", "0"])
 
 
+class Worse(comparison.InProcess):
+    """A system that gives each length of trace another wrong answer, of so many, after some time."""
+
+    def __init__(self, count: int, seconds: float = 0.0) -> None:
+        super().__init__(Space, comparison.Rules())
+        self.count, self.pause = count, seconds
+
+    def there(self, trace: Trace, seconds: float | None = None) -> Ran:
+        time.sleep(self.pause)
+        lines = [f"L{line.number} t0 v1 = -1 E{len(trace.lines) % self.count}\n" for line in trace.lines[:1]]
+        return Ran("".join(lines), None, "")
+
+
+class Without(comparison.InProcess):
+    """A system without an operation."""
+
+    def __init__(self, word: str) -> None:
+        super().__init__(Space, comparison.Rules())
+        self.word = word
+
+    def there(self, trace: Trace, seconds: float | None = None) -> Ran:
+        output = super().there(trace, seconds).output
+        for line in trace.lines:
+            if line.word == self.word:
+                output = re.sub(f"^(L{line.number} t.*) = .*$", r"\1 = -1 ENOSYS", output, flags=re.MULTILINE)
+        return Ran(output, None, "")
+
+
+class Refusing(Without):
+    """A system whose adapter can't run an operation."""
+
+    def there(self, trace: Trace, seconds: float | None = None) -> Ran:
+        line = next((line for line in trace.lines if line.word == self.word), None)
+        if line:
+            return Ran("", "ends with status 4", f"line {line.number}: it has no {self.word}")
+        return comparison.InProcess.there(self, trace, seconds)
+
+
+class Ranking(unittest.TestCase):
+    def test_what_counts_most(self) -> None:
+        pairs = [
+            ("munmap", "an output", "does not end", "hang"),
+            ("munmap", "0", "hung", "hang"),
+            ("brk", "an address", "ended with status 1", "crash"),
+            ("mmap", "an output", "ends by signal SIGSEGV", "crash"),
+            ("mmap", "list: mapped", "list: not mapped", "lost or wrong data"),
+            ("fault", "served", "SIGSEGV SEGV_MAPERR", "lost or wrong data"),
+            ("fault", "served", "SIGSEGV SEGV_ACCERR", "protection"),
+            ("mprotect", "list: permissions", "list: other permissions", "protection"),
+            ("mmap", "list: joined", "list: apart", "list"),
+            ("fault", "SIGSEGV SEGV_MAPERR", "SIGSEGV SEGV_ACCERR", "reply"),
+            ("mmap", "-1 EEXIST", "an address", "reply"),
+            ("mmap", "an address", "another address", "place"),
+        ]
+        for operation, here, there, wanted in pairs:
+            self.assertEqual(ranking.name_of(Difference(operation, here, there, 2, [], [])), wanted)
+
+    def finding(self, operation: str, here: str, there: str, *lines: str) -> findings.Finding:
+        text = "".join(f"{line}\n" for line in ("vmatrace 1", *lines))
+        difference = Difference(operation, here, there, len(lines) + 1, [], [])
+        return findings.Finding("/".join(difference[:3]), difference, text, "trace 0", "")
+
+    def test_what_vanishes_with_the_operation_of_another(self) -> None:
+        place = "0 mmap 0x10000 4096 PROT_READ MAP_PRIVATE|MAP_ANONYMOUS|MAP_FIXED -1 0"
+        kept = place.replace("MAP_FIXED", "MAP_FIXED_NOREPLACE")
+        move = "0 mremap 0x10000 4096 4096 MREMAP_MAYMOVE"
+        one = self.finding("mmap", "-1 EEXIST", "an address", place, kept)
+        two = self.finding("mmap", "-1 EEXIST", "-1 ENOMEM", place, kept)
+        three = self.finding("munmap", "list: mapped", "list: not mapped", place, kept, "0 munmap 0x10000 4096")
+        crash = self.finding("mremap", "an address", "ended with status 1", place, move)
+        after = self.finding("brk", "an address", "ended with status 1", place, move, "0 brk 0")
+        other = self.finding("munmap", "0", "-1 EINVAL", place, "0 munmap 0x10000 4096")
+        found = ranking.above({one.name: one for one in (crash, after, one, two, three, other)})
+        self.assertEqual(found, {after.name: crash.name, two.name: one.name, three.name: one.name})
+
+
 class Runs(unittest.TestCase):
     """A run of many traces, and what it finds."""
 
     def campaign(
-        self, told: findings.Findings, runs: int, journal: findings.Journal | None = None
+        self,
+        told: findings.Findings,
+        runs: int | None,
+        journal: findings.Journal | None = None,
+        sides: comparison.Sides | None = None,
+        report: reports.Report | None = None,
+        kept: keeping.Kept | None = None,
+        **more: Any,
     ) -> campaign.Campaign:
-        settings = campaign.Settings(["model"], ["few", "edges"], runs, 12, words=["--lines", "12"])
-        sides = comparison.InProcess(mutants.MunmapPastEnd, comparison.Rules())
-        return campaign.Campaign(settings, sides, told, journal)
+        settings = campaign.Settings(["model"], ["few", "edges"], runs, 12, words=["--lines", "12"], **more)
+        sides = sides or comparison.InProcess(mutants.MunmapPastEnd, comparison.Rules())
+        return campaign.Campaign(settings, sides, told, journal, report, kept)
+
+    def traces(self, count: int) -> Path:
+        """A folder with so many traces."""
+        folder = tempfile.TemporaryDirectory()
+        self.addCleanup(folder.cleanup)
+        for number in range(count):
+            Path(folder.name, f"{number:02}.trace").write_text("vmatrace 1\n" + "0 munmap 0 4096\n" * (number + 1))
+        return Path(folder.name)
 
     def test_kinds_are_counted_and_shrunk(self) -> None:
         told, stream = findings.Findings(), io.StringIO()
         run = self.campaign(told, 16, findings.Journal(stream))
         run.run()
-        run.shrink()
         (name, kind), *others = told.in_order()
         self.assertEqual((name, others), ("munmap/-1 EINVAL/-1 ENOMEM", []))
         self.assertEqual(read_trace(kind.shortest.trace.encode()).lines[0].word, "munmap")
         self.assertIn("--lines 12 --only", kind.shortest.repeat)
         events = [json.loads(line)["event"] for line in stream.getvalue().splitlines()]
-        self.assertEqual(events, ["finding"] * kind.count + ["smallest"])
+        self.assertEqual((events[0], Counter(events)), ("finding", Counter(finding=kind.count, smallest=1)))
+
+    def test_each_kind_is_told_at_once_and_its_small_trace_below(self) -> None:
+        told, stream = findings.Findings(), io.StringIO()
+        run = self.campaign(told, 16, report=reports.Report(stream))
+        run.run()
+        run.report.end(told, False, None)  # type: ignore[union-attr]
+        title = "1. munmap: program -1 EINVAL, yours -1 ENOMEM"
+        lines = stream.getvalue().splitlines()
+        self.assertRegex(lines[0], f"^{title} [(]trace [0-9]+ of seed 1, profile (few|edges)[)]$")
+        self.assertEqual(lines[1], f"{title} (--ignore 'munmap/-1 EINVAL/-1 ENOMEM')")
+        self.assertEqual(lines[2], "   the smallest trace:")
+        ranked = lines[lines.index("what counts most first:") + 1]
+        self.assertRegex(ranked, f"^  reply +{title} [(][0-9]+ traces?[)]$")
+
+    def test_a_run_ends_where_ten_kinds_are_open(self) -> None:
+        for goes_on in (False, True):
+            told = findings.Findings()
+            run = self.campaign(told, 3, sides=Worse(campaign.MOST_OPEN + 5), goes_on=goes_on, folder=self.traces(20))
+            run.run()
+            self.assertEqual((len(told.in_order()) > campaign.MOST_OPEN, told.is_full), (goes_on, not goes_on))
+            self.assertEqual(any("`--all` goes on" in line for line in told.told_lines()), not goes_on)
+
+    def test_all_of_a_run_is_within_its_time(self) -> None:
+        """The traces, what is made small, and the report: each run of the system takes a second."""
+        told, stream = findings.Findings(), io.StringIO()
+        run = self.campaign(told, None, sides=Worse(3, 1.0), for_seconds=1.5, report=reports.Report(stream))
+        begin = time.monotonic()
+        run.run()
+        run.report.end(told, False, None)  # type: ignore[union-attr]
+        self.assertLess(time.monotonic() - begin, 3.5)
+        self.assertTrue(told.kinds)
+        self.assertIn("a trace, which was not made small", stream.getvalue())
+
+    def test_a_call_that_is_not_there_is_told_once(self) -> None:
+        told, stream = findings.Findings(), io.StringIO()
+        run = self.campaign(told, 16, sides=Without("munmap"), report=reports.Report(stream))
+        run.run()
+        self.assertEqual((told.lacks, list(told.kinds), told.traces), ({"munmap"}, [], 16))
+        line = "munmap: not there, left out of all traces (-1 ENOSYS); `--with munmap` keeps it\n"
+        self.assertEqual(stream.getvalue(), line)
+        sides = Without("munmap")
+        sides.kept = {"munmap"}
+        told = findings.Findings()
+        self.campaign(told, 16, sides=sides).run()
+        self.assertIn("munmap/0/-1 ENOSYS", told.kinds)
+
+    def test_what_the_adapter_cannot_run_is_left_out(self) -> None:
+        told = findings.Findings()
+        self.campaign(told, 16, sides=Refusing("munmap")).run()
+        self.assertEqual((list(told.kinds), told.left_out.total() + told.traces), ([], 16))
+        self.assertEqual(set(told.left_out), {"it has no munmap"})
+        lines = list(told.told_lines())
+        self.assertIn(f"left out: {console.counted(told.left_out.total(), 'trace')}: it has no munmap", lines)
+        half = any(line.startswith("left out: more than half") for line in lines)
+        self.assertEqual(half, told.left_out.total() > told.traces)
+        self.assertGreater(told.left_out.total(), told.traces)
+
+    def test_what_writes_nothing_is_told_once(self) -> None:
+        told = findings.Findings()
+        with tempfile.TemporaryDirectory() as folder:
+            program = Path(folder, "program")
+            program.write_text("#!/bin/sh\necho maps 0\n", encoding="utf-8")
+            program.chmod(0o755)
+            self.campaign(told, 3, sides=comparison.Sides(str(program), ["true"], 30, comparison.Rules())).run()
+        self.assertEqual((list(told.kinds), told.differing), (["run/an output/writes nothing"], 3))
+
+    def test_what_was_kept_is_run_again_first_and_stays_red(self) -> None:
+        with tempfile.TemporaryDirectory() as name:
+            folder = Path(name, "kept")
+            self.campaign(findings.Findings(), 16, kept=keeping.Kept.opened(folder)).run()
+            (trace,) = folder.glob("*.trace")
+            self.assertEqual(keeping.name_in(trace.read_text(encoding="utf-8")), "munmap/-1 EINVAL/-1 ENOMEM")
+            self.assertEqual({path.suffix for path in folder.iterdir()}, {".trace", ".program", ".yours"})
+            told, stream = findings.Findings(), io.StringIO()
+            self.campaign(told, 1, findings.Journal(stream), kept=keeping.Kept.opened(folder)).run()
+            self.assertEqual((list(told.kinds), told.has_new), (["munmap/-1 EINVAL/-1 ENOMEM"], True))
+            self.assertEqual(json.loads(stream.getvalue().splitlines()[0])["source"], str(trace))
+            told = findings.Findings()
+            right = comparison.InProcess(Space, comparison.Rules())
+            self.campaign(told, 1, sides=right, kept=keeping.Kept.opened(folder)).run()
+            self.assertEqual((told.agree, told.has_new), ([str(trace)], False))
+            told = findings.Findings()
+            run = self.campaign(told, 1, for_seconds=0.0, kept=keeping.Kept.opened(folder))
+            run.run()  # no time for it
+            self.assertTrue(told.has_new)
+            self.assertEqual(told.not_run, {str(trace): "munmap/-1 EINVAL/-1 ENOMEM"})
+            self.assertIn("not run again", findings.junit(told, False, None))
 
     def test_an_output_of_threads_is_blamed_on_its_line(self) -> None:
         trace = read_trace(TWO)

@@ -159,6 +159,11 @@ class Reports(unittest.TestCase):
         self.assertEqual(done.stdout.count("failed: mmap: not there, as each answer is -1 ENOSYS: 2 cases"), 1)
         self.assertNotIn("munmap/again", done.stdout)
 
+    def test_an_adapter_that_writes_nothing_is_told_so_once(self) -> None:
+        done = self.conform("cat > /dev/null")
+        self.assertEqual((done.returncode, done.stdout), (1, ""))
+        self.assertRegex(done.stderr, "^vma conform: COMMAND writes nothing, not even the list at the end: .*\n$")
+
     def test_what_counts_most_stands_first(self) -> None:
         def result(output: str, fault: str | None = None) -> conformance.Result:
             return conformance.judged(replace(CASE, trace=trace, right=("L2 t0 v1 = 0x1000\nmaps 0\n",)), Ran(output, fault, ""))

@@ -13,7 +13,7 @@ from unittest import mock
 
 TOP = Path(__file__).resolve().parents[2]
 sys.path.insert(0, str(TOP / "tools"))
-from vmatools import comparison, console, live, program
+from vmatools import comparison, conformance, console, live, program
 from vmatools.commands import compare, conform
 from vmatools.systems.batch import Adapters
 from vmatools.traces import read_trace
@@ -91,7 +91,7 @@ class Sessions(unittest.TestCase):
     def test_behind_a_bad_line_the_next_trace_has_its_answer(self) -> None:
         process = self.adapter.begin()
         for text, fault, message in (
-            (FORK, comparison.CANNOT_RUN, "line 2: diltzekun-live doesn't fork"),
+            (FORK, conformance.CANNOT_RUN, "line 2: diltzekun-live doesn't fork"),
             (b"vmatrace 1\n0 maps\n0 touch 1\n0 touch 2\n", "ends with status 3", "trace line 3 cause 3 Word"),
             (b"vmatrace 1\nnew\n0 maps\n", "ends with status 3", "line 2: no line of a trace is so"),
             (b"vmatrace 1\n0 maps\n query 0\n", "ends with status 3", "line 3: no line of a trace is so"),

@@ -346,6 +346,26 @@ class Batches(unittest.TestCase):
         self.assertEqual(batch.fault_of("killed by signal 9"), "ends by signal SIGKILL")
         self.assertEqual(batch.Adapter(["sh", "-c", "echo half; exit 3"]).run(b"x\n", 30).fault, "ends with status 3")
 
+    def test_one_that_does_not_speak_the_protocol(self) -> None:
+        class Hasty(batch.Adapter):
+            GRACE = 0.2
+
+        cases = {
+            "cat > /dev/null; sleep 100": "does not end in .* seconds: `trace 1 .* / vmatrace 1 / end 1` was sent, and nothing",
+            "echo maps 0; echo no file >&2; exit 1": "ends with status 1 in .*, and `maps 0.n` came, with `no file` on standard",
+        }
+        for script, told in cases.items():
+            adapters = batch.Adapters(["sh", "-c", script], Hasty)
+            with self.assertRaisesRegex(console.Failure, f"the adapter {told}.* does it speak --batch"):
+                adapters.capabilities(0.4)
+            adapters.close()
+        script = 'while read a b c; do [ $a = end ] && echo maps 0 && echo "end $b"; done'
+        adapters = batch.Adapters(["sh", "-c", script])
+        adapters.capabilities(30)
+        self.assertEqual(adapters.run(b"vmatrace 1\n", 30).output, "maps 0\n")  # by the same process
+        self.assertEqual(len(adapters.idle), 1)
+        adapters.close()
+
 
 class Tables(unittest.TestCase):
     def test_a_score(self) -> None:

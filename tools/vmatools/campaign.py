@@ -1,30 +1,37 @@
-"""A comparison of many traces: runs them, groups what differs, and shrinks the shortest of each kind."""
+"""A comparison of many traces: runs what was kept and then the others, groups what differs, and makes the trace of each kind
+small while it goes on."""
 from __future__ import annotations
 
 import itertools
 import os
 import signal
 import time
-from collections import Counter, deque
-from collections.abc import Callable, Iterator
-from concurrent.futures import Future, ThreadPoolExecutor, TimeoutError as NotYet
-from contextlib import contextmanager
+from collections import Counter
+from collections.abc import Callable, Iterable, Iterator
+from concurrent.futures import FIRST_COMPLETED, Future, ThreadPoolExecutor, wait
+from contextlib import contextmanager, suppress
 from dataclasses import dataclass, field
 from pathlib import Path
+from queue import SimpleQueue
 from types import FrameType
 from typing import Any, NamedTuple, Optional, Union
 
-from . import children, coverage, generator, outputs, shrinking
-from .comparison import HANGS, Examined, Sides, examine, is_trace, may_answer
+from . import children, coverage, generator, outputs
+from .comparison import Examined, Found, Sides, Stopped, examine, without_all
 from .console import Failure, Progress, say
 from .fitting import fitted
 from .findings import Finding, Findings, Journal, Kind
+from .keeping import Kept
+from .reports import Report
+from .smaller import Smaller
 from .systems.capabilities import Capabilities
 from .traces import BadLine, Trace, read_trace
 from .windows import EmptyFit, Fit
 from .words import repeated
 
 QUIET_SECONDS = 30  # a line says how far the run is, where nobody looks at a terminal
+MOST_OPEN = 10  # kinds of differences at which a run ends
+KIND_SECONDS = 10.0  # for making the trace of a kind small
 
 
 @dataclass
@@ -42,7 +49,9 @@ class Settings:
     seconds: float = 10
     short: float = 1
     most: int = 12
-    for_seconds: Optional[float] = None
+    for_seconds: Optional[float] = None  # for all of the run
+    kind_seconds: float = KIND_SECONDS
+    goes_on: bool = False  # whatever is open
     only: list[int] = field(default_factory=list)
     folder: Optional[Path] = None
     has_coverage: bool = False
@@ -63,12 +72,16 @@ class Settings:
 
 
 class Source(NamedTuple):
-    """Where a trace comes from: its number, a name for a reader, and the words that take it alone."""
+    """Where a trace comes from: its number, a name for a reader, the words that take it alone, and whether it was kept."""
 
     number: int
     name: str
     words: list[str]
     draw: Callable[[], Trace]
+    is_kept: bool = False
+
+
+Told = tuple[Examined, Counter[str]]  # what a trace has shown, and the rows that it reaches
 
 
 def sources(settings: Settings) -> Iterator[Source]:
@@ -116,14 +129,29 @@ def drawn_trace(settings: Settings, number: int) -> Source:
 
 
 class Campaign:
-    """Runs all traces, groups what differs, and shrinks."""
+    """Runs all traces, groups what differs, and makes the trace of each kind small."""
 
-    def __init__(self, settings: Settings, sides: Sides, findings: Findings, journal: Optional[Journal] = None) -> None:
+    def __init__(
+        self,
+        settings: Settings,
+        sides: Sides,
+        findings: Findings,
+        journal: Optional[Journal] = None,
+        report: Optional[Report] = None,
+        kept: Optional[Kept] = None,
+    ) -> None:
         self.settings, self.sides, self.findings, self.journal = settings, sides, findings, journal
+        self.report, self.kept = report, kept or Kept()
         self.progress, self.pool = Progress(), ThreadPoolExecutor(max_workers=settings.jobs)
+        self.small = ThreadPoolExecutor(max_workers=1)  # makes one kind small after the other
+        self.examining: dict[Future[Told], Source] = {}
+        self.shrinking: dict[Future[Optional[Finding]], str] = {}
+        self.told: SimpleQueue[tuple[Source, Found]] = SimpleQueue()  # by the workers, at once
+        self.found: dict[str, list[Finding]] = {}  # of each trace that runs, what it has shown until now
         self.stopped: Optional[str] = None  # the signal that ended the run
         self.stopped_at = 0.0
         self.begin = self.last_told = time.monotonic()
+        findings.kept = {str(path): name for path, name in self.kept.before.items()}
 
     # Stopping
 
@@ -151,67 +179,125 @@ class Campaign:
 
     @property
     def is_too_short(self) -> bool:
-        """Whether the time was over before a trace was."""
-        return self.stopped is None and not self.findings.traces and self.is_over
+        """Whether the time was over before a trace was, and nothing was found."""
+        return self.stopped is None and not self.findings.traces and not self.findings.kinds and self.is_over
 
     # Running
 
     def run(self) -> None:
-        """Examines the traces, in the order of their numbers."""
-        waiting: deque[tuple[Source, Future[tuple[Examined, Counter[str]]]]] = deque()
-        rest = sources(self.settings)
-        while not self.is_over:
-            while len(waiting) < 2 * self.settings.jobs and (source := next(rest, None)):
-                waiting.append((source, self.pool.submit(self.examined, source)))
-            if not waiting:
-                break
-            source, future = waiting[0]
-            try:
-                self.keep(source, *future.result(timeout=0.2))
-                waiting.popleft()
-            except NotYet:
-                pass
-            self.tell()
-        self.give_up([future for _, future in waiting])
-        self.progress.clear()
+        """Examines the traces, those that were kept first, and makes each new kind small at once."""
+        kept = [kept_trace(place, path)._replace(is_kept=True) for place, path in enumerate(self.kept.before)]
+        rest = itertools.chain(kept, sources(self.settings))
+        self.keep_lacks(self.settings.fit.lacks if isinstance(self.settings.fit, (Fit, EmptyFit)) else ())
+        try:
+            while not self.is_over:
+                self.fill(rest)
+                if not self.shrinking and (self.findings.is_full or not self.examining):
+                    break
+                work: list[Future[Any]] = [*self.examining, *self.shrinking]
+                wait(work, 0.1, FIRST_COMPLETED)
+                self.take()
+                self.tell()
+        finally:
+            self.give_up()
+            self.progress.clear()
 
-    def give_up(self, running: list[Future[tuple[Examined, Counter[str]]]]) -> None:
-        """Ends what still runs."""
+    def fill(self, rest: Iterator[Source]) -> None:
+        """Has as many traces run as workers are free: what is made small comes first."""
+        most = self.settings.jobs // 2 if self.shrinking else self.settings.jobs + 1
+        while len(self.examining) < most and not self.findings.is_full and (source := next(rest, None)):
+            self.examining[self.pool.submit(self.examined, source)] = source
+
+    def take(self) -> None:
+        """Takes what is done by now."""
+        done = [future for future in self.examining if future.done()]
+        self.take_told()
+        for future in done:
+            source = self.examining.pop(future)
+            if not self.findings.is_full or source.name in self.found:
+                self.keep(source, *future.result())
+        for small in [small for small in self.shrinking if small.done()]:
+            self.keep_small(self.shrinking.pop(small), small.result())
+
+    def take_told(self) -> None:
+        """Tells of what was found in traces that may still run, and of each kind that is new."""
+        while not self.told.empty():
+            source, one = self.told.get()
+            if self.findings.is_full:
+                continue
+            finding = self.finding(source, one)
+            self.found.setdefault(source.name, []).append(finding)
+            known = self.findings.baseline.of(finding.name)
+            is_open = not known and finding.name not in self.findings.kinds
+            self.findings.kinds.setdefault(finding.name, Kind(finding))
+            if is_open:
+                self.kept.write_trace(finding)
+            self.write(finding, "finding", number=None if source.is_kept else source.number, known=known and known.reason)
+            if is_open:
+                self.open(finding.name, self.findings.kinds[finding.name])
+
+    def give_up(self) -> None:
+        """Ends what still runs. What it has shown until now counts."""
         self.sides.is_stopped = True
-        children.stop_work(running)
+        children.stop_work([*self.examining, *self.shrinking])
+        for found in self.found.values():
+            self.findings.add(found, Counter())
+        if self.stopped is None:
+            for future, name in self.shrinking.items():  # what was found of it until now
+                with suppress(Stopped, Failure):
+                    self.keep_small(name, future.result() if not future.cancelled() else None)
         self.sides.is_stopped = False
 
-    def examined(self, source: Source) -> tuple[Examined, Counter[str]]:
-        trace = source.draw()
-        if self.settings.fit:
-            trace = self.settings.fit.fitted(trace)
+    def examined(self, source: Source) -> Told:
+        trace = without_all(source.draw(), self.sides.lacks)
+        fit = self.settings.fit
+        if fit:
+            trace = trace if source.is_kept and fit.keeps(trace) else fit.fitted(trace)
         elif self.settings.is_kernel and self.settings.folder:
             trace = fitted(trace)
         self.sides.confirm(trace)
         rows = coverage.rows_of(trace) if self.settings.has_coverage else Counter[str]()
-        return examine(self.sides, trace, self.settings.most), rows
+        return examine(self.sides, trace, self.settings.most, lambda one: self.told.put((source, one))), rows
 
     def keep(self, source: Source, told: Examined, rows: Counter[str]) -> None:
-        """Counts what a trace has shown, and writes it where it is to be written."""
-        found = [
-            Finding(
-                "/".join(outputs.kind_of(one.difference)),
-                one.difference,
-                one.trace.text(),
-                source.name,
-                self.repeat(source),
-            )
-            for one in told.findings
-        ]
+        """Counts what a trace has shown."""
+        self.keep_lacks(told.lacks)
+        if source.is_kept:
+            self.findings.kept.pop(source.name)
+        if told.left_out:
+            self.findings.left_out[told.left_out] += 1
+            return
+        found = self.found.pop(source.name, [])
         self.findings.is_cut |= told.has_more
-        for finding in found:
-            known = self.findings.baseline.of(finding.name)
-            if self.journal:
-                self.journal.write(
-                    finding.event("finding", number=source.number, known=known.reason if known else None)
-                )
         self.findings.add(found, told.aside)
         self.findings.coverage.update(rows)
+        if source.is_kept and not found:
+            self.findings.agree.append(source.name)
+
+    def finding(self, source: Source, one: Found) -> Finding:
+        name = "/".join(outputs.kind_of(one.difference))
+        return Finding(name, one.difference, one.trace.text(), source.name, self.repeat(source))
+
+    def keep_lacks(self, lacks: Iterable[str]) -> None:
+        """An operation that the system hasn't is told once."""
+        for operation in sorted(set(lacks) - self.findings.lacks):
+            self.findings.lacks.add(operation)
+            self.sides.lacks.add(operation)
+            if self.report:
+                self.progress.clear()
+                self.report.lacks(operation)
+
+    def open(self, name: str, kind: Kind) -> None:
+        """A kind that is new: tells of it, and has it made small."""
+        if self.report:
+            self.progress.clear()
+            self.report.seen(name, kind)
+        self.shrinking[self.small.submit(self.made_small, kind.shortest)] = name
+        self.findings.is_full = not self.settings.goes_on and len(self.findings.in_order()) >= MOST_OPEN
+
+    def write(self, finding: Finding, what: str, **more: Any) -> None:
+        if self.journal:
+            self.journal.write(finding.event(what, **more))
 
     def repeat(self, source: Source) -> str:
         """The one command that repeats a finding."""
@@ -220,93 +306,41 @@ class Campaign:
 
     def tell(self) -> None:
         """Says how far the run is."""
-        findings, of = (
-            self.findings,
-            f" of {self.settings.runs}" if self.settings.runs and not self.settings.folder else "",
-        )
-        text = f"{findings.traces}{of} traces, {findings.differing} differ in {len(findings.kinds)} kinds"
+        findings, all_runs = self.findings, self.settings.runs
+        of = f" of {all_runs}" if all_runs and not self.settings.folder else ""
+        small = f", {len(self.shrinking)} are made small" if self.shrinking else ""
+        text = f"{findings.traces}{of} traces, {findings.differing} differ in {len(findings.kinds)} kinds{small}"
         self.progress.tell(text)
         now = time.monotonic()
         if not self.progress.is_wanted and now - self.last_told > QUIET_SECONDS:
             self.last_told = now
             say(text)
 
-    # Shrinking
+    # Smallest traces
 
-    def shrink(self) -> None:
-        """Makes the shortest trace of each kind small."""
-        for name, kind in self.findings.in_order():
-            if self.is_stopping:
-                break
-            try:
-                small = self.shrunk(name, kind)
-                if small and not self.is_stopping:
-                    kind.shortest, kind.is_shrunk = small, True
-            except Failure:
-                if not self.is_stopping:  # what was ended failed
-                    raise
-            if self.journal:
-                self.journal.write(kind.shortest.event("smallest", count=kind.count))
-
-    @property
-    def is_stopping(self) -> bool:
-        return self.stopped is not None
-
-    def shrunk(self, name: str, kind: Kind) -> Optional[Finding]:
-        """The smallest trace of a kind that was found, and its difference; none where it differs now and then only."""
-        found = kind.shortest
-        wanted = outputs.kind_of(found.difference)
-        trace = read_trace(found.trace.encode())
-        is_hang = wanted[2] in HANGS
-        limits = [self.settings.seconds]
-        if is_hang and self.settings.short < self.settings.seconds:
-            limits.insert(0, self.settings.short)
-        for seconds in limits:
-            small = self.shrunk_within(trace, found.difference, wanted, seconds)
-            # With all the time that COMMAND may take it has to differ as well.
-            difference = self.sides.same_kind(small, wanted, self.settings.seconds)
-            if difference and (difference.there in HANGS) == is_hang:
-                self.sides.confirm_smallest(small)
-                return Finding(name, difference, small.text(), found.source, found.repeat)
-        return None
-
-    def shrunk_within(
-        self, trace: Trace, difference: outputs.Difference, kind: tuple[str, str, str], seconds: float
-    ) -> Trace:
-        known: dict[str, bool] = {}
-
-        def is_same(trace: Trace) -> bool:
-            text = trace.text()
-            if text not in known:
-                known[text] = (
-                    not self.is_stopping
-                    and is_trace(trace)
-                    and (self.settings.fit is None or self.settings.fit.keeps(trace))
-                    and may_answer(trace, kind)
-                    and self.is_same(trace, kind, seconds)
-                )
-            return known[text]
-
-        def first_same(traces: list[Trace]) -> Optional[int]:
-            for start in range(0, len(traces), self.settings.jobs):
-                same = list(self.pool.map(is_same, traces[start : start + self.settings.jobs]))
-                self.progress.tell(f"shrinking {'/'.join(kind)}: {len(known)} traces tried")
-                if True in same:
-                    return start + same.index(True)
-                if self.is_stopping:
-                    return None
-            return None
-
-        places = [place for place, line in enumerate(trace.lines) if line.number == difference.number]
-        if places:
-            cut = trace.with_lines(trace.lines[: places[0] + 1])
-            trace = cut if is_same(cut) else trace
-        small = shrinking.Shrinker(trace, first_same, kind[2] in HANGS).shrink()
-        self.progress.clear()
+    def made_small(self, finding: Finding) -> Optional[Finding]:
+        """The finding on the smallest trace, or none; kept with what both sides answer."""
+        settings, fit = self.settings, self.settings.fit
+        short = min(settings.short, settings.seconds)
+        seconds = (settings.seconds, short, settings.kind_seconds)
+        smaller = Smaller(self.sides, self.pool, settings.jobs, *seconds, lambda: self.is_over)
+        if fit:
+            smaller.keeps = fit.keeps
+        small = smaller.finding(finding)
+        if small and self.kept.folder:
+            trace = read_trace(small.trace.encode())
+            self.kept.write_trace(small)
+            self.kept.write(small, "program", self.sides.here(trace))
+            self.kept.write(small, "yours", self.sides.there(trace).output)
         return small
 
-    def is_same(self, trace: Trace, kind: tuple[str, str, str], seconds: float) -> bool:
-        difference = self.sides.same_kind(trace, kind, seconds)
-        if difference is None or outputs.kind_of(difference) != kind:
-            return False
-        return self.sides.rules.name_of(trace, difference) is None
+    def keep_small(self, name: str, small: Optional[Finding]) -> None:
+        """Tells of the smallest trace of a kind."""
+        kind = self.findings.kinds[name]
+        if small:
+            kind.shortest, kind.is_shrunk = small, True
+        self.write(kind.shortest, "smallest", count=kind.count)
+        kind.is_shown = True
+        if self.report:
+            self.progress.clear()
+            self.report.small(name, kind)

@@ -8,22 +8,23 @@ from collections.abc import Callable, Iterable, Iterator, Sequence
 from dataclasses import dataclass, field
 from fnmatch import fnmatchcase
 from functools import lru_cache
-from typing import NamedTuple, Optional
+from typing import NamedTuple, Optional, Union
 
 from . import linux_cases
+from .conformance import CANNOT_RUN, NOT_THERE
 from .console import Failure
 from .linux_borders import History, part_name
 from .model import Space
 from .outputs import Difference, Part, answer_of, difference_of, is_list, kind_of, parts_of
 from .program import Ran, run
 from .serial import serial_output
-from .systems.batch import Adapters
+from .systems.batch import Adapters, Answer
 from .traces import FORMS, LIMITS, BadLine, Line, Trace, read_trace
 
 PROGRAM_SECONDS = 600
 MOST_FINDINGS = 12  # of one trace
 NO_END = "does not end"
-CANNOT_RUN = "ends with status 4"
+WRITES_NOTHING = "writes nothing"  # not even the list at the end, which every output has
 ENDING = re.compile("hung|killed by signal [0-9]+|ended with status [0-9]+")  # what such an adapter answers
 HANGS = (NO_END, "hung")  # the second is what an adapter answers that ends its system itself
 
@@ -101,8 +102,6 @@ class Rules:
         pattern = self.pattern_of(difference)
         if pattern or not (self.cases or self.linux):
             return pattern
-        if difference.there == CANNOT_RUN:
-            return "cannot-run"
         if self.linux:
             return "as-linux" if self.linux(trace, difference) else None
         return linux_cases.case_of(self.cases, trace, History(trace), difference)
@@ -125,6 +124,8 @@ class Sides:
         self.adapters: Optional[Adapters] = None  # processes that answer many traces, in place of one for each
         self.live: Optional[Adapters] = None  # those of the program: sessions with diltzekun-live
         self.shown: Callable[[str], str] = str  # what of an output is compared
+        self.lacks: set[str] = set()  # operations that the system hasn't, which are left out of all traces
+        self.kept: set[str] = set()  # operations that are never left out
 
     def here(self, trace: Trace) -> str:
         """What the program answers; with a batch, what the model does, which `confirm` holds to the program."""
@@ -165,11 +166,8 @@ class Sides:
 
     def there(self, trace: Trace, seconds: Optional[float] = None) -> Ran:
         text, limit = trace.text().encode(), seconds or self.seconds
-        if self.adapters:
-            answer = self.adapters.run(text, limit)
-            return Ran(self.shown(answer.output), answer.fault, answer.message)
-        ran = run(self.command, text, limit)
-        return Ran(self.shown(ran.output), ran.fault, ran.message)
+        ran: Union[Answer, Ran] = self.adapters.run(text, limit) if self.adapters else run(self.command, text, limit)
+        return Ran(self.shown(ran.output), ran.fault or (None if ran.output else WRITES_NOTHING), ran.message)
 
     def test_machine(self) -> None:
         """Ends the comparison where COMMAND cannot run any trace on this machine: `vma kernel` says so with status
@@ -395,6 +393,8 @@ class Examined:
     findings: list[Found] = field(default_factory=list)
     aside: Counter[str] = field(default_factory=Counter)
     has_more: bool = False  # it has more findings than are looked for
+    left_out: Optional[str] = None  # why the system can't run it
+    lacks: set[str] = field(default_factory=set)  # operations that the system hasn't
 
 
 def named_difference(sides: Sides, trace: Trace, passed: set[str]) -> tuple[Optional[Difference], Optional[str]]:
@@ -407,8 +407,8 @@ def named_difference(sides: Sides, trace: Trace, passed: set[str]) -> tuple[Opti
     first = sides.compared(trace)
     passed |= first.passed
     found = first.difference
-    if found is None or found.there == CANNOT_RUN and sides.rules.cases:
-        return found, found and sides.rules.name_of(trace, found)
+    if found is None or found.there == CANNOT_RUN or is_missing(sides, found):
+        return found, None
     if sides.rules.cases and found.operation != "run":
         name = sides.rules.name_of(trace, found)
         if name:
@@ -417,18 +417,47 @@ def named_difference(sides: Sides, trace: Trace, passed: set[str]) -> tuple[Opti
     return found, sides.rules.name_of(trace, found)
 
 
-def examine(sides: Sides, trace: Trace, most: int = MOST_FINDINGS) -> Examined:
-    """All differences of a trace: the line of each is taken out, and the rest is run again."""
+def is_missing(sides: Sides, found: Difference) -> bool:
+    """Whether the system hasn't the operation at all, and nobody wants to see that each time."""
+    return found.there.endswith(NOT_THERE) and found.number is not None and found.operation not in sides.kept
+
+
+def without_all(trace: Trace, words: set[str]) -> Trace:
+    """The trace without the lines of some operations."""
+    while line := next((line for line in trace.lines if line.word in words), None):
+        trace = without(trace, line.number)
+    return trace
+
+
+def why_left_out(found: Difference) -> str:
+    """In the words of the adapter, why it can't run a trace, whatever the line."""
+    said = found.there_lines[-1].strip() if found.there_lines else ""
+    return re.sub(r"^(vma kernel: )?(line \d+: )?", "", said)[:200] or found.there
+
+
+def examine(
+    sides: Sides, trace: Trace, most: int = MOST_FINDINGS, tell: Optional[Callable[[Found], None]] = None
+) -> Examined:
+    """All differences of a trace: the line of each is taken out, and the rest is run again. Each is told at once."""
     told = Examined()
     passed: set[str] = set()
     while True:
         found, name = named_difference(sides, trace, passed)
         if found is None:
             break
+        if found.there == CANNOT_RUN:
+            told.left_out = None if told.findings or told.lacks else why_left_out(found)
+            break
+        if is_missing(sides, found):
+            told.lacks.add(found.operation)
+            trace = without_all(trace, told.lacks)
+            continue
         if name:
             told.aside[name] += 1
         else:
             told.findings.append(Found(found, trace))
+            if tell:
+                tell(told.findings[-1])
         if found.number is None:
             break
         if len(told.findings) == most:

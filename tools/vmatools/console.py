@@ -7,7 +7,7 @@ import os
 import sys
 import time
 from collections.abc import Iterator
-from contextlib import contextmanager
+from contextlib import closing, contextmanager
 from typing import Any
 
 TOOL = "vma"
@@ -81,19 +81,23 @@ class StandardOutput(io.FileIO):
 class OutputFile(io.FileIO):
     """A file that is written, whose failures tell its name: a full device is met long after the file was opened."""
 
+    shown = ""
+
     def write(self, data: Any) -> int:
         try:
             return super().write(data)
         except OSError as error:
-            raise WriteFailure(error, printable(str(self.name))) from None
+            raise WriteFailure(error, printable(self.shown)) from None
 
 
-def open_file(path: str | os.PathLike[str], mode: str = "w") -> io.TextIOWrapper:
-    """A file to be written, or with `a` to be written on, in UTF-8. It is opened before the work of which it gets the result."""
+def open_file(path: str | os.PathLike[str], mode: str = "w", shown: str | None = None) -> io.TextIOWrapper:
+    """A file to be written, or with `a` to be written on, in UTF-8. It is opened before the work of which it gets the result. A
+    failure names it, or another one in whose place it will be."""
     try:
         raw = OutputFile(os.fspath(path), f"{mode}b")
+        raw.shown = shown or os.fspath(path)
     except OSError as error:
-        raise Failure(reason(error, path)) from None
+        raise Failure(reason(error, shown or path)) from None
     except ValueError as error:  # a zero byte in the name
         raise Failure(f"{printable(os.fspath(path))}: {error}") from None
     return io.TextIOWrapper(io.BufferedWriter(raw), encoding="utf-8")
@@ -106,6 +110,42 @@ def write_file(path: str | os.PathLike[str], text: str | bytes) -> None:
             file.buffer.write(text)
         else:
             file.write(text)
+
+
+class NewFile:
+    """A file that takes the place of an old one where it is asked to, so that the old one stays until then. What is no plain
+    file, as a device or a pipe, is written as it is."""
+
+    def __init__(self, path: str | os.PathLike[str]) -> None:
+        self.path = os.fspath(path)
+        self.is_beside = not os.path.exists(self.path) or os.path.isfile(self.path)
+        self.beside = f"{self.path}.new" if self.is_beside else self.path
+        self.stream = open_file(self.beside, shown=self.path)
+
+    def take_place(self) -> None:
+        """Goes to its place, with what was written so far. More may be written."""
+        self.stream.flush()
+        if self.is_beside:
+            try:
+                os.replace(self.beside, self.path)
+            except OSError as error:
+                raise Failure(reason(error, self.path)) from None
+            self.is_beside = False
+
+    def close(self) -> None:
+        """Ends it. One that hasn't taken its place is gone."""
+        try:
+            self.stream.close()
+        finally:
+            if self.is_beside:
+                os.unlink(self.beside)
+
+
+def replace_file(path: str | os.PathLike[str], text: str) -> None:
+    """A whole file, which is there with all of the text or as it was before."""
+    with closing(NewFile(path)) as file:
+        file.stream.write(text)
+        file.take_place()
 
 
 def make_folder(path: str | os.PathLike[str]) -> None:

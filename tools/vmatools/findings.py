@@ -5,13 +5,14 @@ from __future__ import annotations
 import json
 from collections import Counter
 from collections.abc import Iterable, Iterator
-from dataclasses import dataclass, field
+from dataclasses import dataclass, field, replace
 from fnmatch import fnmatchcase
 from pathlib import Path
 from typing import Any, Optional
 from xml.etree import ElementTree
 
-from .console import Failure, whole
+from . import ranking
+from .console import Failure, counted, whole
 from .outputs import Difference
 
 Name = tuple[str, str, str]
@@ -26,6 +27,10 @@ class Finding:
     trace: str
     source: str
     repeat: str
+
+    def on(self, difference: Difference, trace: str) -> Finding:
+        """The same on another trace."""
+        return replace(self, difference=difference, trace=trace)
 
     def event(self, what: str, **more: Any) -> dict[str, Any]:
         difference = self.difference
@@ -49,9 +54,10 @@ class Kind:
     shortest: Finding
     count: int = 0
     is_shrunk: bool = False
+    is_shown: bool = False  # its trace was printed
 
-    def add(self, finding: Finding, count: int = 1) -> None:
-        self.count += count
+    def add(self, finding: Finding) -> None:
+        self.count += 1
         if not self.is_shrunk and finding.trace.count("\n") < self.shortest.trace.count("\n"):
             self.shortest = finding
 
@@ -118,6 +124,11 @@ class Findings:
     differing: int = 0
     known_alone: int = 0  # traces that differ in known ways alone
     is_cut: bool = False  # a trace had more findings than were looked for
+    is_full: bool = False  # the run ended where so many kinds were open
+    left_out: Counter[str] = field(default_factory=Counter)  # traces that the system can't run, by the reason
+    lacks: set[str] = field(default_factory=set)  # operations that the system hasn't
+    kept: dict[str, str] = field(default_factory=dict)  # what an earlier run has kept and this one hasn't run: file and kind
+    agree: list[str] = field(default_factory=list)  # what an earlier run has kept and is no difference now
 
     def add(self, findings: list[Finding], aside: Counter[str]) -> None:
         """Counts a trace."""
@@ -128,20 +139,49 @@ class Findings:
         for finding in {finding.name: finding for finding in reversed(findings)}.values():
             self.count(finding)
 
-    def count(self, finding: Finding, count: int = 1) -> None:
-        self.kinds.setdefault(finding.name, Kind(finding)).add(finding, count)
+    def count(self, finding: Finding) -> None:
+        self.kinds.setdefault(finding.name, Kind(finding)).add(finding)
         known = self.baseline.of(finding.name)
         if known:
-            known.count += count
+            known.count += 1
 
     def in_order(self) -> list[tuple[str, Kind]]:
-        """The kinds that are not known, the most frequent first."""
+        """The kinds that are not known, what counts most first, and then the most frequent."""
         new = [(name, kind) for name, kind in self.kinds.items() if not self.baseline.of(name)]
-        return sorted(new, key=lambda item: (-item[1].count, item[0]))
+        return sorted(new, key=lambda item: (ranking.rank_of(item[1].shortest.difference), -item[1].count, item[0]))
+
+    @property
+    def has_new_kinds(self) -> bool:
+        return any(not self.baseline.of(name) for name in self.kinds)
+
+    @property
+    def not_run(self) -> dict[str, str]:
+        """What was kept, isn't known, and was not run again."""
+        return {path: name for path, name in self.kept.items() if name and not self.baseline.of(name)}
 
     @property
     def has_new(self) -> bool:
-        return any(not self.baseline.of(name) for name in self.kinds)
+        return self.has_new_kinds or bool(self.not_run)
+
+    def told_lines(self) -> Iterator[str]:
+        """What is said of known differences, of what was kept, and of what was left out."""
+        for known in self.baseline.known:
+            came = f"{known.count} traces" if known.count else "did not come"
+            yield f"known: {came}: {known.pattern} # {known.reason}"
+        for path in self.agree:
+            yield f"kept: {path}: no difference now"
+        for path, name in self.not_run.items():
+            yield f"kept: {path}: {name}, which was not run again"
+        for why, count in self.left_out.most_common():
+            yield f"left out: {counted(count, 'trace')}: {why}"
+        if self.left_out.total() > self.traces:
+            yield f"left out: more than half of all traces, {self.left_out.total()} of {self.left_out.total() + self.traces}"
+        if self.lacks:
+            yield f"left out of all traces: {', '.join(sorted(self.lacks))}, which is not there"
+        if self.is_cut:
+            yield "some traces have more differences than --most allows"
+        if self.is_full:
+            yield f"{len(self.in_order())} kinds are open: mend these first, or `--all` goes on"
 
     def end_event(self, status: int, stopped: Optional[str]) -> dict[str, Any]:
         known = {line.pattern: {"count": line.count, "reason": line.reason} for line in self.baseline.known}
@@ -153,6 +193,10 @@ class Findings:
             "aside": dict(self.aside),
             "coverage": dict(self.coverage),
             "known": known,
+            "left_out": dict(self.left_out),
+            "lacks": sorted(self.lacks),
+            "kept": self.not_run,
+            "order": [name for name, _ in self.in_order()],
             "status": status,
             "stopped": stopped,
         }
@@ -206,6 +250,8 @@ def junit(findings: Findings, is_strict: bool, stopped: Optional[str]) -> str:
             failed(suite, f"known: {known.pattern}", f"it did not come: {known.reason}")
         else:
             case(suite, f"known: {known.pattern}").set("status", "it did not come")
+    for path, name in findings.not_run.items():
+        failed(suite, name, f"kept in {path}, and not run again")
     last = case(suite, f"{findings.traces} traces")
     if stopped:
         ElementTree.SubElement(last, "error", message=f"stopped by {stopped}")

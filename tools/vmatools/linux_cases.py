@@ -407,7 +407,6 @@ CASES: list[Case] = [
 ]
 # These have no test of a line: a whole trace that cannot be run, and lists that differ in borders or names alone.
 SAYS = {case.name: case.says for case in CASES} | {
-    "cannot-run": "`vma kernel` refuses the trace",
     "linux": "what the model of Linux predicts, of no row of its own",
     "border": "the same pages, in areas with other borders",
     "brk-name": "which areas are named [heap], and what joins them",

@@ -2,8 +2,14 @@
 from __future__ import annotations
 
 import re
+from collections.abc import Mapping
+from typing import TYPE_CHECKING
 
 from .outputs import Difference
+from .traces import CALLS, MAP, read_trace
+
+if TYPE_CHECKING:
+    from .findings import Finding
 
 RANKS = ("hang", "crash", "lost or wrong data", "protection", "list", "reply", "place")
 HANGS = ("does not end", "hung", "writes on and on")
@@ -31,3 +37,38 @@ def name_of(difference: Difference) -> str:
     if there.startswith("a list"):
         return "list"
     return "place" if there == "another address" else "reply"
+
+
+def above(findings: Mapping[str, Finding]) -> dict[str, str]:
+    """Of each finding that vanishes where the operation of another one is left out, that other one. The findings come in their
+    order, each on its smallest trace, from which no line can be left out."""
+    found: dict[str, str] = {}
+    for name, finding in findings.items():
+        for other, theirs in findings.items():
+            if other == name:
+                break
+            if other not in found and vanishes(finding, theirs):
+                found[name] = other
+                break
+    return found
+
+
+def vanishes(finding: Finding, other: Finding) -> bool:
+    """Whether a finding's smallest trace has the operation of another one, or is that operation, with the same answer."""
+    wanted = operation_of(other, other.difference.number)
+    if wanted is None:
+        return False
+    lines = read_trace(finding.trace.encode()).lines
+    if operation_of(finding, finding.difference.number) == wanted:
+        pairs = zip(finding.difference[1:3], other.difference[1:3])
+        return any(mine == theirs for mine, theirs in pairs)
+    return any(operation_of(finding, line.number) == wanted for line in lines)
+
+
+def operation_of(finding: Finding, number: int | None) -> tuple[str, int] | None:
+    """What a line of a finding's trace calls, with the flags that make it another call; none where other lines need it."""
+    line = next((line for line in read_trace(finding.trace.encode()).lines if line.number == number), None)
+    if line is None or line.word not in CALLS:
+        return None
+    flags = line.arguments[3] & MAP["MAP_FIXED_NOREPLACE"] if line.word == "mmap" else 0
+    return None if line.word == "mmap" and not flags else (line.word, flags)

@@ -24,15 +24,14 @@ import difflib
 import fnmatch
 import os
 import sys
-from contextlib import ExitStack
+import time
+from contextlib import ExitStack, closing
 from pathlib import Path
-from typing import Optional, TextIO
+from typing import Optional
 
 from .. import (
-    children,
     comparison,
     console,
-    coverage,
     findings as found,
     generator,
     linux_cases,
@@ -42,8 +41,10 @@ from .. import (
     threaded,
     traces,
 )
-from ..campaign import Campaign, Settings, sources
-from ..findings import Baseline, Findings, Journal, Kind
+from ..campaign import KIND_SECONDS, MOST_OPEN, Campaign, Settings, sources
+from ..findings import Baseline, Findings, Journal
+from ..keeping import Kept
+from ..reports import Report
 from ..systems import beside
 from ..words import count, time_limit
 
@@ -115,7 +116,7 @@ def add_arguments(parser: argparse.ArgumentParser) -> None:
         type=time_limit,
         dest="for_seconds",
         metavar="SECONDS",
-        help="run traces for so long, without --runs any number",
+        help="take so long for all of it, without --runs for any number of traces",
     )
     group.add_argument("--only", type=numbers_of, default=[], metavar="K[,K..]", help="only these traces of the seed")
     group.add_argument(
@@ -138,6 +139,15 @@ def add_arguments(parser: argparse.ArgumentParser) -> None:
     aside.add_argument(
         "--baseline", type=Path, metavar="FILE", help="known differences: lines `OPERATION/PROGRAM/YOURS # reason`"
     )
+    aside.add_argument(
+        "--with",
+        action="append",
+        choices=list(traces.FORMS),
+        default=[],
+        dest="kept_operations",
+        metavar="OPERATION",
+        help="keep an operation in the traces to which the system answers ENOSYS, and each of these answers is a difference",
+    )
     aside.add_argument("--strict", action="store_true", help="fail where a known difference does not come")
     report = parser.add_argument_group("the report")
     report.add_argument(
@@ -149,7 +159,13 @@ def add_arguments(parser: argparse.ArgumentParser) -> None:
     )
     report.add_argument("--junit", type=Path, metavar="FILE", help="the report as JUnit's XML")
     report.add_argument(
-        "--keep", type=Path, metavar="FOLDER", help="leave the smallest traces there, each with both outputs"
+        "--keep",
+        type=Path,
+        metavar="FOLDER",
+        help="keep the trace of each kind there, with both outputs, and run again first what an earlier run has kept",
+    )
+    report.add_argument(
+        "--all", action="store_true", dest="goes_on", help=f"go on where {MOST_OPEN} kinds of differences are open"
     )
     report.add_argument(
         "--coverage", action="store_true", help="which rows of the tables of docs/MODEL.md the traces reached"
@@ -186,6 +202,7 @@ def add_arguments(parser: argparse.ArgumentParser) -> None:
         help="diltzekun-live, which without --threads answers the traces that do not fork, in the program's place (by default "
         "the one found where the program is; with --program, none)",
     )
+    parser.set_defaults(kind_seconds=KIND_SECONDS, begin=time.monotonic())
     beside.add_arguments(parser)
     program.add_arguments(parser)
     parser.add_argument(
@@ -209,6 +226,8 @@ def settings_of(options: argparse.Namespace) -> Settings:
         options.shrink_seconds,
         options.most,
         options.for_seconds,
+        options.kind_seconds,
+        options.goes_on,
         options.only,
         options.traces,
         options.coverage,
@@ -228,6 +247,7 @@ def settings_of(options: argparse.Namespace) -> Settings:
     words += beside.words_of(options)
     if options.system:
         settings.command = ["--system", options.system]
+    words += [word for operation in options.kept_operations for word in ("--with", operation)]
     settings.words = words + [word for pattern in options.ignore for word in ("--ignore", pattern)]
     return settings
 
@@ -235,73 +255,10 @@ def settings_of(options: argparse.Namespace) -> Settings:
 # The report
 
 
-def write_kind(stream: TextIO, place: int, name: str, kind: Kind) -> None:
-    """What is printed of a kind."""
-    finding = kind.shortest
-    operation, here, there = outputs.kind_of(finding.difference)
-    many = f"{kind.count} {'trace' if kind.count == 1 else 'traces'}"
-    title = console.painted(f"{place}. {operation}: program {here}, yours {there}", "bold")
-    print(f"{title} ({many}; --ignore '{name}')", file=stream)
-    print("   the smallest trace:" if kind.is_shrunk else "   a trace, which was not made small:", file=stream)
-    print("".join(f"     {line}\n" for line in finding.trace.splitlines()), end="", file=stream)
-    for side, answer, lines, colour in (
-        ("program", here, finding.difference.here_lines, "green"),
-        ("yours", there, finding.difference.there_lines, "red"),
-    ):
-        print(f"   {console.painted(side, colour)}: {answer}", file=stream)
-        print("".join(f"     {line[:300]}\n" for line in lines[:12]), end="", file=stream)
-    print(f"   found in {finding.source}; again:\n     {finding.repeat}\n", file=stream)
-
-
-def write_report(stream: TextIO, findings: Findings, has_coverage: bool, stopped: Optional[str]) -> None:
-    """The whole report as text."""
-    for place, (name, kind) in enumerate(findings.in_order(), 1):
-        write_kind(stream, place, name, kind)
-    for name, number in sorted(findings.aside.items()):
-        says = linux_cases.SAYS.get(name)
-        print(f"set aside: {number} times {name}{': ' + says if says else ''}", file=stream)
-    for known in findings.baseline.known:
-        came = f"{known.count} traces" if known.count else "did not come"
-        print(f"known: {came}: {known.pattern} # {known.reason}", file=stream)
-    if has_coverage:
-        print("\n".join(coverage.report(findings.coverage)), file=stream)
-    if findings.is_cut:
-        print("some traces have more differences than --most allows", file=stream)
-    if stopped:
-        print(f"stopped by {stopped}", file=stream)
-    known_alone = f", {findings.known_alone} of them in known ways alone" if findings.known_alone else ""
-    traces = "1 trace" if findings.traces == 1 else f"{findings.traces} traces"
-    differ = "1 differs" if findings.differing == 1 else f"{findings.differing} differ"
-    print(f"{traces}, {differ}{known_alone}", file=stream)
-
-
 def status_of(findings: Findings, is_strict: bool, stopped: Optional[str]) -> int:
     if stopped:
         return SIGNALS[stopped]
     return 1 if findings.has_new or is_strict and findings.baseline.stale else 0
-
-
-def make_folder(folder: Path) -> None:
-    """The folder of --keep, made before the first run, since a run is long."""
-    console.make_folder(folder)
-    if not os.access(folder, os.W_OK | os.X_OK):
-        raise comparison.CannotRun(f"nothing can be written to the folder {folder}")
-    old = len(os.listdir(folder))
-    if old:
-        files = console.counted(old, "file")
-        console.say(f"the folder {folder} has {files} of before: those of other names than this run's stay there")
-
-
-def keep(folder: Path, findings: Findings, sides: comparison.Sides) -> None:
-    """Leaves the smallest traces in a folder, each with both outputs."""
-    for place, (_, kind) in enumerate(findings.in_order(), 1):
-        name, trace = f"{place}-{kind.shortest.difference.operation}", comparison.trace_of(kind.shortest.trace)
-        for ending, text in (
-            ("trace", kind.shortest.trace),
-            ("program", sides.here(trace)),
-            ("yours", sides.there(trace).output),
-        ):
-            console.write_file(folder / f"{name}.{ending}", text)
 
 
 # Running
@@ -311,7 +268,9 @@ def make_sides(options: argparse.Namespace) -> comparison.Sides:
     cases = linux_cases.CASES if options.kernel else ()
     rules = comparison.Rules(options.ignore, cases)
     words = (options.program, options.command, options.seconds, rules, options.shrink_seconds)
-    return threaded.Threads(*words) if options.threads else comparison.Sides(*words)
+    sides = threaded.Threads(*words) if options.threads else comparison.Sides(*words)
+    sides.kept = set(options.kept_operations)
+    return sides
 
 
 def compare(options: argparse.Namespace) -> int:
@@ -326,36 +285,47 @@ def compare_sides(options: argparse.Namespace, settings: Settings, sides: compar
     findings = Findings(Baseline.read(options.baseline) if options.baseline else Baseline())
     if options.kernel or options.system:
         sides.test_machine()
-    if options.keep:
-        make_folder(options.keep)
+    kept = Kept.opened(options.keep) if options.keep else Kept()
     with ExitStack() as stack:
-        journal = None
-        if options.json:
-            journal = Journal(sys.stdout if options.json == "-" else stack.enter_context(console.open_file(options.json)))
-            journal.write({"event": "begin", "identity": settings.identity(), "runs": settings.runs})
-        junit = stack.enter_context(console.open_file(options.junit)) if options.junit else None
-        campaign = Campaign(settings, sides, findings, journal)
+        journal = opened_journal(options, settings, kept, stack)
+        junit = stack.enter_context(closing(console.NewFile(options.junit))) if options.junit else None
+        report = Report(sys.stdout) if options.json != "-" else None
+        campaign = Campaign(settings, sides, findings, journal, report, kept)
+        campaign.begin = options.begin
         with campaign.stoppable():
             campaign.run()
-            campaign.shrink()
-        if campaign.stopped:
-            children.stop_all()
         status = status_of(findings, options.strict, campaign.stopped)
         if campaign.is_too_short:
             console.say(f"no trace came to its end in {settings.for_seconds:g} seconds: give it more by --for")
             status = console.WRONG_USE
+        elif not status and findings.left_out and not findings.traces:
+            console.say("the system ran none of the traces")
+            status = console.WRONG_USE
         if journal:
             journal.write(findings.end_event(status, campaign.stopped))
-        if options.json != "-":
-            write_report(sys.stdout, findings, options.coverage, campaign.stopped)
+        if report:
+            report.end(findings, options.coverage, campaign.stopped)
         for pattern in sides.rules.patterns:
             if not findings.aside[f"--ignore {pattern}"]:
                 console.say(f"--ignore {pattern}: no difference is of this kind")
         if junit:
-            junit.write(found.junit(findings, options.strict, campaign.stopped))
-        if options.keep:
-            keep(options.keep, findings, sides)
+            junit.stream.write(found.junit(findings, options.strict, campaign.stopped))
+            junit.take_place()
     return status
+
+
+def opened_journal(options: argparse.Namespace, settings: Settings, kept: Kept, stack: ExitStack) -> Journal | None:
+    """The lines of JSON, which begin with all that was kept before an older file of that name goes."""
+    if not options.json:
+        return None
+    file = stack.enter_context(closing(console.NewFile(options.json))) if options.json != "-" else None
+    journal = Journal(file.stream if file else sys.stdout)
+    journal.write({"event": "begin", "identity": settings.identity(), "runs": settings.runs})
+    for path, name in kept.before.items():
+        journal.write({"event": "kept", "name": name, "source": str(path)})
+    if file:
+        file.take_place()
+    return journal
 
 
 def try_mutants(options: argparse.Namespace) -> int:
@@ -390,6 +360,7 @@ def take_program(options: argparse.Namespace) -> None:
 
 
 def run(options: argparse.Namespace) -> int:
+    options.begin = time.monotonic()
     if options.mutants:
         return try_mutants(options)
     beside.take_system(options)

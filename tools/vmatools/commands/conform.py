@@ -25,6 +25,7 @@ import threading
 from collections import Counter
 from collections.abc import Callable, Iterator, Sequence
 from concurrent.futures import ThreadPoolExecutor
+from dataclasses import replace
 from pathlib import Path
 from typing import TextIO
 
@@ -35,6 +36,7 @@ from ..outputs import parts_of
 from ..program import TOP, Ran
 from ..program import run as run_command
 from ..systems.batch import Adapter, Adapters
+from ..systems.capabilities import PROBE
 from ..systems.known import KNOWN, MACHINE_SECONDS, system_of
 from ..systems.places import NOT_EMPTY, finds_place
 from ..systems.searches import is_place_of_search
@@ -99,7 +101,7 @@ def add_arguments(parser: argparse.ArgumentParser) -> None:
     parser.add_argument(
         "command", metavar="COMMAND", nargs="*", help="the system under test and its arguments, behind --"
     )
-    parser.set_defaults(is_windowed=False)
+    parser.set_defaults(is_windowed=False, is_unknown=False)
 
 
 @contextlib.contextmanager
@@ -109,7 +111,7 @@ def runs(options: argparse.Namespace) -> Iterator[Callable[[Case], Ran]]:
         yield lambda case: run_command(options.command, case.trace.encode(), options.seconds)
         return
     adapters = Adapters(options.command, Adapter if options.live is None else LiveAdapter)
-    has = adapters.capabilities(options.seconds) if options.live is None and not options.system else None
+    has = adapters.capabilities(max(options.seconds, SECONDS)) if options.is_unknown else None
 
     def ran(case: Case) -> Ran:
         lacked = has.lacked(read_trace(case.trace.encode())) if has else None
@@ -132,6 +134,16 @@ def searched_place(case: Case) -> int | None:
     return min(found, default=None)
 
 
+def check_writes(run_case: Callable[[Case], Ran], case: Case) -> None:
+    """Ends where COMMAND writes nothing at all, which each case would say again."""
+    for asked in (replace(case, trace=PROBE.decode()), case):
+        ran = run_case(asked)
+        if ran.fault or ran.output:
+            return
+    what = "COMMAND writes nothing, not even the list at the end"
+    raise console.Failure(f"{what}: docs/TRACE.md has what it reads and writes", console.FOUND)
+
+
 def each_result(cases: Sequence[Case], options: argparse.Namespace) -> Iterator[Result]:
     """What a system makes of each case, with a line that says how far it is. Where it doesn't run at all, the first case is
     the last: a machine that doesn't boot takes minutes to say so."""
@@ -149,6 +161,8 @@ def each_result(cases: Sequence[Case], options: argparse.Namespace) -> Iterator[
         return conformance.judged(case, ran)
 
     with runs(options) as run_case, ThreadPoolExecutor(max_workers=options.jobs) as pool:
+        if options.is_unknown:
+            check_writes(run_case, cases[0])
         work = [pool.submit(result_of, case, run_case) for case in cases]
         try:
             for place, future in enumerate(work, 1):
@@ -231,6 +245,7 @@ def run(options: argparse.Namespace) -> int:
         print("\n".join(f"{case.where}: {case.says}" for case in cases))
         return 0
     given = argparse.Namespace(**vars(options))
+    options.is_unknown = bool(options.command)
     take_live(options)
     take_system(options)
     if not options.command:

@@ -18,8 +18,7 @@ from collections.abc import Iterator, Sequence
 from dataclasses import dataclass
 from typing import IO
 
-from .. import children
-from ..console import Failure
+from .. import children, console
 from ..program import why_not_run
 from .capabilities import PROBE, Capabilities, split
 from .running import ended, read_some, write_all
@@ -27,7 +26,6 @@ from .running import ended, read_some, write_all
 MOST_OUTPUT = 64 << 20
 END_SECONDS = 2.0  # for an adapter to end by itself, with what it started
 DOES_NOT_END = "does not end"
-PROBE_SECONDS = 5.0  # for a trace without a line
 
 
 @dataclass(frozen=True)
@@ -78,7 +76,7 @@ class Adapter:
             self.process = children.start(self.command, stdin=subprocess.PIPE, stdout=subprocess.PIPE, stderr=errors)
         except OSError as error:
             errors.close()
-            raise Failure(why_not_run(self.command[0], error)) from None
+            raise console.Failure(why_not_run(self.command[0], error)) from None
         self.errors = errors
         return self.process
 
@@ -109,15 +107,19 @@ class Adapter:
             if not piece:
                 return Answer(text_of(data), fault_of(ended(process)), self.said())
 
-    def close(self) -> None:
-        """Ends the process: by the end of its input, and where it goes on, by a signal."""
-        if self.process is None:
-            return
-        if self.process.stdin:
+    def end_input(self) -> None:
+        """Tells the process that no more traces come."""
+        if self.process and self.process.stdin:
             with contextlib.suppress(OSError):
                 self.process.stdin.close()
+
+    def close(self, seconds: float = END_SECONDS) -> None:
+        """Ends the process: by the end of its input, and where it goes on for so many seconds, by a signal."""
+        if self.process is None:
+            return
+        self.end_input()
         with contextlib.suppress(subprocess.TimeoutExpired):
-            self.process.wait(END_SECONDS)
+            self.process.wait(seconds)
         if self.process.returncode is None:
             children.stop(self.process)
         children.end(self.process)
@@ -168,15 +170,29 @@ class Adapters:
                 self.idle.append(adapter)
 
     def capabilities(self, seconds: float) -> Capabilities | None:
-        """What an adapter says that it has, in its answer to a trace without a line."""
-        self.run(PROBE, min(seconds, PROBE_SECONDS))
-        with self.lock:
-            return next((adapter.has for adapter in self.idle if adapter.has), None)
+        """What an adapter says that it has, in its answer to a trace without a line. Ends the tool where it has none in time."""
+        begin, adapter = time.monotonic(), self.kind(self.command)
+        answer = adapter.run(PROBE, max(seconds - adapter.GRACE, 0.1))
+        if answer.is_told:
+            self.idle.append(adapter)
+            return adapter.has
+        sent = " / ".join(adapter.request(PROBE, seconds).decode().splitlines())
+        came = f"`{console.printable(answer.output)}`" if answer.output else "nothing"
+        last = answer.message.strip().splitlines()[-1:]
+        said = f", with `{console.printable(last[0])}` on standard error" if last else ""
+        raise console.Failure(
+            f"the adapter {answer.fault} in {time.monotonic() - begin:.0f} seconds: `{sent}` was sent, and {came} came{said}; "
+            "does it speak --batch? (docs/SYSTEMS.md)"
+        )
 
     def close(self) -> None:
+        """Ends them all: each has the same time to end by itself."""
+        end = time.monotonic() + END_SECONDS
         with self.lock:
             for adapter in self.idle:
-                adapter.close()
+                adapter.end_input()
+            for adapter in self.idle:
+                adapter.close(max(end - time.monotonic(), 0))
 
 
 @dataclass(frozen=True)

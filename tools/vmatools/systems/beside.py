@@ -7,7 +7,8 @@ from contextlib import ExitStack, contextmanager
 
 from .. import console, generator, program, windows
 from ..campaign import Settings
-from ..comparison import CANNOT_RUN, Sides
+from ..comparison import Sides
+from ..conformance import CANNOT_RUN
 from ..live import LiveAdapter
 from ..traces import PAGE, Trace, read_trace
 from .batch import Adapters
@@ -17,6 +18,8 @@ from .reference import Reference, unnamed
 from .words import window_of
 
 VMA = str(program.TOP / "tools/vma")
+MACHINE_KIND_SECONDS = 120.0  # for making the trace of a kind small, in a machine that has to be booted where it dies
+FIRST_SECONDS = 10.0  # for an adapter to answer a trace without lines
 FOR_SECONDS = 60.0  # how long traces are run in a known system, where nothing else is asked for
 
 
@@ -56,6 +59,7 @@ def take_system(options: argparse.Namespace) -> None:
     options.kernel = options.kernel or system.name == "window"
     if system.boots:  # one at a time; and the trace that finds it not yet begun waits for it
         options.jobs, options.seconds, options.shrink_seconds = 1, MACHINE_SECONDS, MACHINE_SECONDS
+        options.kind_seconds = MACHINE_KIND_SECONDS
     if not options.runs and not options.for_seconds and not options.only and not options.traces:
         options.for_seconds = FOR_SECONDS
 
@@ -100,7 +104,7 @@ def prepared(options: argparse.Namespace, settings: Settings, sides: Sides) -> I
 
 def take_capabilities(settings: Settings, sides: Sides, adapters: Adapters) -> None:
     """Makes traces of what COMMAND says that it has, if it says so."""
-    has = adapters.capabilities(settings.seconds)
+    has = adapters.capabilities(max(settings.seconds, FIRST_SECONDS))
     if has is None or not has.missing:
         return
     console.say(f"COMMAND has no {', '.join(has.missing)}: traces are made without")
@@ -111,9 +115,7 @@ def take_capabilities(settings: Settings, sides: Sides, adapters: Adapters) -> N
 def fit_of(options: argparse.Namespace, sides: Sides) -> windows.Fit | windows.EmptyFit:
     """How traces become such as the system can run: in a window, or in the empty space of a kernel."""
     system = system_of(options.system) if options.system else None
-    lacks = lacks_of(sides, (options.window or WINDOW).low)
-    if lacks:
-        console.say(f"the system has no {', '.join(lacks)}: left out of all traces")
+    lacks = [call for call in lacks_of(sides, (options.window or WINDOW).low) if call not in sides.kept]
     if options.window:
         return windows.Fit(options.window, lacks)
     assert system

@@ -1,0 +1,82 @@
+"""What `vma compare` prints: each kind of difference when it is first seen, its smallest trace when that is found, and at the
+end what counts most."""
+from __future__ import annotations
+
+from collections.abc import Iterator
+from typing import TextIO
+
+from . import console, coverage, linux_cases, outputs, ranking
+from .conformance import NOT_THERE
+from .findings import Findings, Kind
+
+MOST_LINES = 12  # of an answer
+
+
+class Report:
+    """The text of a report, as it comes."""
+
+    def __init__(self, stream: TextIO) -> None:
+        self.stream = stream
+        self.places: dict[str, int] = {}  # of each kind its number
+
+    def line(self, text: str) -> None:
+        print(text, file=self.stream, flush=True)
+
+    def title(self, name: str, kind: Kind) -> str:
+        operation, here, there = outputs.kind_of(kind.shortest.difference)
+        place = self.places.setdefault(name, len(self.places) + 1)
+        return console.painted(f"{place}. {operation}: program {here}, yours {there}", "bold")
+
+    def seen(self, name: str, kind: Kind) -> None:
+        """A kind that is new."""
+        self.line(f"{self.title(name, kind)} ({kind.shortest.source})")
+
+    def lacks(self, operation: str) -> None:
+        self.line(f"{operation}: not there, left out of all traces ({NOT_THERE}); `--with {operation}` keeps it")
+
+    def small(self, name: str, kind: Kind) -> None:
+        """The smallest trace of a kind, or the one that there is."""
+        finding = kind.shortest
+        title = "the smallest trace" if kind.is_shrunk else "a trace, which was not made small"
+        self.line(f"{self.title(name, kind)} (--ignore '{name}')\n   {title}:")
+        self.line("\n".join(f"     {line}" for line in finding.trace.splitlines()))
+        for side, answer, lines, colour in (
+            ("program", finding.difference.here, finding.difference.here_lines, "green"),
+            ("yours", finding.difference.there, finding.difference.there_lines, "red"),
+        ):
+            self.line(f"   {console.painted(side, colour)}: {answer}")
+            for line in lines[:MOST_LINES]:
+                self.line(f"     {line[:300]}")
+        self.line(f"   found in {finding.source}; again:\n     {finding.repeat}\n")
+
+    def ranked(self, findings: Findings) -> Iterator[str]:
+        """All kinds, what counts most first, and below a kind those that vanish without its operation."""
+        kinds = dict(findings.in_order())
+        above = ranking.above({name: kind.shortest for name, kind in kinds.items() if kind.is_shrunk})
+        for name in [name for name in kinds if name not in above]:
+            yield f"  {ranking.name_of(kinds[name].shortest.difference):20}{self.counted(name, kinds[name])}"
+            for other in [other for other in kinds if above.get(other) == name]:
+                yield f"  {'':20}  {self.counted(other, kinds[other])}, which vanishes with it"
+
+    def counted(self, name: str, kind: Kind) -> str:
+        return f"{self.title(name, kind)} ({console.counted(kind.count, 'trace')})"
+
+    def end(self, findings: Findings, has_coverage: bool, stopped: str | None) -> None:
+        """All that there is to say at the end."""
+        for name, kind in findings.in_order():
+            if not kind.is_shown:
+                self.small(name, kind)
+        if findings.has_new_kinds:
+            self.line("\n".join(["what counts most first:", *self.ranked(findings), ""]))
+        for name, number in sorted(findings.aside.items()):
+            says = linux_cases.SAYS.get(name)
+            self.line(f"set aside: {number} times {name}{': ' + says if says else ''}")
+        for line in findings.told_lines():
+            self.line(line)
+        if has_coverage:
+            self.line("\n".join(coverage.report(findings.coverage)))
+        if stopped:
+            self.line(f"stopped by {stopped}")
+        known_alone = f", {findings.known_alone} of them in known ways alone" if findings.known_alone else ""
+        differ = "1 differs" if findings.differing == 1 else f"{findings.differing} differ"
+        self.line(f"{console.counted(findings.traces, 'trace').replace(',', '')}, {differ}{known_alone}")
