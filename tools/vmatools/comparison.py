@@ -15,7 +15,7 @@ from .conformance import CANNOT_RUN, NOT_THERE
 from .console import Failure
 from .linux_borders import History, part_name
 from .model import Space
-from .outputs import Difference, Part, answer_of, difference_of, is_list, kind_of, parts_of
+from .outputs import Difference, Pair, answer_of, difference_of, end_of, is_list, kind_of, pairs_of, parts_of
 from .program import Ran, run
 from .serial import serial_output
 from .systems.batch import Adapters, Answer
@@ -36,42 +36,6 @@ class CannotRun(Failure):
 
 class Stopped(Exception):
     """The comparison of a trace was given up, since the whole run ends."""
-
-
-class Pair(NamedTuple):
-    """Two parts of the outputs of both sides that stand at the same place and differ, and the child whose space they
-    are of, if one."""
-
-    space: Optional[int]
-    here: Part
-    there: Part
-
-
-def pairs_of(here: str, there: str) -> Iterator[Pair]:
-    """All places at which two outputs differ, as far as both have a part there."""
-    space: Optional[int] = None
-    for right, given in zip(parts_of(here), parts_of(there)):
-        if right.number is None and right.result.startswith("child "):
-            space = int(right.result.split()[1])
-        if right != given:
-            yield Pair(space, right, given)
-
-
-def end_of(here: str, there: str, words: dict[Optional[int], str]) -> Optional[Difference]:
-    """How two outputs differ that are equal as far as both go."""
-    heres, theres = parts_of(here), parts_of(there)
-    if len(theres) < len(heres):
-        right = heres[len(theres)]
-        return Difference(
-            words.get(right.number, "list"), "an answer", "the output ends", right.number, right.lines, []
-        )
-    if len(theres) > len(heres):
-        return Difference("output", "the end", "the output goes on", None, [], theres[len(heres)].lines)
-    if not there.endswith("\n"):
-        return Difference(
-            "output", "a newline", "no newline at the end", None, [], theres[-1].lines[-1:] if theres else []
-        )
-    return None
 
 
 class Rules:

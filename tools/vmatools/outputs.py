@@ -2,6 +2,7 @@
 from __future__ import annotations
 
 import re
+from collections.abc import Iterator
 from itertools import pairwise
 from typing import NamedTuple
 
@@ -68,27 +69,45 @@ def parts_of(output: str) -> list[Part]:
     return parts
 
 
-def first_difference(here: str, there: str, words: dict[int | None, str], last_lists: bool = True) -> Difference | None:
-    """The first difference of two outputs, as texts. `words` has the operation of each line of the trace. The lists at
-    the end are compared where it is so wanted.
-    """
-    if here == there:
-        return None
+class Pair(NamedTuple):
+    """Two parts of the outputs of both sides that stand at the same place and differ, and the child whose space they
+    are of, if one."""
+
+    space: int | None
+    here: Part
+    there: Part
+
+
+def pairs_of(here: str, there: str) -> Iterator[Pair]:
+    """All places at which two outputs differ, as far as both have a part there."""
+    space: int | None = None
+    for right, given in zip(parts_of(here), parts_of(there)):
+        if right.number is None and right.result.startswith("child "):
+            space = int(right.result.split()[1])
+        if right != given:
+            yield Pair(space, right, given)
+
+
+def end_of(here: str, there: str, words: dict[int | None, str]) -> Difference | None:
+    """How two outputs differ that are equal as far as both go."""
     heres, theres = parts_of(here), parts_of(there)
-    for place, right in enumerate(heres):
-        if place == len(theres):
-            return Difference(
-                words.get(right.number, "list"), "an answer", "the output ends", right.number, right.lines, []
-            )
-        given = theres[place]
-        if right == given or not last_lists and right.number is None and is_list(right) and is_list(given):
-            continue
-        return difference_of(right, given, words)
+    if len(theres) < len(heres):
+        right = heres[len(theres)]
+        return Difference(words.get(right.number, "list"), "an answer", "the output ends", right.number, right.lines, [])
     if len(theres) > len(heres):
         return Difference("output", "the end", "the output goes on", None, [], theres[len(heres)].lines)
     if not there.endswith("\n"):
-        return Difference("output", "a newline", "no newline at the end", None, [], theres[-1].lines[-1:])
-    return None  # no more than the lists at the end
+        last = theres[-1].lines[-1:] if theres else []
+        return Difference("output", "a newline", "no newline at the end", None, [], last)
+    return None
+
+
+def first_difference(here: str, there: str, words: dict[int | None, str]) -> Difference | None:
+    """The first difference of two outputs, as texts. `words` has the operation of each line of the trace."""
+    if here == there:
+        return None
+    pair = next(pairs_of(here, there), None)
+    return difference_of(pair.here, pair.there, words) if pair else end_of(here, there, words)
 
 
 def is_list(part: Part) -> bool:

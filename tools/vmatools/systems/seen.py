@@ -40,7 +40,7 @@ class Example:
     def now(self, adapter: Adapter) -> Seen | None:
         """How a system answers otherwise now, without its name and version; or None where it answers as Linux does."""
         words: dict[int | None, str] = {line.number: line.word for line in read_trace(self.trace.encode()).lines}
-        found = outputs.first_difference(self.output, adapter.answer(self.trace.encode()), words, True)
+        found = outputs.first_difference(self.output, adapter.answer(self.trace.encode()), words)
         return Seen("", "", found.number or 0, found.there) if found else None
 
 
