@@ -21,6 +21,7 @@ from vmatools import (
     coverage,
     findings,
     generator,
+    junit,
     keeping,
     linux_cases,
     mutants,
@@ -199,8 +200,11 @@ class Reports(unittest.TestCase):
     def test_junit_counts(self) -> None:
         told = findings.Findings(self.baseline("munmap/*/0 # it takes any\nmmap/a/b # gone\n"))
         told.add([self.finding(), self.finding("brk/\x00/b")], Counter())
-        suite = ElementTree.fromstring(findings.junit(told, True, None).split("\n", 1)[1])
+        suite = ElementTree.fromstring(findings.junit_of(told, True, None).split("\n", 1)[1])
         self.assertEqual([suite.get(name) for name in ("tests", "failures", "skipped", "errors")], ["4", "2", "1", "0"])
+
+    def test_junit_has_no_letter_that_xml_has_not(self) -> None:
+        self.assertEqual(junit.clean("a\0b\udcffc\ufffe\U0001f600é\r\n"), "a?b?c?\U0001f600é?\n")
 
 
 class Worse(comparison.InProcess):
@@ -400,7 +404,7 @@ class Runs(unittest.TestCase):
             run.run()  # no time for it
             self.assertTrue(told.has_new)
             self.assertEqual(told.not_run, {str(trace): "munmap/-1 EINVAL/-1 ENOMEM"})
-            self.assertIn("not run again", findings.junit(told, False, None))
+            self.assertIn("not run again", findings.junit_of(told, False, None))
 
     def test_an_output_of_threads_is_blamed_on_its_line(self) -> None:
         trace = read_trace(TWO)

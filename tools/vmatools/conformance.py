@@ -4,14 +4,13 @@ from __future__ import annotations
 import difflib
 import json
 import re
-import xml.etree.ElementTree as ElementTree
 from collections import Counter
 from collections.abc import Iterable, Iterator, Sequence
 from dataclasses import dataclass
 from enum import Enum
 from pathlib import Path
 
-from . import ranking
+from . import junit, ranking
 from .console import Failure
 from .outputs import Difference, first_difference
 from .program import TOP, Ran
@@ -215,19 +214,13 @@ def as_json(results: Sequence[Result]) -> Iterator[str]:
 
 
 def as_junit(results: Sequence[Result]) -> Iterator[str]:
-    """JUnit's XML, as CI servers read it."""
-    failed = sum(result.verdict in (Verdict.FAILED, Verdict.CRASHED, Verdict.HUNG) for result in results)
-    suite = ElementTree.Element("testsuite", name="diltzekun", tests=str(len(results)), failures=str(failed))
+    """JUnit's XML."""
+    suite = junit.Suite("diltzekun")
     for result in results:
-        case = ElementTree.SubElement(suite, "testcase", classname=result.case.group, name=result.case.name)
-        if result.verdict is Verdict.LEFT_OUT:
-            ElementTree.SubElement(case, "skipped", message=printable(result.why))
-        elif result.verdict is not Verdict.PASSED:
-            failure = ElementTree.SubElement(case, "failure", message=printable(result.why))
-            failure.text = printable("\n".join(described(result)))
-    yield ElementTree.tostring(suite, encoding="unicode")
-
-
-def printable(text: str) -> str:
-    """A text without the control bytes that XML can't have."""
-    return "".join(letter if letter.isprintable() or letter in "\t\n" else "?" for letter in text)
+        if result.verdict is Verdict.PASSED:
+            suite.add(result.case.group, result.case.name)
+        elif result.verdict is Verdict.LEFT_OUT:
+            suite.add(result.case.group, result.case.name, "skipped", result.why)
+        else:
+            suite.add(result.case.group, result.case.name, "failure", result.why, "\n".join(described(result)))
+    yield suite.text().rstrip("\n")

@@ -9,9 +9,8 @@ from dataclasses import dataclass, field, replace
 from fnmatch import fnmatchcase
 from pathlib import Path
 from typing import Any, Optional
-from xml.etree import ElementTree
 
-from . import ranking
+from . import junit, ranking
 from .console import Failure, counted, whole
 from .outputs import Difference
 
@@ -224,61 +223,23 @@ class Journal:
 # JUnit
 
 
-def junit(findings: Findings, is_strict: bool, stopped: Optional[str]) -> str:
+def junit_of(findings: Findings, is_strict: bool, stopped: Optional[str]) -> str:
     """The report as JUnit's XML: a case for each kind, for each known difference, and for the run."""
-    suite = ElementTree.Element("testsuite", name="vma compare")
+    suite, group = junit.Suite("vma compare"), "vma.compare"
     for name, kind in findings.in_order():
-        difference, finding = kind.shortest.difference, kind.shortest
-        failure = failed(
-            suite,
-            name,
-            f"{difference.operation}: program {difference.here}, yours {difference.there} ({kind.count} traces)",
-        )
-        failure.text = clean(
-            "\n".join(
-                [finding.trace, "program:", *difference.here_lines, "yours:", *difference.there_lines, finding.repeat]
-            )
-        )
+        finding, difference = kind.shortest, kind.shortest.difference
+        message = f"{difference.operation}: program {difference.here}, yours {difference.there} ({kind.count} traces)"
+        sides = ["program:", *difference.here_lines, "yours:", *difference.there_lines]
+        suite.add(group, name, "failure", message, "\n".join([finding.trace, *sides, finding.repeat]))
     for known in findings.baseline.known:
+        name = f"known: {known.pattern}"
         if known.count:
-            ElementTree.SubElement(
-                case(suite, f"known: {known.pattern}"),
-                "skipped",
-                message=clean(f"{known.reason} ({known.count} traces)"),
-            )
+            suite.add(group, name, "skipped", f"{known.reason} ({known.count} traces)")
         elif is_strict:
-            failed(suite, f"known: {known.pattern}", f"it did not come: {known.reason}")
+            suite.add(group, name, "failure", f"it did not come: {known.reason}")
         else:
-            case(suite, f"known: {known.pattern}").set("status", "it did not come")
+            suite.add(group, name).set("status", "it did not come")
     for path, name in findings.not_run.items():
-        failed(suite, name, f"kept in {path}, and not run again")
-    last = case(suite, f"{findings.traces} traces")
-    if stopped:
-        ElementTree.SubElement(last, "error", message=f"stopped by {stopped}")
-    counts = {what: sum(1 for _ in suite.iter(what)) for what in ("testcase", "failure", "skipped", "error")}
-    suite.attrib.update(
-        {
-            "tests": str(counts["testcase"]),
-            "failures": str(counts["failure"]),
-            "skipped": str(counts["skipped"]),
-            "errors": str(counts["error"]),
-        }
-    )
-    ElementTree.indent(suite)
-    return '<?xml version="1.0" encoding="UTF-8"?>\n' + ElementTree.tostring(suite, encoding="unicode") + "\n"
-
-
-def case(suite: ElementTree.Element, name: str) -> ElementTree.Element:
-    return ElementTree.SubElement(suite, "testcase", classname="vma.compare", name=clean(name))
-
-
-def failed(suite: ElementTree.Element, name: str, message: str) -> ElementTree.Element:
-    return ElementTree.SubElement(case(suite, name), "failure", message=clean(message))
-
-
-def clean(text: str) -> str:
-    """A text without the characters that XML may not have."""
-    return "".join(
-        letter if letter in "\t\n" or " " <= letter < "\ud800" or "\ue000" <= letter < "\ufffe" else "?"
-        for letter in text
-    )
+        suite.add(group, name, "failure", f"kept in {path}, and not run again")
+    suite.add(group, f"{findings.traces} traces", "error" if stopped else "", f"stopped by {stopped}")
+    return suite.text()

@@ -309,7 +309,7 @@ def compare_sides(options: argparse.Namespace, settings: Settings, sides: compar
             if not findings.aside[f"--ignore {pattern}"]:
                 console.say(f"--ignore {pattern}: no difference is of this kind")
         if junit:
-            junit.stream.write(found.junit(findings, options.strict, campaign.stopped))
+            junit.stream.write(found.junit_of(findings, options.strict, campaign.stopped))
             junit.take_place()
     return status
 
