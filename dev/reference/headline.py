@@ -221,18 +221,34 @@ def in_parts(nodes: list[Node], first: list[Place]) -> list[list[Node]]:
     return [[node for node in nodes if owner[node.place] == number] for number in range(len(PARTS))]
 
 
+def steps_down(nodes: list[Node]) -> dict[Place, int]:
+    """How many steps each definition is below one that no other of these names."""
+    by_place = {node.place: node for node in nodes}
+    named = {place for node in nodes for place in node.names}
+    found = {place: 0 for place in by_place if place not in named}
+    waiting = list(found)
+    for place in waiting:
+        for below in by_place[place].names:
+            if below in by_place and below not in found:
+                found[below] = found[place] + 1
+                waiting.append(below)
+    return found
+
+
 def by_file(nodes: list[Node]) -> list[list[Node]]:
-    """The definitions by file: a file stands above those that its definitions name."""
+    """The definitions by file: a file stands above those that its definitions name, and else by how near the first ones are."""
     files: dict[tuple[str, str], list[Node]] = {}
     below: dict[tuple[str, str], set[tuple[str, str]]] = {}
     for node in nodes:
         own = (node.place.crate, node.place.file)
         files.setdefault(own, []).append(node)
         below.setdefault(own, set()).update({(place.crate, place.file) for place in node.names} - {own})
+    down = steps_down(nodes)
+    near = {file: min(down.get(node.place, 0) for node in kept) for file, kept in files.items()}
     ordered: list[tuple[str, str]] = []
     while left := [file for file in files if file not in ordered]:
-        free = (file for file in left if not any(file in below[other] for other in left))
-        ordered.append(next(free, left[0]))
+        free = [file for file in left if not any(file in below[other] for other in left)]
+        ordered.append(min(free or left, key=lambda file: near[file]))
     return [files[file] for file in ordered]
 
 
