@@ -1,5 +1,6 @@
 #!/usr/bin/env python3
-"""Checks that all that tests/shown.txt names is there, and the Python of the repository by mypy and flake8.
+"""Checks that all that tests/shown.txt names is there, and the Python of the repository by mypy and flake8. No pattern has a
+possessive group, which Python 3.11.2 matches wrongly.
 
 mypy has to find every function typed, and flake8 nothing, with the settings of pyproject.toml. What is not installed is named
 and passed (Debian packages mypy and flake8).
@@ -7,10 +8,14 @@ and passed (Debian packages mypy and flake8).
 from __future__ import annotations
 
 import argparse
+import ast
+import re
 import shutil
 import subprocess
 import sys
 import tomllib
+from collections.abc import Iterator
+from pathlib import Path
 
 import shown
 from checking import TOP, fail, main, passed, skipped
@@ -25,6 +30,7 @@ PROGRAMS = (
     "dev/systems",
 )
 MOST = 4_000  # characters of what is printed
+CLASS, POSSESSIVE = re.compile(r"\[[^]]*\]"), re.compile(r"(?<!\\)(?:[*?}]|(?<=[])}.])\+)\+|\(\?>")
 
 
 def lines_of(done: subprocess.CompletedProcess[str]) -> str:
@@ -49,8 +55,27 @@ def check_shown() -> None:
     passed("tests/shown.txt")
 
 
+def possessive(source: str) -> Iterator[int]:
+    """The lines of a source whose texts have a possessive group."""
+    for node in ast.walk(ast.parse(source)):
+        text = node.value if isinstance(node, ast.Constant) else ""
+        text = text.decode("latin-1") if isinstance(text, bytes) else text
+        if isinstance(text, str) and POSSESSIVE.search(CLASS.sub("[]", text)):
+            assert isinstance(node, ast.Constant)
+            yield node.lineno
+
+
+def check_patterns() -> None:
+    paths = [path for folder in FOLDERS for path in (TOP / folder).rglob("*.py")] + [TOP / name for name in PROGRAMS]
+    found = [f"{path}:{line}" for path in paths for line in possessive(path.read_text(encoding="utf-8"))]
+    if found:
+        fail("patterns", f"these have a possessive group: {', '.join(found)}")
+    passed("patterns")
+
+
 def check(_options: argparse.Namespace) -> None:
     check_shown()
+    check_patterns()
     if sys.version_info < (3, 11):
         return skipped("all", "pyproject.toml is read by Python 3.11 and newer")
     settings = tomllib.loads((TOP / "pyproject.toml").read_text(encoding="utf-8"))["tool"]["flake8"]

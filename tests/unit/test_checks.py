@@ -15,6 +15,7 @@ import checking
 import examples
 import judged_runs
 import kit
+import lint
 from models.loading import module_of
 
 
@@ -90,6 +91,14 @@ class Examples(unittest.TestCase):
         for output, judged in (("wrong", "legal"), ("right", "'bad 2'")):
             with self.assertRaises(checking.Failed):
                 self.check("vmatrace 1\n0 maps\n", output, judged)
+
+
+class Patterns(unittest.TestCase):
+    def test_a_possessive_group_is_found(self) -> None:
+        for text in ("[0-9]{1,16}+", "(a|b)*+", "[ab]++", "a?+", "(?>a)", ".++"):
+            self.assertEqual(list(lint.possessive(f"a = 1\nb = {text!r}\nc = {text.encode()!r}\n")), [2, 3], text)
+        for text in ("[*+?}+]+", r"\\?+", r"\\++", "+++ exited", "g++ a.cc", "(a+|b)+ +"):
+            self.assertEqual(list(lint.possessive(f"a = {text!r}\n")), [], text)
 
 
 class Running(unittest.TestCase):

@@ -108,7 +108,8 @@ class Rules(unittest.TestCase):
         self.assertEqual(borders("linux-6.12", *lines), ["00100000-00101000", "00101000-00102000"])
 
     def test_7_2_tests_each_mremap_against_the_limit_and_asks_for_less_room(self) -> None:
-        lines = ["limit areas 5", f"0 mmap 0x100000 8192 {READ}", "0 mremap 0x100000 4096 4096 MREMAP_MAYMOVE|MREMAP_FIXED 0x200000"]
+        moved = "0 mremap 0x100000 4096 4096 MREMAP_MAYMOVE|MREMAP_FIXED 0x200000"
+        lines = ["limit areas 5", f"0 mmap 0x100000 8192 {READ}", moved]
         self.assertEqual(answers("linux-6.18", *lines)[1], "-1 ENOMEM")
         self.assertEqual(answers("linux-7.2", *lines)[1], "0x200000")
         lines = ["limit areas 4", f"0 mmap 0x100000 8192 {READ}", "0 mremap 0x100000 8192 4096 0"]
