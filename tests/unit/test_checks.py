@@ -95,7 +95,8 @@ class Examples(unittest.TestCase):
 
 class Patterns(unittest.TestCase):
     def test_a_possessive_group_is_found(self) -> None:
-        for text in ("[0-9]{1,16}+", "(a|b)*+", "[ab]++", "a?+", "(?>a)", ".++"):
+        for parts in ("[0-9]{1,16} +", "(a|b)* +", "[ab]+ +", "a? +", "(? >a)", ".+ +"):
+            text = parts.replace(" ", "")
             self.assertEqual(list(lint.possessive(f"a = 1\nb = {text!r}\nc = {text.encode()!r}\n")), [2, 3], text)
         for text in ("[*+?}+]+", r"\\?+", r"\\++", "+++ exited", "g++ a.cc", "(a+|b)+ +"):
             self.assertEqual(list(lint.possessive(f"a = {text!r}\n")), [], text)
