@@ -24,6 +24,7 @@ PROGRAMS = (
     "tools/vma",
     "tests/run",
     "dev/measure",
+    "dev/package",
     "dev/real-programs",
     "dev/suite-case",
     "dev/systems",
@@ -80,7 +81,7 @@ def check(_options: argparse.Namespace) -> None:
     settings = tomllib.loads((TOP / "pyproject.toml").read_text(encoding="utf-8"))["tool"]["flake8"]
     words = [f"--{name}={','.join(value) if isinstance(value, list) else value}" for name, value in settings.items()]
     check_tool("flake8", [*words, *FOLDERS, *PROGRAMS])
-    check_tool("mypy", ["tools/vmatools", "tests/checks", "tests/models", "tests/unit", "dev/reference"])
+    check_tool("mypy", ["tools/vmatools", "tests/checks", "tests/models", "tests/unit", "dev/reference", "dev/packaging"])
     for program in PROGRAMS:
         check_tool("mypy", ["--scripts-are-modules", program])
 

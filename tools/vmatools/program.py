@@ -9,6 +9,7 @@ import selectors
 import shutil
 import signal
 import subprocess
+import sys
 import tempfile
 import time
 from collections.abc import Sequence
@@ -18,13 +19,23 @@ from typing import IO
 
 from . import children, console
 
-TOP = Path(__file__).resolve().parents[2]
+HERE = Path(__file__).resolve().parent
+
+
+def top_of(tools: Path) -> Path:
+    """The folder with the suite and the examples: pip puts them beside the modules, and elsewhere tools is in it."""
+    return tools if (tools / "suite").is_dir() else tools.parents[1]
+
+
+TOP = top_of(HERE)
+# The command `vma` itself, and its words in a shell.
+VMA = [sys.executable, str(TOP / "tools/vma")] if HERE.parents[1] == TOP else [sys.executable, "-m", "vmatools"]
 DEFAULT_PROGRAM = TOP / "crates/vma_main/out/vma_main"
 VARIABLE = "DILTZEKUN"
 ON_PATH = "diltzekun"
 MOST_OUTPUT = 64 * 1024 * 1024
 BUILDS = f"`(cd {TOP}/crates/vma_main && rt run -- serial < ../../examples/readme.trace)` proves and builds it"
-UNPROVED = Path(__file__).resolve().parent / "unproved"  # the model, as programs
+UNPROVED = HERE / "unproved"  # the model, as programs
 NOT_BUILT = "unproved model: the proved program isn't built (README.md)"
 LIVE_BUILDS = f"`(cd {TOP}/crates/vma_live && rt run < /dev/null)` proves and builds it"
 

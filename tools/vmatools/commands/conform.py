@@ -43,7 +43,6 @@ from ..systems.searches import is_place_of_search
 from ..traces import read_trace
 from ..words import count, repeated, time_limit
 
-VMA = (sys.executable, str(TOP / "tools/vma"))
 SECONDS = 10.0
 SUMMARY = "measure a system case by case, with the conformance suite"
 FORMS: dict[str, Callable[[Sequence[Result]], Iterator[str]]] = {
@@ -176,7 +175,7 @@ def each_result(cases: Sequence[Case], options: argparse.Namespace) -> Iterator[
 def take_own_kernel(options: argparse.Namespace) -> None:
     """`tools/vma kernel` answers many traces in one process, which saves it a start for each."""
     first, *words = options.command
-    if not options.batch and words[:1] == ["kernel"] and Path(shutil.which(first) or first).resolve() == Path(VMA[1]):
+    if not options.batch and words[:1] == ["kernel"] and Path(shutil.which(first) or first).resolve() == TOP / "tools/vma":
         options.command, options.batch = [*options.command, "--batch"], True
 
 
@@ -187,7 +186,7 @@ def take_system(options: argparse.Namespace) -> None:
     if options.command:
         raise console.Failure("--system stands in the place of COMMAND: only one of them can be given")
     system = system_of(options.system)
-    options.command, options.batch = [*VMA, "kernel", "--batch", "--system", options.system], True
+    options.command, options.batch = [*program.VMA, "kernel", "--batch", "--system", options.system], True
     options.is_windowed = system.window is not None
     if system.boots:
         options.jobs, options.seconds = 1, MACHINE_SECONDS

@@ -17,7 +17,6 @@ from .measuring import missing
 from .reference import Reference, unnamed
 from .words import window_of
 
-VMA = str(program.TOP / "tools/vma")
 MACHINE_KIND_SECONDS = 120.0  # for making the trace of a kind small, in a machine that has to be booted where it dies
 FIRST_SECONDS = 10.0  # for an adapter to answer a trace without lines
 FOR_SECONDS = 60.0  # how long traces are run in a known system, where nothing else is asked for
@@ -48,7 +47,7 @@ def take_system(options: argparse.Namespace) -> None:
     packages = missing(system)
     if packages:
         raise console.Failure(f"{system.name} is not installed (Debian: apt-get install {packages})")
-    options.command = [VMA, "kernel", "--batch", "--system", options.system]
+    options.command = [*program.VMA, "kernel", "--batch", "--system", options.system]
     options.batch = True
     if system.window:
         options.window = options.window or system.window

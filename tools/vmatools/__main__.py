@@ -1,0 +1,17 @@
+"""The command `vma` where the package is installed: `python3 -m vmatools`."""
+from __future__ import annotations
+
+import os
+import sys
+from typing import NoReturn
+
+from vmatools.cli import main
+
+
+def command() -> NoReturn:
+    status = main(sys.argv[1:])
+    os._exit(status)  # all is written; what still runs in threads is left behind
+
+
+if __name__ == "__main__":
+    command()
