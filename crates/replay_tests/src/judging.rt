@@ -64,8 +64,8 @@ fn told_by(answer: &Answer) -> Told {
     }
 }
 
-/// What is told of a history that was judged.
-fn told(judged: Result<(), CheckError>) -> Result<Option<Bad>, Fail> {
+/// What is bad of a history that was judged.
+fn bad_in(judged: Result<(), CheckError>) -> Result<Option<Bad>, Fail> {
     match judged {
         Ok(()) => Ok(None),
         Err(CheckError::Bad(bad)) => Ok(Some((
@@ -81,7 +81,7 @@ fn told(judged: Result<(), CheckError>) -> Result<Option<Bad>, Fail> {
 pub(crate) fn bad_of(alloc: Global, trace: &Trace, history: &History) -> Result<Option<Bad>, Fail>
     requires { IsTraceValue trace.now }
 {
-    told(check(alloc, trace, history))
+    bad_in(check(alloc, trace, history))
 }
 
 /// What is bad of a history of a child of a trace, which began with these entries.
@@ -97,7 +97,7 @@ pub(crate) fn bad_of_child(
 {
     assert!(rt; has_child(trace, child));
     assert!(rt; before.len() <= MOST_LINES);
-    told(check_child(alloc, trace, child, before, history))
+    bad_in(check_child(alloc, trace, child, before, history))
 }
 
 /// What a child inherits that was forked after so many entries.
