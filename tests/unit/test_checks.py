@@ -15,6 +15,7 @@ import checking
 import examples
 import judged_runs
 import kit
+import workflows
 import lint
 from models.loading import module_of
 
@@ -59,6 +60,23 @@ class Peaks(unittest.TestCase):
         self.assertEqual(self.resident("/bin/sh", "-c", "exit 3")[0], 3)
         self.assertEqual(self.resident("/bin/sh", "-c", "kill -9 $$")[0], 137)
         self.assertNotEqual(self.resident(sys.executable, "-ISc", "bytearray(1 << 30)", addresses=1 << 29)[0], 0)
+
+
+class Workflows(unittest.TestCase):
+    def test_the_steps_of_both_forms(self) -> None:
+        github = {"on": ["push"], "jobs": {"one": {"steps": [{"uses": "actions/checkout@v4"}, {"run": "make"}]}}}
+        gitlab = {"two": {"image": "debian:12", "before_script": ["apt-get update"], "script": ["make", "make test"]}}
+        self.assertEqual(list(workflows.steps_of(github)), ["make"])
+        self.assertEqual(list(workflows.steps_of(gitlab)), ["apt-get update", "make", "make test"])
+
+    def test_a_step_takes_seconds(self) -> None:
+        self.assertEqual(workflows.shortened("vma compare --for 300 -- ./a"), "vma compare --for 5 -- ./a")
+
+    def test_a_step_that_fails(self) -> None:
+        with self.assertRaisesRegex(checking.Failed, "has status 3"):
+            workflows.run_step("exit 3", Path("/"))
+        with self.assertRaisesRegex(checking.Failed, "has status 2: .*no-such"):
+            workflows.run_step("echo no-such >&2; exit 2 # compare", Path("/"))
 
 
 class Kit(unittest.TestCase):
