@@ -55,6 +55,14 @@ def check_shown() -> None:
     passed("tests/shown.txt")
 
 
+def check_linux_rules() -> None:
+    """What dev/make-linux-rules makes stands as it is made, and the definitions have the table of versions."""
+    done = subprocess.run(["dev/make-linux-rules", "--check"], cwd=TOP, capture_output=True, text=True)
+    if done.returncode:
+        fail("Linux's rules", f"dev/make-linux-rules --check finds\n{lines_of(done)}")
+    passed("Linux's rules")
+
+
 def possessive(source: str) -> Iterator[int]:
     """The lines of a source whose texts have a possessive group."""
     for node in ast.walk(ast.parse(source)):
@@ -75,13 +83,14 @@ def check_patterns() -> None:
 
 def check(_options: argparse.Namespace) -> None:
     check_shown()
+    check_linux_rules()
     check_patterns()
     if sys.version_info < (3, 11):
         return skipped("all", "pyproject.toml is read by Python 3.11 and newer")
     settings = tomllib.loads((TOP / "pyproject.toml").read_text(encoding="utf-8"))["tool"]["flake8"]
     words = [f"--{name}={','.join(value) if isinstance(value, list) else value}" for name, value in settings.items()]
     check_tool("flake8", [*words, *FOLDERS, *PROGRAMS])
-    check_tool("mypy", ["tools/vmatools", "tests/checks", "tests/models", "tests/unit", "dev/reference", "dev/packaging"])
+    check_tool("mypy", ["tools/vmatools", "tests/checks", "tests/models", "tests/unit", "dev/reference", "dev/linux_rules", "dev/packaging"])
     for program in PROGRAMS:
         check_tool("mypy", ["--scripts-are-modules", program])
 

@@ -1,0 +1,6 @@
+-- For `linux_6_17_is_as_recorded`: its goal.
+use Rattle.linux_rules.proofs.Linux_6_17.{all_of_linux_6_17}
+use Rattle.linux_rules.proofs.recorded.linux_6_17_is_as_recorded.Goals as goal
+
+pub returns : goal.returns
+returns c = all_of_linux_6_17
