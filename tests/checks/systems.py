@@ -25,7 +25,7 @@ from vmatools.systems.places import Refused
 from vmatools.traces import read_trace
 
 TRACES = 300
-WANTED = "L3 t0 v1 = 0\nL4 t3 v1 = SIGSEGV SEGV_MAPERR\nL6 t0 v1 = maps 0\nmaps 0\n"
+WANTED = "L3 t0 v1 = 0\nL6 t0 v1 = maps 0\nL4 t3 v1 = SIGSEGV SEGV_MAPERR\nmaps 0\n"
 TRACE = b"vmatrace 1\n# a comment\n0 munmap 0x10000 4096\n3 fault 0x10000 r\n\n0 maps\n"
 ADAPTERS = TOP / "examples/batch"
 
