@@ -2,8 +2,7 @@
 """Tries `vma compare` on the program itself, and on systems that are wrong in one thing each.
 
 PROGRAM is crates/vma_main/out/vma_main by default. The wrong systems are those of tools/vmatools/mutants.py. Each has to be
-found, with --kernel and without, and the smallest trace has at most five lines below the header. Takes less than a minute;
---runs 2000 takes longer.
+found, and the smallest trace has at most five lines below the header. Takes less than a minute; --runs 2000 takes longer.
 
 Exit status: 0 where all is as it should be, 1 at the first thing that is not, 2 on wrong use, or where the program is
 missing.
@@ -121,15 +120,13 @@ def check_model(program: str, runs: int) -> None:
 
 
 def check_mutants() -> None:
-    """Each wrong model is found by the options as they stand, and with --kernel, which hides none of them."""
-    choices: tuple[list[str], ...] = ([], ["--kernel"])
-    for more in choices:
-        began = time.monotonic()
-        status, text = compared(["--mutants", "--runs", str(RUNS), *more])
-        if status:
-            missed = re.findall(r"^(\S+) +not found", text, re.MULTILINE)
-            fail(f"--mutants {' '.join(more)}: {', '.join(missed)} not found in {RUNS} traces")
-        told(f"{text.splitlines()[-1]}{' with --kernel' if more else ''}", began)
+    """Each wrong model is found by the options as they stand."""
+    began = time.monotonic()
+    status, text = compared(["--mutants", "--runs", str(RUNS)])
+    if status:
+        missed = re.findall(r"^(\S+) +not found", text, re.MULTILINE)
+        fail(f"--mutants: {', '.join(missed)} not found in {RUNS} traces")
+    told(text.splitlines()[-1], began)
 
 
 def check_wrong(program: str) -> None:

@@ -23,6 +23,7 @@ FOLDERS = ("tools/vmatools", "tests", "dev")
 PROGRAMS = (
     "tools/vma",
     "tests/run",
+    "dev/linux-versions",
     "dev/measure",
     "dev/package",
     "dev/real-programs",

@@ -1,4 +1,4 @@
-"""A known system in a comparison: its words, how traces are fitted, and the running kernel beside it."""
+"""A known system in a comparison: its words, how traces are fitted, and what of it is compared."""
 from __future__ import annotations
 
 import argparse
@@ -9,13 +9,13 @@ from typing import Optional
 from unittest import mock
 
 sys.path.insert(0, str(Path(__file__).resolve().parents[2] / "tools"))
-from vmatools import comparison, console, windows  # noqa: E402
+from vmatools import comparison, console, oracles, program, windows  # noqa: E402
 from vmatools.commands import compare  # noqa: E402
+from vmatools.linux.kernel import running_version  # noqa: E402
 from vmatools.outputs import Difference  # noqa: E402
 from vmatools.program import Ran  # noqa: E402
-from vmatools.systems import beside, words  # noqa: E402
+from vmatools.systems import beside, machines, words  # noqa: E402
 from vmatools.systems.places import Window  # noqa: E402
-from vmatools.systems.reference import Reference, unnamed  # noqa: E402
 from vmatools.traces import Trace, read_trace  # noqa: E402
 
 MAP = "0 mmap 0x10000 4096 PROT_READ MAP_PRIVATE|MAP_ANONYMOUS|MAP_FIXED -1 0"
@@ -47,25 +47,38 @@ class Words(unittest.TestCase):
         options = options_of("--system", "valgrind")
         beside.take_system(options)
         self.assertEqual(
-            options.command[1:], ["kernel", "--batch", "--system", "valgrind", "--window", "0x10000-0x2000000"]
+            options.command[len(program.VMA) :], ["kernel", "--batch", "--system", "valgrind", "--window", "0x10000-0x2000000"]
         )
-        self.assertTrue(options.batch and options.linux and options.window)
-        self.assertEqual((options.kernel, options.for_seconds), (False, beside.FOR_SECONDS))
+        self.assertTrue(options.batch and options.window)
+        self.assertEqual(options.oracle.kernel.version, running_version())
+        self.assertEqual(options.for_seconds, beside.FOR_SECONDS)
         self.assertEqual(beside.words_of(options), [])
 
-    def test_a_machine_is_one_and_its_rows_are_known(self) -> None:
-        options = options_of("--system", "machine", "--runs", "5")
-        beside.take_system(options)
-        self.assertEqual((options.kernel, options.linux, options.window, options.jobs), (True, False, None, 1))
+    def test_a_machine_is_one_and_its_own_version_is_right(self) -> None:
+        options = options_of("--system", "machine:/boot/vmlinuz", "--runs", "5")
+        with mock.patch.object(machines, "version_of", return_value="6.12.117"):
+            beside.take_system(options)
+        self.assertEqual((options.oracle.name, options.window, options.jobs), ("linux-6.12.117", None, 1))
         self.assertIsNone(options.for_seconds)
+
+    def test_the_profile_is_a_word_away(self) -> None:
+        options = options_of("--system", "native", "--as", "profile")
+        beside.take_system(options)
+        self.assertEqual(options.oracle, oracles.PROFILE)
+
+    def test_threads_are_judged_by_the_profile(self) -> None:
+        options = options_of("--threads", "2", "--as", "linux-6.18", "--", "true")
+        options.given_oracle = options.oracle
+        with self.assertRaisesRegex(console.Failure, "by the profile alone"):
+            compare.check_oracle(options)
 
     def test_a_system_and_a_command_are_one_too_many(self) -> None:
         with self.assertRaises(console.Failure):
             beside.take_system(options_of("--system", "valgrind", "--", "true"))
 
     def test_a_window_stands_in_the_command_that_repeats(self) -> None:
-        options = options_of("--batch", "--window", "0x10000-0x20000", "--linux", "--", "true")
-        self.assertEqual(beside.words_of(options), ["--batch", "--window", "0x10000-0x20000", "--linux"])
+        options = options_of("--batch", "--window", "0x10000-0x20000", "--", "true")
+        self.assertEqual(beside.words_of(options), ["--batch", "--window", "0x10000-0x20000"])
 
     def test_windows(self) -> None:
         self.assertEqual(words.window_of("0x10000-131072"), Window(0x10000, 0x20000))
@@ -120,60 +133,15 @@ class Endings(unittest.TestCase):
         self.assertIsNone(Answering("").end_in(trace_of(MAP), "L2 t0 v1 = 0x10000\nmaps 0\n"))
 
 
-class Linux(unittest.TestCase):
-    def setUp(self) -> None:
-        self.reference = object.__new__(Reference)
-        self.reference.window = Window(0x10000, 0x20000)
-        self.output = ""
-        patch = mock.patch.object(Reference, "answer", lambda _, trace: self.output)
-        patch.start()
-        self.addCleanup(patch.stop)
-
-    def difference(self, here: str, there: str, number: int | None, *lines: str, operation: str = "mmap") -> Difference:
-        return Difference(operation, here, there, number, [], list(lines))
-
-    def test_an_answer_that_linux_gives_too(self) -> None:
-        self.output = "L2 t0 v1 = -1 EEXIST\nmaps 0\n"
-        trace = trace_of(MAP)
-        self.assertTrue(
-            self.reference.agrees(trace, self.difference("an address", "-1 EEXIST", 2, "L2 t0 v7 = -1 EEXIST"))
-        )
-        self.assertFalse(
-            self.reference.agrees(trace, self.difference("an address", "-1 EINVAL", 2, "L2 t0 v1 = -1 EINVAL"))
-        )
-        self.assertFalse(
-            self.reference.agrees(trace, self.difference("a version", "another version", 2, "L2 t0 v2 = -1 EEXIST"))
-        )
-
+class Windows(unittest.TestCase):
     def test_places_outside_of_the_window_are_one(self) -> None:
-        self.output = "L2 t0 v1 = 0x7ffff7ff0000\nmaps 0\n"
-        trace = trace_of(MAP)
-        self.assertTrue(
-            self.reference.agrees(trace, self.difference("an address", "another address", 2, "L2 t0 v1 = 0x400000000"))
-        )
-        self.assertFalse(
-            self.reference.agrees(trace, self.difference("an address", "another address", 2, "L2 t0 v1 = 0x12000"))
-        )
+        shown = beside.Windowed(Window(0x10000, 0x20000)).shown
+        self.assertEqual(shown("L2 t0 v1 = 0x7ffff7ff0000\n"), shown("L2 t0 v1 = 0x400000000\n"))
+        self.assertNotEqual(shown("L2 t0 v1 = 0x12000\n"), shown("L2 t0 v1 = 0x400000000\n"))
 
-    def test_lists(self) -> None:
-        self.output = f"L2 t0 v1 = 0x10000\nL3 t0 v1 = maps 1\n{AREA}\nmaps 1\n{AREA}\n"
-        trace = trace_of(MAP)
-        self.assertTrue(self.reference.agrees(trace, self.difference("list: joined", "list: apart", 2, "maps 1", AREA)))
-        self.assertTrue(
-            self.reference.agrees(
-                trace, self.difference("list: joined", "list: apart", None, "maps 1", AREA, operation="list")
-            )
-        )
-        self.assertFalse(self.reference.agrees(trace, self.difference("list: mapped", "list: not mapped", 2, "maps 0")))
-
-    def test_no_answer_agrees_with_none(self) -> None:
-        self.assertFalse(
-            self.reference.agrees(trace_of(MAP), self.difference("an address", "hung", 2, "L2 t0 v1 = hung"))
-        )
-
-    def test_names_of_heaps_are_not_compared(self) -> None:
-        named = "00010000-00011000 rw-p 00000000 00:00 0                                  [heap]\n"
-        self.assertEqual(unnamed(named), "00010000-00011000 rw-p 00000000 00:00 0 \n")
+    def test_names_of_heaps_count_for_nothing(self) -> None:
+        shown = beside.Windowed(Window(0x10000, 0x20000)).shown
+        self.assertEqual(shown(f"{AREA.rstrip()}              [heap]\n"), shown(f"{AREA.rstrip()} \n"))
 
 
 if __name__ == "__main__":

@@ -9,12 +9,14 @@ import tempfile
 import time
 import unittest
 from collections import Counter
+from dataclasses import replace
 from pathlib import Path
 from typing import Any
 from xml.etree import ElementTree
 
 sys.path.insert(0, str(Path(__file__).resolve().parents[2] / "tools"))
 from vmatools import (
+    answers,
     campaign,
     comparison,
     console,
@@ -23,18 +25,19 @@ from vmatools import (
     generator,
     junit,
     keeping,
-    linux_cases,
     mutants,
+    oracles,
+    program,
     ranking,
     reports,
     shrinking,
     threaded,
 )
-from vmatools.linux_borders import History
-from vmatools.linux_model import Kernel, Linux, predictions
+from vmatools.linux.kernel import Process, Settings, kernel_of
 from vmatools.model import Space
 from vmatools.outputs import Difference, kind_of
 from vmatools.program import Ran
+from vmatools.systems import rows
 from vmatools.traces import Trace, read_trace
 
 TWO = b"""vmatrace 1
@@ -43,9 +46,8 @@ TWO = b"""vmatrace 1
 """
 
 
-def examined(model: type[Space], text: bytes, has_cases: bool = False) -> comparison.Examined:
-    cases = linux_cases.CASES if has_cases else ()
-    return comparison.examine(comparison.InProcess(model, comparison.Rules((), cases)), read_trace(text))
+def examined(model: type[Space], text: bytes) -> comparison.Examined:
+    return comparison.examine(comparison.InProcess(model, comparison.Rules()), read_trace(text))
 
 
 def kinds(told: comparison.Examined) -> list[tuple[str, str, str]]:
@@ -78,7 +80,7 @@ class AllDifferences(unittest.TestCase):
 
     def test_a_fork_goes_with_its_child(self) -> None:
         trace = read_trace(TWO + b"0 fork 1\n1 munmap 0x100000 4096\n0 maps\n")
-        self.assertEqual([line.word for line in comparison.without(trace, 4).lines], ["mmap", "mmap", "maps"])
+        self.assertEqual([line.word for line in oracles.without(trace, 4).lines], ["mmap", "mmap", "maps"])
 
     def test_no_more_than_so_many(self) -> None:
         text = b"vmatrace 1\n" + b"0 munmap 0x7ffffffff000 4096\n" * 5
@@ -86,58 +88,81 @@ class AllDifferences(unittest.TestCase):
         self.assertEqual((len(told.findings), told.has_more), (2, True))
 
 
-class LinuxCases(unittest.TestCase):
-    """The cases have what Linux answers, and nothing else."""
+# Rows whose traces have the name of another one too: the more general one, or an earlier line's.
+ALSO: dict[str, str | None] = {
+    "overcommit-mprotect": "aligned",
+    "error-move-odd": "mremap-past-limit",
+    "error-noreplace-below-min": "below-min",
+    "error-old-zero-unmapped": "mremap-old-zero",
+    "grow-growing": "grow-none",
+    "brk-moved": "brk-name",
+    "brk-hole": "brk-name",
+    "brk-below": "brk-name",
+    "seal-denied": "seal-hole",
+    "seal-dontunmap": "mremap-dontunmap",
+    "seal-several": "seal-other-error",
+    "seal-fixed": "seal-split",
+    "fork-written": "border",
+}
 
-    def test_a_system_that_never_merges_is_found(self) -> None:
-        self.assertEqual(kinds(examined(mutants.NeverMerges, TWO, True)), [("mmap", "list: joined", "list: apart")])
 
-    def test_an_area_that_was_written_to_may_stay_apart(self) -> None:
-        history = History(read_trace(TWO.replace(b"PROT_READ ", b"PROT_READ|PROT_WRITE ") + b"0 fault 0x100000 w\n"))
-        self.assertTrue(history.at_end[None].tainted)
-        self.assertFalse(History(read_trace(TWO)).at_end[None].tainted)
+class Linux(unittest.TestCase):
+    """Linux as the right side, and who is right."""
 
-    def test_each_answer_is_predicted(self) -> None:
-        lines = {
-            "0 mmap 0x7fffffffefff 4096 PROT_READ MAP_PRIVATE|MAP_ANONYMOUS|MAP_FIXED -1 0": "-1 ENOMEM",
-            "0 mmap 0x100000 4096 PROT_READ MAP_ANONYMOUS|MAP_FIXED_NOREPLACE -1 0": "-1 EEXIST",
-            "0 mremap 0x100000 4096 4096 MREMAP_MAYMOVE|MREMAP_DONTUNMAP": "0x7ffff7ffe000",
-            "0 mremap 0x100000 4096 0x800000000000 0": "-1 EINVAL",
-            "0 mremap 0x100000 8192 8192 MREMAP_MAYMOVE|MREMAP_FIXED 0x300000": "0x300000",
-            "0 mmap 0 2097152 PROT_READ MAP_PRIVATE|MAP_ANONYMOUS -1 0": "0x7ffff7c00000",
-            "0 fault 0x800000000000 r": "SIGSEGV SI_KERNEL",
-        }
-        for line, answer in lines.items():
-            trace = read_trace(TWO + line.encode() + b"\n")
-            state = History(trace).before[4]
-            first = next(predictions(state.space, state.tainted, state.sizes, trace.lines[-1]))
-            self.assertEqual(first.result, answer, line)
+    def sides(self, model: str) -> comparison.Sides:
+        class Under(comparison.Sides):
+            def here(self, trace: Trace) -> str:
+                return self.oracle.output(trace)
 
-    def test_growth_is_that_of_linux(self) -> None:
-        area = b"vmatrace 1\n0 mmap 0x200000 4096 PROT_READ|PROT_WRITE MAP_PRIVATE|MAP_ANONYMOUS|MAP_FIXED|MAP_GROWSDOWN -1 0\n"
-        for line, answer in {
-            "0 fault 0x1fd000 w": "served 001fd000-00201000 rw-p page 0",
-            "0 fault 0x1ff000 x": "SIGSEGV SEGV_ACCERR",
-        }.items():
-            trace = read_trace(area + line.encode() + b"\n")
-            state = History(trace).before[3]
-            self.assertEqual(next(predictions(state.space, [], {}, trace.lines[-1])).result, answer)
+            def there(self, trace: Trace, seconds: float | None = None) -> program.Ran:
+                return program.Ran(oracles.oracle_of(model).output(trace), None, "")
 
-    def test_a_place_below_a_growing_area_is_passed_over(self) -> None:
-        trace = read_trace(
-            b"vmatrace 1\n0 mmap 0x7ffff7ff0000 4096 PROT_READ MAP_PRIVATE|MAP_ANONYMOUS|MAP_FIXED|MAP_GROWSDOWN -1 0\n"
-        )
-        space = History(trace).at_end[None].space
-        self.assertEqual(Linux.of(space, Kernel(), [], {}).searched(0xE), 0x7FFFF7FF1)
-        self.assertEqual(Linux.of(space, Kernel(), [], {}).searched(0xF), 0x7FFFF7FF0 - 256 - 0xF)
+        return Under("", [], 1, comparison.Rules())
 
-    def test_a_case_of_ones_own_predicts_too(self) -> None:
-        own = linux_cases.Case(
-            "mine", "EINVAL is ENOMEM", lambda seen: seen.is_of("munmap"), lambda seen: ["-1 ENOMEM"]
-        )
-        sides = comparison.InProcess(mutants.MunmapPastEnd, comparison.Rules((), [own]))
-        told = comparison.examine(sides, read_trace(b"vmatrace 1\n0 munmap 0x7ffffffff000 4096\n"))
-        self.assertEqual((told.findings, told.aside), ([], Counter({"mine": 1})))
+    def says(self, right: str, model: str, text: bytes) -> str:
+        sides, trace = self.sides(model), read_trace(text)
+        sides.oracle = oracles.oracle_of(right)
+        (found, *_) = comparison.examine(sides, trace).findings
+        told = answers.answers_of(found.trace, found.difference, sides.oracle)
+        assert told
+        self.assertEqual(list(told.sides)[1:], ["profile", "yours"])
+        return told.says
+
+    def test_who_is_right_is_said(self) -> None:
+        longer = TWO + b"0 mremap 0x100000 4096 140737488355328 0\n"
+        seal = TWO.replace(b"0x101000 4096 PROT_READ", b"0x101000 4096 PROT_NONE") + b"0 mseal 0x101000 4096 0\n"
+        seal += b"0 mprotect 0x100000 8192 PROT_EXEC\n"
+        for right, model, text, wanted in (
+            ("linux-6.18", "linux-6.12", longer, "answer as yours; Linux 6.1, 6.12 and 6.16 do (moves_several)."),
+            ("linux-6.18", "profile", seal, "Yours is the profile's answer, and no Linux gives it (row seal-prefix)."),
+            ("profile", "linux-6.18", longer, "the profile differs from these (row mremap-too-long)."),
+            ("profile", "linux-7.2", seal, "As yours: Linux 6.12, 6.16, 6.17, 6.18.15, 6.18.44 and 7.2; the profile"),
+        ):
+            with self.subTest(right=right, model=model):
+                self.assertIn(wanted, self.says(right, model, text))
+
+    def test_equal_systems_have_no_finding(self) -> None:
+        sides = self.sides("linux-6.12")
+        sides.oracle = oracles.oracle_of("linux-6.12")
+        for profile in ("mremap", "growing"):
+            trace = generator.Generator(profile, "1 1", 20, is_fitted=True).draw()
+            self.assertEqual(comparison.examine(sides, trace).findings, [])
+
+    def test_what_is_not_modelled_is_counted(self) -> None:
+        sides = self.sides("linux-6.12")
+        sides.oracle = oracles.oracle_of("linux-6.12")
+        (name,) = comparison.examine(sides, read_trace(TWO + b"0 brk 0x200000\n")).aside
+        self.assertIn("not modelled: every process has a break", name)
+
+    def test_every_row_is_named_by_the_models(self) -> None:
+        """Each row's trace has the row's name, or the beginning of it; some have that of another row which they are too."""
+        kernel, others = kernel_of("6.18", Settings(huge="madvise"), Process(brk=0x7FFFFF20F000)), {}
+        for row in rows.read_rows()[1]:
+            on_disk = replace(kernel, settings=replace(kernel.settings, files="disk"))
+            found = answers.row_of(read_trace(row.trace.encode()), on_disk if row.name in rows.ON_DISK else kernel)
+            if found is None or not row.name.startswith(found):
+                others[row.name] = found
+        self.assertEqual(others, ALSO)
 
 
 class Shrinking(unittest.TestCase):

@@ -17,11 +17,13 @@ from types import FrameType
 from typing import Any, NamedTuple, Optional, Union
 
 from . import children, coverage, generator, outputs
+from .answers import answers_of
 from .comparison import Examined, Found, Sides, Stopped, examine, without_all
 from .console import Failure, Progress, say
 from .fitting import fitted
 from .findings import Finding, Findings, Journal, Kind
 from .keeping import Kept
+from .oracles import PROFILE, Oracle
 from .reports import Report
 from .smaller import Smaller
 from .systems.capabilities import Capabilities
@@ -44,7 +46,7 @@ class Settings:
     lines: int = 30
     seed: int = 1
     jobs: int = 1
-    is_kernel: bool = False
+    oracle: Oracle = PROFILE  # what is right
     threads: int = 0
     seconds: float = 10
     short: float = 1
@@ -65,7 +67,7 @@ class Settings:
             "profiles": self.profiles,
             "lines": self.lines,
             "seed": self.seed,
-            "kernel": self.is_kernel,
+            "as": self.oracle.words(),
             "threads": self.threads,
             "traces": str(self.folder) if self.folder else None,
         }
@@ -120,10 +122,10 @@ def kept_trace(number: int, path: Path) -> Source:
 
 def drawn_trace(settings: Settings, number: int) -> Source:
     name = settings.profiles[number % len(settings.profiles)]
-    kernel = settings.is_kernel
+    is_fitted = settings.oracle.kernel is not None
 
     def draw() -> Trace:
-        return generator.Generator(name, f"{settings.seed} {number}", settings.lines, settings.threads, kernel).draw()
+        return generator.Generator(name, f"{settings.seed} {number}", settings.lines, settings.threads, is_fitted).draw()
 
     return Source(number, f"trace {number} of seed {settings.seed}, profile {name}", ["--only", str(number)], draw)
 
@@ -253,8 +255,8 @@ class Campaign:
         fit = self.settings.fit
         if fit:
             trace = trace if source.is_kept and fit.keeps(trace) else fit.fitted(trace)
-        elif self.settings.is_kernel and self.settings.folder:
-            trace = fitted(trace)
+        elif self.settings.oracle.kernel:
+            trace = fitted(trace, self.settings.oracle.kernel.settings.min)
         self.sides.confirm(trace)
         rows = coverage.rows_of(trace) if self.settings.has_coverage else Counter[str]()
         return examine(self.sides, trace, self.settings.most, lambda one: self.told.put((source, one))), rows
@@ -334,11 +336,18 @@ class Campaign:
             self.kept.write(small, "yours", self.sides.there(trace).output)
         return small
 
+    def ask_models(self, finding: Finding) -> None:
+        """Says who is right: what the profile and Linux by version answer."""
+        if not self.settings.threads and finding.answers is None:
+            trace = read_trace(finding.trace.encode())
+            finding.answers = answers_of(trace, finding.difference, self.sides.oracle, self.sides.shown)
+
     def keep_small(self, name: str, small: Optional[Finding]) -> None:
         """Tells of the smallest trace of a kind."""
         kind = self.findings.kinds[name]
         if small:
             kind.shortest, kind.is_shrunk = small, True
+        self.ask_models(kind.shortest)
         self.write(kind.shortest, "smallest", count=kind.count)
         kind.is_shown = True
         if self.report:

@@ -10,11 +10,11 @@ from fnmatch import fnmatchcase
 from functools import lru_cache
 from typing import NamedTuple, Optional, Union
 
-from . import linux_cases
 from .conformance import CANNOT_RUN, NOT_THERE
 from .console import Failure
-from .linux_borders import History, part_name
+from .linux.areas import NotModelled
 from .model import Space
+from .oracles import PROFILE, Oracle, without
 from .outputs import Difference, Pair, answer_of, difference_of, end_of, is_list, kind_of, pairs_of, parts_of
 from .program import Ran, run
 from .serial import serial_output
@@ -39,19 +39,12 @@ class Stopped(Exception):
 
 
 class Rules:
-    """Which differences are set aside, by the rules of --ignore and by the cases of --kernel."""
+    """Which differences are set aside, by the rules of --ignore."""
 
-    def __init__(
-        self,
-        patterns: Iterable[str] = (),
-        cases: Sequence[linux_cases.Case] = (),
-        linux: Optional[Callable[[Trace, Difference], bool]] = None,
-    ) -> None:
+    def __init__(self, patterns: Iterable[str] = ()) -> None:
         patterns = list(patterns)
         self.patterns = [pattern for pattern in patterns if pattern != "list"]
         self.last_lists = "list" not in patterns
-        self.cases = cases
-        self.linux = linux  # whether the running kernel answers as the system does
 
     def pattern_of(self, difference: Difference) -> Optional[str]:
         """The rule of --ignore by which a difference is set aside."""
@@ -61,25 +54,11 @@ class Rules:
                 return f"--ignore {pattern}"
         return None
 
-    def name_of(self, trace: Trace, difference: Difference) -> Optional[str]:
-        """The rule or the case by which a difference is set aside, or None."""
-        pattern = self.pattern_of(difference)
-        if pattern or not (self.cases or self.linux):
-            return pattern
-        if self.linux:
-            return "as-linux" if self.linux(trace, difference) else None
-        return linux_cases.case_of(self.cases, trace, History(trace), difference)
-
-
-class Compared(NamedTuple):
-    """The first difference of two outputs, and the cases by which parts above it differ in borders alone."""
-
-    difference: Optional[Difference]
-    passed: set[str]
-
 
 class Sides:
-    """The program, here, and the system under test, there."""
+    """What is right, here, and the system under test, there."""
+
+    oracle: Oracle = PROFILE
 
     def __init__(self, program: str, command: Sequence[str], seconds: float, rules: Rules, short: float = 1) -> None:
         self.program, self.command, self.seconds, self.rules = program, list(command), seconds, rules
@@ -92,18 +71,20 @@ class Sides:
         self.kept: set[str] = set()  # operations that are never left out
 
     def here(self, trace: Trace) -> str:
-        """What the program answers; with a batch, what the model does, which `confirm` holds to the program."""
+        """What is right. The profile's is what the program answers, or with a batch the model, which `confirm` holds to it."""
+        if self.oracle.kernel:
+            return self.shown(self.oracle.output(trace))
         return self.shown(serial_output(trace) if self.adapters else self.program_output(trace))
 
     def confirm(self, trace: Trace) -> None:
         """Ends the comparison where the model, which stands in for the program, answers a trace otherwise."""
-        if self.adapters and self.program_output(trace) != serial_output(trace):
+        if self.adapters and not self.oracle.kernel and self.program_output(trace) != serial_output(trace):
             raise CannotRun(f"the model of the tools answers otherwise than the program on this trace:\n{trace.text()}")
 
     def confirm_smallest(self, trace: Trace) -> None:
         """Ends the comparison where a smallest trace differs from what `serial` answers, whatever stands in for it."""
         self.confirm(trace)
-        live = self.by_live(trace)
+        live = None if self.oracle.kernel else self.by_live(trace)
         if live is not None and live != self.by_serial(trace):
             raise CannotRun(
                 "diltzekun-live answers otherwise than the program on this trace; are both of one build?\n"
@@ -147,41 +128,29 @@ class Sides:
 
     # The first difference
 
-    def compared(self, trace: Trace, seconds: Optional[float] = None) -> Compared:
-        """The first difference of the outputs as they are, but for borders of areas that a case explains."""
+    def raw_difference(self, trace: Trace, seconds: Optional[float] = None) -> Optional[Difference]:
+        """The first difference of the outputs as they are."""
         self.go_on()
         there = self.there(trace, seconds)
         if there.fault:
-            return Compared(
-                Difference("run", "an output", there.fault, None, [], there.message.splitlines()[-3:]), set()
-            )
+            return Difference("run", "an output", there.fault, None, [], there.message.splitlines()[-3:])
         ended = self.end_in(trace, there.output)
         if ended:
-            return Compared(ended, set())
+            return ended
         here = self.here(trace)
-        passed: set[str] = set()
         if here == there.output:
-            return Compared(None, passed)
-        for pair, name in self.named_pairs(trace, here, there.output):
-            if name is None:
-                return Compared(difference_of(pair.here, pair.there, words_of(trace)), passed)
-            passed.add(name)
-        return Compared(end_of(here, there.output, words_of(trace)), passed - {"list"})
+            return None
+        pair = next(self.unlike_pairs(here, there.output), None)
+        if pair:
+            return difference_of(pair.here, pair.there, words_of(trace))
+        return end_of(here, there.output, words_of(trace))
 
-    def named_pairs(self, trace: Trace, here: str, there: str) -> Iterator[tuple[Pair, Optional[str]]]:
-        """All pairs that differ, each with the case that explains its borders, or `list` where last lists are not
-        compared."""
-        history = History(trace) if self.rules.cases else None
-        lines: dict[Optional[int], Line] = {line.number: line for line in trace.lines}
+    def unlike_pairs(self, here: str, there: str) -> Iterator[Pair]:
+        """All pairs that differ, without last lists where these are not compared."""
         for pair in pairs_of(here, there):
             is_last = pair.here.number is None and is_list(pair.here) and is_list(pair.there)
-            name = "list" if is_last and not self.rules.last_lists else None
-            if history and not name and (is_last or pair.here.number in lines):
-                name = part_name(history, lines.get(pair.here.number), pair.space, pair.here, pair.there)
-            yield pair, name
-
-    def raw_difference(self, trace: Trace, seconds: Optional[float] = None) -> Optional[Difference]:
-        return self.compared(trace, seconds).difference
+            if self.rules.last_lists or not is_last:
+                yield pair
 
     def end_in(self, trace: Trace, output: str) -> Optional[Difference]:
         """The operation in which the system ended, where the adapter says so: it counts more than what differs above."""
@@ -248,9 +217,9 @@ class Sides:
             return None
         words, here = words_of(asked), self.here(asked)
         found: dict[int, Difference] = {}
-        for pair, name in self.named_pairs(asked, here, there.output):
+        for pair in self.unlike_pairs(here, there.output):
             place = behind.get(pair.here.number)
-            if name is None and place is not None and place not in found and is_list(pair.here) and is_list(pair.there):
+            if place is not None and place not in found and is_list(pair.here) and is_list(pair.there):
                 found[place] = difference_of(pair.here, pair.there, words)
         return min(found.items(), key=lambda item: item[0]) if found else None
 
@@ -311,25 +280,20 @@ def with_reads(trace: Trace, marks: list[int]) -> tuple[Trace, dict[Optional[int
     return asked, {asked.lines[index].number: place for index, place in behind.items()}
 
 
-def may_answer(trace: Trace, kind: tuple[str, str, str]) -> bool:
+def may_answer(trace: Trace, kind: tuple[str, str, str], oracle: Oracle = PROFILE) -> bool:
     """Whether the model answers an operation of a trace so, as far as a kind says what is answered here."""
+    try:
+        output = oracle.output(trace)
+    except NotModelled:
+        return False
     operation, here, _ = kind
     if operation not in FORMS or not (
         here.startswith(("-1", "SIG")) or here in ("0", "an address", "served", "a child")
     ):
         return True
-    results = (part for part in parts_of(serial_output(trace)) if part.number is not None)
+    results = (part for part in parts_of(output) if part.number is not None)
     words = words_of(trace)
     return any(words[part.number] == operation and answer_of(part.result) == here for part in results)
-
-
-def without(trace: Trace, number: int) -> Trace:
-    """The trace without the line of a number, and, where that forks, without the lines of the child."""
-    gone = next(line for line in trace.lines if line.number == number)
-    child = gone.arguments[0] if gone.word == "fork" else None
-    return trace.with_lines(
-        line for line in trace.lines if line is not gone and (child is None or line.thread != child)
-    ).numbered()
 
 
 def is_trace(trace: Trace) -> bool:
@@ -361,24 +325,13 @@ class Examined:
     lacks: set[str] = field(default_factory=set)  # operations that the system hasn't
 
 
-def named_difference(sides: Sides, trace: Trace, passed: set[str]) -> tuple[Optional[Difference], Optional[str]]:
-    """The first difference, and the rule or the case that sets it aside, or None.
-
-    With cases, an answer that is a case's is enough, which takes one run. Only where it is none, the lists are read
-    behind the lines above: both may have answered one of them alike, and only the list that it left shows there which
-    case it is.
-    """
-    first = sides.compared(trace)
-    passed |= first.passed
-    found = first.difference
+def named_difference(sides: Sides, trace: Trace) -> tuple[Optional[Difference], Optional[str]]:
+    """The first difference, by the operation that brings it about, and the rule that sets it aside, or None."""
+    found = sides.raw_difference(trace)
     if found is None or found.there == CANNOT_RUN or is_missing(sides, found):
         return found, None
-    if sides.rules.cases and found.operation != "run":
-        name = sides.rules.name_of(trace, found)
-        if name:
-            return found, name
     found = sides.located(trace, found)
-    return found, sides.rules.name_of(trace, found)
+    return found, sides.rules.pattern_of(found)
 
 
 def is_missing(sides: Sides, found: Difference) -> bool:
@@ -404,9 +357,10 @@ def examine(
 ) -> Examined:
     """All differences of a trace: the line of each is taken out, and the rest is run again. Each is told at once."""
     told = Examined()
-    passed: set[str] = set()
     while True:
-        found, name = named_difference(sides, trace, passed)
+        trace, gaps = sides.oracle.modelled(trace)
+        told.aside.update(f"not modelled: {gap.why}" for gap in gaps)
+        found, name = named_difference(sides, trace)
         if found is None:
             break
         if found.there == CANNOT_RUN:
@@ -428,7 +382,6 @@ def examine(
             told.has_more = True
             break
         trace = without(trace, found.number)
-    told.aside.update(passed)
     return told
 
 

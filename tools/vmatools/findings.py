@@ -11,6 +11,7 @@ from pathlib import Path
 from typing import Any, Optional
 
 from . import junit, ranking
+from .answers import Answers
 from .console import Failure, counted, whole
 from .outputs import Difference
 
@@ -26,13 +27,14 @@ class Finding:
     trace: str
     source: str
     repeat: str
+    answers: Optional[Answers] = None
 
     def on(self, difference: Difference, trace: str) -> Finding:
         """The same on another trace."""
         return replace(self, difference=difference, trace=trace)
 
     def event(self, what: str, **more: Any) -> dict[str, Any]:
-        difference = self.difference
+        difference, answers = self.difference, self.answers
         return {
             "event": what,
             "name": self.name,
@@ -42,6 +44,7 @@ class Finding:
             "trace": self.trace,
             "source": self.source,
             "repeat": self.repeat,
+            **({"answers": answers.sides, "says": answers.says} if answers else {}),
             **more,
         }
 
@@ -230,6 +233,7 @@ def junit_of(findings: Findings, is_strict: bool, stopped: Optional[str]) -> str
         finding, difference = kind.shortest, kind.shortest.difference
         message = f"{difference.operation}: program {difference.here}, yours {difference.there} ({kind.count} traces)"
         sides = ["program:", *difference.here_lines, "yours:", *difference.there_lines]
+        sides += [finding.answers.says] if finding.answers else []
         suite.add(group, name, "failure", message, "\n".join([finding.trace, *sides, finding.repeat]))
     for known in findings.baseline.known:
         name = f"known: {known.pattern}"

@@ -1,4 +1,4 @@
-"""Traces that the running kernel can run: with the settings that it has."""
+"""Traces that a kernel can run: with the settings that it has."""
 from __future__ import annotations
 
 from typing import Optional
@@ -17,10 +17,11 @@ def lowest_of_machine() -> Optional[int]:
         return None
 
 
-def fitted(trace: Trace) -> Trace:
-    """The trace with settings that the running kernel can have: its own lowest address, and no `top` that is out of its
-    reach."""
-    settings, lowest = dict(trace.settings), lowest_of_machine()
+def fitted(trace: Trace, lowest: Optional[int] = None) -> Trace:
+    """The trace with settings that a kernel can have: its lowest address, by default that of the running one, and no `top`
+    that is out of its reach."""
+    settings = dict(trace.settings)
+    lowest = lowest_of_machine() if lowest is None else max(lowest, PAGE)
     if lowest is not None:
         settings["min"] = lowest
     if not KERNEL_TOPS[0] <= settings.get("top", KERNEL_TOPS[0]) <= KERNEL_TOPS[1]:

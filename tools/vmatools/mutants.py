@@ -1,7 +1,7 @@
 """Models that are wrong in one thing each: what a comparison of a given size finds.
 
 `vma compare --mutants` puts each in the place of the system under test. A mutant is the model with a small change, and
-its docstring says which. All of them have to be found with --kernel too, so none does what Linux does.
+its docstring says which.
 
     python3 -m vmatools.mutants NAME < TRACE
 """

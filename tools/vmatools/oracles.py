@@ -31,6 +31,10 @@ class Oracle:
         """Its name and its settings: they name it again."""
         return self.kernel.words() if self.kernel else PROFILE_NAME
 
+    def option(self) -> str:
+        """The word of `--as` that names it."""
+        return self.kernel.option() if self.kernel else PROFILE_NAME
+
     def space(self, trace: Trace) -> AnySpace:
         if self.kernel:
             return LinuxSpace(trace, self.kernel)
@@ -49,8 +53,17 @@ class Oracle:
                 break
             except NotModelled as gap:
                 gaps.append(gap)
-                trace = trace.with_lines(line for line in trace.lines if line.number != gap.line)
+                trace = without(trace, gap.line)
         return trace, gaps
+
+
+def without(trace: Trace, number: int) -> Trace:
+    """The trace without the line of a number, and, where that forks, without the lines of the child."""
+    gone = next(line for line in trace.lines if line.number == number)
+    child = gone.arguments[0] if gone.word == "fork" else None
+    return trace.with_lines(
+        line for line in trace.lines if line is not gone and (child is None or line.thread != child)
+    ).numbered()
 
 
 PROFILE = Oracle()

@@ -5,18 +5,20 @@ from __future__ import annotations
 from collections.abc import Iterator
 from typing import TextIO
 
-from . import console, coverage, linux_cases, outputs, ranking
+from . import console, coverage, outputs, ranking
 from .conformance import NOT_THERE
-from .findings import Findings, Kind
+from .findings import Finding, Findings, Kind
+from .oracles import PROFILE, PROFILE_NAME, Oracle
 
+PROGRAM = "program"  # the profile's side
 MOST_LINES = 12  # of an answer
 
 
 class Report:
     """The text of a report, as it comes."""
 
-    def __init__(self, stream: TextIO) -> None:
-        self.stream = stream
+    def __init__(self, stream: TextIO, oracle: Oracle = PROFILE) -> None:
+        self.stream, self.right = stream, oracle.name if oracle.kernel else PROGRAM
         self.places: dict[str, int] = {}  # of each kind its number
 
     def line(self, text: str) -> None:
@@ -25,7 +27,7 @@ class Report:
     def title(self, name: str, kind: Kind) -> str:
         operation, here, there = outputs.kind_of(kind.shortest.difference)
         place = self.places.setdefault(name, len(self.places) + 1)
-        return console.painted(f"{place}. {operation}: program {here}, yours {there}", "bold")
+        return console.painted(f"{place}. {operation}: {self.right} {here}, yours {there}", "bold")
 
     def seen(self, name: str, kind: Kind) -> None:
         """A kind that is new."""
@@ -41,13 +43,28 @@ class Report:
         self.line(f"{self.title(name, kind)} (--ignore '{name}')\n   {title}:")
         self.line("\n".join(f"     {line}" for line in finding.trace.splitlines()))
         for side, answer, lines, colour in (
-            ("program", finding.difference.here, finding.difference.here_lines, "green"),
+            (self.right, finding.difference.here, finding.difference.here_lines, "green"),
             ("yours", finding.difference.there, finding.difference.there_lines, "red"),
         ):
             self.line(f"   {console.painted(side, colour)}: {answer}")
             for line in lines[:MOST_LINES]:
                 self.line(f"     {line[:300]}")
+        self.third(finding)
         self.line(f"   found in {finding.source}; again:\n     {finding.repeat}\n")
+
+    def third(self, finding: Finding) -> None:
+        """The third answer, beside the right one and yours, and who is right."""
+        if finding.answers is None:
+            return
+        told = {self.right: finding.difference.here_lines, "yours": finding.difference.there_lines}
+        for side, lines in finding.answers.sides.items():
+            if side in told or side == PROFILE_NAME and self.right == PROGRAM:
+                continue
+            like = next((f"as {name}" for name, others in told.items() if list(lines) == list(others)), "")
+            self.line(f"   {side}: {like or 'otherwise'}")
+            for line in lines[:MOST_LINES] if not like else []:
+                self.line(f"     {line[:300]}")
+        self.line(f"   {finding.answers.says}")
 
     def ranked(self, findings: Findings) -> Iterator[str]:
         """All kinds, what counts most first, and below a kind those that vanish without its operation."""
@@ -69,8 +86,7 @@ class Report:
         if findings.has_new_kinds:
             self.line("\n".join(["what counts most first:", *self.ranked(findings), ""]))
         for name, number in sorted(findings.aside.items()):
-            says = linux_cases.SAYS.get(name)
-            self.line(f"set aside: {number} times {name}{': ' + says if says else ''}")
+            self.line(f"set aside: {number} times {name}")
         for line in findings.told_lines():
             self.line(line)
         if has_coverage:

@@ -85,9 +85,9 @@ class Search:
 
     def difference(self, trace: Trace) -> Optional[outputs.Difference]:
         """The difference of a trace, if it is one of the same kind that no rule sets aside."""
-        if not (is_trace(trace) and self.smaller.keeps(trace) and may_answer(trace, self.kind)):
+        if not (is_trace(trace) and self.smaller.keeps(trace) and may_answer(trace, self.kind, self.smaller.sides.oracle)):
             return None
         found = self.smaller.sides.same_kind(trace, self.kind, self.seconds)
         if found is None or outputs.kind_of(found) != self.kind:
             return None
-        return None if self.smaller.sides.rules.name_of(trace, found) else found
+        return None if self.smaller.sides.rules.pattern_of(found) else found

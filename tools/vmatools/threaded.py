@@ -6,7 +6,7 @@ import io
 import re
 from typing import Optional
 
-from .comparison import PROGRAM_SECONDS, CannotRun, Compared, Sides, words_of
+from .comparison import PROGRAM_SECONDS, CannotRun, Sides, words_of
 from .judging import first_wrong
 from .outputs import ITEM, Difference, answer_of
 from .program import run
@@ -18,19 +18,17 @@ REPEATS = 3  # runs of one trace, since threads come in another order each time
 class Threads(Sides):
     """What is legal, here, and the system under test, there."""
 
-    def compared(self, trace: Trace, seconds: Optional[float] = None) -> Compared:
+    def raw_difference(self, trace: Trace, seconds: Optional[float] = None) -> Optional[Difference]:
         """The first output of some runs that is not legal, by its first bad line."""
         for _ in range(REPEATS):
             self.go_on()
             there = self.there(trace, seconds)
             if there.fault:
-                return Compared(
-                    Difference("run", "an output", there.fault, None, [], there.message.splitlines()[-3:]), set()
-                )
+                return Difference("run", "an output", there.fault, None, [], there.message.splitlines()[-3:])
             place = self.bad_line(trace, there.output)
             if place is not None:
-                return Compared(illegal(trace, there.output, place), set())
-        return Compared(None, set())
+                return illegal(trace, there.output, place)
+        return None
 
     def bad_line(self, trace: Trace, output: str) -> Optional[int]:
         """The number of the first line of an output that no legal one has there, or none where it is legal."""

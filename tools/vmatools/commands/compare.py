@@ -9,7 +9,7 @@ writes more than 64 MiB, and for an output with `a line of no known form`, one t
 difference is found, its line is taken out and the rest of the trace runs again, so all differences of a trace are found. The
 shortest trace of each kind is then made as small as it can be while it still differs in the same way.
 
-What --ignore or --kernel sets aside is counted. RULE is `list` (don't compare the lists at the end), `errors` (both sides
+What --ignore sets aside is counted. RULE is `list` (don't compare the lists at the end), `errors` (both sides
 refuse, with different errors), or a kind as it is printed, OPERATION/PROGRAM/YOURS, where `*` stands for anything. A
 --baseline has such kinds, each with a reason: they are counted too, and only others make the run fail.
 
@@ -34,8 +34,8 @@ from .. import (
     console,
     findings as found,
     generator,
-    linux_cases,
     mutants,
+    oracles,
     outputs,
     program,
     threaded,
@@ -44,6 +44,7 @@ from .. import (
 from ..campaign import KIND_SECONDS, MOST_OPEN, Campaign, Settings, sources
 from ..findings import Baseline, Findings, Journal
 from ..keeping import Kept
+from ..oracles import PROFILE
 from ..reports import Report
 from ..systems import beside
 from ..words import count, time_limit
@@ -122,6 +123,7 @@ def add_arguments(parser: argparse.ArgumentParser) -> None:
     group.add_argument(
         "--traces", type=Path, metavar="FOLDER", help="the files *.trace there, or one file, in place of random traces"
     )
+    oracles.add_argument(parser, None, "profile, and with --system Linux of the system's version")
     aside = parser.add_argument_group("what is set aside")
     aside.add_argument(
         "--ignore",
@@ -130,11 +132,6 @@ def add_arguments(parser: argparse.ArgumentParser) -> None:
         default=[],
         metavar="RULE",
         help="set differences aside; may be given several times",
-    )
-    aside.add_argument(
-        "--kernel",
-        action="store_true",
-        help="set aside what Linux is known to answer otherwise (docs/KERNEL.md), where COMMAND answers that",
     )
     aside.add_argument(
         "--baseline", type=Path, metavar="FILE", help="known differences: lines `OPERATION/PROGRAM/YOURS # reason`"
@@ -220,7 +217,7 @@ def settings_of(options: argparse.Namespace) -> Settings:
         options.lines,
         options.seed,
         options.jobs,
-        options.kernel,
+        options.oracle,
         options.threads,
         options.seconds,
         options.shrink_seconds,
@@ -243,7 +240,7 @@ def settings_of(options: argparse.Namespace) -> Settings:
     ):
         words += [name, f"{value:g}" if isinstance(value, float) else str(value)] if value != default else []
     words += ["--profile", ",".join(options.profile)] if options.profile != generator.IN_TURN else []
-    words += ["--kernel"] if options.kernel else []
+    words += ["--as", options.oracle.option()] if options.given_oracle else []
     words += beside.words_of(options)
     if options.system:
         settings.command = ["--system", options.system]
@@ -265,11 +262,11 @@ def status_of(findings: Findings, is_strict: bool, stopped: Optional[str]) -> in
 
 
 def make_sides(options: argparse.Namespace) -> comparison.Sides:
-    cases = linux_cases.CASES if options.kernel else ()
-    rules = comparison.Rules(options.ignore, cases)
+    rules = comparison.Rules(options.ignore)
     words = (options.program, options.command, options.seconds, rules, options.shrink_seconds)
     sides = threaded.Threads(*words) if options.threads else comparison.Sides(*words)
     sides.kept = set(options.kept_operations)
+    sides.oracle = options.oracle
     return sides
 
 
@@ -283,13 +280,13 @@ def compare(options: argparse.Namespace) -> int:
 def compare_sides(options: argparse.Namespace, settings: Settings, sides: comparison.Sides) -> int:
     """The comparison of two sides that are ready."""
     findings = Findings(Baseline.read(options.baseline) if options.baseline else Baseline())
-    if options.kernel or options.system:
+    if options.system:
         sides.test_machine()
     kept = Kept.opened(options.keep) if options.keep else Kept()
     with ExitStack() as stack:
         journal = opened_journal(options, settings, kept, stack)
         junit = stack.enter_context(closing(console.NewFile(options.junit))) if options.junit else None
-        report = Report(sys.stdout) if options.json != "-" else None
+        report = Report(sys.stdout, sides.oracle) if options.json != "-" else None
         campaign = Campaign(settings, sides, findings, journal, report, kept)
         campaign.begin = options.begin
         with campaign.stoppable():
@@ -303,6 +300,8 @@ def compare_sides(options: argparse.Namespace, settings: Settings, sides: compar
             status = console.WRONG_USE
         if journal:
             journal.write(findings.end_event(status, campaign.stopped))
+        for _, kind in findings.in_order():
+            campaign.ask_models(kind.shortest)
         if report:
             report.end(findings, options.coverage, campaign.stopped)
         for pattern in sides.rules.patterns:
@@ -331,11 +330,10 @@ def opened_journal(options: argparse.Namespace, settings: Settings, kept: Kept, 
 def try_mutants(options: argparse.Namespace) -> int:
     """Puts each wrong model in the place of the system under test, and prints which a run of this size finds."""
     settings = settings_of(options)
-    cases = linux_cases.CASES if options.kernel else ()
     drawn = [(source, source.draw()) for source in sources(settings)]
     missed = 0
     for name, model in mutants.MUTANTS.items():
-        sides = comparison.InProcess(model, comparison.Rules(options.ignore, cases))
+        sides = comparison.InProcess(model, comparison.Rules(options.ignore))
         shown = next(
             ((source, told) for source, trace in drawn if (told := comparison.examine(sides, trace, 1)).findings), None
         )
@@ -359,11 +357,23 @@ def take_program(options: argparse.Namespace) -> None:
         options.live = program.live_beside(options.given_program, options.verbose)
 
 
+def check_oracle(options: argparse.Namespace) -> None:
+    """What is legal for threads at once is proved for the profile alone, and said by no model of Linux."""
+    options.oracle = options.oracle or PROFILE
+    if options.threads and options.given_oracle and options.oracle.kernel:
+        raise console.Failure("--threads is judged by the profile alone: what is legal there is proved for it, and for no Linux")
+    if options.threads:
+        options.oracle = PROFILE
+
+
 def run(options: argparse.Namespace) -> int:
     options.begin = time.monotonic()
+    options.given_oracle = options.oracle
     if options.mutants:
+        options.oracle = PROFILE
         return try_mutants(options)
     beside.take_system(options)
+    check_oracle(options)
     if not options.command:
         raise console.Failure("COMMAND is missing: give the system under test after --")
     take_program(options)

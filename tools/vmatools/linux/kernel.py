@@ -87,6 +87,11 @@ class Kernel:
         """Its name and its settings, as they name it anywhere."""
         return f"{self.name} {self.settings.words()}"
 
+    def option(self) -> str:
+        """The same as one word of a command, without the settings that are as kernels have them."""
+        usual = Settings().words().split()
+        return ",".join([self.name, *(word for word in self.settings.words().split() if word not in usual)])
+
 
 def kernel_of(version: str, settings: Settings | None = None, process: Process | None = None) -> Kernel:
     """The kernel of a version, as `6.18`."""

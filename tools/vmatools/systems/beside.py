@@ -2,6 +2,7 @@
 from __future__ import annotations
 
 import argparse
+import re
 from collections.abc import Iterator
 from contextlib import ExitStack, contextmanager
 
@@ -13,12 +14,15 @@ from ..live import LiveAdapter
 from ..traces import PAGE, Trace, read_trace
 from .batch import Adapters
 from .known import KNOWN, MACHINE_SECONDS, WINDOW, system_of
+from .linux_of import oracle_of
 from .measuring import missing
-from .reference import Reference, unnamed
+from .places import Window
 from .words import window_of
 
 MACHINE_KIND_SECONDS = 120.0  # for making the trace of a kind small, in a machine that has to be booted where it dies
 FIRST_SECONDS = 10.0  # for an adapter to answer a trace without lines
+ADDRESS = re.compile(r"= 0x([0-9a-f]+)$", re.MULTILINE)
+HEAP_NAME = re.compile(r" +\[heap\]$", re.MULTILINE)
 FOR_SECONDS = 60.0  # how long traces are run in a known system, where nothing else is asked for
 
 
@@ -31,9 +35,6 @@ def add_arguments(parser: argparse.ArgumentParser) -> None:
         type=window_of,
         metavar="LO-HI",
         help="traces keep to these addresses, and leave no place to be found",
-    )
-    group.add_argument(
-        "--linux", action="store_true", help="set aside what the running Linux answers too, in the same window"
     )
 
 
@@ -52,10 +53,7 @@ def take_system(options: argparse.Namespace) -> None:
     if system.window:
         options.window = options.window or system.window
         options.command += ["--window", f"{options.window.low:#x}-{options.window.high:#x}"]
-        options.linux = options.linux or not options.kernel and system.name != "window"
-    else:
-        options.kernel = True
-    options.kernel = options.kernel or system.name == "window"
+    options.oracle = options.oracle or oracle_of(system)
     if system.boots:  # one at a time; and the trace that finds it not yet begun waits for it
         options.jobs, options.seconds, options.shrink_seconds = 1, MACHINE_SECONDS, MACHINE_SECONDS
         options.kind_seconds = MACHINE_KIND_SECONDS
@@ -69,8 +67,21 @@ def words_of(options: argparse.Namespace) -> list[str]:
     return [
         *(["--batch"] if options.batch and not options.system else []),
         *(["--window", f"{window.low:#x}-{window.high:#x}"] if window and not options.system else []),
-        *(["--linux"] if options.linux and not options.system else []),
     ]
+
+
+class Windowed:
+    """What is compared of a system in a window: no names of heaps, which some don't give, nor places outside that it found."""
+
+    def __init__(self, window: Window) -> None:
+        self.window = window
+
+    def shown(self, output: str) -> str:
+        return ADDRESS.sub(self.outside, HEAP_NAME.sub(" ", output))
+
+    def outside(self, found: re.Match[str]) -> str:
+        is_inside = self.window.low <= int(found[1], 16) < self.window.high
+        return found[0] if is_inside else "= a place outside"
 
 
 @contextmanager
@@ -90,14 +101,7 @@ def prepared(options: argparse.Namespace, settings: Settings, sides: Sides) -> I
         if options.window and options.profile == generator.IN_TURN:
             settings.profiles = windows.PROFILES
         if options.window:
-            sides.shown = unnamed
-        if options.linux:
-            reference = Reference(options.window or WINDOW)
-            stack.callback(reference.close)
-            why = reference.test()
-            if why:
-                raise console.Failure(f"--linux: the running kernel cannot answer here: {why}")
-            sides.rules.linux = reference.agrees
+            sides.shown = Windowed(options.window).shown
         yield
 
 

@@ -59,7 +59,7 @@ def start_of(trace: Trace, window: Window | None, most_areas: int, seconds: int)
         settings.get("heap", 0),
         room,
         empty.FILLER,
-        empty.FILLER_END,
+        empty.FILLER_END if "limit" in settings else empty.FILLER,
         empty.OWN,
         empty.OWN_END,
         empty.STACK_BYTES,

@@ -1,36 +1,36 @@
-"""Where a running kernel is known to answer otherwise, for `vma compare --kernel`: the rows of docs/KERNEL.md, each
-case under the name of its row there, or under the beginning that the names of several have in common.
+"""Where the profile and Linux answer otherwise, by name: the rows of docs/KERNEL.md, or the beginning that the names of
+several have in common.
 
-A case has a difference where it says so by the line, both answers and the space before the line, and where the system
-answered what the case predicts: one of the answers that linux_model gives, or, of a case of your own, what it names
-itself. So an answer that is neither the program's nor a prediction is a finding. Where several cases would have one,
-the first has it.
+Both answers are there, as the two models give them. So a row is named only for an answer that Linux gives.
 """
 from __future__ import annotations
 
-from collections.abc import Callable, Iterator, Sequence
+from collections.abc import Callable, Sequence
 from typing import NamedTuple, Optional
 
-from .linux_borders import History, State, is_moved, list_name, overlaps, parsed, served_name
-from .linux_model import GUARD, HINT_MIN, HUGE, MUCH, STACK_PAGES, Prediction, predictions
-from .model import MOST_OBJECT_PAGES, Area, Space, area_at, areas_in, index_of, pages_of
-from .outputs import ITEM, Difference
-from .systems.empty import OWN, OWN_END
-from .traces import MAP, MREMAP, PAGE, PROT, Line, Trace
+from ..model import MOST_OBJECT_PAGES, Area, Space, area_at, areas_in, index_of, pages_of
+from ..outputs import Difference, areas_of, facts_at
+from ..systems.empty import OWN, OWN_END
+from ..traces import MAP, MREMAP, PAGE, PROT, Line, Trace
+from .areas import GUARD, HUGE
+from .kernel import Kernel
+from .space import LinuxSpace
 
+HINT_MIN = 0x10  # the page below which a hint is raised, as kernels are built mostly
+MUCH = 2**33  # bytes that may be more than a machine has
+STACK_PAGES = 2048  # how large a stack gets: 8 MiB
 VSYSCALL = 0xFFFFFFFFFF600  # the page of [vsyscall], which is none of the process
 SPARE = 6  # areas that a moving mremap wants to be left, and one
 SHARED, PRIVATE, FIXED, ANONYMOUS = (MAP[f"MAP_{name}"] for name in ("SHARED", "PRIVATE", "FIXED", "ANONYMOUS"))
 
 
 class Seen:
-    """A difference: the line and its arguments, both answers, and the model's space before the line."""
+    """A difference: the line and its arguments, both answers, and both spaces before the line."""
 
-    def __init__(self, line: Line, state: State, difference: Difference) -> None:
-        self.line, self.state, self.difference = line, state, difference
+    def __init__(self, line: Line, space: Space, linux: LinuxSpace, difference: Difference) -> None:
+        self.line, self.space, self.linux, self.difference = line, space, linux, difference
         self.word, self.arguments, self.here, self.there = line.word, line.arguments, difference.here, difference.there
-        self.space: Space = state.space
-        self.areas: list[Area] = state.space.areas
+        self.areas: list[Area] = space.areas
 
     def is_of(self, word: str, here: str = "", there: str = "") -> bool:
         return self.word == word and self.here.startswith(here) and self.there.startswith(there)
@@ -65,19 +65,16 @@ class Seen:
         return len(self.arguments) > 1 and self.word != "fault" and self.space.has_sealed(*self.pages())
 
 
-Answers = Callable[[Seen], Sequence[str]]
-
-
 class Case(NamedTuple):
-    """A name, a sentence, and a test; of a case of your own also the answers that it predicts, as in an output."""
+    """A name, a sentence, and a test of what the line is about."""
 
     name: str
     says: str
     test: Callable[[Seen], bool]
-    answers: Optional[Answers] = None
 
 
-# What a case is about. That the answer is the predicted one is tested for all of them alike.
+def is_moved(line: Line) -> bool:
+    return line.word == "mremap" and bool(line.arguments[3] & MREMAP["MREMAP_FIXED"])
 
 
 def is_mremap(test: Callable[[Seen], bool], here: str = "-1 E", there: str = "") -> Callable[[Seen], bool]:
@@ -101,11 +98,21 @@ def is_cut_first(seen: Seen) -> bool:
 
 
 def is_border_refused(seen: Seen) -> bool:
-    return (
-        seen.is_of("mremap", there="-1 EFAULT")
-        and not seen.here.startswith("-1 EINVAL")
-        and overlaps(seen.state.tainted, *seen.pages())
-    )
+    """Linux has a border within the range that the profile has not."""
+    if not seen.is_of("mremap", there="-1 EFAULT") or seen.here.startswith("-1 EINVAL"):
+        return False
+    lo, hi = seen.pages()
+    ours = {area.lo for area in seen.areas}
+    return any(lo < vma.lo < hi and vma.lo not in ours for vma in seen.linux.vmas)
+
+
+def is_heap_joined(seen: Seen) -> bool:
+    """The range lies in one VMA of Linux, where the profile has the heap beside plain memory."""
+    if not seen.is_of("mremap", "-1 EFAULT", "an address"):
+        return False
+    lo, hi = seen.pages()
+    vma = seen.linux.vma_lookup(lo)
+    return vma is not None and hi <= vma.hi and len({area.heap for area in areas_in(seen.areas, lo, hi)}) > 1
 
 
 def is_aligned(seen: Seen) -> bool:
@@ -117,6 +124,8 @@ def is_aligned(seen: Seen) -> bool:
 def is_overcommit(seen: Seen) -> bool:
     if seen.word == "brk":
         return seen.told("here") - seen.told("there") >= MUCH
+    if is_two_errors(seen):
+        return False
     place = {"mmap": 1, "mprotect": 1, "mremap": 2}.get(seen.word)
     return place is not None and seen.arguments[place] >= MUCH and (seen.there == "-1 ENOMEM" or seen.lists_differ)
 
@@ -153,7 +162,7 @@ def is_near_end(seen: Seen) -> bool:
 
 
 def is_below_min(seen: Seen) -> bool:
-    return seen.fixed is not None and seen.fixed < seen.space.min * PAGE and seen.here == "-1 EPERM"
+    return seen.fixed is not None and seen.fixed < seen.space.min * PAGE and seen.here == "-1 EPERM" and not is_two_errors(seen)
 
 
 def is_two_errors(seen: Seen) -> bool:
@@ -174,12 +183,6 @@ def is_exec_only(seen: Seen) -> bool:
 
 def is_vsyscall(seen: Seen) -> bool:
     return seen.is_of("fault") and bool(seen.arguments[0] // PAGE == VSYSCALL)
-
-
-def vsyscall_answers(seen: Seen) -> list[str]:
-    """It may be executed, or also read, as the kernel was started; and the list has it, or not."""
-    listed = [f"served {VSYSCALL * PAGE:x}-{(VSYSCALL + 1) * PAGE:x} {rights} page 0" for rights in ("--xp", "r-xp")]
-    return ["served", *listed] if seen.arguments[1] in "rx" else []
 
 
 def is_shared_grown(seen: Seen) -> bool:
@@ -297,13 +300,17 @@ def is_limit(seen: Seen) -> bool:
     for it."""
     if len(seen.areas) + SPARE < seen.space.most_areas:
         return False
-    return is_brk(seen) if seen.word == "brk" else "-1 ENOMEM" in (seen.here, seen.there) or seen.lists_differ
+    return is_brk(seen) if seen.word == "brk" else has_limit_answer(seen)
+
+
+def has_limit_answer(seen: Seen) -> bool:
+    """A refusal, or what one left: other VMAs, or some that are sealed."""
+    return "-1 ENOMEM" in (seen.here, seen.there) or seen.lists_differ or seen.there == "-1 EPERM"
 
 
 CASES: list[Case] = [
-    Case(
-        "own-addresses", "a place among the addresses of `vma kernel` itself", is_own_place, lambda seen: ["-1 ENOMEM"]
-    ),
+    Case("own-addresses", "a place among the addresses of `vma kernel` itself", is_own_place),
+    Case("heap-joined", "mremap over the border of the heap and plain memory, which Linux joined", is_heap_joined),
     Case("seal-split", "a call that a seal refuses leaves the first area split", is_seal_split),
     Case(
         "mremap-dontunmap",
@@ -381,7 +388,7 @@ CASES: list[Case] = [
         "an access at an address that is not canonical",
         lambda seen: seen.is_of("fault", "", "SIGSEGV SI_KERNEL"),
     ),
-    Case("fault-vsyscall", "an access to the page of [vsyscall]", is_vsyscall, vsyscall_answers),
+    Case("fault-vsyscall", "an access to the page of [vsyscall]", is_vsyscall),
     Case("fault-shared-grown", "a page past the first size of shared anonymous memory", is_shared_grown),
     Case("grow-large", "an area that grows past the stack limit", is_growth(is_large)),
     Case("grow-near", "an area that can be accessed within 256 pages below a growing one", is_growth(is_near)),
@@ -400,99 +407,79 @@ CASES: list[Case] = [
         "an access that a growing area's protection does not allow",
         lambda seen: growth(seen) is not None and seen.lists_differ,
     ),
-    Case("brk-none", "a break without `heap`", is_brk_none, lambda seen: [answered(seen)]),
+    Case("brk-none", "a break without `heap`", is_brk_none),
     Case("grow-brk", "a break within 256 pages below a growing area", is_grow_brk),
-    Case("brk-unmapped", "a break that goes back over pages that are not mapped", is_brk_unmapped),
     Case("brk-limit", "a break at the end of user memory", is_brk_limit),
+    Case("brk-unmapped", "a break that goes back over pages that are not mapped", is_brk_unmapped),
 ]
-# These have no test of a line: a whole trace that cannot be run, and lists that differ in borders or names alone.
+# These have no test of a line.
 SAYS = {case.name: case.says for case in CASES} | {
-    "linux": "what the model of Linux predicts, of no row of its own",
-    "border": "the same pages, in areas with other borders",
-    "brk-name": "which areas are named [heap], and what joins them",
+    "border": "the same pages, in VMAs with other borders",
+    "brk-name": "which VMAs are named [heap], and what joins them",
 }
 
 
-# Predictions
+# Borders
+
+Lists = list[tuple[int, int, tuple[str, int, str, str, str]]]
 
 
-def is_predicted_answer(seen: Seen, prediction: Prediction) -> bool:
-    """Whether the system answered what is predicted, with the version that it has then."""
-    item = ITEM.fullmatch(seen.difference.there_lines[0]) if seen.difference.there_lines else None
-    ours = ITEM.fullmatch(seen.difference.here_lines[0])
-    if item is None or ours is None:
-        return False
-    has_grown_here = seen.word == "fault" and grows_here(seen)
-    before = int(ours[3]) - (has_grown_here or seen.word != "fault")
-    if int(item[3]) != before + prediction.is_call:
-        return False
-    if item[4] == prediction.result:
-        return True
-    if not (item[4].startswith("served ") and prediction.result.startswith("served ")):
-        return False
-    return served_name(state_after(seen, prediction), prediction.result, item[4]) is not None
+def parsed(lines: Sequence[str]) -> Optional[Lists]:
+    """The VMAs of a list whose first line ends with `maps N`, or none where it is no list."""
+    areas = areas_of(list(lines[1:])) if lines and "maps " in lines[0] else None
+    return areas if areas is not None and lines[0].split(" ")[-1] == str(len(areas)) else None
 
 
-def grows_here(seen: Seen) -> bool:
-    return seen.space.child().grow(*seen.arguments) is not None
+def nameless(areas: Lists, page: int) -> Optional[tuple[str, int, str, str, str]]:
+    """What a list has at a page, whatever is named [heap]."""
+    area = next((area for area in areas if area[0] <= page < area[1]), None)
+    if area is None:
+        return None
+    permissions, offset, device, inode, name = facts_at(area, page)
+    return permissions, offset, device, inode, "" if name == "[heap]" else name
 
 
-def state_after(seen: Seen, prediction: Prediction) -> State:
-    """The state that a prediction leaves: what is new is tainted, as what was."""
-    space = seen.space.child()
-    space.areas = prediction.areas
-    new = [
-        (area.lo, area.hi)
-        for area in prediction.areas
-        if area not in seen.areas and (seen.word == "fault" or area.grows)
-    ]
-    return seen.state._replace(space=space, tainted=seen.state.tainted + new)
-
-
-def is_predicted_list(seen: Seen, prediction: Prediction) -> bool:
-    """Whether the system's list is the predicted one, up to borders that are explained."""
-    state = state_after(seen, prediction)
-    ours, theirs = parsed(state.space.maps()), parsed(
-        [seen.difference.there_lines[0].rsplit(" = ")[-1], *seen.difference.there_lines[1:]]
-    )
+def border_name(seen: Seen) -> Optional[str]:
+    """The name where the lists, or the VMAs that serve a fault, have the same pages in other VMAs."""
+    if seen.here.startswith("served") and seen.there.startswith("served"):
+        sides = [lines[0].split()[-3:] for lines in (seen.difference.here_lines, seen.difference.there_lines)]
+        return "border" if sides[0] == sides[1] else None
+    ours, theirs = parsed(seen.difference.here_lines), parsed(seen.difference.there_lines)
     if ours is None or theirs is None:
-        return False
-    return ours == theirs or list_name(state, ours, theirs, prediction.splits) is not None
+        return None
+    pages = {page for lo, hi, _ in [*ours, *theirs] for page in (lo, hi)}
+    if any(nameless(ours, page) != nameless(theirs, page) for page in pages):
+        return None
+    more = {area[0] for area in ours} - {area[0] for area in theirs}
+    has_heap = any(area[2][4] == "[heap]" for area in [*ours, *theirs])
+    return "brk-name" if has_heap and (more or len(ours) == len(theirs)) else "border"
 
 
-def foreseen(seen: Seen) -> Iterator[Prediction]:
-    is_right = is_predicted_list if seen.lists_differ else is_predicted_answer
-    return (
-        prediction
-        for prediction in predictions(seen.space, seen.state.tainted, seen.state.sizes, seen.line)
-        if is_right(seen, prediction)
-    )
+# The row of a difference
 
 
-def case_of(cases: Sequence[Case], trace: Trace, history: History, difference: Difference) -> Optional[str]:
-    """The case that has a difference, or none."""
+def spaces_before(trace: Trace, kernel: Kernel, number: int) -> tuple[Space, LinuxSpace]:
+    """Both spaces before a line, of the child that it is of."""
+    spaces: dict[int, tuple[Space, LinuxSpace]] = {}
+    first = Space(trace), LinuxSpace(trace, kernel)
+    for line in trace.lines:
+        ours, theirs = spaces.get(line.thread, first)
+        if line.number == number:
+            return ours, theirs
+        if line.word == "fork":
+            spaces[line.arguments[0]] = ours.child(), theirs.child()
+        else:
+            ours.answer(line)
+            theirs.answer(line)
+    return first
+
+
+def name_of(trace: Trace, kernel: Kernel, difference: Difference) -> Optional[str]:
+    """The row of a difference of the profile (here) and a kernel (there), or none."""
     line = next((line for line in trace.lines if line.number == difference.number), None)
-    if line is None or line.word in ("maps", "fork"):
-        return None
-    seen = Seen(line, history.before[line.number], difference)
-    own = next(
-        (case.name for case in cases if case.answers and case.test(seen) and answered(seen) in case.answers(seen)), None
-    )
-    if own or not any(case.answers is None for case in cases):
-        return own
-    if not any(True for _ in foreseen(seen)) and not is_border_refused(seen) and not is_moved_growth(seen):
-        return None
-    return next((case.name for case in cases if case.test(seen)), "linux")
-
-
-def answered(seen: Seen) -> str:
-    return seen.difference.there_lines[0].rsplit(" = ")[-1] if seen.difference.there_lines else seen.there
-
-
-def is_moved_growth(seen: Seen) -> bool:
-    """An area that was written low and moved up may grow by no more than its old page number, which the model does not
-    keep."""
-    found = growth(seen)
-    if found is None or seen.there != "SIGSEGV SEGV_MAPERR":
-        return False
-    return overlaps(seen.state.moved, found.above.lo, found.above.hi)
+    seen = Seen(line or Line(0, 0, "maps", [], None), *spaces_before(trace, kernel, difference.number or 0), difference)
+    if line and line.word not in ("maps", "fork"):
+        found = next((case.name for case in CASES if case.test(seen)), None)
+        if found:
+            return found
+    return border_name(seen)
