@@ -1,5 +1,6 @@
 //! The space, its areas, and the threads that fault at them.
 ghost use Rattle.std.specs.Prelude.{◌≡◌, IfSome, sum};
+ghost use Rattle.fault_path.specs.Passes.{caller};
 ghost use Rattle.mm_space.specs.Names.{IsPassOf, ArePasses};
 
 use draws::Draws;
@@ -10,8 +11,9 @@ use mm_types::{
     Prot,
 };
 use std::alloc::Global;
-use std::marker::{Brand, PhantomData};
+use std::marker::Brand;
 use std::sync::Wait;
+use std::sync::atomic::{AtomicU64, Ordering};
 use std::thread;
 use std::thread::Threads;
 
@@ -50,15 +52,11 @@ pub(crate) struct Counts {
     pub(crate) missed: u64,
 }
 
-/// The pass of a thread, and what its faults came to.
+/// What the faults of all threads came to so far.
 #[derive(Drop)]
-struct Worker<N: SpaceName> {
-    pass: Pass,
-    counts: Counts,
-    of: PhantomData<N>,
-    /// Keeps what the next worker writes off the cache lines of this one.
-    apart: [u64; 16],
-    ghost mine: { IsPassOf N.name pass },
+struct Totals {
+    answered: AtomicU64,
+    missed: AtomicU64,
 }
 
 impl Load {
@@ -152,115 +150,138 @@ pub(crate) fn measure<R: Threads + Wait + Sync>(
         return None;
     }
     let ready = Ready::make(alloc, config, operations.as_slice()).ok()?;
-    run::<Brand, R>(rt, alloc, ready, load)
+    Some(run::<Brand, R>(rt, ready, load))
 }
 
 /// Opens a space, maps its areas, and lets all threads go.
 fn run<N: SpaceName + Send + Sync, R: Threads + Wait + Sync>(
     rt: &R,
-    alloc: Global,
     ready: Ready,
     load: &Load,
-) -> Option<Counts>
+) -> Counts
     requires { ready ≡ N.name }
 {
-    let (space, passes) = Space::<N>::open(ready);
-    let mut workers = workers_of::<N>(alloc, passes)?;
-    map_areas(rt, &space, workers.first_mut()?, load.all_areas());
-    let threads = workers.len();
-    let work = |place: usize, worker: &mut Worker<N>| {
+    let (space, mut passes) = Space::<N>::open(ready);
+    let totals = Totals {
+        answered: AtomicU64::new(0),
+        missed: AtomicU64::new(0),
+    };
+    let all = passes.as_mut_slice();
+    map_first(rt, &space, all, load.all_areas());
+    fault_together(rt, &space, all, load, &totals);
+    totals.counts()
+}
+
+/// The first caller maps areas, before the others begin.
+fn map_first<N: SpaceName + Send + Sync, R: Threads + Wait + Sync>(
+    rt: &R,
+    space: &Space<N>,
+    passes: &mut [Pass],
+    areas: u64,
+)
+    requires { ArePasses N.name passes.old }
+    ensures { ArePasses N.name passes.new }
+{
+    let map = |place: usize, pass: &mut Pass|
+        requires { IsPassOf N.name pass.now }
+        ensures { IsPassOf N.name pass.exit.now × (caller pass.exit.now ≡ caller pass.entry.now) }
+    { map_as(rt, space, pass, if place == 0 { areas } else { 0 }) };
+    thread::for_each_mut(rt, passes, 1, &map);
+}
+
+/// Each caller works in a thread of its own: the first maps and unmaps a page elsewhere, and the others fault.
+fn fault_together<N: SpaceName + Send + Sync, R: Threads + Wait + Sync>(
+    rt: &R,
+    space: &Space<N>,
+    passes: &mut [Pass],
+    load: &Load,
+    totals: &Totals,
+)
+    requires { ArePasses N.name passes.old }
+{
+    let work = |place: usize, pass: &mut Pass|
+        requires { IsPassOf N.name pass.now }
+    {
         if place == 0 {
-            call_elsewhere(rt, &space, worker, load.calls);
+            call_elsewhere(rt, space, pass, load.calls);
         } else {
-            fault_all(&space, worker, load, place as u64);
+            totals.add(fault_all(space, pass, load, place as u64));
         }
     };
-    thread::for_each_mut(rt, workers.as_mut_slice(), threads, &work);
-    Some(counts_of(workers.as_slice()))
+    let threads = passes.len().max(1);
+    thread::for_each_mut(rt, passes, threads, &work);
 }
 
-/// A worker for each pass.
-fn workers_of<N: SpaceName>(alloc: Global, passes: Vec<Pass>) -> Option<Vec<Worker<N>>>
-    requires { ArePasses N.name passes.items }
+/// Maps so many areas of one page each, two pages apart.
+fn map_as<N: SpaceName, R: Wait>(rt: &R, space: &Space<N>, pass: &mut Pass, areas: u64)
+    requires { IsPassOf N.name pass.old }
+    ensures pass { IsPassOf N.name pass.new }
+    ensures caller { caller pass.new ≡ caller pass.old }
 {
-    let mut workers = Vec::with_capacity(alloc, passes.len()).ok()?;
-    for pass in passes {
-        let counts = Counts {
-            answered: 0,
-            missed: 0,
-        };
-        let worker = Worker {
-            pass,
-            counts,
-            of: PhantomData,
-            apart: [0; 16],
-        };
-        workers.push(worker).ok()?;
-    }
-    Some(workers)
-}
-
-/// Maps areas of one page each, two pages apart.
-fn map_areas<N: SpaceName, R: Wait>(rt: &R, space: &Space<N>, worker: &mut Worker<N>, areas: u64) {
     for place in 0..areas {
         let page = place.saturating_mul(2).saturating_add(FIRST);
-        call(rt, space, worker, &mapping(page.saturating_mul(4096)));
+        call(rt, space, pass, &mapping(page.saturating_mul(4096)));
     }
 }
 
-/// Makes a call, where the worker has an operation left.
-fn call<N: SpaceName, R: Wait>(rt: &R, space: &Space<N>, worker: &mut Worker<N>, call: &Call) {
-    if worker.pass.left() > 0 {
-        space.call(rt, &mut worker.pass, call);
+/// Makes a call, where the pass has an operation left.
+fn call<N: SpaceName, R: Wait>(rt: &R, space: &Space<N>, pass: &mut Pass, call: &Call)
+    requires { IsPassOf N.name pass.old }
+    ensures pass { IsPassOf N.name pass.new }
+    ensures caller { caller pass.new ≡ caller pass.old }
+{
+    if pass.left() > 0 {
+        space.call(rt, pass, call);
     }
 }
 
 /// Maps and unmaps a page elsewhere, so many times.
-fn call_elsewhere<N: SpaceName, R: Wait>(
-    rt: &R,
-    space: &Space<N>,
-    worker: &mut Worker<N>,
-    calls: u64,
-) {
+fn call_elsewhere<N: SpaceName, R: Wait>(rt: &R, space: &Space<N>, pass: &mut Pass, calls: u64)
+    requires { IsPassOf N.name pass.old }
+{
     let unmapping = Call::Munmap {
         addr: ELSEWHERE,
         len: 4096,
     };
     for _ in 0..calls {
-        call(rt, space, worker, &mapping(ELSEWHERE));
-        call(rt, space, worker, &unmapping);
+        call(rt, space, pass, &mapping(ELSEWHERE));
+        call(rt, space, pass, &unmapping);
     }
 }
 
 /// Makes the faults of a thread, at areas in no order.
-fn fault_all<N: SpaceName>(space: &Space<N>, worker: &mut Worker<N>, load: &Load, thread: u64) {
+fn fault_all<N: SpaceName>(space: &Space<N>, pass: &mut Pass, load: &Load, thread: u64) -> Counts
+    requires { IsPassOf N.name pass.old }
+{
     let first = load.first_area(thread);
     let mut draws = Draws::new(thread);
-    for _ in 0..load.count {
-        let area = first.saturating_add(draws.below(load.areas.max(1)));
-        let page = Page(area.saturating_mul(2).saturating_add(FIRST));
-        match space
-            .view()
-            .fault_fast(&mut worker.pass, page, Access::Read)
-        {
-            Fast::Answer { .. } => worker.counts.answered = worker
-                .counts
-                .answered
-                .saturating_add(1),
-            Fast::Miss(_) => worker.counts.missed = worker.counts.missed.saturating_add(1),
-        }
-    }
-}
-
-/// What the faults of all workers came to.
-fn counts_of<N: SpaceName>(workers: &[Worker<N>]) -> Counts {
     let mut counts = Counts {
         answered: 0,
         missed: 0,
     };
-    for worker in workers {
-        counts.answered = counts.answered.saturating_add(worker.counts.answered);
-        counts.missed = counts.missed.saturating_add(worker.counts.missed);
+    for _ in 0..load.count {
+        let area = first.saturating_add(draws.below(load.areas.max(1)));
+        let page = Page(area.saturating_mul(2).saturating_add(FIRST));
+        match space.view().fault_fast(pass, page, Access::Read) {
+            Fast::Answer { .. } => counts.answered = counts.answered.saturating_add(1),
+            Fast::Miss(_) => counts.missed = counts.missed.saturating_add(1),
+        }
     }
     counts
+}
+
+impl Totals {
+    /// Adds what the faults of a thread came to.
+    fn add(&self, counts: Counts) {
+        self.answered.fetch_add(counts.answered, Ordering::SeqCst);
+        self.missed.fetch_add(counts.missed, Ordering::SeqCst);
+    }
+
+    /// All of them.
+    fn counts(&self) -> Counts {
+        Counts {
+            answered: self.answered.load(Ordering::SeqCst),
+            missed: self.missed.load(Ordering::SeqCst),
+        }
+    }
 }
