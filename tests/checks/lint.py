@@ -20,6 +20,10 @@ import shown
 from checking import TOP, fail, main, passed, skipped
 
 FOLDERS = ("tools/vmatools", "tests", "dev")
+TYPED = (
+    *("tools/vmatools", "tests/checks", "tests/models", "tests/unit"),
+    *("dev/reference", "dev/linux_rules", "dev/packaging"),
+)
 PROGRAMS = (
     "tools/vma",
     "tests/run",
@@ -91,7 +95,7 @@ def check(_options: argparse.Namespace) -> None:
     settings = tomllib.loads((TOP / "pyproject.toml").read_text(encoding="utf-8"))["tool"]["flake8"]
     words = [f"--{name}={','.join(value) if isinstance(value, list) else value}" for name, value in settings.items()]
     check_tool("flake8", [*words, *FOLDERS, *PROGRAMS])
-    check_tool("mypy", ["tools/vmatools", "tests/checks", "tests/models", "tests/unit", "dev/reference", "dev/linux_rules", "dev/packaging"])
+    check_tool("mypy", [*TYPED])
     for program in PROGRAMS:
         check_tool("mypy", ["--scripts-are-modules", program])
 
