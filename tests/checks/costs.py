@@ -95,10 +95,10 @@ def placed(count: int) -> list[str]:
     ]
 
 
-def reads(count: int) -> list[str]:
-    """As many areas as there may be, and reads of their list."""
-    made = (f"0 mmap {place(area):#x} 4096 PROT_READ {ANONYMOUS} -1 0" for area in range(MOST_AREAS))
-    return ["vmatrace 1", *made, *["0 maps"] * count]
+def reads_of(areas: int) -> Made:
+    """So many areas, and reads of their list."""
+    made = [f"0 mmap {place(area):#x} 4096 PROT_READ {ANONYMOUS} -1 0" for area in range(areas)]
+    return lambda count: ["vmatrace 1", *made, *["0 maps"] * count]
 
 
 def small_reads(count: int) -> list[str]:
@@ -188,7 +188,7 @@ MEMORY: list[tuple[str, list[str], Input, tuple[Size, ...]]] = [
     ("faults in threads", ["threads"], given(faults), (Size(200_000, 156, 106), Size(800_000, 533, 418))),
     ("children", ["serial"], given(children), (Size(50_000, 188, 160), Size(100_000, 276, 233))),
     ("areas that come and leave", ["serial"], given(leaving), (Size(32_000, 36, 22), Size(128_000, 120, 77))),
-    ("reads of many areas", ["serial"], given(reads), (Size(16, 1000, 108), Size(64, 1000, 252))),
+    ("reads of many areas", ["serial"], given(reads_of(MOST_AREAS)), (Size(16, 1000, 108), Size(64, 1000, 252))),
     ("reads of one area", ["serial"], given(small_reads), (Size(16, 4, 6), Size(64, 4, 6))),
     ("a load", ["generate", "{}", "1"], nothing, (Size(100_000, 115, 65), Size(400_000, 225, 153))),
     ("a text of calls", ["check"], judged(calls), (Size(200_000, 75, 50), Size(800_000, 205, 166))),
@@ -202,7 +202,7 @@ MEMORY: list[tuple[str, list[str], Input, tuple[Size, ...]]] = [
 # what makes the input of a session, and the same
 SESSIONS: list[tuple[str, Input, tuple[Size, ...]]] = [
     ("calls of a session", given(calls), (Size(200_000, 54, 23), Size(800_000, 127, 83))),
-    ("reads of many areas in a session", given(reads), (Size(16, 48, 22), Size(64, 48, 22))),
+    ("reads of many areas in a session", given(reads_of(MOST_AREAS)), (Size(16, 48, 22), Size(64, 48, 22))),
     ("spaces of a session", given(spaces), (Size(1, 30, 6), Size(1_000, 30, 6))),
 ]
 
