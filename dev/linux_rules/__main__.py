@@ -1,5 +1,6 @@
 """Makes the statements of crates/linux_rules from suite/vectors, those of crates/linux_beside from examples/kernel-rows.txt, and
-docs/linux; or checks that they are what would be made, and that the versions are those of the table."""
+docs/linux; or checks that they are what would be made, and that the versions are those of the table. A row that is new is no
+theorem until the statements are made again."""
 from __future__ import annotations
 
 import argparse
@@ -12,9 +13,9 @@ TOP = Path(__file__).resolve().parents[2]
 KEPT = (("crates/linux_rules/specs", "Linux_*.antt"), ("crates/linux_beside/specs", "Rows*.antt"), ("docs/linux", "*.md"))
 
 
-def made(top: Path) -> dict[Path, str]:
-    """All that is made, by its paths below the repository."""
-    return statements.files(top, choosing.chosen()) | rows.files(top) | pages.files(top)
+def made(top: Path, only: set[str] | None = None) -> dict[Path, str]:
+    """All that is made, by its paths below the repository; of rows all, or some."""
+    return statements.files(top, choosing.chosen()) | rows.files(top, only) | pages.files(top)
 
 
 def differences(top: Path, wanted: dict[Path, str]) -> list[str]:
@@ -38,7 +39,7 @@ def main() -> int:
     sys.setrecursionlimit(100_000)
     if options.choose is not None:
         choosing.choose(TOP, options.vectors, options.choose)
-    wanted = made(TOP)
+    wanted = made(TOP, rows.standing(TOP) if options.check else None)
     if options.check:
         found = differences(TOP, wanted)
         print("\n".join(found) if found else "nothing to mend")

@@ -163,9 +163,16 @@ def law_answer(names: Sequence[str]) -> str:
     return "\n".join([*lines, ""])
 
 
-def files(top: Path) -> dict[Path, str]:
-    """All files that are made of the rows."""
-    found = groups(read(top / "examples" / "kernel-rows.txt"))
+def standing(top: Path) -> set[str]:
+    """The names of the rows that are theorems."""
+    texts = [file.read_text(encoding="utf-8") for file in (top / CRATE / "specs").glob("Rows*.antt")]
+    return {name for text in texts for name in re.findall(r"^-- (\w+): what the profile answers", text, re.M)}
+
+
+def files(top: Path, only: set[str] | None = None) -> dict[Path, str]:
+    """All files that are made of the rows, or of some of them."""
+    rows = read(top / "examples" / "kernel-rows.txt")
+    found = groups([row for row in rows if only is None or row.name in only])
     names = [name for name, _ in found]
     made = {CRATE / "src" / "rows.rt": contract(names)}
     made[CRATE / "proofs" / "rows" / "rows_are_computed" / "Answers.antt"] = law_answer(names)
