@@ -2,6 +2,7 @@
 from __future__ import annotations
 
 import os
+import signal
 import subprocess
 import sys
 import tempfile
@@ -125,6 +126,12 @@ class Running(unittest.TestCase):
 
     def setUp(self) -> None:
         self.tests = module_of(checking.TOP / "tests/run")
+
+    def test_what_is_run_in_the_background_hears_an_interrupt(self) -> None:
+        self.addCleanup(signal.signal, signal.SIGINT, signal.signal(signal.SIGINT, signal.SIG_IGN))
+        self.tests.hear_interrupts()
+        asks = [sys.executable, "-c", "import signal; print(signal.getsignal(signal.SIGINT) is signal.SIG_IGN)"]
+        self.assertEqual(subprocess.run(asks, capture_output=True, text=True).stdout, "False\n")
 
     def pythons(self, said: str, *names: str) -> list[str]:
         done = subprocess.CompletedProcess([], 0, said)
