@@ -171,8 +171,8 @@ def standing(top: Path) -> set[str]:
 
 def files(top: Path, only: set[str] | None = None) -> dict[Path, str]:
     """All files that are made of the rows, or of some of them."""
-    rows = read(top / "examples" / "kernel-rows.txt")
-    found = groups([row for row in rows if only is None or row.name in only])
+    wanted = read(top / "examples" / "kernel-rows.txt")
+    found = groups([row for row in wanted if only is None or row.name in only])
     names = [name for name, _ in found]
     made = {CRATE / "src" / "rows.rt": contract(names)}
     made[CRATE / "proofs" / "rows" / "rows_are_computed" / "Answers.antt"] = law_answer(names)
