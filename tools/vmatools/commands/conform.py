@@ -82,7 +82,7 @@ def add_arguments(parser: argparse.ArgumentParser) -> None:
             help=f"write what came of each case there as {form.upper()}, or - for standard output",
         )
     parser.add_argument(
-        "--batch", action="store_true", help="COMMAND answers many traces in one process (docs/SYSTEMS.md)"
+        "--batch", action="store_true", help="COMMAND answers many traces in one process (docs/COMPARE.md)"
     )
     parser.add_argument(
         "--system",

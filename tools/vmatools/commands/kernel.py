@@ -24,7 +24,7 @@ This can't be as in the program:
 
 With --system, --under or --window, everything else in the system stays mapped, and the trace keeps to the addresses of a
 window. With --batch many traces are read, each between a line `trace N SECONDS` and a line `end N`, and answered the
-same way: docs/SYSTEMS.md has the protocol.
+same way: docs/COMPARE.md has the protocol.
 
 Exit statuses, each but 0 with a line on standard error:
   0  the output was written

@@ -182,7 +182,7 @@ class Adapters:
         said = f", with `{console.printable(last[0])}` on standard error" if last else ""
         raise console.Failure(
             f"the adapter {answer.fault} in {time.monotonic() - begin:.0f} seconds: `{sent}` was sent, and {came} came{said}; "
-            "does it speak --batch? (docs/SYSTEMS.md)"
+            "does it speak --batch? (docs/COMPARE.md)"
         )
 
     def close(self) -> None:
