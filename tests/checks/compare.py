@@ -1,7 +1,7 @@
 #!/usr/bin/env python3
 """Tries `vma compare` on the program itself, and on systems that are wrong in one thing each.
 
-PROGRAM is crates/vma_main/out/vma_main by default. The wrong systems are those of tools/vmatools/mutants.py. Each has to be
+PROGRAM is crates/vma_main/out/vma_main by default. The wrong systems are those of tests/models/mutants.py. Each has to be
 found, and the smallest trace has at most five lines below the header. Takes less than a minute; --runs 2000 takes longer.
 
 Exit status: 0 where all is as it should be, 1 at the first thing that is not, 2 on wrong use, or where the program is
@@ -25,11 +25,13 @@ from typing import NoReturn
 from xml.etree import ElementTree
 
 from checking import Failed, main, passed
-from vmatools import cli, comparison, generator, keeping, mutants, program as programs, serial, traces
+from vmatools import cli, comparison, generator, keeping, program as programs, serial, traces
+from vmatools.campaign import sources
 from vmatools.commands import compare
+from models import mutants
 
 HERE = os.path.dirname(os.path.abspath(__file__))
-TOOLS, DEV = (os.path.join(programs.TOP, name) for name in ("tools", "dev"))
+TOOLS, DEV, TESTS = (os.path.join(programs.TOP, name) for name in ("tools", "dev", "tests"))
 
 Job = tuple[str, list[str], int, str]  # a tool, its words, its status, and what it names
 MOST_LINES = 5
@@ -67,15 +69,23 @@ class InProcess(OfModel):
         return serial.serial_output(trace)
 
 
-def compared(words: list[str], sides_type: type[comparison.Sides] | None = None) -> tuple[int, str]:
-    """Status and text of a comparison with these words."""
+def options_of(words: list[str]) -> argparse.Namespace:
+    """What these words ask for, as the command has it when it begins."""
     parser, _ = cli.parser_of(cli.COMMANDS["compare"])
     options = parser.parse_args(words)
+    options.begin, options.given_oracle = time.monotonic(), options.oracle
+    compare.check_oracle(options)
+    return options
+
+
+def compared(words: list[str], sides_type: type[comparison.Sides] | None = None) -> tuple[int, str]:
+    """Status and text of a comparison with these words."""
+    options = options_of(words)
     kept, text = comparison.Sides, io.StringIO()
     setattr(comparison, "Sides", sides_type or kept)
     try:
         with contextlib.redirect_stdout(text):
-            status = compare.try_mutants(options) if options.mutants else compare.compare(options)
+            status = compare.compare(options)
     finally:
         setattr(comparison, "Sides", kept)
     return status, text.getvalue()
@@ -122,11 +132,12 @@ def check_model(program: str, runs: int) -> None:
 def check_mutants() -> None:
     """Each wrong model is found by the options as they stand."""
     began = time.monotonic()
-    status, text = compared(["--mutants", "--runs", str(RUNS)])
-    if status:
-        missed = re.findall(r"^(\S+) +not found", text, re.MULTILINE)
-        fail(f"--mutants: {', '.join(missed)} not found in {RUNS} traces")
-    told(text.splitlines()[-1], began)
+    drawn = [source.draw() for source in sources(compare.settings_of(options_of(["--runs", str(RUNS)])))]
+    for name, model in mutants.MUTANTS.items():
+        sides = comparison.InProcess(model, comparison.Rules())
+        if not any(comparison.examine(sides, trace, 1).findings for trace in drawn):
+            fail(f"{name} is not found in {RUNS} traces: {model.__doc__}")
+    told(f"{len(mutants.MUTANTS)} wrong models found", began)
 
 
 def check_wrong(program: str) -> None:
@@ -139,7 +150,7 @@ def check_wrong(program: str) -> None:
         told(f"{name} found", began)
     for name, (runs, profiles, seconds, pattern) in ENDS.items():
         began = time.monotonic()
-        command = ["env", f"PYTHONPATH={TOOLS}", sys.executable, "-m", "vmatools.mutants", name]
+        command = ["env", f"PYTHONPATH={TOOLS}:{TESTS}", sys.executable, "-m", "models.mutants", name]
         wrong = None
         for limit in seconds:
             shrinks = str(float(limit) / 2)
@@ -185,7 +196,8 @@ def check_rules(program: str) -> None:
 # An adapter of many traces that answers as a wrong model.
 ANSWERS = """
 import io, sys
-from vmatools import mutants, serial, traces
+from models import mutants
+from vmatools import serial, traces
 from vmatools.systems.batch import requests
 model = mutants.MUTANTS.get(sys.argv[1], serial.Space)
 for request in requests(sys.stdin.buffer):
@@ -204,7 +216,7 @@ def check_kept(program: str) -> None:
         adapter.write_text(ANSWERS, encoding="utf-8")
         words = ["--program", program, "--keep", str(folder), "--json", str(events), "--junit", str(report), "--batch"]
         command = [sys.executable, os.path.join(TOOLS, "vma"), "compare", "--runs", "40", "--profile", "few", *words, "--"]
-        python = ["env", f"PYTHONPATH={TOOLS}", sys.executable, str(adapter)]
+        python = ["env", f"PYTHONPATH={TOOLS}:{TESTS}", sys.executable, str(adapter)]
         known: set[str] = set()
         for moment in range(MOMENTS):
             with subprocess.Popen([*command, *python, "from-below"], stdout=subprocess.DEVNULL, stderr=subprocess.DEVNULL) as run:
@@ -282,7 +294,7 @@ def check_threads(program: str) -> None:
     status, text = compared([*words, "--", program, "threads"])
     if (status, text) != (0, "12 traces, 0 differ\n"):
         fail(f"--threads with the program: status {status}\n{text[-2000:]}")
-    wrong = ["env", f"PYTHONPATH={TOOLS}", sys.executable, "-m", "vmatools.mutants", "from-below"]
+    wrong = ["env", f"PYTHONPATH={TOOLS}:{TESTS}", sys.executable, "-m", "models.mutants", "from-below"]
     status, text = compared([*words, "--runs", "3", "--profile", "few", "--", *wrong])
     if status != 1 or "mmap: program legal, yours illegal: an address" not in text:
         fail(f"--threads with a wrong model: status {status}\n{text[-2000:]}")

@@ -14,7 +14,8 @@ from pathlib import Path
 from typing import Any
 from xml.etree import ElementTree
 
-sys.path.insert(0, str(Path(__file__).resolve().parents[2] / "tools"))
+sys.path[:0] = [str(Path(__file__).resolve().parents[2] / name) for name in ("tools", "tests")]
+from models import mutants
 from vmatools import (
     answers,
     campaign,
@@ -25,7 +26,6 @@ from vmatools import (
     generator,
     junit,
     keeping,
-    mutants,
     oracles,
     program,
     ranking,

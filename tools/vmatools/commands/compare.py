@@ -34,14 +34,12 @@ from .. import (
     console,
     findings as found,
     generator,
-    mutants,
     oracles,
-    outputs,
     program,
     threaded,
     traces,
 )
-from ..campaign import KIND_SECONDS, MOST_OPEN, Campaign, Settings, sources
+from ..campaign import KIND_SECONDS, MOST_OPEN, Campaign, Settings
 from ..findings import Baseline, Findings, Journal
 from ..keeping import Kept
 from ..oracles import PROFILE
@@ -166,11 +164,6 @@ def add_arguments(parser: argparse.ArgumentParser) -> None:
     )
     report.add_argument(
         "--coverage", action="store_true", help="which rows of the tables of docs/MODEL.md the traces reached"
-    )
-    report.add_argument(
-        "--mutants",
-        action="store_true",
-        help="run wrong models in place of COMMAND, and print which a run of this size finds",
     )
     how = parser.add_argument_group("how it runs")
     how.add_argument(
@@ -327,26 +320,6 @@ def opened_journal(options: argparse.Namespace, settings: Settings, kept: Kept, 
     return journal
 
 
-def try_mutants(options: argparse.Namespace) -> int:
-    """Puts each wrong model in the place of the system under test, and prints which a run of this size finds."""
-    settings = settings_of(options)
-    drawn = [(source, source.draw()) for source in sources(settings)]
-    missed = 0
-    for name, model in mutants.MUTANTS.items():
-        sides = comparison.InProcess(model, comparison.Rules(options.ignore))
-        shown = next(
-            ((source, told) for source, trace in drawn if (told := comparison.examine(sides, trace, 1)).findings), None
-        )
-        missed += shown is None
-        if shown:
-            operation, here, there = outputs.kind_of(shown[1].findings[0].difference)
-            print(f"{name:22} trace {shown[0].number:4}  {operation}: program {here}, yours {there}", flush=True)
-        else:
-            print(f"{name:22} not found: {model.__doc__}", flush=True)
-    print(f"{len(mutants.MUTANTS)} wrong models, {len(mutants.MUTANTS) - missed} found in {len(drawn)} traces")
-    return 1 if missed else 0
-
-
 def take_program(options: argparse.Namespace) -> None:
     """Finds the program, and diltzekun-live where it is given, or where the place that names the program has it too."""
     options.given_program, options.given_live = options.program, options.live
@@ -369,9 +342,6 @@ def check_oracle(options: argparse.Namespace) -> None:
 def run(options: argparse.Namespace) -> int:
     options.begin = time.monotonic()
     options.given_oracle = options.oracle
-    if options.mutants:
-        options.oracle = PROFILE
-        return try_mutants(options)
     beside.take_system(options)
     check_oracle(options)
     if not options.command:

@@ -1,9 +1,9 @@
 """Models that are wrong in one thing each: what a comparison of a given size finds.
 
-`vma compare --mutants` puts each in the place of the system under test. A mutant is the model with a small change, and
-its docstring says which.
+`tests/run compare` puts each in the place of the system under test. A mutant is the model with a small change, and its
+docstring says which.
 
-    python3 -m vmatools.mutants NAME < TRACE
+    PYTHONPATH=tools:tests python3 -m models.mutants NAME < TRACE
 """
 from __future__ import annotations
 
@@ -12,9 +12,9 @@ import time
 from collections.abc import Callable
 from typing import Any, Union
 
-from . import model, serial, traces
-from .model import Area, Space, area_at, areas_in, is_free, pages_of
-from .traces import MAP, PAGE, PROT
+from vmatools import model, serial, traces
+from vmatools.model import Area, Space, area_at, areas_in, is_free, pages_of
+from vmatools.traces import MAP, PAGE, PROT
 
 Reply = Union[int, str]
 FIXED, NOREPLACE = MAP["MAP_FIXED"], MAP["MAP_FIXED_NOREPLACE"]
