@@ -26,7 +26,7 @@ from vmatools.linux.held import Held, hold, kernel_answer, kernel_under
 from vmatools.linux.kernel import Kernel, Process, Settings, kernel_of
 from vmatools.linux.versions import table, version_of
 from vmatools.oracles import Oracle
-from vmatools.systems import empty
+from vmatools.systems import empty, rows
 from vmatools.systems.adapter import Adapter
 from vmatools.systems.known import GUEST, system_of
 from vmatools.systems.linux_of import GUEST_MEMORY
@@ -37,6 +37,7 @@ LINES = 30
 SHOWN = 3
 HEAD = re.compile(r"# ([a-z0-9-]+) of docs/KERNEL\.md; Linux ([0-9., and]+) answers?\n")
 OPERATIONS = 20_000
+PROCESS = "brk-none"  # the row whose answer is the process's own
 KINDS = [*generators.KINDS, *(name for name in generator.PROFILES if name != "wide")]
 
 Vectors = list[tuple[Kernel, list[tuple[Trace, vectors.Vector]]]]
@@ -56,12 +57,24 @@ def all_vectors() -> Vectors:
     return [(kernel, [(read_trace(one.trace.encode()), one) for one in found]) for kernel, found in read]
 
 
-def check_vectors(found: Vectors) -> None:
+def all_rows() -> Vectors:
+    """The rows of docs/KERNEL.md, as Linux 6.18 answered them: those of files on a disk, and the others."""
+    kernel = machine_of("6.18.44")
+    on_disk = replace(kernel, settings=replace(kernel.settings, files="disk"))
+    found: dict[Kernel, list[tuple[Trace, vectors.Vector]]] = {kernel: [], on_disk: []}
+    for row in rows.read_rows()[1]:
+        if row.name != PROCESS:
+            pair = read_trace(row.trace.encode()), vectors.Vector(row.name, row.trace, row.there)
+            found[on_disk if row.name in rows.ON_DISK else kernel].append(pair)
+    return list(found.items())
+
+
+def check_vectors(found: Vectors, what: str) -> None:
     for kernel, pairs in found:
         held = Held()
         for trace, one in pairs:
             hold(held, kernel, one.name, trace, one.answer)
-        told(f"{kernel.name}, recorded vectors", held)
+        told(f"{kernel.name}, {what}", held)
 
 
 def is_noticed(mutant: linux_mutants.Mutant | None, found: Vectors) -> bool:
@@ -169,8 +182,9 @@ def unknown(kernel: Kernel, held: Held) -> str:
 
 def check(options: argparse.Namespace) -> None:
     found = all_vectors()
-    check_vectors(found)
-    check_mutants(found)
+    check_vectors(found, "recorded vectors")
+    check_vectors(all_rows(), "rows of docs/KERNEL.md")
+    check_mutants(found + all_rows())
     check_suite()
     check_running(options.operations, options.seed)
     passed(f"{oracles.described(Oracle(found[-1][0]))}")

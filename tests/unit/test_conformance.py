@@ -18,6 +18,7 @@ from vmatools import conformance  # noqa: E402
 from vmatools.commands import conform  # noqa: E402
 from vmatools.conformance import Case, Verdict  # noqa: E402
 from vmatools.console import Failure  # noqa: E402
+from vmatools.oracles import oracle_of  # noqa: E402
 from vmatools.program import Ran  # noqa: E402
 
 TRACE = "vmatrace 1\n# It maps a page: mmap(2).\n0 mmap 0 4096 PROT_READ MAP_PRIVATE|MAP_ANONYMOUS -1 0\n"
@@ -45,15 +46,17 @@ class Cases(unittest.TestCase):
             with self.assertRaisesRegex(Failure, f"^no case and no group has the name {name}; {hint}$"):
                 conformance.read_suite(self.top, ["mmap", name])
 
-    def test_as_linux_its_own_output_is_right(self) -> None:
-        (self.top / "mmap/page.linux").write_text("# grow-far: 6.18\nc\n")
-        self.assertEqual(conformance.read_suite(self.top, as_linux=True)[0].right, ("c\n",))
+    def test_as_linux_the_right_output_is_computed(self) -> None:
+        (case,) = conformance.read_suite(self.top, oracle=oracle_of("linux-6.18"))
+        self.assertEqual(case.right[0].splitlines()[:2], ["L3 t0 v1 = 0x7ffff7ffe000", "maps 1"])
         self.assertEqual(conformance.read_suite(self.top)[0].right, ("a\nb\n",))
 
-    def test_what_depends_on_the_process_is_left_out(self) -> None:
-        (self.top / "mmap/page.linux").write_text("# brk-none: it depends on the process\n")
-        case = conformance.read_suite(self.top, as_linux=True)[0]
-        self.assertIs(conformance.judged(case, Ran("x\n", None, "")).verdict, Verdict.LEFT_OUT)
+    def test_what_is_not_modelled_is_left_out(self) -> None:
+        (self.top / "mmap/page.trace").write_text("vmatrace 1\n0 brk 0x100000\n")
+        case = conformance.read_suite(self.top, oracle=oracle_of("linux-6.18"))[0]
+        result = conformance.judged(case, Ran("x\n", None, ""))
+        self.assertIs(result.verdict, Verdict.LEFT_OUT)
+        self.assertIn("line 2: every process has a break", result.why)
 
     def test_with_threads_each_legal_output_is_right(self) -> None:
         (self.top / "mmap/page.legal").write_text("a\nb\n==\nb\na\n")

@@ -1,7 +1,9 @@
 """Linux's model: its versions, its settings, and what it says of single rules."""
 from __future__ import annotations
 
+import subprocess
 import sys
+import tempfile
 import unittest
 from pathlib import Path
 
@@ -160,6 +162,45 @@ class NotGuessed(unittest.TestCase):
         trace, gaps = oracles.Oracle(kernel_of("6.18")).modelled(trace_of("0 brk 0x100000", "0 munmap 0x100000 4096"))
         self.assertEqual([line.word for line in trace.lines], ["munmap"])
         self.assertEqual([gap.line for gap in gaps], [3])
+
+
+class Commands(unittest.TestCase):
+    """The subcommands that take `--as`."""
+
+    def vma(self, *words: str, text: str = "") -> tuple[int, str, str]:
+        done = subprocess.run([sys.executable, str(TOP / "tools/vma"), *words], input=text, capture_output=True, text=True)
+        return done.returncode, done.stdout, done.stderr
+
+    def test_serial_and_judge_take_linux(self) -> None:
+        text = trace_of(f"0 mmap 0x100000 4096 PROT_EXEC {ANONYMOUS}", "0 fault 0x100000 r").text()
+        status, output, _ = self.vma("serial", "--as", "linux-6.18", text=text)
+        self.assertEqual((status, output.splitlines()[1]), (0, "L4 t0 v1 = SIGSEGV SEGV_PKUERR"))
+        with tempfile.TemporaryDirectory() as folder:
+            for name, data in (("a.trace", text), ("a.out", output)):
+                Path(folder, name).write_text(data)
+            for oracle, said in (("linux-6.18", "legal\n"), ("linux-6.18,keys=0", "not legal: line 2"), ("profile", "not legal")):
+                words = ("judge", "--as", oracle, str(Path(folder, "a.trace")), str(Path(folder, "a.out")))
+                self.assertIn(said, self.vma(*words)[1])
+
+    def test_a_line_that_is_not_modelled_is_an_error(self) -> None:
+        status, _, message = self.vma("serial", "--as", "linux-6.18", text="vmatrace 1\n0 brk 0x100000\n")
+        self.assertEqual(status, 2)
+        self.assertIn("line 2: every process has a break", message)
+
+    def test_emitted_answers_name_their_kernel(self) -> None:
+        with tempfile.TemporaryDirectory() as folder:
+            words = ("--runs", "2", "--profile", "few", "--as", "linux-6.12,keys=0", folder)
+            self.assertEqual(self.vma("emit", *words)[0], 0)
+            head, output = Path(folder, "few-1-0.out").read_text().split("\n", 1)
+            oracle = oracles.oracle_of(head.removeprefix("# "))
+            self.assertEqual(oracle, oracles.oracle_of("linux-6.12,keys=0"))
+            self.assertEqual(oracle.output(traces.read_trace(Path(folder, "few-1-0.trace").read_bytes())), output)
+
+    def test_the_version_says_what_an_oracle_is(self) -> None:
+        status, output, _ = self.vma("--version", "--as", "linux-6.12")
+        self.assertEqual(status, 0)
+        self.assertIn("linux-6.12.117 built=0x10000", output)
+        self.assertIn("tested against kernels, not proved", output)
 
 
 if __name__ == "__main__":

@@ -10,7 +10,7 @@ import traceback
 from dataclasses import dataclass
 from typing import Any, NoReturn
 
-from . import console, versions
+from . import console, oracles, versions
 
 ABOUT = """usage: vma COMMAND [WORDS]
 
@@ -108,6 +108,15 @@ def parser_of(command: Command) -> tuple[Parser, Any]:
     return parser, module
 
 
+def print_version(words: list[str]) -> int:
+    """What answers, and with `--as NAME` what that oracle is."""
+    parser = Parser(prog="vma --version", add_help=False)
+    oracles.add_argument(parser, None)
+    oracle = parser.parse_args(words).oracle
+    print("\n".join([*versions.told(), *([oracles.described(oracle)] if oracle else [])]))
+    return console.DONE
+
+
 def dispatch(words: list[str]) -> int:
     """Runs the subcommand that these words name, and returns its exit status."""
     if words[:1] == ["help"] and words[1:]:
@@ -115,9 +124,8 @@ def dispatch(words: list[str]) -> int:
     if not words or words[0] in ("-h", "--help", "help"):
         print(whole_help(), file=sys.stdout if words else sys.stderr)
         return console.DONE if words else console.WRONG_USE
-    if words == ["--version"]:
-        print("\n".join(versions.told()))
-        return console.DONE
+    if words[0] == "--version":
+        return print_version(words[1:])
     if words[0] not in COMMANDS:
         raise console.Failure(unknown(words[0]))
     command = COMMANDS[words[0]]

@@ -12,6 +12,8 @@ from pathlib import Path
 
 from . import junit, ranking
 from .console import Failure
+from .linux.areas import NotModelled
+from .oracles import PROFILE, Oracle
 from .outputs import Difference, first_difference
 from .program import TOP, Ran
 from .traces import read_trace
@@ -48,6 +50,7 @@ class Case:
     says: str
     trace: str
     right: tuple[str, ...]
+    gap: str = ""  # why nothing is right, where the model doesn't say what a kernel answers
 
     @property
     def where(self) -> str:
@@ -92,26 +95,24 @@ def sentence(trace: str) -> str:
     return comments[0] if comments else ""
 
 
-def without_comments(text: str) -> str:
-    return "".join(line for line in text.splitlines(keepends=True) if not line.startswith(COMMENT))
-
-
-def read_case(path: Path, as_linux: bool = False) -> Case:
-    """The case of a trace of the suite. As Linux, where `NAME.linux` has other outputs, one for each answer that a version
-    gave, these are right; where it has none, what Linux answers depends on the process, and nothing is right or wrong."""
-    trace = path.read_text(encoding="utf-8")
-    legal, linux = path.with_suffix(".legal"), path.with_suffix(".linux")
-    if as_linux and linux.exists():
-        outputs = [without_comments(part) for part in linux.read_text(encoding="utf-8").split(PART)]
-        right: tuple[str, ...] = tuple(outputs) if all(outputs) else ()
-    elif legal.exists():
+def read_case(path: Path, oracle: Oracle = PROFILE) -> Case:
+    """The case of a trace of the suite. What Linux answers is computed; but what threads may give is the profile's."""
+    trace, legal = path.read_text(encoding="utf-8"), path.with_suffix(".legal")
+    right: tuple[str, ...]
+    gap = ""
+    if legal.exists():
         right = tuple(legal.read_text(encoding="utf-8").split(PART))
+    elif oracle.kernel:
+        try:
+            right = (oracle.output(read_trace(trace.encode())),)
+        except NotModelled as why:
+            right, gap = (), str(why)
     else:
         right = (path.with_suffix(".out").read_text(encoding="utf-8"),)
-    return Case(path.parent.name, path.stem, sentence(trace), trace, right)
+    return Case(path.parent.name, path.stem, sentence(trace), trace, right, gap)
 
 
-def read_suite(folder: Path = SUITE, names: Sequence[str] = (), as_linux: bool = False) -> list[Case]:
+def read_suite(folder: Path = SUITE, names: Sequence[str] = (), oracle: Oracle = PROFILE) -> list[Case]:
     """The cases of a suite, of these groups and names alone where some are given. Each name has to have a case."""
     named = {path: {path.parent.name, f"{path.parent.name}/{path.stem}"} for path in sorted(folder.glob("*/*.trace"))}
     known = {name for own in named.values() for name in own}
@@ -120,7 +121,7 @@ def read_suite(folder: Path = SUITE, names: Sequence[str] = (), as_linux: bool =
             near = difflib.get_close_matches(name, known, 1)
             hint = f"did you mean {near[0]}?" if near else "`tools/vma conform --list` has them"
             raise Failure(f"no case and no group has the name {name}; {hint}")
-    return [read_case(path, as_linux) for path, own in named.items() if not names or own & set(names)]
+    return [read_case(path, oracle) for path, own in named.items() if not names or own & set(names)]
 
 
 def first_wrong(output: str, right: str) -> tuple[int, str, str]:
@@ -135,7 +136,7 @@ def judged(case: Case, ran: Ran) -> Result:
     if ran.fault == "does not end":
         return Result(case, Verdict.HUNG, message="does not end")
     if ran.fault == CANNOT_RUN or not case.right:
-        return Result(case, Verdict.LEFT_OUT, message=ran.message)
+        return Result(case, Verdict.LEFT_OUT, message=case.gap or ran.message)
     if ran.fault:
         return Result(case, Verdict.CRASHED, message=f"{ran.message.strip()} ({ran.fault})".strip())
     if ran.output in case.right:

@@ -13,8 +13,9 @@ from collections.abc import Iterator
 from dataclasses import dataclass, field
 from typing import NoReturn
 
-from . import model
 from .console import Progress, printable
+from .oracles import PROFILE, Oracle
+from .serial import AnySpace
 from .traces import Line, Source, Trace
 
 ITEM = re.compile("L([0-9]{1,20}) t([0-9]{1,20}) v([0-9]{1,20}) = ")
@@ -83,20 +84,20 @@ class Output:
             self.wrong("something stands below the last list")
 
 
-def first_wrong(trace: Trace, output: Source) -> Illegal | None:
+def first_wrong(trace: Trace, output: Source, oracle: Oracle = PROFILE) -> Illegal | None:
     """Nothing where an output is legal for a trace; else its first wrong line, and why."""
     given = Output(output)
     try:
-        pass_all(trace, given)
+        pass_all(trace, given, oracle)
     except Illegal as wrong:
         return wrong
     return None
 
 
-def pass_all(trace: Trace, given: Output) -> None:
+def pass_all(trace: Trace, given: Output, oracle: Oracle) -> None:
     """Passes the parent, then each child, and then the end."""
     forks = {line.arguments[0]: line for line in trace.lines if line.word == "fork"}
-    parent = Judged(model.Space(trace))
+    parent = Judged(oracle.space(trace))
     parent.pass_lines([line for line in trace.lines if line.thread not in forks], given)
     for child in sorted(forks):
         space, version = parent.children[child]
@@ -109,12 +110,12 @@ def pass_all(trace: Trace, given: Output) -> None:
 class Judged:
     """One space, and what was passed of it."""
 
-    space: model.Space
+    space: AnySpace
     version: int = 0
     last_reader: int = 0
     coming: dict[int, list[Line]] = field(default_factory=dict)
     passed: set[int] = field(default_factory=set)
-    children: dict[int, tuple[model.Space, int]] = field(default_factory=dict)
+    children: dict[int, tuple[AnySpace, int]] = field(default_factory=dict)
 
     def pass_lines(self, lines: list[Line], given: Output) -> None:
         """Passes the items of these lines and the list after them."""
@@ -158,7 +159,7 @@ class Judged:
         """Does what a line asks for: the lines of its result, and whether it was a call."""
         if line.word == "fork":
             self.children[line.arguments[0]] = self.space.child(), self.version
-            return [f"child {line.arguments[0]} areas {len(self.space.areas)}"], False
-        result, is_call = model.answer(self.space, line)
+            return [f"child {line.arguments[0]} areas {self.space.maps()[0].split()[1]}"], False
+        result, is_call = self.space.answer(line)
         self.version += is_call
         return result, is_call

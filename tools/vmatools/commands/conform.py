@@ -29,7 +29,7 @@ from dataclasses import replace
 from pathlib import Path
 from typing import TextIO
 
-from .. import children, conformance, console, program
+from .. import children, conformance, console, oracles, program
 from ..conformance import Case, Result, Verdict
 from ..live import LiveAdapter
 from ..outputs import parts_of
@@ -38,6 +38,7 @@ from ..program import run as run_command
 from ..systems.batch import Adapter, Adapters
 from ..systems.capabilities import PROBE
 from ..systems.known import KNOWN, MACHINE_SECONDS, system_of
+from ..systems.linux_of import oracle_of
 from ..systems.places import NOT_EMPTY, finds_place
 from ..systems.searches import is_place_of_search
 from ..traces import read_trace
@@ -61,13 +62,7 @@ def add_arguments(parser: argparse.ArgumentParser) -> None:
         default=[],
         help="these cases alone; may be given several times",
     )
-    parser.add_argument(
-        "--as",
-        dest="profile",
-        choices=("profile", "linux"),
-        default="profile",
-        help="what is right: this project's profile, or what Linux was seen to answer (profile)",
-    )
+    oracles.add_argument(parser, None, "profile, and with --system Linux of the system's version")
     parser.add_argument(
         "--seconds", type=time_limit, default=SECONDS, metavar="T", help="how long COMMAND may take for a case (10)"
     )
@@ -204,7 +199,7 @@ def take_live(options: argparse.Namespace) -> None:
 def repeating(given: argparse.Namespace, case: Case) -> str:
     """The command that runs a case again, by the words that were given."""
     words = ["--only", case.where]
-    words += ["--as", given.profile] if given.profile != "profile" else []
+    words += ["--as", given.oracle.option()] if given.oracle else []
     words += ["--seconds", f"{given.seconds:g}"] if given.seconds != SECONDS else []
     words += ["--batch"] if given.batch else []
     words += ["--system", given.system] if given.system else []
@@ -235,9 +230,16 @@ def open_forms(options: argparse.Namespace, stack: contextlib.ExitStack) -> dict
     }
 
 
+def oracle_for(options: argparse.Namespace) -> oracles.Oracle:
+    """What is right: what was asked for, else Linux of a system's own version, else the profile."""
+    if options.oracle or not options.system or options.list:
+        return options.oracle or oracles.PROFILE
+    return oracle_of(system_of(options.system))
+
+
 def run(options: argparse.Namespace) -> int:
     """Runs the suite."""
-    cases = conformance.read_suite(names=options.only, as_linux=options.profile == "linux")
+    cases = conformance.read_suite(names=options.only, oracle=oracle_for(options))
     if not cases:
         raise console.Failure(f"{conformance.SUITE} has no case")
     if options.list:

@@ -1,6 +1,7 @@
 """Writes random traces into a folder, for other fuzzers and tests: those of `vma compare`, or those of `diltzekun generate`.
 
-Each trace is a file, PROFILE-SEED-NUMBER.trace, or generate-COUNT-SEED.trace. The same options give the same files.
+Each trace is a file, PROFILE-SEED-NUMBER.trace, or generate-COUNT-SEED.trace. The same options give the same files. With --as
+the right answer is beside each, as NAME.out; that of Linux begins with a comment, its version and settings.
 
 Example: tools/vma emit --runs 1000 --profile few,mremap seeds/
 """
@@ -10,8 +11,9 @@ import argparse
 from collections.abc import Iterator
 from pathlib import Path
 
-from .. import console, loads
+from .. import console, loads, oracles
 from ..campaign import Settings, sources
+from ..traces import read_trace
 from ..words import count
 from .compare import add_traces
 
@@ -34,6 +36,7 @@ def add_arguments(parser: argparse.ArgumentParser) -> None:
         metavar="COUNT",
         help="the traces of `diltzekun generate COUNT SEED`, for --runs seeds from --seed on, in place of those of profiles",
     )
+    oracles.add_argument(parser, None, "no answers")
     parser.add_argument(
         "folder", type=Path, metavar="FOLDER", help="where the files come; it is made if it isn't there"
     )
@@ -52,11 +55,21 @@ def traces_of(options: argparse.Namespace) -> Iterator[tuple[str, str]]:
         yield f"{name}-{options.seed}-{source.number}", source.draw().text()
 
 
+def answered(text: str, oracle: oracles.Oracle) -> tuple[str, str]:
+    """The trace without what isn't modelled, and the right answer: of Linux below a comment with its version and settings."""
+    trace, _ = oracle.modelled(read_trace(text.encode()))
+    head = f"# {oracle.words()}\n" if oracle.kernel else ""
+    return trace.text(), head + oracle.output(read_trace(trace.text().encode()))
+
+
 def run(options: argparse.Namespace) -> int:
     written, progress = 0, console.Progress()
     try:
         console.make_folder(options.folder)
         for name, text in traces_of(options):
+            if options.oracle:
+                text, answer = answered(text, options.oracle)
+                console.write_file(options.folder / f"{name}.out", answer)
             console.write_file(options.folder / f"{name}.trace", text)
             written += 1
             progress.tell(f"{written} traces written")

@@ -1,7 +1,8 @@
 """Judges the output of a system with threads: is it one of the legal outputs of its trace?
 
 The tools' model judges. It was written from docs/TRACE.md and docs/MODEL.md, and shares no code with the program. An output
-of `diltzekun serial` is legal too. TRACE and OUTPUT are files; one of them may be -, standard input.
+of `diltzekun serial` is legal too. With --as Linux of a version says what each call answers, in the order of the output. TRACE
+and OUTPUT are files; one of them may be -, standard input.
 
 Prints `legal`, or `not legal: line N: why` for the first line of OUTPUT that is wrong.
 
@@ -11,7 +12,8 @@ from __future__ import annotations
 
 import argparse
 
-from .. import console, explanations, judging
+from .. import console, explanations, judging, oracles
+from ..linux.areas import NotModelled
 
 SUMMARY = "say whether the output of a system with threads is legal"
 
@@ -19,13 +21,17 @@ SUMMARY = "say whether the output of a system with threads is legal"
 def add_arguments(parser: argparse.ArgumentParser) -> None:
     parser.add_argument("trace", metavar="TRACE", help="the file of the trace")
     parser.add_argument("output", metavar="OUTPUT", help="the file of the output")
+    oracles.add_argument(parser)
 
 
 def run(options: argparse.Namespace) -> int:
     trace, output = console.open_inputs(options.trace, options.output)
     read = explanations.read(trace, options.trace)
     with console.reading(options.output):
-        wrong = judging.first_wrong(read, output)
+        try:
+            wrong = judging.first_wrong(read, output, options.oracle)
+        except NotModelled as gap:
+            raise console.Failure(f"{console.named(options.trace)}: {gap}") from None
     if wrong is None:
         print(console.painted("legal", "green"))
         return console.DONE

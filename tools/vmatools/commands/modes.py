@@ -12,7 +12,8 @@ from collections.abc import Callable, Iterator
 from dataclasses import dataclass
 from typing import IO, NoReturn
 
-from .. import console, explanations, maps_texts, program
+from .. import console, explanations, maps_texts, oracles, program
+from ..linux.areas import NotModelled
 from ..traces import LIMITS, number_of
 from ..unproved.modes import MOST_GENERATED, MOST_READ
 from ..words import count, number
@@ -158,6 +159,24 @@ def replay(words: list[str]) -> Callable[[Options], int]:
     return work
 
 
+def run_serial(options: Options) -> int:
+    """The program, or the model of Linux where --as names it."""
+    if options.oracle.kernel is None:
+        return replay(["serial"])(options)
+    for path, source in each_file(options):
+        trace = explanations.read(source, path)  # type: ignore[arg-type]
+        try:
+            print(options.oracle.output(trace), end="")
+        except NotModelled as gap:
+            raise console.Failure(f"{console.named(path)}: {gap}") from None
+    return console.DONE
+
+
+def add_serial(parser: argparse.ArgumentParser) -> None:
+    add_files(parser)
+    oracles.add_argument(parser)
+
+
 def run_steps(options: Options) -> int:
     for path, source in each_file(options):
         status, message = answered(options, ["steps"], source)
@@ -288,8 +307,8 @@ MODES = {
     "serial": Mode(
         "replay a trace: the result of each call, and the VMAs at the end",
         "Replays traces in the order of their lines, and prints the result of each call and fault and the VMAs at the end.",
-        add_files,
-        replay(["serial"]),
+        add_serial,
+        run_serial,
     ),
     "threads": Mode(
         "replay a trace with its threads at once: one of the results that are possible",
