@@ -116,6 +116,11 @@ def check_itself(program: str, runs: int) -> None:
     if (status, text) != (0, f"{runs} traces, 0 differ\n"):
         fail(f"the program differs from itself: status {status}\n{text[-4000:]}")
     told(f"the program against itself, {runs} traces", began)
+    began = time.monotonic()
+    status, text = compared(["--suite", "--runs", "1", "--program", program, "--", "right"], OfModel)
+    if status or not re.fullmatch(r"[67]\d\d traces, 0 differ\n", text):
+        fail(f"the model differs from the program on the suite: status {status}\n{text[-4000:]}")
+    told("the cases of the suite", began)
 
 
 def check_model(program: str, runs: int) -> None:

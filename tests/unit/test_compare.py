@@ -19,6 +19,7 @@ from models import mutants
 from vmatools import (
     answers,
     campaign,
+    cli,
     comparison,
     console,
     coverage,
@@ -33,6 +34,7 @@ from vmatools import (
     shrinking,
     threaded,
 )
+from vmatools.commands import compare
 from vmatools.linux.kernel import Process, Settings, kernel_of
 from vmatools.model import Space
 from vmatools.outputs import Difference, kind_of
@@ -408,6 +410,26 @@ class Runs(unittest.TestCase):
             program.chmod(0o755)
             self.campaign(told, 3, sides=comparison.Sides(str(program), ["true"], 30, comparison.Rules())).run()
         self.assertEqual((list(told.kinds), told.differing), (["run/an output/writes nothing"], 3))
+
+    def settings(self, *words: str) -> campaign.Settings:
+        """What a comparison with these words runs."""
+        parser, _ = cli.parser_of(cli.COMMANDS["compare"])
+        options = parser.parse_args([*words, "--", "true"])
+        options.given_oracle = options.oracle
+        return compare.settings_of(options)
+
+    def test_the_cases_of_the_suite_come_first(self) -> None:
+        wanted = {"": True, "--runs 5": False, "--profile few": False, "--only 3": False, "--threads 2": False}
+        wanted |= {"--for 5": True, "--runs 5 --suite": True, "--no-suite": False}
+        for words, has_suite in wanted.items():
+            settings = self.settings(*words.split())
+            self.assertEqual(bool(settings.suite), has_suite, words)
+        settings = self.settings("--suite", "--runs", "2")
+        names = [source.name for source in campaign.sources(settings)]
+        self.assertEqual(len(names), len(settings.suite) + 2)
+        self.assertIn("suite/brk/", names[0])
+        self.assertIn("trace 1 of seed 1", names[-1])
+        self.assertFalse([name for name in names if "/wide/" in name or Path(name).with_suffix(".legal").exists()])
 
     def test_what_was_kept_is_run_again_first_and_stays_red(self) -> None:
         with tempfile.TemporaryDirectory() as name:

@@ -120,6 +120,14 @@ class Fits(unittest.TestCase):
         self.assertFalse(finds_place(first))
         self.assertTrue(finds_place(windows.Fit(WINDOW).fitted(trace_of(hint)).lines[0]))
 
+    def test_a_move_that_keeps_its_old_range_gets_a_place(self) -> None:
+        move = "0 mremap 0x10000 4096 4096 MREMAP_MAYMOVE|MREMAP_DONTUNMAP"
+        trace = trace_of(f"0 mmap 0x10000 4096 PROT_READ {MAP}|MAP_FIXED -1 0", move)
+        self.assertFalse(windows.Fit(WINDOW).keeps(trace))  # Linux would find one outside
+        fitted = windows.Fit(WINDOW).fitted(trace)
+        self.assertEqual(len(fitted.lines[1].arguments), 5)
+        self.assertTrue(windows.Fit(WINDOW).keeps(fitted))
+
     def test_what_is_mapped_is_touched_at_the_end(self) -> None:
         trace = windows.Fit(WINDOW).fitted(trace_of(f"0 mmap 0x10000 4096 PROT_WRITE {MAP}|MAP_FIXED -1 0"))
         self.assertEqual([(line.word, line.arguments[0]) for line in trace.lines[1:]], [("fault", 0x10000)])

@@ -56,6 +56,7 @@ class Settings:
     goes_on: bool = False  # whatever is open
     only: list[int] = field(default_factory=list)
     folder: Optional[Path] = None
+    suite: list[Path] = field(default_factory=list)  # cases that are run before random traces
     has_coverage: bool = False
     fit: Optional[Union[Fit, EmptyFit, Capabilities]] = None  # how traces become such as the system can run
     words: list[str] = field(default_factory=list)  # those that a command needs to repeat a finding
@@ -93,6 +94,7 @@ def sources(settings: Settings) -> Iterator[Source]:
     elif settings.only:
         numbered = ((number, None) for number in settings.only)
     else:
+        yield from (kept_trace(number, path) for number, path in enumerate(settings.suite))
         numbered = ((number, None) for number in (itertools.count() if settings.runs is None else range(settings.runs)))
     for number, path in numbered:
         yield kept_trace(number, path) if path else drawn_trace(settings, number)
@@ -309,7 +311,7 @@ class Campaign:
     def tell(self) -> None:
         """Says how far the run is."""
         findings, all_runs = self.findings, self.settings.runs
-        of = f" of {all_runs}" if all_runs and not self.settings.folder else ""
+        of = f" of {all_runs + len(self.settings.suite)}" if all_runs and not self.settings.folder else ""
         small = f", {len(self.shrinking)} are made small" if self.shrinking else ""
         text = f"{findings.traces}{of} traces, {findings.differing} differ in {len(findings.kinds)} kinds{small}"
         self.progress.tell(text)

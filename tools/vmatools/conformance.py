@@ -124,6 +124,12 @@ def read_suite(folder: Path = SUITE, names: Sequence[str] = (), oracle: Oracle =
     return [read_case(path, oracle) for path, own in named.items() if not names or own & set(names)]
 
 
+def cases_in_order(has_wide: bool, folder: Path = SUITE) -> list[Path]:
+    """The traces of the cases that have one right output each, those of addresses of 57 bits only where they are wanted."""
+    paths = (path for path in sorted(folder.glob("*/*.trace")) if not path.with_suffix(".legal").exists())
+    return [path for path in paths if has_wide or path.parent.name != "wide"]
+
+
 def first_wrong(output: str, right: str) -> tuple[int, str, str]:
     """The first line, from 1, at which two outputs differ, and what is there in each."""
     one, other = output.splitlines(), right.splitlines()

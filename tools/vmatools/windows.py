@@ -53,7 +53,7 @@ class Fit:
         return is_set and not any(self.is_out(line, low, high, trace) for line in trace.lines)
 
     def is_out(self, line: Line, low: int, high: int, trace: Trace) -> bool:
-        is_lost = finds_place(line) and line.word == "mmap" and line.arguments[0] < PAGE
+        is_lost = finds_place(line) and (line.word == "mmap" and line.arguments[0] < PAGE or adds_mapping(line))
         return is_lost or leaves(line, low, high) or line.word == "brk" and "heap" not in trace.settings
 
 
@@ -82,6 +82,11 @@ class EmptyFit:
 def is_guarded(space: model.Space, start: int, pages: int) -> bool:
     """Whether a place lies so near below a growing area that Linux passes it over as a hint."""
     return any(area.grows and start < area.lo < start + pages + GUARD for area in space.areas)
+
+
+def adds_mapping(line: Line) -> bool:
+    """Whether Linux maps pages at another place and keeps their old range, which the program refuses."""
+    return line.word == "mremap" and (line.arguments[1] == 0 or bool(line.arguments[3] & MREMAP["MREMAP_DONTUNMAP"]))
 
 
 class Fitting:
@@ -135,7 +140,8 @@ class Fitting:
         values = list(line.arguments)
         length = model.pages_of(values[1 if line.word == "mmap" else 2])
         found = model.answer(copy.copy(space), line)[0][0]
-        is_searched = line.word == "mmap" and (values[0] < PAGE or is_guarded(space, values[0] // PAGE, length))
+        is_hint_lost = line.word == "mmap" and (values[0] < PAGE or is_guarded(space, values[0] // PAGE, length))
+        is_searched = is_hint_lost or adds_mapping(line)
         if not is_searched and (not found.startswith("0x") or int(found, 16) == values[0] // PAGE * PAGE):
             return line
         place = self.free_place(space, length)

@@ -31,6 +31,7 @@ from typing import Optional
 
 from .. import (
     comparison,
+    conformance,
     console,
     findings as found,
     generator,
@@ -122,6 +123,11 @@ def add_arguments(parser: argparse.ArgumentParser) -> None:
         "--traces", type=Path, metavar="FOLDER", help="the files *.trace there, or one file, in place of random traces"
     )
     oracles.add_argument(parser, None, "profile, and with --system Linux of the system's version")
+    group.add_argument(
+        "--suite",
+        action=argparse.BooleanOptionalAction,
+        help="run the cases of the suite first (if no other word says which traces)",
+    )
     aside = parser.add_argument_group("what is set aside")
     aside.add_argument(
         "--ignore",
@@ -222,6 +228,9 @@ def settings_of(options: argparse.Namespace) -> Settings:
         options.traces,
         options.coverage,
     )
+    says_which = options.runs or options.only or options.traces or options.threads or options.profile != generator.IN_TURN
+    if options.suite or options.suite is None and not says_which:
+        settings.suite = conformance.cases_in_order("wide" in options.profile)
     words: list[str] = []
     for name, value, default in (
         ("--seed", options.seed, 1),
