@@ -416,6 +416,7 @@ class Runs(unittest.TestCase):
         parser, _ = cli.parser_of(cli.COMMANDS["compare"])
         options = parser.parse_args([*words, "--", "true"])
         options.given_oracle = options.oracle
+        compare.check_oracle(options)
         return compare.settings_of(options)
 
     def test_the_cases_of_the_suite_come_first(self) -> None:
