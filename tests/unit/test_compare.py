@@ -411,7 +411,7 @@ class Runs(unittest.TestCase):
             self.campaign(told, 3, sides=comparison.Sides(str(program), ["true"], 30, comparison.Rules())).run()
         self.assertEqual((list(told.kinds), told.differing), (["run/an output/writes nothing"], 3))
 
-    def settings(self, *words: str) -> campaign.Settings:
+    def settings(self, *words: str) -> Any:
         """What a comparison with these words runs."""
         parser, _ = cli.parser_of(cli.COMMANDS["compare"])
         options = parser.parse_args([*words, "--", "true"])
