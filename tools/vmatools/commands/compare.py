@@ -226,7 +226,7 @@ def settings_of(options: argparse.Namespace) -> Settings:
         options.goes_on,
         options.only,
         options.traces,
-        options.coverage,
+        has_coverage=options.coverage,
     )
     says_which = options.runs or options.only or options.traces or options.threads or options.profile != generator.IN_TURN
     if options.suite or options.suite is None and not says_which:
