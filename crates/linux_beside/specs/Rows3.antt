@@ -70,7 +70,7 @@ pub record ErrorMoveOdd : Type 0 where
   pub profile : IsByProfile (config 65536 140737354133504 65530 0 ([])) error_move_odd_by_profile
   pub linux_6_1 : IsAsRecorded (on_the_machine linux_6_1 false (config 4096 140737354133504 65530 0 ([]))) error_move_odd_by_profile
   pub linux_6_12 : IsAsRecorded (on_the_machine linux_6_12 false (config 4096 140737354133504 65530 0 ([]))) error_move_odd_by_profile
-  pub linux_6_16 : IsAsRecorded (on_the_machine linux_6_16 false (config 4096 140737354133504 65530 0 ([]))) error_move_odd_by_profile
+  pub linux_6_16 : IsAsRecorded (on_the_machine linux_6_16 false (config 4096 140737354133504 65530 0 ([]))) error_move_odd_by_linux
   pub linux_6_17 : IsAsRecorded (on_the_machine linux_6_17 false (config 4096 140737354133504 65530 0 ([]))) error_move_odd_by_linux
   pub linux_6_18_15 : IsAsRecorded (on_the_machine linux_6_18_15 false (config 4096 140737354133504 65530 0 ([]))) error_move_odd_by_linux
   pub linux_6_18 : IsAsRecorded (on_the_machine linux_6_18 false (config 4096 140737354133504 65530 0 ([]))) error_move_odd_by_linux

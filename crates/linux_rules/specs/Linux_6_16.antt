@@ -86,45 +86,6 @@ hard_3 =
     ∷ step 0 (Map 1093632 16384 r 50 (negsuc 0) 0) (Ok (Returned 1093632)) (Some (plain 259 261 rw ∷ plain 261 265 r ∷ plain 267 271 r ∷ plain 271 272 r ∷ plain 34359705590 34359705593 rw ∷ filed 34359705593 34359705597 r true 0 3 ∷ filed 34359705597 34359705599 r true 16384 1 ∷ []))
     ∷ []
 
--- written_6: the kernel
-abbrev pub written_6_on : Kernel
-written_6_on = record { rules = linux_6_16; machine = record { lowest_built = 16; memory = 245000; stack = 8388608; has_keys = true; huge_always = true; files_are_huge = false; vsyscall = Xonly }; config = config 4096 140737354133504 65530 0 (file_row 3 true true 90000 ∷ file_row 4 false true 20000 ∷ []) }
-
--- written_6: its answers
-abbrev pub written_6 : List Step
-written_6 =
-    step 0 (Map 1048576 8192 rwx 50 (negsuc 0) 0) (Ok (Returned 1048576)) (Some (plain 256 258 rwx ∷ []))
-    ∷ step 0 (Map 1060864 16384 r 50 (negsuc 0) 0) (Ok (Returned 1060864)) (Some (plain 256 258 rwx ∷ plain 259 263 r ∷ []))
-    ∷ step 0 (Touch 257 Read) (Ok (Serves 256 258 rwx false 0)) None
-    ∷ step 0 (Touch 256 Write) (Ok (Serves 256 258 rwx false 0)) None
-    ∷ step 0 (Map 1060864 12288 rw 50 (negsuc 0) 0) (Ok (Returned 1060864)) (Some (plain 256 258 rwx ∷ plain 259 262 rw ∷ plain 262 263 r ∷ []))
-    ∷ step 0 (Protect 1064960 4096 rwx) (Ok (Returned 0)) (Some (plain 256 258 rwx ∷ plain 259 260 rw ∷ plain 260 261 rwx ∷ plain 261 262 rw ∷ plain 262 263 r ∷ []))
-    ∷ step 0 (Touch 258 Read) (Ok (Signal MapErr)) None
-    ∷ step 0 (Protect 1060864 12288 r) (Ok (Returned 0)) (Some (plain 256 258 rwx ∷ plain 259 263 r ∷ []))
-    ∷ step 0 (Touch 261 Write) (Ok (Signal AccErr)) None
-    ∷ step 0 (Map 1052672 34359738368 r 49 (negsuc 0) 0) (Err 12) (Some (plain 256 257 rwx ∷ []))
-    ∷ step 0 (Touch 256 Write) (Ok (Serves 256 257 rwx false 0)) None
-    ∷ step 0 (Protect 1048576 4096 r) (Ok (Returned 0)) (Some (plain 256 257 r ∷ []))
-    ∷ step 0 (Protect 1056768 8192 rw) (Err 12) (Some (plain 256 257 r ∷ []))
-    ∷ step 0 (Touch 256 Write) (Ok (Signal AccErr)) None
-    ∷ step 0 (Map 1052672 34359738368 r 49 (negsuc 0) 0) (Err 12) (Some (plain 256 257 r ∷ []))
-    ∷ step 0 (Touch 256 Write) (Ok (Signal AccErr)) None
-    ∷ step 0 (Touch 257 Write) (Ok (Signal MapErr)) None
-    ∷ step 0 (Protect 1052672 16384 r) (Err 12) (Some (plain 256 257 r ∷ []))
-    ∷ step 0 (Protect 1056768 4096 rw) (Err 12) (Some (plain 256 257 r ∷ []))
-    ∷ step 0 (Touch 256 Write) (Ok (Signal AccErr)) None
-    ∷ step 0 (Map 1056768 12288 rw 50 (negsuc 0) 0) (Ok (Returned 1056768)) (Some (plain 256 257 r ∷ plain 258 261 rw ∷ []))
-    ∷ step 0 (Touch 256 Write) (Ok (Signal AccErr)) None
-    ∷ step 0 (Touch 256 Write) (Ok (Signal AccErr)) None
-    ∷ step 0 (Map 1048576 8192 r 50 (negsuc 0) 0) (Ok (Returned 1048576)) (Some (plain 256 258 r ∷ plain 258 261 rw ∷ []))
-    ∷ step 0 (Protect 1048576 16384 rw) (Ok (Returned 0)) (Some (plain 256 261 rw ∷ []))
-    ∷ step 0 (Protect 1060864 16384 r) (Err 12) (Some (plain 256 259 rw ∷ plain 259 261 r ∷ []))
-    ∷ step 0 (Remap 1060864 12288 12288 7 1572864) (Err 14) (Some (plain 256 259 rw ∷ plain 259 261 r ∷ []))
-    ∷ step 0 (Remap 1060864 12288 12288 3 1576960) (Err 14) (Some (plain 256 259 rw ∷ plain 259 261 r ∷ []))
-    ∷ step 0 (Map 1064960 12288 rwx 50 (negsuc 0) 0) (Ok (Returned 1064960)) (Some (plain 256 259 rw ∷ plain 259 260 r ∷ plain 260 263 rwx ∷ []))
-    ∷ step 0 (Protect 1048576 4096 rw) (Ok (Returned 0)) (Some (plain 256 259 rw ∷ plain 259 260 r ∷ plain 260 263 rwx ∷ []))
-    ∷ []
-
 -- written_limit_7: the kernel
 abbrev pub written_limit_7_on : Kernel
 written_limit_7_on = record { rules = linux_6_16; machine = record { lowest_built = 16; memory = 245000; stack = 8388608; has_keys = true; huge_always = true; files_are_huge = false; vsyscall = Xonly }; config = config 4096 140737354133504 4 0 (file_row 3 true false 90000 ∷ file_row 4 true false 20000 ∷ []) }
@@ -476,6 +437,45 @@ written_30 =
     ∷ step 0 (Protect 1048576 4096 rw) (Err 12) (Some (plain 255 256 rw ∷ plain 259 260 rw ∷ plain 260 263 rw ∷ []))
     ∷ []
 
+-- written_limit_31: the kernel
+abbrev pub written_limit_31_on : Kernel
+written_limit_31_on = record { rules = linux_6_16; machine = record { lowest_built = 16; memory = 245000; stack = 8388608; has_keys = true; huge_always = true; files_are_huge = false; vsyscall = Xonly }; config = config 4096 140737354133504 6 0 (file_row 3 false true 0 ∷ file_row 4 true true 20000 ∷ []) }
+
+-- written_limit_31: its answers
+abbrev pub written_limit_31 : List Step
+written_limit_31 =
+    step 0 (Map 1064960 4096 rw 50 (negsuc 0) 0) (Ok (Returned 1064960)) (Some (plain 260 261 rw ∷ []))
+    ∷ step 0 (Map 1056768 4096 rw 50 (negsuc 0) 0) (Ok (Returned 1056768)) (Some (plain 258 259 rw ∷ plain 260 261 rw ∷ []))
+    ∷ step 0 (Touch 258 Write) (Ok (Serves 258 259 rw false 0)) None
+    ∷ step 0 (Touch 260 Write) (Ok (Serves 260 261 rw false 0)) None
+    ∷ step 0 (Remap 1052672 12288 12288 7 1048576) (Err 12) (Some (plain 258 259 rw ∷ plain 260 261 rw ∷ []))
+    ∷ step 0 (Touch 258 Write) (Ok (Serves 258 259 rw false 0)) None
+    ∷ step 0 (Touch 258 Write) (Ok (Serves 258 259 rw false 0)) None
+    ∷ step 0 (Touch 258 Write) (Ok (Serves 258 259 rw false 0)) None
+    ∷ step 0 (Remap 1060864 4096 4096 7 1576960) (Err 12) (Some (plain 258 259 rw ∷ plain 260 261 rw ∷ []))
+    ∷ step 0 (Touch 258 Write) (Ok (Serves 258 259 rw false 0)) None
+    ∷ step 0 (Protect 1056768 4096 rw) (Ok (Returned 0)) (Some (plain 258 259 rw ∷ plain 260 261 rw ∷ []))
+    ∷ step 0 (Fork 1) (Ok (Returned 0)) None
+    ∷ step 1 (Touch 258 Write) (Ok (Serves 258 259 rw false 0)) None
+    ∷ step 1 (Touch 258 Write) (Ok (Serves 258 259 rw false 0)) None
+    ∷ step 0 (Protect 1056768 4096 rw) (Ok (Returned 0)) (Some (plain 258 259 rw ∷ plain 260 261 rw ∷ []))
+    ∷ step 0 (Touch 260 Write) (Ok (Serves 260 261 rw false 0)) None
+    ∷ step 0 (Map 1048576 8192 r 50 (negsuc 0) 0) (Ok (Returned 1048576)) (Some (plain 256 258 r ∷ plain 258 259 rw ∷ plain 260 261 rw ∷ []))
+    ∷ step 1 (Protect 1056768 12288 rwx) (Err 12) (Some (plain 258 259 rwx ∷ plain 260 261 rw ∷ []))
+    ∷ step 0 (Map 1052672 8192 r 50 (negsuc 0) 0) (Ok (Returned 1052672)) (Some (plain 256 259 r ∷ plain 260 261 rw ∷ []))
+    ∷ step 1 (Remap 1576960 4096 4096 3 1060864) (Err 12) (Some (plain 258 259 rwx ∷ plain 260 261 rw ∷ []))
+    ∷ step 0 (Touch 257 Write) (Ok (Signal AccErr)) None
+    ∷ step 0 (Remap 1064960 4096 4096 7 1056768) (Err 12) (Some (plain 256 259 r ∷ plain 260 261 rw ∷ []))
+    ∷ step 0 (Touch 258 Write) (Ok (Signal AccErr)) None
+    ∷ step 1 (Touch 258 Read) (Ok (Serves 258 259 rwx false 0)) None
+    ∷ step 1 (Protect 1056768 4096 rwx) (Ok (Returned 0)) (Some (plain 258 259 rwx ∷ plain 260 261 rw ∷ []))
+    ∷ step 0 (Touch 260 Write) (Ok (Serves 260 261 rw false 0)) None
+    ∷ step 0 (Touch 257 Write) (Ok (Signal AccErr)) None
+    ∷ step 1 (Remap 1048576 8192 8192 3 1052672) (Err 12) (Some (plain 258 259 rwx ∷ plain 260 261 rw ∷ []))
+    ∷ step 0 (Touch 260 Write) (Ok (Serves 260 261 rw false 0)) (Some (plain 256 259 r ∷ plain 260 261 rw ∷ []))
+    ∷ step 1 (Map 1064960 8192 r 50 (negsuc 0) 0) (Ok (Returned 1064960)) (Some (plain 258 259 rwx ∷ plain 260 262 r ∷ []))
+    ∷ []
+
 -- sealed_34: the kernel
 abbrev pub sealed_34_on : Kernel
 sealed_34_on = record { rules = linux_6_16; machine = record { lowest_built = 16; memory = 245000; stack = 8388608; has_keys = true; huge_always = true; files_are_huge = false; vsyscall = Xonly }; config = config 4096 140737354133504 65530 0 (file_row 3 false true 20000 ∷ file_row 4 false true 90000 ∷ file_row 5 true true 0 ∷ []) }
@@ -552,6 +552,45 @@ written_36 =
     ∷ step 0 (Protect 1097728 4096 r) (Ok (Returned 0)) (Some (plain 256 8388870 r ∷ []))
     ∷ step 0 (Map 1052672 17179869184 r 50 (negsuc 0) 0) (Ok (Returned 1052672)) (Some (plain 256 8388870 r ∷ []))
     ∷ step 0 (Touch 256 Read) (Ok (Serves 256 8388870 r false 0)) (Some (plain 256 8388870 r ∷ []))
+    ∷ []
+
+-- hard_limit_37: the kernel
+abbrev pub hard_limit_37_on : Kernel
+hard_limit_37_on = record { rules = linux_6_16; machine = record { lowest_built = 16; memory = 245000; stack = 8388608; has_keys = true; huge_always = true; files_are_huge = false; vsyscall = Xonly }; config = config 4096 140737354133504 8 0 (file_row 3 true false 90000 ∷ file_row 4 true true 90000 ∷ file_row 5 false true 0 ∷ []) }
+
+-- hard_limit_37: its answers
+abbrev pub hard_limit_37 : List Step
+hard_limit_37 =
+    step 0 (Map 1105920 12288 rw 50 (negsuc 0) 0) (Ok (Returned 1105920)) (Some (plain 270 273 rw ∷ []))
+    ∷ step 0 (Map 0 4096 rw 33 (negsuc 0) 0) (Ok (Returned 140737354129408)) (Some (plain 270 273 rw ∷ filed 34359705598 34359705599 rw true 0 4 ∷ []))
+    ∷ step 0 (Touch 271 Exec) (Ok (Signal AccErr)) None
+    ∷ step 0 (Map 1089536 12288 rw 50 (negsuc 0) 0) (Ok (Returned 1089536)) (Some (plain 266 269 rw ∷ plain 270 273 rw ∷ filed 34359705598 34359705599 rw true 0 4 ∷ []))
+    ∷ step 0 (Remap 1089536 12288 16384 1 0) (Ok (Returned 1089536)) (Some (plain 266 273 rw ∷ filed 34359705598 34359705599 rw true 0 4 ∷ []))
+    ∷ step 0 (Map 1077248 12288 r 50 (negsuc 0) 0) (Ok (Returned 1077248)) (Some (plain 263 266 r ∷ plain 266 273 rw ∷ filed 34359705598 34359705599 rw true 0 4 ∷ []))
+    ∷ step 0 (Remap 1089536 28672 28672 3 1110016) (Err 12) (Some (plain 263 266 r ∷ plain 266 273 rw ∷ filed 34359705598 34359705599 rw true 0 4 ∷ []))
+    ∷ step 0 (Seal 1089536 20480 0) (Ok (Returned 0)) (Some (plain 263 266 r ∷ plain 266 271 rw ∷ plain 271 273 rw ∷ filed 34359705598 34359705599 rw true 0 4 ∷ []))
+    ∷ step 0 (Remap 1114112 0 4096 1 0) (Err 22) (Some (plain 263 266 r ∷ plain 266 271 rw ∷ plain 271 273 rw ∷ filed 34359705598 34359705599 rw true 0 4 ∷ []))
+    ∷ step 0 (Protect 1077248 40960 rw) (Err 1) (Some (plain 263 266 rw ∷ plain 266 271 rw ∷ plain 271 273 rw ∷ filed 34359705598 34359705599 rw true 0 4 ∷ []))
+    ∷ step 0 (Protect 1077248 12288 rw) (Ok (Returned 0)) (Some (plain 263 266 rw ∷ plain 266 271 rw ∷ plain 271 273 rw ∷ filed 34359705598 34359705599 rw true 0 4 ∷ []))
+    ∷ step 0 (Protect 1089536 20480 r) (Err 1) (Some (plain 263 266 rw ∷ plain 266 271 rw ∷ plain 271 273 rw ∷ filed 34359705598 34359705599 rw true 0 4 ∷ []))
+    ∷ step 0 (Touch 270 Read) (Ok (Serves 266 271 rw false 0)) None
+    ∷ step 0 (Remap 1077248 0 12288 1 0) (Err 22) (Some (plain 263 266 rw ∷ plain 266 271 rw ∷ plain 271 273 rw ∷ filed 34359705598 34359705599 rw true 0 4 ∷ []))
+    ∷ step 0 (Touch 272 Exec) (Ok (Signal AccErr)) None
+    ∷ step 0 (Map 1097728 8192 r 16434 (negsuc 0) 0) (Err 1) (Some (plain 263 266 rw ∷ plain 266 271 rw ∷ plain 271 273 rw ∷ filed 34359705598 34359705599 rw true 0 4 ∷ []))
+    ∷ step 0 (Map 0 4096 rw 34 (negsuc 0) 0) (Ok (Returned 140737354125312)) (Some (plain 263 266 rw ∷ plain 266 271 rw ∷ plain 271 273 rw ∷ plain 34359705597 34359705598 rw ∷ filed 34359705598 34359705599 rw true 0 4 ∷ []))
+    ∷ step 0 (Map 0 8192 r 32801 (negsuc 0) 0) (Ok (Returned 140737354117120)) (Some (plain 263 266 rw ∷ plain 266 271 rw ∷ plain 271 273 rw ∷ filed 34359705595 34359705597 r true 0 5 ∷ plain 34359705597 34359705598 rw ∷ filed 34359705598 34359705599 rw true 0 4 ∷ []))
+    ∷ step 0 (Map 0 16384 r 34 (negsuc 0) 0) (Ok (Returned 140737354100736)) (Some (plain 263 266 rw ∷ plain 266 271 rw ∷ plain 271 273 rw ∷ plain 34359705591 34359705595 r ∷ filed 34359705595 34359705597 r true 0 5 ∷ plain 34359705597 34359705598 rw ∷ filed 34359705598 34359705599 rw true 0 4 ∷ []))
+    ∷ step 0 (Protect 1089536 4096 rw) (Err 1) (Some (plain 263 266 rw ∷ plain 266 271 rw ∷ plain 271 273 rw ∷ plain 34359705591 34359705595 r ∷ filed 34359705595 34359705597 r true 0 5 ∷ plain 34359705597 34359705598 rw ∷ filed 34359705598 34359705599 rw true 0 4 ∷ []))
+    ∷ step 0 (Touch 265 Write) (Ok (Serves 263 266 rw false 0)) None
+    ∷ step 0 (Remap 1089536 4096 4096 5 0) (Err 12) (Some (plain 263 266 rw ∷ plain 266 271 rw ∷ plain 271 273 rw ∷ plain 34359705591 34359705595 r ∷ filed 34359705595 34359705597 r true 0 5 ∷ plain 34359705597 34359705598 rw ∷ filed 34359705598 34359705599 rw true 0 4 ∷ []))
+    ∷ step 0 (Map 1085440 12288 rw 18 (pos 3) 12288) (Err 1) (Some (plain 263 265 rw ∷ plain 265 266 rw ∷ plain 266 271 rw ∷ plain 271 273 rw ∷ plain 34359705591 34359705595 r ∷ filed 34359705595 34359705597 r true 0 5 ∷ plain 34359705597 34359705598 rw ∷ filed 34359705598 34359705599 rw true 0 4 ∷ []))
+    ∷ step 0 (Protect 1089536 4096 r) (Err 1) (Some (plain 263 265 rw ∷ plain 265 266 rw ∷ plain 266 271 rw ∷ plain 271 273 rw ∷ plain 34359705591 34359705595 r ∷ filed 34359705595 34359705597 r true 0 5 ∷ plain 34359705597 34359705598 rw ∷ filed 34359705598 34359705599 rw true 0 4 ∷ []))
+    ∷ step 0 (Map 1105920 16384 rw 32787 (pos 3) 4096) (Err 13) (Some (plain 263 265 rw ∷ plain 265 266 rw ∷ plain 266 271 rw ∷ plain 271 273 rw ∷ plain 34359705591 34359705595 r ∷ filed 34359705595 34359705597 r true 0 5 ∷ plain 34359705597 34359705598 rw ∷ filed 34359705598 34359705599 rw true 0 4 ∷ []))
+    ∷ step 0 (Unmap 1089536 20480) (Err 1) (Some (plain 263 265 rw ∷ plain 265 266 rw ∷ plain 266 271 rw ∷ plain 271 273 rw ∷ plain 34359705591 34359705595 r ∷ filed 34359705595 34359705597 r true 0 5 ∷ plain 34359705597 34359705598 rw ∷ filed 34359705598 34359705599 rw true 0 4 ∷ []))
+    ∷ step 0 (Protect 1114112 4096 r) (Err 12) (Some (plain 263 265 rw ∷ plain 265 266 rw ∷ plain 266 271 rw ∷ plain 271 273 rw ∷ plain 34359705591 34359705595 r ∷ filed 34359705595 34359705597 r true 0 5 ∷ plain 34359705597 34359705598 rw ∷ filed 34359705598 34359705599 rw true 0 4 ∷ []))
+    ∷ step 0 (Touch 265 Write) (Ok (Serves 265 266 rw false 0)) None
+    ∷ step 0 (Seal 1089536 4096 0) (Ok (Returned 0)) (Some (plain 263 265 rw ∷ plain 265 266 rw ∷ plain 266 271 rw ∷ plain 271 273 rw ∷ plain 34359705591 34359705595 r ∷ filed 34359705595 34359705597 r true 0 5 ∷ plain 34359705597 34359705598 rw ∷ filed 34359705598 34359705599 rw true 0 4 ∷ []))
+    ∷ step 0 (Remap 1085440 4096 12288 1 0) (Err 12) (Some (plain 263 265 rw ∷ plain 265 266 rw ∷ plain 266 271 rw ∷ plain 271 273 rw ∷ plain 34359705591 34359705595 r ∷ filed 34359705595 34359705597 r true 0 5 ∷ plain 34359705597 34359705598 rw ∷ filed 34359705598 34359705599 rw true 0 4 ∷ []))
     ∷ []
 
 -- hard_40: the kernel
@@ -708,6 +747,45 @@ hard_limit_45 =
     ∷ step 0 (Map 1048576 16384 r 306 (negsuc 0) 0) (Ok (Returned 1048576)) (Some (plain 256 260 r ∷ plain 267 269 rw ∷ plain 34351314944 34351315968 rw ∷ plain 34351315968 34359704576 r ∷ plain 34359704825 34359704828 r ∷ plain 34359704828 34359705596 rw ∷ plain 34359705596 34359705597 rw ∷ filed 34359705597 34359705599 rw true 0 1 ∷ []))
     ∷ step 0 (Touch 258 Write) (Ok (Signal AccErr)) None
     ∷ step 0 (Remap 1093632 8192 8192 3 1064960) (Err 12) (Some (plain 256 260 r ∷ plain 267 269 rw ∷ plain 34351314944 34351315968 rw ∷ plain 34351315968 34359704576 r ∷ plain 34359704825 34359704828 r ∷ plain 34359704828 34359705596 rw ∷ plain 34359705596 34359705597 rw ∷ filed 34359705597 34359705599 rw true 0 1 ∷ []))
+    ∷ []
+
+-- written_limit_47: the kernel
+abbrev pub written_limit_47_on : Kernel
+written_limit_47_on = record { rules = linux_6_16; machine = record { lowest_built = 16; memory = 245000; stack = 8388608; has_keys = true; huge_always = true; files_are_huge = false; vsyscall = Xonly }; config = config 4096 140737354133504 8 0 ([]) }
+
+-- written_limit_47: its answers
+abbrev pub written_limit_47 : List Step
+written_limit_47 =
+    step 0 (Map 1073152 16384 r 50 (negsuc 0) 0) (Ok (Returned 1073152)) (Some (plain 262 266 r ∷ []))
+    ∷ step 0 (Map 1093632 16384 rw 50 (negsuc 0) 0) (Ok (Returned 1093632)) (Some (plain 262 266 r ∷ plain 267 271 rw ∷ []))
+    ∷ step 0 (Map 1056768 16384 rw 50 (negsuc 0) 0) (Ok (Returned 1056768)) (Some (plain 258 262 rw ∷ plain 262 266 r ∷ plain 267 271 rw ∷ []))
+    ∷ step 0 (Touch 259 Read) (Ok (Serves 258 262 rw false 0)) None
+    ∷ step 0 (Map 1073152 16384 rw 50 (negsuc 0) 0) (Ok (Returned 1073152)) (Some (plain 258 266 rw ∷ plain 267 271 rw ∷ []))
+    ∷ step 0 (Map 1052672 8192 rw 50 (negsuc 0) 0) (Ok (Returned 1052672)) (Some (plain 257 266 rw ∷ plain 267 271 rw ∷ []))
+    ∷ step 0 (Unmap 1085440 16384) (Ok (Returned 0)) (Some (plain 257 265 rw ∷ plain 269 271 rw ∷ []))
+    ∷ step 0 (Protect 1073152 16384 rw) (Err 12) (Some (plain 257 265 rw ∷ plain 269 271 rw ∷ []))
+    ∷ step 0 (Protect 1101824 4096 rw) (Ok (Returned 0)) (Some (plain 257 265 rw ∷ plain 269 271 rw ∷ []))
+    ∷ step 0 (Protect 1077248 16384 rw) (Err 12) (Some (plain 257 265 rw ∷ plain 269 271 rw ∷ []))
+    ∷ step 0 (Touch 259 Write) (Ok (Serves 257 265 rw false 0)) None
+    ∷ step 0 (Touch 258 Read) (Ok (Serves 257 265 rw false 0)) None
+    ∷ step 0 (Touch 268 Write) (Ok (Signal MapErr)) None
+    ∷ step 0 (Map 1069056 12288 rwx 50 (negsuc 0) 0) (Ok (Returned 1069056)) (Some (plain 257 261 rw ∷ plain 261 264 rwx ∷ plain 264 265 rw ∷ plain 269 271 rw ∷ []))
+    ∷ step 0 (Touch 265 Write) (Ok (Signal MapErr)) None
+    ∷ step 0 (Touch 259 Write) (Ok (Serves 257 261 rw false 0)) None
+    ∷ step 0 (Remap 1089536 4096 4096 3 536870912) (Err 12) (Some (plain 257 261 rw ∷ plain 261 264 rwx ∷ plain 264 265 rw ∷ plain 269 271 rw ∷ []))
+    ∷ step 0 (Map 1069056 16384 r 306 (negsuc 0) 0) (Ok (Returned 1069056)) (Some (plain 257 261 rw ∷ plain 261 265 r ∷ plain 269 271 rw ∷ []))
+    ∷ step 0 (Protect 1081344 12288 rw) (Err 12) (Some (plain 257 261 rw ∷ plain 261 264 r ∷ plain 264 265 rw ∷ plain 269 271 rw ∷ []))
+    ∷ step 0 (Map 1073152 12288 rwx 306 (negsuc 0) 0) (Ok (Returned 1073152)) (Some (plain 257 261 rw ∷ plain 261 262 r ∷ plain 262 265 rwx ∷ plain 269 271 rw ∷ []))
+    ∷ step 0 (Touch 1 Write) (Ok (Signal MapErr)) None
+    ∷ step 0 (Remap 1069056 4096 4096 3 1572864) (Err 12) (Some (plain 257 261 rw ∷ plain 261 262 r ∷ plain 262 265 rwx ∷ plain 269 271 rw ∷ []))
+    ∷ step 0 (Protect 1089536 12288 rw) (Err 12) (Some (plain 257 261 rw ∷ plain 261 262 r ∷ plain 262 265 rwx ∷ plain 269 271 rw ∷ []))
+    ∷ step 0 (Protect 1081344 16384 rwx) (Err 12) (Some (plain 257 261 rw ∷ plain 261 262 r ∷ plain 262 265 rwx ∷ plain 269 271 rw ∷ []))
+    ∷ step 0 (Map 1089536 8192 rw 50 (negsuc 0) 0) (Ok (Returned 1089536)) (Some (plain 257 261 rw ∷ plain 261 262 r ∷ plain 262 265 rwx ∷ plain 266 268 rw ∷ plain 269 271 rw ∷ []))
+    ∷ step 0 (Map 1085440 8192 r 306 (negsuc 0) 0) (Ok (Returned 1085440)) (Some (plain 257 261 rw ∷ plain 261 262 r ∷ plain 262 265 rwx ∷ plain 265 267 r ∷ plain 267 268 rw ∷ plain 269 271 rw ∷ []))
+    ∷ step 0 (Map 1052672 4096 rwx 306 (negsuc 0) 0) (Ok (Returned 1052672)) (Some (plain 257 258 rwx ∷ plain 258 261 rw ∷ plain 261 262 r ∷ plain 262 265 rwx ∷ plain 265 267 r ∷ plain 267 268 rw ∷ plain 269 271 rw ∷ []))
+    ∷ step 0 (Map 1085440 4096 rw 306 (negsuc 0) 0) (Ok (Returned 1085440)) (Some (plain 257 258 rwx ∷ plain 258 261 rw ∷ plain 261 262 r ∷ plain 262 265 rwx ∷ plain 265 266 rw ∷ plain 266 267 r ∷ plain 267 268 rw ∷ plain 269 271 rw ∷ []))
+    ∷ step 0 (Touch 264 Write) (Ok (Serves 262 265 rwx false 0)) None
+    ∷ step 0 (Protect 1093632 4096 rw) (Ok (Returned 0)) (Some (plain 257 258 rwx ∷ plain 258 261 rw ∷ plain 261 262 r ∷ plain 262 265 rwx ∷ plain 265 266 rw ∷ plain 266 267 r ∷ plain 267 268 rw ∷ plain 269 271 rw ∷ []))
     ∷ []
 
 -- written_49: the kernel
@@ -1256,45 +1334,6 @@ hard_195 =
     ∷ step 0 (Touch 274 Write) (Ok (Signal AccErr)) (Some (plain 257 262 r ∷ plain 264 265 rw ∷ plain 265 269 rw ∷ filed 274 277 r true 0 2 ∷ plain 34359705590 34359705597 r ∷ plain 34359705597 34359705598 rw ∷ filed 34359705598 34359705599 rw true 0 1 ∷ []))
     ∷ []
 
--- hard_limit_197: the kernel
-abbrev pub hard_limit_197_on : Kernel
-hard_limit_197_on = record { rules = linux_6_16; machine = record { lowest_built = 16; memory = 245000; stack = 8388608; has_keys = true; huge_always = true; files_are_huge = false; vsyscall = Xonly }; config = config 4096 140737354133504 10 0 ([]) }
-
--- hard_limit_197: its answers
-abbrev pub hard_limit_197 : List Step
-hard_limit_197 =
-    step 0 (Map 1101824 12288 w 50 (negsuc 0) 0) (Ok (Returned 1101824)) (Some (plain 269 272 w ∷ []))
-    ∷ step 0 (Map 1089536 8192 r 49 (negsuc 0) 0) (Ok (Returned 1089536)) (Some (filed 266 268 r true 0 1 ∷ plain 269 272 w ∷ []))
-    ∷ step 0 (Map 1052672 8192 w 50 (negsuc 0) 0) (Ok (Returned 1052672)) (Some (plain 257 259 w ∷ filed 266 268 r true 0 1 ∷ plain 269 272 w ∷ []))
-    ∷ step 0 (Touch 269 Write) (Ok (Serves 269 272 w false 0)) None
-    ∷ step 0 (Unmap 1089536 8192) (Ok (Returned 0)) (Some (plain 257 259 w ∷ plain 269 272 w ∷ []))
-    ∷ step 0 (Protect 1052672 8192 rx) (Ok (Returned 0)) (Some (plain 257 259 rx ∷ plain 269 272 w ∷ []))
-    ∷ step 0 (Protect 1110016 4096 rw) (Ok (Returned 0)) (Some (plain 257 259 rx ∷ plain 269 271 w ∷ plain 271 272 rw ∷ []))
-    ∷ step 0 (Touch 269 Write) (Ok (Serves 269 271 w false 0)) None
-    ∷ step 0 (Touch 269 Write) (Ok (Serves 269 271 w false 0)) None
-    ∷ step 0 (Remap 1101824 4096 4096 3 1056768) (Ok (Returned 1056768)) (Some (plain 257 258 rx ∷ plain 258 259 w ∷ plain 270 271 w ∷ plain 271 272 rw ∷ []))
-    ∷ step 0 (Unmap 1056768 4096) (Ok (Returned 0)) (Some (plain 257 258 rx ∷ plain 270 271 w ∷ plain 271 272 rw ∷ []))
-    ∷ step 0 (Protect 1110016 4096 r) (Ok (Returned 0)) (Some (plain 257 258 rx ∷ plain 270 271 w ∷ plain 271 272 r ∷ []))
-    ∷ step 0 (Touch 271 Write) (Ok (Signal AccErr)) None
-    ∷ step 0 (Protect 1052672 57344 r) (Err 12) (Some (plain 257 258 r ∷ plain 270 271 w ∷ plain 271 272 r ∷ []))
-    ∷ step 0 (Touch 257 Write) (Ok (Signal AccErr)) None
-    ∷ step 0 (Map 1110016 8192 rx 50 (negsuc 0) 0) (Ok (Returned 1110016)) (Some (plain 257 258 r ∷ plain 270 271 w ∷ plain 271 273 rx ∷ []))
-    ∷ step 0 (Map 1110016 12288 r 32818 (negsuc 0) 0) (Ok (Returned 1110016)) (Some (plain 257 258 r ∷ plain 270 271 w ∷ plain 271 274 r ∷ []))
-    ∷ step 0 (Map 1036288 16384 rw 50 (negsuc 0) 0) (Ok (Returned 1036288)) (Some (plain 253 257 rw ∷ plain 257 258 r ∷ plain 270 271 w ∷ plain 271 274 r ∷ []))
-    ∷ step 0 (Remap 1105920 4096 4096 3 1110016) (Ok (Returned 1110016)) (Some (plain 253 257 rw ∷ plain 257 258 r ∷ plain 271 272 w ∷ plain 272 274 r ∷ []))
-    ∷ step 0 (Remap 1110016 0 4096 3 1073152) (Err 22) (Some (plain 253 257 rw ∷ plain 257 258 r ∷ plain 271 272 w ∷ plain 272 274 r ∷ []))
-    ∷ step 0 (Unmap 1114112 8192) (Ok (Returned 0)) (Some (plain 253 257 rw ∷ plain 257 258 r ∷ plain 271 272 w ∷ []))
-    ∷ step 0 (Protect 1052672 4096 rw) (Ok (Returned 0)) (Some (plain 253 258 rw ∷ plain 271 272 w ∷ []))
-    ∷ step 0 (Touch 271 Write) (Ok (Serves 271 272 w false 0)) None
-    ∷ step 0 (Map 1114112 12288 rwx 50 (negsuc 0) 0) (Ok (Returned 1114112)) (Some (plain 253 258 rw ∷ plain 271 272 w ∷ plain 272 275 rwx ∷ []))
-    ∷ step 0 (Remap 1114112 4096 4096 7 1105920) (Ok (Returned 1105920)) (Some (plain 253 258 rw ∷ plain 270 271 rwx ∷ plain 271 272 w ∷ plain 272 275 rwx ∷ []))
-    ∷ step 0 (Touch 255 Exec) (Ok (Signal AccErr)) None
-    ∷ step 0 (Remap 1105920 4096 4096 3 1114112) (Ok (Returned 1114112)) (Some (plain 253 258 rw ∷ plain 271 272 w ∷ plain 272 273 rwx ∷ plain 273 275 rwx ∷ []))
-    ∷ step 0 (Touch 272 Write) (Ok (Serves 272 273 rwx false 0)) None
-    ∷ step 0 (Touch 272 Write) (Ok (Serves 272 273 rwx false 0)) None
-    ∷ step 0 (Remap 1110016 4096 4096 3 1056768) (Ok (Returned 1056768)) (Some (plain 253 258 rw ∷ plain 258 259 w ∷ plain 272 273 rwx ∷ plain 273 275 rwx ∷ []))
-    ∷ []
-
 -- written_198: the kernel
 abbrev pub written_198_on : Kernel
 written_198_on = record { rules = linux_6_16; machine = record { lowest_built = 16; memory = 245000; stack = 8388608; has_keys = true; huge_always = true; files_are_huge = false; vsyscall = Xonly }; config = config 4096 140737354133504 65530 0 ([]) }
@@ -1490,45 +1529,6 @@ hard_272 =
     ∷ step 0 (Map 1081344 4096 rw 32818 (negsuc 0) 0) (Ok (Returned 1081344)) (Some (plain 257 258 r ∷ plain 259 260 r ∷ plain 260 263 rw ∷ plain 264 265 rw ∷ plain 265 266 r ∷ plain 266 267 rw ∷ plain 268 271 r ∷ plain 273 274 rw ∷ plain 274 275 r ∷ plain 275 276 rw ∷ plain 34359705590 34359705593 r ∷ plain 34359705593 34359705595 rw ∷ plain 34359705595 34359705599 r ∷ []))
     ∷ []
 
--- hard_limit_301: the kernel
-abbrev pub hard_limit_301_on : Kernel
-hard_limit_301_on = record { rules = linux_6_16; machine = record { lowest_built = 16; memory = 245000; stack = 8388608; has_keys = true; huge_always = true; files_are_huge = false; vsyscall = Xonly }; config = config 4096 140737354133504 12 0 (file_row 3 true true 0 ∷ []) }
-
--- hard_limit_301: its answers
-abbrev pub hard_limit_301 : List Step
-hard_limit_301 =
-    step 0 (Map 1097728 16384 rx 50 (negsuc 0) 0) (Ok (Returned 1097728)) (Some (plain 268 272 rx ∷ []))
-    ∷ step 0 (Map 0 2101248 r 33 (negsuc 0) 0) (Ok (Returned 140737352032256)) (Some (plain 268 272 rx ∷ filed 34359705086 34359705599 r true 0 2 ∷ []))
-    ∷ step 0 (Map 0 4096 r 32802 (negsuc 0) 0) (Ok (Returned 140737352028160)) (Some (plain 268 272 rx ∷ plain 34359705085 34359705086 r ∷ filed 34359705086 34359705599 r true 0 2 ∷ []))
-    ∷ step 0 (Touch 271 Write) (Ok (Signal AccErr)) None
-    ∷ step 0 (Remap 1097728 16384 16384 5 0) (Ok (Returned 140737352011776)) (Some (plain 268 272 rx ∷ plain 34359705081 34359705085 rx ∷ plain 34359705085 34359705086 r ∷ filed 34359705086 34359705599 r true 0 2 ∷ []))
-    ∷ step 0 (Map 1069056 12288 r 1064994 (negsuc 0) 0) (Ok (Returned 1069056)) (Some (plain 261 264 r ∷ plain 268 272 rx ∷ plain 34359705081 34359705085 rx ∷ plain 34359705085 34359705086 r ∷ filed 34359705086 34359705599 r true 0 2 ∷ []))
-    ∷ step 0 (Protect 1110016 4096 none) (Ok (Returned 0)) (Some (plain 261 264 r ∷ plain 268 271 rx ∷ plain 271 272 none ∷ plain 34359705081 34359705085 rx ∷ plain 34359705085 34359705086 r ∷ filed 34359705086 34359705599 r true 0 2 ∷ []))
-    ∷ step 0 (Unmap 1110016 4096) (Ok (Returned 0)) (Some (plain 261 264 r ∷ plain 268 271 rx ∷ plain 34359705081 34359705085 rx ∷ plain 34359705085 34359705086 r ∷ filed 34359705086 34359705599 r true 0 2 ∷ []))
-    ∷ step 0 (Touch 261 Exec) (Ok (Signal AccErr)) None
-    ∷ step 0 (Remap 1069056 0 12288 3 1069056) (Err 14) (Some (plain 268 271 rx ∷ plain 34359705081 34359705085 rx ∷ plain 34359705085 34359705086 r ∷ filed 34359705086 34359705599 r true 0 2 ∷ []))
-    ∷ step 0 (Protect 1097728 16384 rwx) (Err 12) (Some (plain 268 271 rwx ∷ plain 34359705081 34359705085 rx ∷ plain 34359705085 34359705086 r ∷ filed 34359705086 34359705599 r true 0 2 ∷ []))
-    ∷ step 0 (Remap 1105920 4096 4096 7 1110016) (Ok (Returned 1110016)) (Some (plain 268 272 rwx ∷ plain 34359705081 34359705085 rx ∷ plain 34359705085 34359705086 r ∷ filed 34359705086 34359705599 r true 0 2 ∷ []))
-    ∷ step 0 (Protect 1101824 16384 r) (Err 12) (Some (plain 268 269 rwx ∷ plain 269 272 r ∷ plain 34359705081 34359705085 rx ∷ plain 34359705085 34359705086 r ∷ filed 34359705086 34359705599 r true 0 2 ∷ []))
-    ∷ step 0 (Map 0 4194304 rwx 34 (negsuc 0) 0) (Ok (Returned 140737345748992)) (Some (plain 268 269 rwx ∷ plain 269 272 r ∷ plain 34359703552 34359704576 rwx ∷ plain 34359705081 34359705085 rx ∷ plain 34359705085 34359705086 r ∷ filed 34359705086 34359705599 r true 0 2 ∷ []))
-    ∷ step 0 (Remap 1097728 4096 4096 5 0) (Ok (Returned 140737352007680)) (Some (plain 268 269 rwx ∷ plain 269 272 r ∷ plain 34359703552 34359704576 rwx ∷ plain 34359705080 34359705081 rwx ∷ plain 34359705081 34359705085 rx ∷ plain 34359705085 34359705086 r ∷ filed 34359705086 34359705599 r true 0 2 ∷ []))
-    ∷ step 0 (Remap 1101824 12288 12288 5 0) (Err 12) (Some (plain 268 269 rwx ∷ plain 269 272 r ∷ plain 34359703552 34359704576 rwx ∷ plain 34359705080 34359705081 rwx ∷ plain 34359705081 34359705085 rx ∷ plain 34359705085 34359705086 r ∷ filed 34359705086 34359705599 r true 0 2 ∷ []))
-    ∷ step 0 (Map 1081344 12288 rw 50 (negsuc 0) 0) (Ok (Returned 1081344)) (Some (plain 264 267 rw ∷ plain 268 269 rwx ∷ plain 269 272 r ∷ plain 34359703552 34359704576 rwx ∷ plain 34359705080 34359705081 rwx ∷ plain 34359705081 34359705085 rx ∷ plain 34359705085 34359705086 r ∷ filed 34359705086 34359705599 r true 0 2 ∷ []))
-    ∷ step 0 (Touch 270 Exec) (Ok (Signal AccErr)) None
-    ∷ step 0 (Map 0 8589934592 rw 34 (negsuc 0) 0) (Err 12) (Some (plain 264 267 rw ∷ plain 268 269 rwx ∷ plain 269 272 r ∷ plain 34359703552 34359704576 rwx ∷ plain 34359705080 34359705081 rwx ∷ plain 34359705081 34359705085 rx ∷ plain 34359705085 34359705086 r ∷ filed 34359705086 34359705599 r true 0 2 ∷ []))
-    ∷ step 0 (Protect 1097728 4096 rwx) (Ok (Returned 0)) (Some (plain 264 267 rw ∷ plain 268 269 rwx ∷ plain 269 272 r ∷ plain 34359703552 34359704576 rwx ∷ plain 34359705080 34359705081 rwx ∷ plain 34359705081 34359705085 rx ∷ plain 34359705085 34359705086 r ∷ filed 34359705086 34359705599 r true 0 2 ∷ []))
-    ∷ step 0 (Touch 264 Write) (Ok (Serves 264 267 rw false 0)) None
-    ∷ step 0 (Touch 268 Read) (Ok (Serves 268 269 rwx false 0)) None
-    ∷ step 0 (Remap 1105920 8192 20480 0 0) (Ok (Returned 1105920)) (Some (plain 264 267 rw ∷ plain 268 269 rwx ∷ plain 269 275 r ∷ plain 34359703552 34359704576 rwx ∷ plain 34359705080 34359705081 rwx ∷ plain 34359705081 34359705085 rx ∷ plain 34359705085 34359705086 r ∷ filed 34359705086 34359705599 r true 0 2 ∷ []))
-    ∷ step 0 (Protect 1081344 12288 w) (Ok (Returned 0)) (Some (plain 264 267 w ∷ plain 268 269 rwx ∷ plain 269 275 r ∷ plain 34359703552 34359704576 rwx ∷ plain 34359705080 34359705081 rwx ∷ plain 34359705081 34359705085 rx ∷ plain 34359705085 34359705086 r ∷ filed 34359705086 34359705599 r true 0 2 ∷ []))
-    ∷ step 0 (Protect 1097728 4096 rwx) (Ok (Returned 0)) (Some (plain 264 267 w ∷ plain 268 269 rwx ∷ plain 269 275 r ∷ plain 34359703552 34359704576 rwx ∷ plain 34359705080 34359705081 rwx ∷ plain 34359705081 34359705085 rx ∷ plain 34359705085 34359705086 r ∷ filed 34359705086 34359705599 r true 0 2 ∷ []))
-    ∷ step 0 (Remap 1101824 24576 28672 0 0) (Ok (Returned 1101824)) (Some (plain 264 267 w ∷ plain 268 269 rwx ∷ plain 269 276 r ∷ plain 34359703552 34359704576 rwx ∷ plain 34359705080 34359705081 rwx ∷ plain 34359705081 34359705085 rx ∷ plain 34359705085 34359705086 r ∷ filed 34359705086 34359705599 r true 0 2 ∷ []))
-    ∷ step 0 (Touch 264 Write) (Ok (Serves 264 267 w false 0)) None
-    ∷ step 0 (Protect 1097728 4096 rx) (Ok (Returned 0)) (Some (plain 264 267 w ∷ plain 268 269 rx ∷ plain 269 276 r ∷ plain 34359703552 34359704576 rwx ∷ plain 34359705080 34359705081 rwx ∷ plain 34359705081 34359705085 rx ∷ plain 34359705085 34359705086 r ∷ filed 34359705086 34359705599 r true 0 2 ∷ []))
-    ∷ step 0 (Remap 1085440 8192 4096 0 0) (Ok (Returned 1085440)) (Some (plain 264 266 w ∷ plain 268 269 rx ∷ plain 269 276 r ∷ plain 34359703552 34359704576 rwx ∷ plain 34359705080 34359705081 rwx ∷ plain 34359705081 34359705085 rx ∷ plain 34359705085 34359705086 r ∷ filed 34359705086 34359705599 r true 0 2 ∷ []))
-    ∷ step 0 (Map 0 8589934592 rw 290 (negsuc 0) 0) (Err 12) (Some (plain 264 266 w ∷ plain 268 269 rx ∷ plain 269 276 r ∷ plain 34359703552 34359704576 rwx ∷ plain 34359705080 34359705081 rwx ∷ plain 34359705081 34359705085 rx ∷ plain 34359705085 34359705086 r ∷ filed 34359705086 34359705599 r true 0 2 ∷ []))
-    ∷ []
-
 -- hard_331: the kernel
 abbrev pub hard_331_on : Kernel
 hard_331_on = record { rules = linux_6_16; machine = record { lowest_built = 16; memory = 245000; stack = 8388608; has_keys = true; huge_always = true; files_are_huge = false; vsyscall = Xonly }; config = config 4096 140737354133504 65530 1077248 ([]) }
@@ -1572,7 +1572,6 @@ hard_331 =
 pub record AllOfLinux_6_16 : Type 0 where
   pub written_1_holds : IsAsRecorded written_1_on written_1
   pub hard_3_holds : IsAsRecorded hard_3_on hard_3
-  pub written_6_holds : IsAsRecorded written_6_on written_6
   pub written_limit_7_holds : IsAsRecorded written_limit_7_on written_limit_7
   pub written_9_holds : IsAsRecorded written_9_on written_9
   pub sealed_10_holds : IsAsRecorded sealed_10_on sealed_10
@@ -1582,12 +1581,15 @@ pub record AllOfLinux_6_16 : Type 0 where
   pub written_limit_23_holds : IsAsRecorded written_limit_23_on written_limit_23
   pub written_28_holds : IsAsRecorded written_28_on written_28
   pub written_30_holds : IsAsRecorded written_30_on written_30
+  pub written_limit_31_holds : IsAsRecorded written_limit_31_on written_limit_31
   pub sealed_34_holds : IsAsRecorded sealed_34_on sealed_34
   pub written_36_holds : IsAsRecorded written_36_on written_36
+  pub hard_limit_37_holds : IsAsRecorded hard_limit_37_on hard_limit_37
   pub hard_40_holds : IsAsRecorded hard_40_on hard_40
   pub written_41_holds : IsAsRecorded written_41_on written_41
   pub hard_43_holds : IsAsRecorded hard_43_on hard_43
   pub hard_limit_45_holds : IsAsRecorded hard_limit_45_on hard_limit_45
+  pub written_limit_47_holds : IsAsRecorded written_limit_47_on written_limit_47
   pub written_49_holds : IsAsRecorded written_49_on written_49
   pub hard_limit_53_holds : IsAsRecorded hard_limit_53_on hard_limit_53
   pub written_65_holds : IsAsRecorded written_65_on written_65
@@ -1602,11 +1604,9 @@ pub record AllOfLinux_6_16 : Type 0 where
   pub written_174_holds : IsAsRecorded written_174_on written_174
   pub written_188_holds : IsAsRecorded written_188_on written_188
   pub hard_195_holds : IsAsRecorded hard_195_on hard_195
-  pub hard_limit_197_holds : IsAsRecorded hard_limit_197_on hard_limit_197
   pub written_198_holds : IsAsRecorded written_198_on written_198
   pub hard_208_holds : IsAsRecorded hard_208_on hard_208
   pub written_220_holds : IsAsRecorded written_220_on written_220
   pub hard_243_holds : IsAsRecorded hard_243_on hard_243
   pub hard_272_holds : IsAsRecorded hard_272_on hard_272
-  pub hard_limit_301_holds : IsAsRecorded hard_limit_301_on hard_limit_301
   pub hard_331_holds : IsAsRecorded hard_331_on hard_331

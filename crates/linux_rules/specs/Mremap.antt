@@ -68,6 +68,10 @@ abbrev pub not_source : Bool → Vma → Option Vma → Option Vma
 not_source apart vma None = None
 not_source apart vma (Some other) = if apart && nat_eq other.lo vma.lo then None else Some other
 
+-- copy_vma: whether a copy that has to stay apart joins nothing at all: in 6.1 (mm/mmap.c) where it touches its source
+abbrev pub joins_nothing : Kernel → Bool → Vma → ℕ → ℕ → Bool
+joins_nothing kernel apart vma place news = apart && (not kernel.rules.joins_beside_source && (nat_eq place vma.hi || nat_eq (place + news) vma.lo))
+
 -- copy_vma: the same memory at a new place, where it may join its neighbours. What was never written gets the page offset of its new place.
 -- Where keeps_copies_apart holds (mm/mremap.c), a copy of MREMAP_DONTUNMAP that was never written doesn't join its source.
 unfoldable pub copy_vma : Kernel → Vma → ℕ → ℕ → ℕ → Bool → Doing Vma
@@ -75,7 +79,8 @@ copy_vma kernel vma page place news keeps = do
   areas ← areas_now
   let apart = keeps && (is_unwritten vma && kernel.rules.keeps_copies_apart) in
       let new : Vma = record { lo = place; hi = place + news; flags = vma.flags; file = vma.file; pgoff = if is_unwritten vma then place else index_at vma page; anon = vma.anon } in
-      merged_or_new new areas (merge_new_range kernel.rules areas (not_source apart vma (vma_before areas place)) (not_source apart vma (find_vma areas (place + news))) new vma.anon)
+      merged_or_new new areas (if joins_nothing kernel apart vma place news then None
+      else merge_new_range kernel.rules areas (not_source apart vma (vma_before areas place)) (not_source apart vma (find_vma areas (place + news))) new vma.anon)
 
 -- dontunmap_complete: what MREMAP_DONTUNMAP leaves. In 6.15 and 6.16 (mm/mremap.c) it loses its account. An area that is left whole counts as
 -- never written, at the page offset of its place where keeps_copies_apart holds.
@@ -261,12 +266,20 @@ old_mremap_to kernel args = let page = args.addr / PAGE_SIZE in do
   check_range vma page (min args.olds args.news) (min args.olds args.news) args.news
   place_and_move kernel vma page (min args.olds args.news) args.news args.flags args.new_addr
 
+-- check_mremap_params, in 6.16 (mm/mremap.c): a new address is tested for its alignment, and the limit, before the area is looked up
+abbrev pub check_place_early : Kernel → Remap → List Vma → Doing Unit
+check_place_early kernel args areas = do
+  refuse_if (names_place args.flags && not (is_aligned args.new_addr)) EINVAL
+  refuse_if (names_place args.flags && lacks_areas kernel areas) ENOMEM
+
 -- the system call mremap, up to 6.16. Returns the page. `same` says that both lengths are equal in bytes.
 unfoldable pub old_mremap : Kernel → Remap → Bool → Doing ℕ
 old_mremap kernel args same = let page = args.addr / PAGE_SIZE in let flags = args.flags in do
   refuse_if (is_fixed flags && not (may_move flags)) EINVAL
   refuse_if (keeps_old flags && (not (may_move flags) || not same)) EINVAL
   refuse_if (not (is_aligned args.addr) || nat_eq args.news 0) EINVAL
+  areas ← areas_now
+  if kernel.rules.limits_before_lookup then check_place_early kernel args areas else done tt
   vma ← area_now page
   refuse_if vma.flags.sealed EPERM
   if names_place flags then old_mremap_to kernel args

@@ -17,6 +17,8 @@ linux_6_1 = record {
   has_stale_seal = false;
   has_mseal = false;
   limits_each_mremap = false;
+  joins_beside_source = false;
+  limits_before_lookup = false;
 }
 
 -- Linux 6.12.117
@@ -28,15 +30,16 @@ linux_6_12 = record linux_6_1 {
   aligns_anonymous = true;
   replaces_last = true;
   has_mseal = true;
+  joins_beside_source = true;
 }
 
 -- Linux 6.16.12
 abbrev pub linux_6_16 : Rules
-linux_6_16 = record linux_6_12 { merges_unfaulted = true; keeps_copies_apart = false; loses_accounts = true }
+linux_6_16 = record linux_6_12 { merges_unfaulted = true; keeps_copies_apart = false; loses_accounts = true; limits_before_lookup = true }
 
 -- Linux 6.17.13
 abbrev pub linux_6_17 : Rules
-linux_6_17 = record linux_6_16 { moves_several = true; loses_accounts = false; has_stale_seal = true }
+linux_6_17 = record linux_6_16 { moves_several = true; loses_accounts = false; has_stale_seal = true; limits_before_lookup = false }
 
 -- Linux 6.18.15
 abbrev pub linux_6_18_15 : Rules

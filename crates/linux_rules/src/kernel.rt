@@ -30,6 +30,10 @@ pub struct Rules {
     /// mm/mremap.c, after 6.18 (7.2 has it): every mremap is tested against the greatest number of areas, and one that moves needs room
     /// for fewer.
     pub limits_each_mremap: bool,
+    /// mm/mmap.c, after 6.1: a copy of `MREMAP_DONTUNMAP` that stays apart from its source may join its other neighbour.
+    pub joins_beside_source: bool,
+    /// mm/mremap.c, 6.16: mremap to a place tests the limit before it looks for the area.
+    pub limits_before_lookup: bool,
 }
 
 /// What the kernel has at the address of `[vsyscall]`.

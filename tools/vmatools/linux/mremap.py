@@ -166,6 +166,8 @@ class Remapping(Breaking):
             raise Refusal("EINVAL")
         if remap.address % PAGE or not remap.news:
             raise Refusal("EINVAL")
+        if self.rules.limits_before_lookup and remap.names_place:
+            self.check_place_early(remap)
         vma = self.vma_lookup(remap.page)
         if vma is None:
             raise Refusal("EFAULT")
@@ -179,6 +181,13 @@ class Remapping(Breaking):
         if remap.olds > remap.news:
             self.unmap_pages(remap.page + remap.news, remap.olds - remap.news)
         return remap.page
+
+    def check_place_early(self, remap: Remap) -> None:
+        """check_mremap_params of Linux 6.16"""
+        if remap.new_address % PAGE:
+            raise Refusal("EINVAL")
+        if self.lacks_areas():
+            raise Refusal("ENOMEM")
 
     def old_mremap_to(self, remap: Remap) -> int:
         news = remap.news
@@ -245,6 +254,8 @@ class Remapping(Breaking):
         is_unwritten = vma.is_anonymous and not vma.anon
         prev, nxt = self.vma_prev(place), self.find_vma(place + remap.news)
         if remap.flags & MREMAP_DONTUNMAP and is_unwritten and self.rules.keeps_copies_apart:
+            if not self.rules.joins_beside_source and (place == vma.hi or place + remap.news == vma.lo):
+                prev = nxt = None
             prev, nxt = None if prev is vma else prev, None if nxt is vma else nxt
         index = place if is_unwritten else vma.index_of(remap.page)
         new = Vma(place, place + remap.news, vma.flags, vma.file, index, vma.anon)

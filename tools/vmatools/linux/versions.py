@@ -26,6 +26,8 @@ class Rules:
     has_stale_seal: bool
     has_mseal: bool
     limits_each_mremap: bool
+    joins_beside_source: bool
+    limits_before_lookup: bool
 
 
 class WrongOracle(ValueError):
