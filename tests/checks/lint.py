@@ -27,6 +27,7 @@ TYPED = (
 PROGRAMS = (
     "tools/vma",
     "tests/run",
+    "dev/kernel-table",
     "dev/linux-versions",
     "dev/measure",
     "dev/package",

@@ -1,6 +1,7 @@
 """Linux's model: its versions, its settings, and what it says of single rules."""
 from __future__ import annotations
 
+import gzip
 import subprocess
 import sys
 import tempfile
@@ -10,7 +11,7 @@ from pathlib import Path
 TOP = Path(__file__).resolve().parents[2]
 sys.path.insert(0, str(TOP / "tools"))
 from vmatools import oracles, traces
-from vmatools.linux import versions
+from vmatools.linux import by_version, generators, selecting, vectors, versions
 from vmatools.linux.areas import NotModelled
 from vmatools.linux.kernel import Kernel, Settings, kernel_of
 from vmatools.linux.space import LinuxSpace
@@ -162,6 +163,38 @@ class NotGuessed(unittest.TestCase):
         trace, gaps = oracles.Oracle(kernel_of("6.18")).modelled(trace_of("0 brk 0x100000", "0 munmap 0x100000 4096"))
         self.assertEqual([line.word for line in trace.lines], ["munmap"])
         self.assertEqual([gap.line for gap in gaps], [3])
+
+
+class Pages(unittest.TestCase):
+    def test_the_table_by_version_is_the_models(self) -> None:
+        page = (TOP / "docs/KERNEL.md").read_text(encoding="utf-8")
+        self.assertEqual(by_version.put(page), page, "dev/kernel-table makes it again")
+
+    def test_every_file_of_vectors_is_of_its_version(self) -> None:
+        for path in (TOP / "suite/vectors").glob("*/*.gz"):
+            kernel, found = vectors.read(path)
+            self.assertEqual(versions.text_of(kernel.version), path.parent.name)
+            self.assertEqual(vectors.written(kernel, found), path.read_bytes())
+
+    def test_a_file_that_is_none_is_named(self) -> None:
+        for data in (b"", b"text", gzip.compress(b"# linux-5\n")):
+            with tempfile.NamedTemporaryFile() as file:
+                Path(file.name).write_bytes(data)
+                with self.assertRaisesRegex(WrongOracle, "it is no file of vectors"):
+                    vectors.read(Path(file.name))
+
+
+class Generators(unittest.TestCase):
+    def test_the_same_words_give_the_same_trace(self) -> None:
+        kernel = kernel_of("6.17")
+        for kind in generators.KINDS:
+            first, second = (generators.with_lists(generators.drawn(kind, "7 3", 12, kernel)).text() for _ in range(2))
+            self.assertEqual(first, second)
+            self.assertEqual(traces.read_trace(first.encode()).text(), first)
+
+    def test_chosen_traces_tell_versions_apart(self) -> None:
+        for _, trace in selecting.chosen(4):
+            self.assertTrue(selecting.apart(traces.read_trace(trace.text().encode()), selecting.kernels()))
 
 
 class Commands(unittest.TestCase):
