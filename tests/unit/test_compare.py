@@ -425,6 +425,8 @@ class Runs(unittest.TestCase):
         for words, has_suite in wanted.items():
             settings = self.settings(*words.split())
             self.assertEqual(bool(settings.suite), has_suite, words)
+            self.assertIsInstance(settings.suite, list)
+            self.assertFalse(settings.has_coverage)
         settings = self.settings("--suite", "--runs", "2")
         names = [source.name for source in campaign.sources(settings)]
         self.assertEqual(len(names), len(settings.suite) + 2)

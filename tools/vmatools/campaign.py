@@ -56,10 +56,10 @@ class Settings:
     goes_on: bool = False  # whatever is open
     only: list[int] = field(default_factory=list)
     folder: Optional[Path] = None
-    suite: list[Path] = field(default_factory=list)  # cases that are run before random traces
     has_coverage: bool = False
     fit: Optional[Union[Fit, EmptyFit, Capabilities]] = None  # how traces become such as the system can run
     words: list[str] = field(default_factory=list)  # those that a command needs to repeat a finding
+    suite: list[Path] = field(default_factory=list)  # cases that are run before random traces
 
     def identity(self) -> dict[str, Any]:
         """What the findings depend on."""
