@@ -434,6 +434,14 @@ class Runs(unittest.TestCase):
         self.assertIn("trace 1 of seed 1", names[-1])
         self.assertFalse([name for name in names if "/wide/" in name or Path(name).with_suffix(".legal").exists()])
 
+    def test_a_trace_with_comments_is_blamed_on_its_line(self) -> None:
+        folder, told = self.traces(0), findings.Findings()
+        text = "vmatrace 1\n# one\n# two\n0 mmap 0 4096 PROT_READ MAP_PRIVATE|MAP_ANONYMOUS -1 0\n0 munmap 0x7ffffffff000 4096\n"
+        Path(folder, "a.trace").write_text(text, encoding="utf-8")
+        self.campaign(told, None, folder=folder).run()
+        self.assertEqual((list(told.kinds), told.traces), (["munmap/-1 EINVAL/-1 ENOMEM"], 1))
+        self.assertRegex(told.kinds["munmap/-1 EINVAL/-1 ENOMEM"].shortest.trace, "^vmatrace 1\n0 munmap .*\n$")
+
     def test_what_was_kept_is_run_again_first_and_stays_red(self) -> None:
         with tempfile.TemporaryDirectory() as name:
             folder = Path(name, "kept")

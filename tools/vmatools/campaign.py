@@ -113,7 +113,7 @@ def files_of(folder: Path) -> list[Path]:
 def kept_trace(number: int, path: Path) -> Source:
     def read() -> Trace:
         try:
-            return read_trace(path.read_bytes())
+            return read_trace(path.read_bytes()).numbered()  # as it is without its comments
         except BadLine as bad:
             raise Failure(f"{path}: {bad}") from None
         except OSError as error:
