@@ -71,6 +71,8 @@ def check_tools(package: Package) -> None:
     bad = package.empty / "bad.trace"
     bad.write_text(BAD)
     package.has(f"diltzekun: {package.usr}/bin/diltzekun (the PATH)", "vma", "--version")
+    off_path = ("env", "PATH=/usr/bin:/bin", f"{package.usr}/bin/vma")
+    package.has(f"diltzekun: {package.usr}/bin/diltzekun (the package)", *off_path, "--version")
     package.has((package.share / "examples/readme.out").read_text(), "vma", "serial", trace)
     cases = len(list((TOP / "suite").glob("*/*.trace")))
     package.has(f"{'all':12}{cases:6}{cases:10}", "vma", "conform", "--", "diltzekun", "serial")

@@ -158,6 +158,17 @@ class Program(unittest.TestCase):
                 del os.environ[program.VARIABLE]
                 self.assertEqual(program.find(), made[program.ON_PATH])
 
+    def test_the_one_of_a_package_that_is_not_on_the_path(self) -> None:
+        with tempfile.TemporaryDirectory() as folder:
+            made = Path(folder, "bin/diltzekun")
+            made.parent.mkdir()
+            made.write_text("#!/bin/sh\n")
+            made.chmod(0o755)
+            with mock.patch.dict(os.environ, {"PATH": "/no/such/folder"}, clear=True):
+                with mock.patch.object(program, "TOP", Path(folder, "share/diltzekun")):
+                    self.assertEqual(program.PROGRAM.place(), (made, "the package"))
+                    self.assertIsNone(program.LIVE.packaged)
+
     def test_the_model_stands_in_where_none_is_built(self) -> None:
         named = replace(program.PROGRAM, default=Path("/no/program"))
         with mock.patch.dict(os.environ, {"PATH": "/no/such/folder"}, clear=True):

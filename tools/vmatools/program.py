@@ -61,9 +61,16 @@ class Named:
             (given, self.option),
             (os.environ.get(self.variable), f"${self.variable}"),
             (shutil.which(self.on_path), "the PATH"),
+            (self.packaged, "the package"),
             (self.default if self.default.exists() else None, "the repository"),
         ]
         return next(((place, source) for place, source in places if place), (self.model, "the model"))
+
+    @property
+    def packaged(self) -> Path | None:
+        """The one in a package: the tools are in its share/diltzekun, and the programs in its bin."""
+        path = TOP.parents[1] / "bin" / self.on_path
+        return path if TOP.parent.name == "share" and path.exists() else None
 
     @property
     def ways(self) -> str:
@@ -126,6 +133,7 @@ def live_beside(given: str | os.PathLike[str] | None, verbose: bool = False) -> 
     beside = {
         f"${PROGRAM.variable}": os.environ.get(LIVE.variable),
         "the PATH": shutil.which(LIVE.on_path),
+        "the package": LIVE.packaged,
         "the repository": LIVE.default,
         "the model": LIVE.model,
     }
