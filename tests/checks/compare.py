@@ -224,9 +224,11 @@ def check_kept(program: str) -> None:
         python = ["env", f"PYTHONPATH={TOOLS}:{TESTS}", sys.executable, str(adapter)]
         known: set[str] = set()
         for moment in range(MOMENTS):
+            old = events.stat().st_ino if events.exists() else None
             with subprocess.Popen([*command, *python, "from-below"], stdout=subprocess.DEVNULL, stderr=subprocess.DEVNULL) as run:
-                with contextlib.suppress(subprocess.TimeoutExpired):
-                    run.wait(0.3 + 0.4 * moment)
+                end = time.monotonic() + 300
+                while moment and run.poll() is None and time.monotonic() < end and lines_of(events, old) < 2 * moment:
+                    time.sleep(0.01)
                 run.kill()
             kept = kinds_in(folder)
             missing = (known | told_in(events)) - kept
@@ -244,6 +246,11 @@ def check_kept(program: str) -> None:
             if done.returncode != wanted:
                 fail(f"{system} on the traces that were kept: status {done.returncode}\n{done.stdout[-2000:]}")
     told(f"what is kept, over {MOMENTS} runs that are killed", began)
+
+
+def lines_of(path: pathlib.Path, old: int | None) -> int:
+    """How many lines a file has, if it is another one than it was."""
+    return path.read_bytes().count(b"\n") if path.exists() and path.stat().st_ino != old else 0
 
 
 def kinds_in(folder: pathlib.Path) -> set[str]:
