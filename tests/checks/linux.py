@@ -14,9 +14,9 @@ import re
 from dataclasses import replace
 from pathlib import Path
 
-import linux_mutants
-from checking import TOP, fail, main, passed, skipped
+from checking import TOP, fail, main, passed, skipped  # first: it sets where the tools are found
 
+import linux_mutants
 from vmatools import generator, oracles
 from vmatools.conformance import PART
 from vmatools.fitting import fitted
