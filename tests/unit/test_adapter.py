@@ -172,6 +172,12 @@ class Example(unittest.TestCase):
             own = subprocess.run([f"{folder}/python/adapter.py"], input="vmatrace 1\n0 maps\n", capture_output=True, text=True)
             self.assertEqual(own.stdout, "L2 t0 v0 = maps 0\nmaps 0\n")
 
+    def test_a_new_adapter_that_cannot_be_written_is_not_there(self) -> None:
+        with tempfile.TemporaryDirectory() as folder:
+            limited = ["sh", "-c", 'ulimit -f 16; exec "$@"', "sh", sys.executable, str(TOP / "tools/vma")]
+            done = subprocess.run([*limited, "new-adapter", "c", folder], capture_output=True, text=True)
+            self.assertEqual((done.returncode, os.listdir(folder)), (74, []), done.stderr)
+
 
 if __name__ == "__main__":
     unittest.main()

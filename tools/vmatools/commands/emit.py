@@ -69,8 +69,8 @@ def run(options: argparse.Namespace) -> int:
         for name, text in traces_of(options):
             if options.oracle:
                 text, answer = answered(text, options.oracle)
-                console.write_file(options.folder / f"{name}.out", answer)
-            console.write_file(options.folder / f"{name}.trace", text)
+                console.replace_file(options.folder / f"{name}.out", answer)
+            console.replace_file(options.folder / f"{name}.trace", text)
             written += 1
             progress.tell(f"{written} traces written")
     finally:

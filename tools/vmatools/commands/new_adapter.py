@@ -9,6 +9,7 @@ from __future__ import annotations
 
 import argparse
 import os
+from contextlib import ExitStack, closing
 from dataclasses import dataclass
 from pathlib import Path
 
@@ -46,10 +47,14 @@ def run(options: argparse.Namespace) -> int:
     for name in language.files:
         if os.path.lexists(options.folder / name):
             raise console.Failure(f"{options.folder / name}: it is there already")
-    for name in language.files:
-        text = (EXAMPLES / name).read_text(encoding="utf-8")
-        tools = str(Path(program.__file__).resolve().parents[1])
-        console.write_file(options.folder / name, text.replace(OWN_PLACE, repr(tools)))
+    tools = str(Path(program.__file__).resolve().parents[1])
+    with ExitStack() as stack:
+        files = [stack.enter_context(closing(console.NewFile(options.folder / name))) for name in language.files]
+        for file, name in zip(files, language.files):
+            file.stream.write((EXAMPLES / name).read_text(encoding="utf-8").replace(OWN_PLACE, repr(tools)))
+            file.stream.flush()
+        for file in files:  # all are whole, or none is there
+            file.take_place()
     made = "./adapter.py" if options.language == "python" else "./adapter"
     if options.language == "python":
         (options.folder / "adapter.py").chmod(0o755)
