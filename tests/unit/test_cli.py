@@ -141,7 +141,7 @@ class Modes(unittest.TestCase):
             with mock.patch.object(versions, "SUMS", sums):
                 self.assertIn("not known to be proved", versions.standing(Path("/bin/true"), program.PROGRAM))
                 sums.write_text(f"{versions.sum_of(Path('/bin/true'))}  usr/bin/diltzekun\n")
-                self.assertIn("the proved one", versions.standing(Path("/bin/true"), program.PROGRAM))
+                self.assertIn("its bytes aren't compared", versions.standing(Path("/bin/true"), program.PROGRAM))
 
 
 class Program(unittest.TestCase):

@@ -21,14 +21,14 @@ def told() -> list[str]:
 
 
 def standing(path: Path, named: program.Named) -> str:
-    """Whether the program that is there is the proved one."""
+    """What is known of the program that is there."""
     if path.resolve() == named.model:
         return f"not proved, since it is the model of the tools; {named.ways}"
     known = SUMS.read_text(encoding="utf-8").split() if SUMS.is_file() else []
     if sum_of(path) in known:
         return "the proved one, as this package has it"
     if named.default.is_file() and sum_of(path) == sum_of(named.default):
-        return "the proved one, as the kit built it in this checkout"
+        return "where the kit leaves the program that it proved in this checkout; its bytes aren't compared"
     return "not known to be proved: it is not the file that was built with these tools"
 
 
