@@ -141,7 +141,7 @@ class Modes(unittest.TestCase):
             with mock.patch.object(versions, "SUMS", sums):
                 self.assertIn("not known to be proved", versions.standing(Path("/bin/true"), program.PROGRAM))
                 sums.write_text(f"{versions.sum_of(Path('/bin/true'))}  usr/bin/diltzekun\n")
-                self.assertIn("its bytes aren't compared", versions.standing(Path("/bin/true"), program.PROGRAM))
+                self.assertIn("the proved one", versions.standing(Path("/bin/true"), program.PROGRAM))
 
 
 class Program(unittest.TestCase):
@@ -234,7 +234,7 @@ class Ends(unittest.TestCase):
 
     def test_a_full_device_of_another_file(self) -> None:
         log = str(TOP / "tests/logs/plain.log")
-        conform = ("conform", "--only", "brk/raise", "--tap", "/dev/full", "--", "true")
+        conform = ("conform", "--only", "brk/raise", "--tap", "/dev/full", "--", "echo", "maps 0")
         for words in (("import", log, "--replies", "/dev/full"), conform):
             done = run(*words)
             self.assertEqual(done.returncode, console.NOT_WRITTEN)

@@ -156,6 +156,9 @@ class Linux(unittest.TestCase):
         (name,) = comparison.examine(sides, read_trace(TWO + b"0 brk 0x200000\n")).aside
         self.assertIn("not modelled: every process has a break", name)
 
+    def test_a_trace_that_is_not_modelled_has_no_row(self) -> None:
+        self.assertIsNone(answers.row_of(read_trace(TWO + b"0 brk 0x200000\n"), kernel_of("6.18")))
+
     def test_every_row_is_named_by_the_models(self) -> None:
         """Each row's trace has the row's name, or the beginning of it; some have that of another row which they are too."""
         kernel, others = kernel_of("6.18", Settings(huge="madvise"), Process(brk=0x7FFFFF20F000)), {}

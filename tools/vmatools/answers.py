@@ -41,8 +41,14 @@ class Models(Sides):
 
 
 def row_of(trace: Trace, kernel: Kernel) -> Optional[str]:
-    """The row of docs/KERNEL.md of the first difference of profile and kernel in a trace, or none where they agree in it."""
-    found = Models(kernel).difference(trace)
+    """The row of docs/KERNEL.md of the first difference of profile and kernel in a trace.
+
+    There is none where they agree in it, or where the model of Linux has no answer to one of its lines.
+    """
+    try:
+        found = Models(kernel).difference(trace)
+    except NotModelled:
+        return None
     return found and (rows.name_of(trace, kernel, found) or "of no name")
 
 
@@ -137,14 +143,17 @@ def sentence(trace: Trace, right: Oracle, sides: dict[str, Lines], by_version: d
 
 
 def rule_between(trace: Trace, right: Kernel, other: Kernel) -> Optional[str]:
-    """The one rule by which two versions part in a trace, if it is one."""
-    wanted, found = Oracle(replace(right, rules=other.rules)).output(trace), []
-    for one in fields(LinuxRules):
-        value = getattr(other.rules, one.name)
-        if value != getattr(right.rules, one.name):
-            if Oracle(replace(right, rules=replace(right.rules, **{one.name: value}))).output(trace) == wanted:
-                found.append(one.name)
-    return found[0] if found else None
+    """The one rule by which two versions part in a trace that both answer, if it is one."""
+    differing = [one.name for one in fields(LinuxRules) if getattr(other.rules, one.name) != getattr(right.rules, one.name)]
+    try:
+        wanted = Oracle(replace(right, rules=other.rules)).output(trace)
+        for name in differing:
+            rules = replace(right.rules, **{name: getattr(other.rules, name)})
+            if Oracle(replace(right, rules=rules)).output(trace) == wanted:
+                return name
+    except NotModelled:
+        return None
+    return None
 
 
 def series(kernels: Sequence[Kernel]) -> str:
