@@ -19,6 +19,7 @@ from vmatools.systems import (
     batch,
     empty,
     known,
+    linux_of,
     machines,
     measuring,
     rows,
@@ -259,6 +260,12 @@ class Told(unittest.TestCase):
             shown.area(area),
             "00010000-00011000 r--s 00000000 00:01 1                                  /dev/zero (deleted)",
         )
+
+
+class LinuxOf(unittest.TestCase):
+    def test_the_processor_of_qemu_has_no_protection_keys(self) -> None:
+        """An emulated program finds OSPKE clear, whatever the machine has."""
+        self.assertEqual(linux_of.kernel_of(known.system_of("qemu-x86_64")).settings.keys, 0)
 
 
 class Searches(unittest.TestCase):

@@ -42,6 +42,7 @@ class System:
     boots: Boot | None = None
     image: str = ""  # its kernel, the newest that is installed by default
     seconds: float = 5.0  # how long a trace may take there
+    has_keys: bool = True  # whether protection keys can be on there, as the processor says (CPUID, OSPKE)
 
     def runner(self, is_served: bool) -> Runner:
         """What runs scripts in this system: in a process for all of them, or in one for each."""
@@ -81,6 +82,7 @@ KNOWN = {
             "qemu-user-static",
             ("qemu-x86_64-static",),
             "x86_64",
+            has_keys=False,
         ),
         System(
             "qemu-aarch64",
@@ -88,6 +90,7 @@ KNOWN = {
             "qemu-user-static gcc-aarch64-linux-gnu",
             ("qemu-aarch64-static",),
             "aarch64",
+            has_keys=False,
         ),
         System(
             "valgrind",

@@ -1,6 +1,8 @@
 """Linux as a known system has it: its version, the settings of its machine, and the process that makes the calls."""
 from __future__ import annotations
 
+from dataclasses import replace
+
 from ..linux.kernel import Kernel, Process, Settings, machine_settings, running_version
 from ..linux.versions import Version, nearest, table, version_of
 from ..oracles import Oracle
@@ -25,6 +27,8 @@ def kernel_of(system: System, brk: int = 0) -> Kernel:
     """The kernel of a system. `brk` is the break of the process that makes the calls, where it is known."""
     version = version_in(system)
     settings = Settings(memory=GUEST_MEMORY) if system.boots else machine_settings()
+    if not system.has_keys:
+        settings = replace(settings, keys=0)
     taken = () if system.window else ((empty.OWN // PAGE, empty.OWN_END // PAGE),)
     areas = 0 if system.window else OWN_AREAS
     return Kernel(version, table()[nearest(version)], settings, Process(areas, system.kernel().most_areas, brk, taken))
