@@ -34,6 +34,7 @@ PROGRAMS = (
     "dev/real-programs",
     "dev/suite-case",
     "dev/systems",
+    "dev/wrong-models",
 )
 MOST = 4_000  # characters of what is printed
 CLASS, POSSESSIVE = re.compile(r"\[[^]]*\]"), re.compile(r"(?<!\\)(?:[*?}]|(?<=[])}.])\+)\+|\(\?>")

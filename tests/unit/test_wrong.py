@@ -1,0 +1,27 @@
+"""The wrong models by rule: each has a trace by which it isn't the model."""
+from __future__ import annotations
+
+import sys
+import unittest
+from pathlib import Path
+
+TOP = Path(__file__).resolve().parents[2]
+sys.path[:0] = [str(TOP / "tools"), str(TOP / "tests")]
+from models import wrong
+from vmatools.traces import read_trace
+
+LEAST = 120
+
+
+class WrongModels(unittest.TestCase):
+    def test_each_is_shown_by_its_witness(self) -> None:
+        known, models = wrong.witnesses(), wrong.shown()
+        self.assertEqual([one.name for one in models], list(known))
+        self.assertGreaterEqual(len(models), LEAST)
+        for one in models:
+            with self.subTest(one.name):
+                self.assertTrue(wrong.differs(one.space, read_trace(known[one.name].encode())))
+
+
+if __name__ == "__main__":
+    unittest.main()
