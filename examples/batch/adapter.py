@@ -1,5 +1,5 @@
 #!/usr/bin/env python3
-"""A small address space behind an adapter: `vma compare --batch -- examples/batch/adapter.py`.
+"""A small address space behind an adapter: `vma compare --batch -- ./adapter.py`.
 
 It is a sorted list of VMAs with mmap, munmap, mprotect and faults. Yours stands in the place of `Space`.
 """

@@ -43,7 +43,7 @@ def main(
 ) -> NoReturn:
     """Runs the check of a module, and ends."""
     text = sys.modules[check.__module__].__doc__
-    parser = argparse.ArgumentParser(description=text, formatter_class=argparse.RawDescriptionHelpFormatter)
+    parser = argparse.ArgumentParser(description=text, formatter_class=console.Formatter)
     if with_program:
         parser.add_argument("program", nargs="?", metavar="PROGRAM", help="the program (crates/vma_main/out/vma_main)")
     if arguments:

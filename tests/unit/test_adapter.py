@@ -169,6 +169,7 @@ class Example(unittest.TestCase):
             done = subprocess.run([*words, "c", f"{folder}/c"], capture_output=True, text=True)
             self.assertEqual((done.returncode, done.stdout), (2, ""))
             self.assertIn("adapter.c: it is there already", done.stderr)
+            self.assertNotIn("examples/", Path(folder, "python/adapter.py").read_text())
             own = subprocess.run([f"{folder}/python/adapter.py"], input="vmatrace 1\n0 maps\n", capture_output=True, text=True)
             self.assertEqual(own.stdout, "L2 t0 v0 = maps 0\nmaps 0\n")
 

@@ -83,9 +83,9 @@ def whole_help() -> str:
     lines = [ABOUT]
     for title, commands in GROUPS.items():
         lines.append(f"{title}:")
-        lines += [f"  {command.name:12}{command.load().SUMMARY}" for command in commands]
+        lines += [f"  {command.name:13}{command.load().SUMMARY}" for command in commands]
         lines.append("")
-    return "\n".join([*lines, AFTER])
+    return "\n".join(console.filled("\n".join([*lines, AFTER]), console.columns()))
 
 
 def unknown(word: str) -> str:
@@ -96,9 +96,7 @@ def unknown(word: str) -> str:
 
 def parser_of(command: Command) -> tuple[Parser, Any]:
     module = command.load()
-    parser = Parser(
-        prog=f"vma {command.name}", description=module.__doc__, formatter_class=argparse.RawDescriptionHelpFormatter
-    )
+    parser = Parser(prog=f"vma {command.name}", description=module.__doc__, formatter_class=console.Formatter)
     parser.wrong_use = command.wrong_use
     parser.add_argument(
         "--color", choices=console.WHEN, default="auto", metavar="WHEN", help="auto (on a terminal), always or never"

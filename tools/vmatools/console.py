@@ -1,10 +1,14 @@
 """What a command says on the terminal: what it finds, in colour where that helps, its failures in one line, and how far it is."""
 from __future__ import annotations
 
+import argparse
 import errno
 import io
 import os
+import re
+import shutil
 import sys
+import textwrap
 import time
 from collections.abc import Iterator
 from contextlib import closing, contextmanager
@@ -244,6 +248,50 @@ def shown_control(letter: str) -> str:
 
 def counted(count: int, name: str, many: str | None = None) -> str:
     return f"{count:,} {name if count == 1 else many or name + 's'}"
+
+
+# Help
+
+WIDEST = 100  # columns of a text that is read
+
+
+def columns() -> int:
+    """How wide a text for this terminal is."""
+    return min(shutil.get_terminal_size().columns, WIDEST)
+
+
+def filled(text: str, width: int) -> list[str]:
+    """The lines of a text of this width, in which no word is broken: of each paragraph, and of each item in it (`- what`, or
+    `  name  what`). Other lines that begin with spaces stay as they are."""
+    parts: list[list[str]] = []  # what begins the first line of a part, and its words
+    for line in text.split("\n"):
+        item = re.match(r"- |  \S.*?  +(?=\S)", line)
+        lead = item[0] if item else " " * (len(line) - len(line.lstrip()))
+        if not item and line and parts and parts[-1][1] and not parts[-1][0].isspace() and len(lead) == len(parts[-1][0]):
+            parts[-1][1] += " " + line.strip()
+        else:
+            parts.append([lead, line[len(lead) :]])
+    lines = []
+    for lead, words in parts:
+        wrapper = textwrap.TextWrapper(width, lead, " " * len(lead), break_long_words=False, break_on_hyphens=False)
+        lines += [lead + words] if not words or lead.isspace() else wrapper.wrap(words)
+    return lines
+
+
+class Formatter(argparse.HelpFormatter):
+    """Help that is as wide as the terminal, up to a width that is read well."""
+
+    def __init__(self, prog: str) -> None:
+        super().__init__(prog, width=columns() - 2, max_help_position=24 if columns() > 60 else 6)
+
+    def start_section(self, heading: str | None) -> None:
+        super().start_section("\n".join(filled(heading or "", columns() - 2)))
+
+    def _fill_text(self, text: str, width: int, indent: str) -> str:
+        return "\n".join(filled(text.strip("\n"), width))
+
+    def _split_lines(self, text: str, width: int) -> list[str]:
+        return filled(" ".join(text.split()), width)
 
 
 # Colour

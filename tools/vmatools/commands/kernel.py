@@ -64,10 +64,6 @@ def seconds_of(text: str) -> float:
 
 def add_arguments(parser: argparse.ArgumentParser) -> None:
     told = "\n".join(f"  {system.name:13} {system.says}" for system in known.KNOWN.values())
-    parser.usage = (
-        "vma kernel [--system NAME | --under COMMAND] [--window LO-HI] [--shift N] [--link N]"
-        " [--folder FOLDER] [--seconds N] [--batch] [TRACE]"
-    )
     parser.epilog = (
         f"systems:\n{told}\n\n`machine:IMAGE` takes that kernel, and otherwise the newest of {machines.IMAGES}."
     )
