@@ -19,6 +19,7 @@ import tempfile
 from pathlib import Path
 
 from checking import LIVE, TOP, fail, live_of, main, passed, skipped
+from vmatools import versions
 
 SECONDS = 1800
 BAD = "vmatrace 1\n0 munmap 4096\n"
@@ -66,11 +67,12 @@ class Package:
             fail(" ".join(words), f"has no `{text}`: {told[-500:]}")
 
 
-def check_tools(package: Package) -> None:
+def check_tools(package: Package, programs: list[str]) -> None:
     trace = str(package.share / "examples/readme.trace")
     bad = package.empty / "bad.trace"
     bad.write_text(BAD)
-    package.has(f"diltzekun: {package.usr}/bin/diltzekun (the PATH)", "vma", "--version")
+    standing = "proved: " if all(versions.is_proved(Path(path)) for path in programs) else "not known to be proved"
+    package.has(f"diltzekun: {package.usr}/bin/diltzekun (the PATH): {standing}", "vma", "--version")
     off_path = ("env", "PATH=/usr/bin:/bin", f"{package.usr}/bin/vma")
     package.has(f"diltzekun: {package.usr}/bin/diltzekun (the package)", *off_path, "--version")
     package.has((package.share / "examples/readme.out").read_text(), "vma", "serial", trace)
@@ -109,26 +111,30 @@ def check_completion(package: Package) -> None:
 
 
 def check_pip(folder: Path) -> None:
-    """`pip install .` gives the command with the model and the suite."""
-    missing = [name for name in ("pip", "setuptools", "wheel") if importlib.util.find_spec(name) is None]
+    """`pip install .` gives the command with the model and the suite. Without wheel, setuptools alone makes the same folders."""
+    if importlib.util.find_spec("setuptools") is None:
+        return skipped("pip install", "this Python has no setuptools")
+    source, name, words = folder / "source", "pip install", ["-m", "pip", "install", "--no-deps", "--no-build-isolation"]
+    words += ["--no-index", "--target", str(folder / "pip"), "."]
+    missing = [name for name in ("pip", "wheel") if importlib.util.find_spec(name) is None]
     if missing:
-        return skipped("pip install", f"this Python has no {', '.join(missing)}")
-    source = folder / "source"
+        skipped(name, f"this Python has no {' and no '.join(missing)}; setuptools builds what it would install")
+        name, words = "setuptools' build", ["-c", "import setuptools; setuptools.setup()", "build"]
+        words += ["--build-lib", str(folder / "pip")]
     files = subprocess.run(["git", "-C", str(TOP), "ls-files", "-z"], capture_output=True, check=True).stdout
-    for name in files.decode().split("\0")[:-1]:
-        if name.startswith(("tools/", "suite/", "examples/")) or "/" not in name:
-            (source / name).parent.mkdir(parents=True, exist_ok=True)
-            shutil.copy(TOP / name, source / name)
-    words = ["install", "--target", str(folder / "pip"), "--no-deps", "--no-build-isolation", "--no-index", str(source)]
-    done = subprocess.run([sys.executable, "-m", "pip", *words], capture_output=True, text=True, check=False)
+    for path in files.decode().split("\0")[:-1]:
+        if path.startswith(("tools/", "suite/", "examples/")) or "/" not in path:
+            (source / path).parent.mkdir(parents=True, exist_ok=True)
+            shutil.copy(TOP / path, source / path)
+    done = subprocess.run([sys.executable, *words], cwd=source, capture_output=True, text=True, check=False)
     if done.returncode:
-        fail("pip install", done.stdout[-500:] + done.stderr[-500:])
+        fail(name, done.stdout[-500:] + done.stderr[-500:])
     installed = Package(folder, folder / "empty")
     installed.bare["PYTHONPATH"] = str(folder / "pip")
     vma = [sys.executable, "-m", "vmatools"]
     installed.has(f"diltzekun: {folder}/pip/vmatools/unproved/diltzekun (the model)", *vma, "--version")
     installed.has("brk/raise", *vma, "conform", "--list")
-    passed("pip install")
+    passed(name)
 
 
 def check_installed(deb: Path, folder: Path) -> None:
@@ -146,10 +152,8 @@ def check_installed(deb: Path, folder: Path) -> None:
 
 
 def made(options: argparse.Namespace, folder: Path) -> list[Path]:
-    """The package and the .tar.gz, of the programs that are given, or of those that the full check built."""
-    words = [sys.executable, str(TOP / "dev/package"), str(folder)]
-    if Path(options.program).resolve() != (TOP / "crates/vma_main/out/vma_main").resolve() or options.live != LIVE:
-        words += ["--program", options.program, "--live", live_of(options.live)]
+    """The package and the .tar.gz."""
+    words = [sys.executable, str(TOP / "dev/package"), "--program", options.program, "--live", live_of(options.live), str(folder)]
     done = subprocess.run(words, capture_output=True, text=True, check=False)
     if done.returncode:
         fail("dev/package", done.stderr[-800:])
@@ -170,7 +174,7 @@ def check(options: argparse.Namespace) -> None:
             (folder / place).mkdir()
         subprocess.run(["dpkg-deb", "-x", str(deb), str(folder / "root")], check=True)
         package = Package(folder / "root/usr", folder / "empty")
-        check_tools(package)
+        check_tools(package, [options.program, live_of(options.live)])
         check_pages(package)
         check_completion(package)
         subprocess.run(["tar", "-xzf", str(tarred), "-C", str(folder / "tar"), "--strip-components=1"], check=True)

@@ -48,6 +48,22 @@ class Commands(unittest.TestCase):
         for name in cli.COMMANDS:
             self.assertEqual(len(re.findall(rf"^  {name} ", text, re.MULTILINE)), 1, name)
 
+    def test_help_has_the_same_words_at_each_width_and_breaks_none(self) -> None:
+        for command in cli.COMMANDS.values():
+            said = set()
+            for columns in ("40", "80", "400"):
+                with mock.patch.dict(os.environ, COLUMNS=columns), self.subTest(command.name, columns=columns):
+                    text = cli.parser_of(command)[0].format_help().partition("\n\n")[2]
+                    said.add(" ".join(text.split()))
+                    wide = [line for line in text.splitlines() if len(line) > min(int(columns), console.WIDEST)]
+                    self.assertEqual([line for line in wide if not line.startswith("    ") or len(line.split()) == 1], [])
+            self.assertEqual(len(said), 1, command.name)
+
+    def test_items_of_a_text_hang_and_what_is_further_in_stays(self) -> None:
+        lines = ["a b", "c d e", "- f g", "  h i j", "  k   l m n", "      o p", "    q   r s t u v w"]
+        hung = ["a b c d e", "- f g h i", "  j", "  k   l m", "      n o", "      p", "    q   r s t u v w"]
+        self.assertEqual(console.filled("\n".join(lines), 10), hung)
+
     def test_an_unknown_word_has_the_nearest(self) -> None:
         self.assertEqual(cli.unknown("compair"), "'compair' is no command; did you mean compare?")
         self.assertEqual(cli.unknown("xyzzy"), "'xyzzy' is no command; `vma --help` lists them")
@@ -139,9 +155,20 @@ class Modes(unittest.TestCase):
         with tempfile.TemporaryDirectory() as folder:
             sums = Path(folder, "sums")
             with mock.patch.object(versions, "SUMS", sums):
-                self.assertIn("not known to be proved", versions.standing(Path("/bin/true"), program.PROGRAM))
+                self.assertEqual(versions.standing(Path("/bin/true"), program.PROGRAM), "not known to be proved")
                 sums.write_text(f"{versions.sum_of(Path('/bin/true'))}  usr/bin/diltzekun\n")
-                self.assertIn("the proved one", versions.standing(Path("/bin/true"), program.PROGRAM))
+                self.assertEqual(versions.standing(Path("/bin/true"), program.PROGRAM), f"proved: {sums} has its sum")
+
+    def test_what_merely_lies_where_the_kit_builds_is_not_called_proved(self) -> None:
+        with tempfile.TemporaryDirectory() as folder:
+            built, sums = Path(folder, "built"), Path(folder, "sums")
+            built.write_text("proved")
+            sums.write_text(f"{versions.sum_of(built)}  built\n")
+            named = replace(program.PROGRAM, default=built)
+            with mock.patch.object(versions, "SUMS", sums):
+                self.assertRegex(versions.standing(built, named), "^proved: ")
+                built.write_text("copied over")
+                self.assertRegex(versions.standing(built, named), "^built, but not known to be proved: ")
 
 
 class Program(unittest.TestCase):

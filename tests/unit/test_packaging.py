@@ -15,7 +15,7 @@ from unittest import mock
 TOP = Path(__file__).resolve().parents[2]
 sys.path[:0] = [str(TOP / "tools"), str(TOP)]
 from dev.packaging import completion, manual
-from vmatools import cli, program
+from vmatools import VERSION, cli, program, versions
 
 
 def loaded(name: str) -> ModuleType:
@@ -70,6 +70,20 @@ class Package(unittest.TestCase):
         with mock.patch.object(package.subprocess, "run", return_value=mock.Mock(stdout="(NEEDED) x: [libnew.so]\n")):
             with self.assertRaisesRegex(SystemExit, "needs libnew.so, and no package is known"):
                 package.needs(Path("x"))
+
+    def test_only_programs_whose_sums_the_full_check_noted_are_called_proved(self) -> None:
+        package = loaded("package")
+        with tempfile.TemporaryDirectory() as name:
+            folder = Path(name)
+            paths = {option: folder / option for option in ("program", "live")}
+            for option, path in paths.items():
+                path.write_text(option)
+            options = argparse.Namespace(**paths)
+            (folder / "sums").write_text("".join(f"{versions.sum_of(path)}  {path}\n" for path in paths.values()))
+            with mock.patch.object(versions, "SUMS", folder / "sums"):
+                self.assertEqual(package.sources_of(options).version, VERSION)
+                paths["live"].write_text("copied over")
+                self.assertEqual(package.sources_of(options).version, f"{VERSION}~unproved")
 
 
 class Installed(unittest.TestCase):

@@ -6,7 +6,7 @@ from pathlib import Path
 
 from . import VERSION, program
 
-# What a package has beside its tools: the sums of the programs that a full check built.
+# The sums of the programs that a full check proved: .ci/run leaves them in a checkout, and a package of those programs has them.
 SUMS = program.TOP / "proved.sha256"
 
 
@@ -24,12 +24,16 @@ def standing(path: Path, named: program.Named) -> str:
     """What is known of the program that is there."""
     if path.resolve() == named.model:
         return f"not proved, since it is the model of the tools; {named.ways}"
-    known = SUMS.read_text(encoding="utf-8").split() if SUMS.is_file() else []
-    if sum_of(path) in known:
-        return "the proved one, as this package has it"
-    if named.default.is_file() and sum_of(path) == sum_of(named.default):
-        return "where the kit leaves the program that it proved in this checkout; its bytes aren't compared"
-    return "not known to be proved: it is not the file that was built with these tools"
+    if is_proved(path):
+        return f"proved: {SUMS} has its sum"
+    if path.resolve() == named.default.resolve():
+        return "built, but not known to be proved: `.ci/run` proves it, and notes its sum"
+    return "not known to be proved"
+
+
+def is_proved(path: Path) -> bool:
+    """Whether these are the bytes of a program that a full check proved."""
+    return SUMS.is_file() and sum_of(path) in SUMS.read_text(encoding="utf-8").split()
 
 
 def sum_of(path: Path) -> str:
