@@ -1,12 +1,12 @@
-"""How the checks of this folder begin, report and end, and runs of the program that are compared in all that they answer.
+"""How a check of this folder begins, reports and ends, and runs of the program that are compared in all that they answer.
 
 A check is a module with a function `check(options)`, which calls `passed` for each thing that is as it should be, `skipped` where
-the machine cannot try it, and `fail` at the first that is not. `main` runs it: status 0 where all is as it should be, 1 where
-something is not, 2 on wrong use or where the program is missing, 130 on Ctrl-C.
+the machine cannot try it, and `fail` at the first that is not. Words of its own come by `add_arguments`.
 """
 from __future__ import annotations
 
 import argparse
+import importlib
 import os
 import resource
 import signal
@@ -18,15 +18,15 @@ from pathlib import Path
 from typing import Any, NoReturn
 
 TOP = Path(__file__).resolve().parents[2]
-LIVE = TOP / "crates/vma_live/out/vma_live"
 sys.dont_write_bytecode = True
 sys.path[:0] = [str(TOP / "tools"), str(TOP / "tests"), str(TOP)]
-from vmatools import console, program as programs
+from vmatools import console, program
 
 TOOL = Path(sys.argv[0]).stem
+LIVE = program.LIVE.default
 WAIT = 30  # a machine may be so many times as busy
 
-Arguments = Callable[[argparse.ArgumentParser], None]
+Options = argparse.Namespace
 Words = Sequence["str | bytes"]
 Done = subprocess.CompletedProcess[bytes]
 
@@ -38,21 +38,17 @@ class Failed(Exception):
 # Begin and end
 
 
-def main(
-    check: Callable[[argparse.Namespace], None], arguments: Arguments | None = None, with_program: bool = True
-) -> NoReturn:
-    """Runs the check of a module, and ends."""
-    text = sys.modules[check.__module__].__doc__
-    parser = argparse.ArgumentParser(description=text, formatter_class=console.Formatter)
-    if with_program:
-        parser.add_argument("program", nargs="?", metavar="PROGRAM", help="the program (crates/vma_main/out/vma_main)")
-    if arguments:
-        arguments(parser)
-    options = parser.parse_args()
+def main() -> NoReturn:
+    """Runs the check that the first word names, and ends: with 0 where all is as it should be, and 1 where something is not."""
+    global TOOL
+    TOOL = sys.argv[1]
+    module = importlib.import_module(TOOL)
+    parser = argparse.ArgumentParser(f"tests/run {TOOL} --", description=module.__doc__, formatter_class=console.Formatter)
+    parser.add_argument("--program", metavar="PATH", help="diltzekun (the one that tests/run finds)")
+    parser.add_argument("--live", type=Path, default=LIVE, metavar="PATH", help="diltzekun-live (crates/vma_live/out/vma_live)")
+    getattr(module, "add_arguments", id)(parser)
     try:
-        if with_program:
-            options.program = program_of(options.program)
-        check(options)
+        module.check(parser.parse_args(sys.argv[2:]))
     except Failed as failed:
         sys.exit(f"{TOOL}: {failed}")
     except KeyboardInterrupt:
@@ -61,20 +57,11 @@ def main(
     sys.exit(0)
 
 
-def program_of(given: str | None = None) -> str:
-    """The path of the program, or an end with status 2 that says how to build it."""
-    try:
-        return programs.find_built(given)
-    except console.Failure as failure:
-        print(f"{TOOL}: {failure}", file=sys.stderr)
-        sys.exit(failure.status)
-
-
 def live_of(given: Path) -> str:
     """The path of diltzekun-live, or a failure that says how to build it."""
     live = str(given.resolve())
     if not os.access(live, os.X_OK):
-        fail("the program", f"{live} is missing; `(cd crates/vma_live && rt run < /dev/null)` proves and builds it")
+        fail("the program", f"{live} is missing; {program.LIVE.builds}")
     return live
 
 

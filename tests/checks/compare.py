@@ -1,11 +1,7 @@
-#!/usr/bin/env python3
 """Tries `vma compare` on the program itself, and on systems that are wrong in one thing each.
 
-PROGRAM is crates/vma_main/out/vma_main by default. The wrong systems are those of tests/models/mutants.py. Each has to be
-found, and the smallest trace has at most five lines below the header. Takes less than a minute; --runs 2000 takes longer.
-
-Exit status: 0 where all is as it should be, 1 at the first thing that is not, 2 on wrong use, or where the program is
-missing.
+The wrong systems are those of tests/models/mutants.py. Each has to be found, and the smallest trace has at most five lines
+below the header. Takes less than a minute; --runs 2000 takes longer.
 """
 from __future__ import annotations
 
@@ -24,7 +20,7 @@ from concurrent.futures import ThreadPoolExecutor
 from typing import NoReturn
 from xml.etree import ElementTree
 
-from checking import Failed, main, passed
+from checking import Failed, passed
 from vmatools import cli, comparison, generator, keeping, program as programs, serial, traces
 from vmatools.campaign import sources
 from vmatools.commands import compare
@@ -391,7 +387,3 @@ def check(options: argparse.Namespace) -> None:
     check_reports(program)
     check_adapter()
     check_statuses(program)
-
-
-if __name__ == "__main__":
-    main(check, add_arguments)

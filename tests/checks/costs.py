@@ -1,26 +1,21 @@
-#!/usr/bin/env python3
 """Checks that what the program takes grows with its input and not faster: memory that it asks for and uses, and processor time.
 
-PROGRAM is crates/vma_main/out/vma_main by default, and LIVE crates/vma_live/out/vma_live. Each run gets an address space of
-so many MiB, some tenth more than it needs, and may have so many MiB of it resident, some fifth more than it has, of two
-sizes of most inputs. What a space takes for each area that it may have is worked out from runs of two limits. A caller that
-waits for the lock takes no processor time: callers on one processor may take four times what one caller does. And the
-processor time of an input is compared with that of one of four times its size, the least of
-three runs each: it may take seven times as long, where linear work takes four to five and quadratic sixteen. A comparison
-that fails is made again. It ends with status 1 at the first run that takes more, and 2 on wrong use, or where a program
-is missing.
+Each run gets an address space of so many MiB, some tenth more than it needs, and may have so many MiB of it resident, some
+fifth more than it has, of two sizes of most inputs. What a space takes for each area that it may have is worked out from runs
+of two limits. A caller that waits for the lock takes no processor time: callers on one processor may take four times what one
+caller does. And the processor time of an input is compared with that of one of four times its size, the least of three runs
+each: it may take seven times as long, where linear work takes four to five and quadratic sixteen. A comparison that fails is
+made again.
 """
 from __future__ import annotations
 
-import argparse
 import os
 import subprocess
 import sys
 from collections.abc import Callable
-from pathlib import Path
 from typing import Any, NamedTuple
 
-from checking import LIVE, TOP, Done, Words, answer, bytes_of, check_ended, fail, live_of, main, passed
+from checking import TOP, Done, Options, Words, answer, bytes_of, check_ended, fail, live_of, passed
 
 MIB = 2**20
 PEAK = [sys.executable, "-IS", str(TOP / "tests/checks/peak.py")]
@@ -319,7 +314,7 @@ def check_time(program: str, name: str, words: list[str], made: Input, count: in
     fail(name, f"{count} take {before:.2f} seconds, and {4 * count} take {after:.2f}, {TRIES} times over")
 
 
-def check(options: argparse.Namespace) -> None:
+def check(options: Options) -> None:
     live = live_of(options.live)
     for name, words, made, sizes in MEMORY:
         for size in sizes:
@@ -334,11 +329,3 @@ def check(options: argparse.Namespace) -> None:
         check_time(options.program, name, words, made, count)
     for name, made, count in SESSION_TIME:
         check_time(live, name, [], made, count)
-
-
-def arguments(parser: argparse.ArgumentParser) -> None:
-    parser.add_argument("--live", type=Path, default=LIVE, help="the other program (crates/vma_live/out/vma_live)")
-
-
-if __name__ == "__main__":
-    main(check, arguments)

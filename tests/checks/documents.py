@@ -1,4 +1,3 @@
-#!/usr/bin/env python3
 """Checks the documents: names, paths, links, the reference, and the manual page. Takes a few seconds.
 
 Each name in `code` that can only be one of the sources is one. Each path in `code` and each link of a page leads
@@ -7,28 +6,21 @@ stands for any, and each block of Rust has such a line. Each crate of crates.txt
 of calls, numbers and flags are those of the sources.
 dev/make-reference makes its pages, and finds no item without a comment. docs/HEADLINE.md is what dev/make-headline makes.
 The manual page passes `mandoc -T lint`, where that is installed.
-
-Exit status: 0 where all is so, 1 where not, with a line for each, 2 on wrong use.
 """
 from __future__ import annotations
 
-import argparse
 import os
 import re
 import shutil
 import subprocess
-import sys
 import tempfile
 from collections.abc import Iterator
 from pathlib import Path
 
 import model_tables
-
-TOP = Path(__file__).resolve().parents[2]
-sys.path.insert(0, str(TOP))
-
-from dev.reference import headline  # noqa: E402
-from dev.reference.pages import faults, pages  # noqa: E402
+from checking import TOP, Options, fail, passed, skipped
+from dev.reference import headline
+from dev.reference.pages import faults, pages
 
 MANUALS = [Path("docs/diltzekun.1"), Path("docs/diltzekun-live.1")]
 # Pages whose names in `code` are those of the sources.
@@ -213,24 +205,15 @@ def check_headline() -> Iterator[str]:
 def check_manual() -> Iterator[str]:
     """What mandoc warns of in the manual pages."""
     if not shutil.which("mandoc"):
-        print("documents: mandoc is not installed: the manual pages are not linted")
-        return
+        return skipped("the manual pages", "mandoc is not installed")
     linted = subprocess.run(["mandoc", "-T", "lint", "-W", "warning", *map(str, MANUALS)], capture_output=True, text=True)
     yield from linted.stdout.splitlines()
 
 
-def main() -> int:
-    argparse.ArgumentParser(
-        prog="tests/run documents", description=__doc__, formatter_class=argparse.RawDescriptionHelpFormatter
-    ).parse_args()
+def check(_options: Options) -> None:
     os.chdir(TOP)
     of_pages = (check_names, check_links, check_paths, check_excerpts, check_crates, check_tables, check_manual)
-    checks = (*of_pages, check_reference, check_headline)
-    wrong = [line for check in checks for line in check()]
-    right = "documents: every name, path and link leads somewhere, and each item has a comment"
-    print("\n".join(wrong) if wrong else right)
-    return 1 if wrong else 0
-
-
-if __name__ == "__main__":
-    sys.exit(main())
+    wrong = [line for each in (*of_pages, check_reference, check_headline) for line in each()]
+    if wrong:
+        fail("the documents", "\n".join(wrong))
+    passed("every name, path and link leads somewhere, and each item has a comment")

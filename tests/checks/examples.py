@@ -1,19 +1,16 @@
-#!/usr/bin/env python3
 """Runs the program on each example: the output beside a trace is what `serial` gives, and `check` calls it legal. The output
 beside a script is what `steps` gives. Of each row of docs/KERNEL.md the program's side is as in examples/kernel-rows.txt.
 
-PROGRAM is crates/vma_main/out/vma_main by default. No trace that forks is judged. It ends with status 1 at the first output that
-differs, and 2 on wrong use, or where the program is missing.
+No trace that forks is judged.
 """
 from __future__ import annotations
 
-import argparse
 import re
 import subprocess
 import sys
 from pathlib import Path
 
-from checking import TOP, answer, check_ended, compare, fail, main, passed
+from checking import TOP, Options, answer, check_ended, compare, fail, passed
 
 FOLDER = TOP / "examples"
 SECONDS = 10
@@ -39,14 +36,10 @@ def check_rows(program: str) -> None:
         fail("the rows of docs/KERNEL.md", done.stdout + done.stderr)
 
 
-def check(options: argparse.Namespace) -> None:
+def check(options: Options) -> None:
     found = {mode: sorted(FOLDER.rglob(f"*.{ending}")) for mode, ending in (("serial", "trace"), ("steps", "steps"))}
     for mode, paths in found.items():
         for path in paths:
             check_output(options.program, mode, path)
     check_rows(options.program)
     passed(f"{len(found['serial'])} traces, {len(found['steps'])} scripts and the rows of docs/KERNEL.md")
-
-
-if __name__ == "__main__":
-    main(check)

@@ -1,27 +1,22 @@
-#!/usr/bin/env python3
 """Has reads and writes of the programs fail, at each place where they can, and compares all that they answer.
 
-PROGRAM is crates/vma_main/out/vma_main by default, and LIVE crates/vma_live/out/vma_live. The system takes so many bytes
-of an output, for each number below its length: the run has to end with status 5, `write fault` on standard error, and
-exactly these bytes given. Where it takes all, the run ends with status 0 and nothing on standard error. The system gives
-so many bytes of an input before a read fails, for each number up to its length: status 4, `read fault`, and nothing
-given, or of a session the answers to all whole lines before. A read or a write that would have to wait is refused in the
-same way. In too little address space a run ends with status 6, `no memory`, and nothing given. It ends with status 1 at
-the first run that differs, and 2 on wrong use, or where a program is missing.
+The system takes so many bytes of an output, for each number below its length: the run has to end with status 5, `write fault`
+on standard error, and exactly these bytes given. Where it takes all, the run ends with status 0 and nothing on standard
+error. The system gives so many bytes of an input before a read fails, for each number up to its length: status 4, `read
+fault`, and nothing given, or of a session the answers to all whole lines before. A read or a write that would have to wait is
+refused in the same way. In too little address space a run ends with status 6, `no memory`, and nothing given.
 """
 from __future__ import annotations
 
-import argparse
 import os
 import resource
 import signal
 import socket
 import tempfile
 from collections.abc import Sequence
-from pathlib import Path
 from typing import Any
 
-from checking import LIVE, TOP, answer, bytes_of, check_ended, compare, fail, limit, live_of, main, passed
+from checking import TOP, Options, answer, bytes_of, check_ended, compare, fail, limit, live_of, passed
 from vmatools.unproved import sessions
 
 SECONDS = 10
@@ -199,7 +194,7 @@ def check_memory(program: str, session: str) -> None:
         passed(name)
 
 
-def check(options: argparse.Namespace) -> None:
+def check(options: Options) -> None:
     program: str = options.program
     for words, text in RUNS:
         check_writes(program, words, text)
@@ -214,11 +209,3 @@ def check(options: argparse.Namespace) -> None:
     check_waits(program)
     check_devices(program)
     check_memory(program, session)
-
-
-def add_arguments(parser: argparse.ArgumentParser) -> None:
-    parser.add_argument("--live", type=Path, default=LIVE, help="the other program (crates/vma_live/out/vma_live)")
-
-
-if __name__ == "__main__":
-    main(check, add_arguments)

@@ -1,12 +1,10 @@
-#!/usr/bin/env python3
 """Gives the programs hostile inputs: mutated and random ones, with numbers at borders, long lines and bytes that are no text.
 
-PROGRAM is crates/vma_main/out/vma_main by default, and LIVE crates/vma_live/out/vma_live. Of N inputs of each mode, all of
-which come from the seed S, status, standard output and standard error have to be those that the models of tools/vmatools
-give, of `threads` an output that `vma judge` accepts; words that are none of the modes' are refused. `vma explain`
-has a sentence and a mark for each bad line. 10 N times an input is an address space of a session, each of which has to
-answer as its model does, and as `serial` does where it is a trace. A run that takes too long fails. It ends with status 1 at
-the first input that differs, which it leaves in FOLDER, and 2 on wrong use, or where a program is missing.
+Of N inputs of each mode, all of which come from the seed S, status, standard output and standard error have to be those that
+the models of tools/vmatools give, of `threads` an output that `vma judge` accepts; words that are none of the modes' are
+refused. `vma explain` has a sentence and a mark for each bad line. 10 N times an input is an address space of a session, each
+of which has to answer as its model does, and as `serial` does where it is a trace. A run that takes too long fails. The first
+input that differs is left in FOLDER.
 """
 from __future__ import annotations
 
@@ -17,7 +15,7 @@ from collections import Counter
 from collections.abc import Callable
 from pathlib import Path
 
-from checking import LIVE, Failed, answer, check_ended, compare, fail, live_of, main, passed
+from checking import Failed, answer, check_ended, compare, fail, live_of, passed
 import hostile_inputs as inputs
 from vmatools import explanations, judging, live, maps_texts, serial, traces
 from vmatools.unproved import scripts, sessions
@@ -193,7 +191,6 @@ def check_explained(runs: Runs) -> None:
 
 
 def add_arguments(parser: argparse.ArgumentParser) -> None:
-    parser.add_argument("--live", type=Path, default=LIVE, help="the other program (crates/vma_live/out/vma_live)")
     parser.add_argument("--runs", type=int, default=100, metavar="N", help="how many inputs of each mode (100)")
     parser.add_argument("--seed", type=int, default=1, metavar="S", help="the same seed gives the same inputs (1)")
     parser.add_argument(
@@ -214,7 +211,3 @@ def check(options: argparse.Namespace) -> None:
     check_explained(runs)
     check_sessions(session, runs)
     check_beside_serial(session, runs)
-
-
-if __name__ == "__main__":
-    main(check, add_arguments)

@@ -1,14 +1,11 @@
-#!/usr/bin/env python3
 """Checks that no run takes more instructions than it is known to take, and that a run of a call starts at once.
 
-PROGRAM is crates/vma_main/out/vma_main by default, and LIVE crates/vma_live/out/vma_live, both proved: a build for
-trials takes others. Each of some inputs, named in instructions.tsv beside this file, is run once under `valgrind
---tool=callgrind`, which counts the same number for the same program and input whatever else the machine does. It may be
-a twentieth more than the number that is kept there. Where it is a twentieth less, that is told, since the kept number
-then lets a slower program pass. `--write` keeps the numbers as they are now. A contract says what a run answers and not
-what it costs: a reader that reads three times, a run that is made twice and a list that is copied for each placement
-meet every clause. It ends with status 1 at the first run that takes more, and 2 on wrong use, or where a program is
-missing.
+Both programs are proved ones: a build for trials takes others. Each of some inputs, named in instructions.tsv beside this
+file, is run once under `valgrind --tool=callgrind`, which counts the same number for the same program and input whatever else
+the machine does. It may be a twentieth more than the number that is kept there. Where it is a twentieth less, that is told,
+since the kept number then lets a slower program pass. `--write` keeps the numbers as they are now. A contract says what a run
+answers and not what it costs: a reader that reads three times, a run that is made twice and a list that is copied for each
+placement meet every clause.
 """
 from __future__ import annotations
 
@@ -22,7 +19,7 @@ from collections.abc import Iterator
 from pathlib import Path
 from typing import NamedTuple
 
-from checking import LIVE, bytes_of, check_ended, fail, live_of, main, passed, skipped
+from checking import bytes_of, check_ended, fail, live_of, passed, skipped
 from costs import Input, calls, faults, files, given, judged, leaving, moving, nothing, placed, reads_of, script, shared, spaces
 
 KEPT = Path(__file__).with_suffix(".tsv")
@@ -126,10 +123,5 @@ def check(options: argparse.Namespace) -> None:
     compare_counts(options.program, live)
 
 
-def arguments(parser: argparse.ArgumentParser) -> None:
-    parser.add_argument("--live", type=Path, default=LIVE, help="the other program (crates/vma_live/out/vma_live)")
+def add_arguments(parser: argparse.ArgumentParser) -> None:
     parser.add_argument("--write", action="store_true", help=f"keep the numbers in {KEPT.name} as they are now")
-
-
-if __name__ == "__main__":
-    main(check, arguments)

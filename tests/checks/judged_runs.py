@@ -1,17 +1,15 @@
-#!/usr/bin/env python3
 """Runs `threads` on many small random traces, and has each output judged three times.
 
-N is 10,000 by default, S is 1, and FOLDER is judged-runs-failed. Trace K of a seed is always the same: 2 to 8
-threads, or T, a few lines each, over few pages, with areas that grow, a heap, seals, and lines that name others. Every 50th
-trace is run ten times, and it is told how many histories came of it: where there is more than one processor, of a
-third of these traces several have to come, as threads run at once. One judge is `vma judge`. Two are PROGRAM: its
-mode `check`, which has to name the same first wrong line; and its mode `serial` over the same lines in the order of
-the output, which has to write the same. What `serial` writes for the trace itself has to be legal too. Of every
-second trace something is changed in an output: a version, an address, an error, a verdict, a line of a list, a byte,
-or it ends early. No such output is legal, since the order of the items decides all that they say. And one item takes
-another place, with its version: that may be legal or not, but the judges have to agree. The first run that a judge
-refuses, or of which the two say different things, ends it with status 1, and leaves trace, output and why in FOLDER.
-The status is 2 on wrong use, or where the program is missing.
+N is 2,000 by default, S is 1, and FOLDER is judged-runs-failed. Trace K of a seed is always the same: 2 to 8 threads, or T,
+a few lines each, over few pages, with areas that grow, a heap, seals, and lines that name others. Every 50th trace is run ten
+times, and it is told how many histories came of it: where there is more than one processor, of a third of these traces
+several have to come, as threads run at once. One judge is `vma judge`. Two are the program: its mode `check`, which has to
+name the same first wrong line; and its mode `serial` over the same lines in the order of the output, which has to write the
+same. What `serial` writes for the trace itself has to be legal too. Of every second trace something is changed in an output:
+a version, an address, an error, a verdict, a line of a list, a byte, or it ends early. No such output is legal, since the
+order of the items decides all that they say. And one item takes another place, with its version: that may be legal or not,
+but the judges have to agree. The first run that a judge refuses, or of which the two say different things, ends it, and
+leaves trace, output and why in FOLDER.
 """
 from __future__ import annotations
 
@@ -25,7 +23,7 @@ from collections.abc import Sequence
 from pathlib import Path
 from typing import TypeVar
 
-from checking import TOOL, fail, main, skipped
+from checking import TOOL, fail, skipped
 from vmatools import judging, traces
 
 Choice = TypeVar("Choice")
@@ -404,7 +402,7 @@ def keep(runs: Runs, why: Exception, folder: Path) -> None:
 
 
 def add_arguments(parser: argparse.ArgumentParser) -> None:
-    parser.add_argument("--runs", type=int, default=10_000, metavar="N", help="how many runs (10,000)")
+    parser.add_argument("--runs", type=int, default=2_000, metavar="N", help="how many runs (2,000)")
     parser.add_argument("--seed", type=int, default=1, metavar="S", help="the same seed gives the same traces (1)")
     parser.add_argument("--threads", type=int, metavar="T", help="how many threads a trace has, up to 64 (2 to 8)")
     parser.add_argument(
@@ -424,7 +422,3 @@ def check(options: argparse.Namespace) -> None:
         number += 1
     runs.summary()
     runs.check_histories()
-
-
-if __name__ == "__main__":
-    main(check, add_arguments)

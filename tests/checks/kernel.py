@@ -1,15 +1,13 @@
-#!/usr/bin/env python3
 """Runs `vma kernel` on traces that every Linux from 5.4 on answers alike, and on runs that it has to refuse.
 
-Each trace is one in which no row of docs/KERNEL.md has a part. What the kernel itself does is not tested here: where
-the output has the right form and another answer, a line says so, and no more. Where `cc` is missing, the kernel is
-older, or a sandbox or a setting of the machine forbids what the command needs, a line says that nothing was run. Ends
-with status 1 where `cc` fails on the runner, at the first run that crashes or does not end, at the first output that
-is of no form, and at the first run that should have been refused.
+Each trace is one in which no row of docs/KERNEL.md has a part. What the kernel itself does is not tested here: where the
+output has the right form and another answer, a line says so, and no more. Where `cc` is missing, the kernel is older, or a
+sandbox or a setting of the machine forbids what the command needs, a line says that nothing was run. It fails where `cc`
+fails on the runner, at the first run that crashes or does not end, at the first output that is of no form, and at the first
+run that should have been refused.
 """
 from __future__ import annotations
 
-import argparse
 import os
 import platform
 import re
@@ -17,7 +15,7 @@ import subprocess
 import sys
 import tempfile
 
-from checking import TOP, fail, main, passed, skipped
+from checking import TOP, Options, fail, passed, skipped
 
 TOOL = TOP / "tools/vma"
 EXAMPLES = ["two-mappings", "readme", "tour", "faults", "fork"]
@@ -165,7 +163,7 @@ def check_without_cc() -> None:
     passed("no compiler, refused")
 
 
-def check(_options: argparse.Namespace) -> None:
+def check(_options: Options) -> None:
     why = why_not()
     if why:
         return skipped("all", why)
@@ -176,7 +174,3 @@ def check(_options: argparse.Namespace) -> None:
     for refused in REFUSED:
         check_refused(*refused)
     check_without_cc()
-
-
-if __name__ == "__main__":
-    main(check, with_program=False)

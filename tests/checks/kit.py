@@ -1,4 +1,3 @@
-#!/usr/bin/env python3
 """Compares the logic of the Rattle kit that is here with the file kit-version, before an hour of proving.
 
 Kits of the same logic accept the same proofs, whatever their letter. A kit of another logic is named. Where no kit is
@@ -6,12 +5,11 @@ installed that is said, and passed.
 """
 from __future__ import annotations
 
-import argparse
 import re
 import shutil
 import subprocess
 
-from checking import TOP, fail, main, passed, skipped
+from checking import TOP, Options, fail, passed, skipped
 
 
 def check_logic(wanted: str, told: str) -> None:
@@ -24,12 +22,8 @@ def check_logic(wanted: str, told: str) -> None:
     passed(f"the kit, whose logic is {wanted}")
 
 
-def check(_options: argparse.Namespace) -> None:
+def check(_options: Options) -> None:
     if shutil.which("rt") is None:
         return skipped("the kit", "rt is not installed")
     told = subprocess.run(["rt", "version"], capture_output=True, text=True).stdout
     check_logic((TOP / "kit-version").read_text(encoding="utf-8").strip(), told)
-
-
-if __name__ == "__main__":
-    main(check, with_program=False)

@@ -1,13 +1,10 @@
-#!/usr/bin/env python3
 """Runs the program at each limit of a trace and of a maps text and one past it, and on random maps texts, and compares
 all that it answers.
 
-PROGRAM is crates/vma_main/out/vma_main by default. Of a trace, `serial` and `threads`, and `check` but for texts that
-are too long, have to name the line and the cause that tools/vmatools names, and to answer as its model does. Of a
-file that is too long, at most one byte more than the limit may be read. Of N random maps texts, of which most have a
-byte, a word or a line that is wrong, `query` and `retrace` have to answer as tools/vmatools does, and what `retrace`
-writes has to come back by `serial`. Each run has its seconds of processor time. It ends with status 1 at the first
-run that differs, and 2 on wrong use, or where the program is missing.
+Of a trace, `serial` and `threads`, and `check` but for texts that are too long, have to name the line and the cause that
+tools/vmatools names, and to answer as its model does. Of a file that is too long, at most one byte more than the limit may be
+read. Of N random maps texts, of which most have a byte, a word or a line that is wrong, `query` and `retrace` have to answer
+as tools/vmatools does, and what `retrace` writes has to come back by `serial`. Each run has its seconds of processor time.
 """
 from __future__ import annotations
 
@@ -16,7 +13,7 @@ import os
 import random
 import tempfile
 
-from checking import Done, answer, bytes_of, check_ended, compare, fail, main, passed
+from checking import Done, answer, bytes_of, check_ended, compare, fail, passed
 from vmatools import maps_texts, serial, traces
 
 Answer = tuple[int, bytes, bytes]  # status, standard output, standard error
@@ -299,7 +296,3 @@ def check(options: argparse.Namespace) -> None:
     check_children(options.program)
     check_child(options.program)
     check_texts(options.program)
-
-
-if __name__ == "__main__":
-    main(check, add_arguments)

@@ -1,4 +1,3 @@
-#!/usr/bin/env python3
 """Checks that all that tests/shown.txt names is there, and the Python of the repository by mypy and flake8. No pattern has a
 possessive group, which Python 3.11.2 matches wrongly.
 
@@ -7,7 +6,6 @@ and passed (Debian packages mypy and flake8).
 """
 from __future__ import annotations
 
-import argparse
 import ast
 import re
 import shutil
@@ -17,7 +15,7 @@ import tomllib
 from collections.abc import Iterator
 
 import shown
-from checking import TOP, fail, main, passed, skipped
+from checking import TOP, Options, fail, passed, skipped
 
 FOLDERS = ("tools/vmatools", "tests", "dev")
 TYPED = (
@@ -88,7 +86,7 @@ def check_patterns() -> None:
     passed("patterns")
 
 
-def check(_options: argparse.Namespace) -> None:
+def check(_options: Options) -> None:
     check_shown()
     check_linux_rules()
     check_patterns()
@@ -100,7 +98,3 @@ def check(_options: argparse.Namespace) -> None:
     check_tool("mypy", [*TYPED])
     for program in PROGRAMS:
         check_tool("mypy", ["--scripts-are-modules", program])
-
-
-if __name__ == "__main__":
-    main(check, with_program=False)

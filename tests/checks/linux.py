@@ -1,4 +1,3 @@
-#!/usr/bin/env python3
 """Holds the model of Linux to what kernels answered: to recorded vectors, to the answers of the suite, and to the running kernel.
 
 Of each version there are recorded vectors and answers, which need no kernel. Each wrong rule has to be noticed by the vectors.
@@ -14,7 +13,7 @@ import re
 from dataclasses import replace
 from pathlib import Path
 
-from checking import TOP, fail, main, passed, skipped  # first: it sets where the tools are found
+from checking import TOP, fail, passed, skipped  # first: it sets where the tools are found
 
 import linux_mutants
 from vmatools import generator, oracles
@@ -190,10 +189,6 @@ def check(options: argparse.Namespace) -> None:
     passed(f"{oracles.described(Oracle(found[-1][0]))}")
 
 
-def add_words(parser: argparse.ArgumentParser) -> None:
+def add_arguments(parser: argparse.ArgumentParser) -> None:
     parser.add_argument("--operations", type=int, default=OPERATIONS, help=f"on the running kernel ({OPERATIONS:,})")
     parser.add_argument("--seed", default="1", help="of the random traces (1)")
-
-
-if __name__ == "__main__":
-    main(check, add_words, with_program=False)

@@ -1,12 +1,9 @@
-#!/usr/bin/env python3
 """Holds sessions with diltzekun-live through pipes, and compares each answer with the line that `serial` gives.
 
-PROGRAM is crates/vma_main/out/vma_main by default, and LIVE crates/vma_live/out/vma_live. A client sends random lines one
-at a time, and each has to be answered before the next is sent. Then: the session that docs/TOUR.md shows, a client that
-reads late, one that closes its end, a line that comes in parts, one of 60 MiB, a million address spaces in the memory of
-one, an interruption, words behind the program's name, the clients of examples/live, the conformance suite by `vma conform
---live`, and `vma compare --live`. It ends with status 1 at the first session that is not as it should be, and 2 on wrong use,
-or where a program is missing.
+A client sends random lines one at a time, and each has to be answered before the next is sent. Then: the session that
+docs/TOUR.md shows, a client that reads late, one that closes its end, a line that comes in parts, one of 60 MiB, a million
+address spaces in the memory of one, an interruption, words behind the program's name, the clients of examples/live, the
+conformance suite by `vma conform --live`, and `vma compare --live`.
 """
 from __future__ import annotations
 
@@ -26,7 +23,7 @@ from collections.abc import Iterator
 from contextlib import contextmanager, suppress
 from pathlib import Path
 
-from checking import LIVE, TOP, WAIT, answer, bytes_of, check_ended, compare, fail, live_of, main, passed, skipped
+from checking import TOP, WAIT, answer, bytes_of, check_ended, compare, fail, live_of, passed, skipped
 from vmatools import conformance
 from vmatools.conformance import Verdict
 from vmatools.generator import PROFILES, Generator
@@ -372,10 +369,5 @@ def check(options: argparse.Namespace) -> None:
     check_spaces(live, options.spaces)
 
 
-def arguments(parser: argparse.ArgumentParser) -> None:
-    parser.add_argument("--live", type=Path, default=LIVE, help="the other program (crates/vma_live/out/vma_live)")
+def add_arguments(parser: argparse.ArgumentParser) -> None:
     parser.add_argument("--spaces", type=int, default=SPACES, help="how many spaces one process holds (a million)")
-
-
-if __name__ == "__main__":
-    main(check, arguments)

@@ -1,24 +1,20 @@
-#!/usr/bin/env python3
 """Runs the programs on small inputs with each request for memory refused in turn, and says what they answer.
 
-PROGRAM is crates/vma_main/out/vma_main by default, and LIVE crates/vma_live/out/vma_live, as `rt run` leaves them. A small
-library, which cc compiles and the loader puts before the C library, makes the Nth malloc or realloc of a run fail, for N from
-1 up to the number that a whole run makes. Each such run has to end with status 6, `no memory` on standard error and a
-beginning of the output, or as a run does of which nothing is refused (in `threads`, an output of the same lines). It is no
-part of the gate. Where cc is missing, a line says so.
+A small library, which cc compiles and the loader puts before the C library, makes the Nth malloc or realloc of a run fail,
+for N from 1 up to the number that a whole run makes. Each such run has to end with status 6, `no memory` on standard error
+and a beginning of the output, or as a run does of which nothing is refused (in `threads`, an output of the same lines). It is
+no part of the gate. Where cc is missing, a line says so.
 """
 from __future__ import annotations
 
-import argparse
 import os
 import shutil
 import subprocess
 import sys
 import tempfile
 from collections import Counter
-from pathlib import Path
 
-from checking import LIVE, Done, fail, live_of, main, passed, skipped
+from checking import Done, Options, fail, live_of, passed, skipped
 
 LIBRARY = r"""
 #define _GNU_SOURCE
@@ -117,7 +113,7 @@ def is_right(done: Done, whole: Done, words: list[str]) -> bool:
     return begins and (done.returncode, done.stderr) == (6, b"no memory\n")
 
 
-def check(options: argparse.Namespace) -> None:
+def check(options: Options) -> None:
     program: str = options.program
     if shutil.which("cc") is None:
         return skipped("all", "there is no `cc`, which compiles the library that refuses")
@@ -147,11 +143,3 @@ def check_mode(program: str, words: list[str], text: bytes, library: str, counte
             fail(name, f"request {at}: {what}")
     told = ", ".join(f"status {status} {count} times" for status, count in sorted(answers.items()))
     passed(f"{name}: {made} requests, each refused in turn: {told}")
-
-
-def add_arguments(parser: argparse.ArgumentParser) -> None:
-    parser.add_argument("--live", type=Path, default=LIVE, help="the other program (crates/vma_live/out/vma_live)")
-
-
-if __name__ == "__main__":
-    main(check, add_arguments)

@@ -1,15 +1,12 @@
-#!/usr/bin/env python3
 """Makes the packages twice, and runs the tools from one that is unpacked into an empty folder.
 
-Nothing of the checkout is on a path then. PROGRAM is crates/vma_main/out/vma_main by default, and LIVE
-crates/vma_live/out/vma_live. Both times the files have to be the same byte by byte. From the package run conform on all
-cases, compare, explain, draw, new-adapter and man. The completion is one that bash and zsh take. `pip install .` gives the
-tools and the suite. Where this is root and may mount, apt-get installs the package over a copy of this system, and removes
-it again. It ends with status 1 at the first thing that is otherwise, and 2 on wrong use, or where a program is missing.
+Nothing of the checkout is on a path then. Both times the files have to be the same byte by byte. From the package run conform
+on all cases, compare, explain, draw, new-adapter and man. The completion is one that bash and zsh take. `pip install .` gives
+the tools and the suite. Where this is root and may mount, apt-get installs the package over a copy of this system, and
+removes it again.
 """
 from __future__ import annotations
 
-import argparse
 import importlib.util
 import os
 import shutil
@@ -18,7 +15,7 @@ import sys
 import tempfile
 from pathlib import Path
 
-from checking import LIVE, TOP, fail, live_of, main, passed, skipped
+from checking import TOP, Options, fail, live_of, passed, skipped
 from vmatools import versions
 
 SECONDS = 1800
@@ -151,7 +148,7 @@ def check_installed(deb: Path, folder: Path) -> None:
     passed("the package is installed, runs, and is removed")
 
 
-def made(options: argparse.Namespace, folder: Path) -> list[Path]:
+def made(options: Options, folder: Path) -> list[Path]:
     """The package and the .tar.gz."""
     words = [sys.executable, str(TOP / "dev/package"), "--program", options.program, "--live", live_of(options.live), str(folder)]
     done = subprocess.run(words, capture_output=True, text=True, check=False)
@@ -160,7 +157,7 @@ def made(options: argparse.Namespace, folder: Path) -> list[Path]:
     return sorted(folder.iterdir())
 
 
-def check(options: argparse.Namespace) -> None:
+def check(options: Options) -> None:
     if shutil.which("dpkg-deb") is None:
         return skipped("the package", "dpkg-deb is not installed")
     with tempfile.TemporaryDirectory() as name:
@@ -182,11 +179,3 @@ def check(options: argparse.Namespace) -> None:
         passed("the .tar.gz")
         check_pip(folder)
         check_installed(deb, folder / "system")
-
-
-def arguments(parser: argparse.ArgumentParser) -> None:
-    parser.add_argument("--live", type=Path, default=LIVE, help="the other program (crates/vma_live/out/vma_live)")
-
-
-if __name__ == "__main__":
-    main(check, arguments)

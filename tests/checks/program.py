@@ -1,25 +1,20 @@
-#!/usr/bin/env python3
 """Runs the program on the largest traces, loads and scripts, on threads that wait for each other and on what it refuses,
 and compares all that it answers.
 
-PROGRAM is crates/vma_main/out/vma_main by default. The script works out for itself what each run writes to standard
-output and standard error, and its status. It ends with status 1 at the first run that differs, or that takes longer
-than its seconds of processor time. In the mode `threads` a trace of one thread has the output of `serial`; of one of
-many threads each line is answered once, those of a thread in their order, and the versions never fall, and children
-run at once. A load as a trace has an output that `check` judges to be legal, a smaller one that of the model of
-tools/vmatools, and `generate` has to count in it what stands there. The seconds are some fifty times what a run needs,
-and fewer than it would need with work quadratic in its lines. The status is 2 on wrong use, or where the program is
-missing.
+The script works out for itself what each run writes to standard output and standard error, and its status. In the mode
+`threads` a trace of one thread has the output of `serial`; of one of many threads each line is answered once, those of a
+thread in their order, and the versions never fall, and children run at once. A load as a trace has an output that `check`
+judges to be legal, a smaller one that of the model of tools/vmatools, and `generate` has to count in it what stands there.
+The seconds are some fifty times what a run needs, and fewer than it would need with work quadratic in its lines.
 """
 from __future__ import annotations
 
-import argparse
 import os
 import subprocess
 import tempfile
 import time
 
-from checking import Words, answer, bytes_of, check_ended, compare, fail, main, passed, skipped
+from checking import Options, Words, answer, bytes_of, check_ended, compare, fail, passed, skipped
 from vmatools import loads, serial, traces
 
 PAGE = 4096
@@ -424,7 +419,7 @@ def check_largest(program: str) -> None:
             check_threads(program, made.__name__, run.trace, seconds)
 
 
-def check(options: argparse.Namespace) -> None:
+def check(options: Options) -> None:
     program: str = options.program
     check_words(program)
     check_run(
@@ -459,7 +454,3 @@ def check(options: argparse.Namespace) -> None:
     check_children_at_once(program)
     check_threads(program, "a writer beside seven readers of one page", waits(), 60)
     check_largest(program)
-
-
-if __name__ == "__main__":
-    main(check)

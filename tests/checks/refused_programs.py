@@ -1,4 +1,3 @@
-#!/usr/bin/env python3
 """Checks that programs above mm_space do not compile: one that makes a Closed of its own, one that uses a pass that a closing
 took, and one that makes a call with the pass of an area that it holds. Nor do two above mmap_lock that take the lock again while
 they have it, at once or by a function that they call, which would wait for ever; nor mm_space with a fault that takes it twice.
@@ -9,7 +8,6 @@ question. No edit of the gate can say this, since each of those has to compile.
 """
 from __future__ import annotations
 
-import argparse
 import os
 import shutil
 import subprocess
@@ -17,7 +15,7 @@ import tempfile
 from concurrent.futures import ThreadPoolExecutor
 from pathlib import Path
 
-from checking import TOP, fail, main, passed
+from checking import TOP, Options, fail, passed
 
 
 HEAD = """//! A program above a space.
@@ -231,7 +229,7 @@ def judge(copy: str, name: str, reason: str | None) -> str | None:
     return None
 
 
-def check(_options: argparse.Namespace) -> None:
+def check(_options: Options) -> None:
     with tempfile.TemporaryDirectory() as copy:
         write_all(copy)
         with ThreadPoolExecutor(max_workers=3) as pool:
@@ -255,7 +253,3 @@ def check_lock(copy: str) -> None:
     if wrong:
         fail("a fault takes the lock twice", wrong)
     passed("a fault takes the lock twice, refused")
-
-
-if __name__ == "__main__":
-    main(check, with_program=False)

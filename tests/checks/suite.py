@@ -1,10 +1,7 @@
-#!/usr/bin/env python3
 """Checks the conformance suite: beside each trace is what the program and the tools' model make of it; each row of each
 table of docs/MODEL.md decides two cases or more; each test of the model, changed a little, is noticed by a case; the changes
 that no case has to notice are noticed by no random trace either; and each answer of Linux that differs has a row of
 docs/KERNEL.md.
-
-Exit status: 0 where all is so, 1 where not, with a line for each, 2 on wrong use, or where the program is missing.
 """
 from __future__ import annotations
 
@@ -15,7 +12,7 @@ from collections.abc import Iterator, Sequence
 from concurrent.futures import ProcessPoolExecutor, ThreadPoolExecutor
 from pathlib import Path
 
-from checking import TOP, fail, main, passed
+from checking import TOP, fail, passed
 from models import cases, mutations
 from vmatools import conformance, coverage, traces, words
 
@@ -82,7 +79,3 @@ def check(options: argparse.Namespace) -> None:
     if wrong:
         fail("the cases", "\n".join(wrong))
     passed(f"{len(paths)} cases are as the program answers, each row decides {LEAST}, each change is noticed")
-
-
-if __name__ == "__main__":
-    main(check, add_arguments)

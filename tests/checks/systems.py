@@ -1,9 +1,8 @@
-#!/usr/bin/env python3
 """Runs the batch protocol with the adapters of examples/batch, and random traces in each system that is installed here.
 
-What a system answers otherwise is no failure: how much of it is equal is printed. A system that is not installed is
-named and passed. Ends with status 1 where the runner does not compile without a warning, where an adapter of
-examples/batch does not answer as it should, or where a trace that was fitted to a window is refused for leaving it.
+What a system answers otherwise is no failure: how much of it is equal is printed. A system that is not installed is named and
+passed. It fails where the runner does not compile without a warning, where an adapter of examples/batch does not answer as it
+should, or where a trace that was fitted to a window is refused for leaving it.
 """
 from __future__ import annotations
 
@@ -17,7 +16,7 @@ import time
 from collections.abc import Iterator
 from pathlib import Path
 
-from checking import TOOL, fail, main, passed, skipped
+from checking import TOOL, fail, passed, skipped
 from vmatools import conformance, console, generator
 from vmatools.program import TOP
 from vmatools.systems import batch, building, known, measuring, seen
@@ -167,7 +166,3 @@ def check(options: argparse.Namespace) -> None:
             check_system(system, options.program, max((until - time.monotonic()) / (len(systems) - place), 3))
         except Refused as refused:
             skipped(system.name, f"it cannot be run here: {refused}")
-
-
-if __name__ == "__main__":
-    main(check, add_arguments)

@@ -1,15 +1,11 @@
-#!/usr/bin/env python3
 """Checks from-strace, record and draw on what is in the repository, and compares all that they answer.
 
 from-strace makes the saved traces of the saved logs of tests/logs again, and refuses what is no log. draw draws each
 example with its output, and docs/tour.svg is what it draws of the tour; an output that says otherwise is marked.
 record runs a command, where strace is there and may trace.
-
-It ends with status 1 at the first thing that differs, and takes some ten seconds.
 """
 from __future__ import annotations
 
-import argparse
 import glob
 import os
 import platform
@@ -21,7 +17,7 @@ import tempfile
 from typing import Any
 from xml.etree import ElementTree
 
-from checking import TOP, Done, compare, fail, main, passed, skipped
+from checking import TOP, Done, Options, compare, fail, passed, skipped
 from vmatools.model import Space, answer
 from vmatools.traces import read_trace
 
@@ -183,13 +179,9 @@ def check_record(folder: str) -> None:
     passed(f"record, {equal} of {len(replies)} replies as in the model")
 
 
-def check(_options: argparse.Namespace) -> None:
+def check(_options: Options) -> None:
     with tempfile.TemporaryDirectory() as folder:
         check_logs(folder)
         check_refused(folder)
         check_pictures(folder)
         check_record(folder)
-
-
-if __name__ == "__main__":
-    main(check, with_program=False)

@@ -1,8 +1,7 @@
-#!/usr/bin/env python3
 """Runs what the documents show, and compares what comes with what stands there. Takes half a minute.
 
-PROGRAM is crates/vma_main/out/vma_main by default; the pages call it `diltzekun`. All runs of a page are made in one new
-folder, with the repository's folders in it. Of each fenced block of a page
+The pages call the program `diltzekun`. All runs of a page are made in one new folder, with the repository's folders in it. Of
+each fenced block of a page
 
 - one that begins with `$ ` is run, a command at a time, and the lines below a command are what it writes, on standard
   error too;
@@ -14,12 +13,9 @@ folder, with the repository's folders in it. Of each fenced block of a page
 
 A line `..` stands for any lines, and ` ..` at the end of a line for any end. Each command `tools/vma ..` in a page, shown
 or told, has words that the tool takes.
-
-It ends with status 1 at the first thing that is otherwise.
 """
 from __future__ import annotations
 
-import argparse
 import contextlib
 import io
 import itertools
@@ -33,7 +29,7 @@ from collections.abc import Iterator
 from dataclasses import dataclass
 from pathlib import Path
 
-from checking import TOP, fail, main, passed, skipped
+from checking import TOP, Options, fail, passed, skipped
 from vmatools import cli
 
 FOLDERS = ("examples", "tools", "crates", "crates.txt", "suite", "dev")
@@ -232,12 +228,8 @@ def check_words(page: Path) -> None:
             fail(f"{page.relative_to(TOP)}:{number}", f"`{command}`: {wrong}")
 
 
-def check(options: argparse.Namespace) -> None:
+def check(options: Options) -> None:
     program = os.path.abspath(options.program)
     for page in pages():
         check_words(page)
         check_page(page, program)
-
-
-if __name__ == "__main__":
-    main(check)

@@ -1,4 +1,3 @@
-#!/usr/bin/env python3
 """Runs the steps that docs/CI.md shows, in a folder with an adapter, and looks at those of .github/workflows.
 
 Each block of YAML has to be one. Steps that install or fetch something are named and passed over; the others are run, for a
@@ -6,7 +5,6 @@ few seconds in place of minutes, and leave reports in XML. Each check that a wor
 """
 from __future__ import annotations
 
-import argparse
 import importlib.util
 import re
 import shutil
@@ -18,7 +16,8 @@ from collections.abc import Iterator
 from pathlib import Path
 from typing import Any
 
-from checking import TOP, fail, main, passed, skipped
+from checking import TOP, Options, fail, passed, skipped
+from models.loading import module_of
 
 PAGE = TOP / "docs/CI.md"
 BLOCK = re.compile(r"^```(yaml|make)\n(.*?)^```$", re.MULTILINE | re.DOTALL)
@@ -78,17 +77,17 @@ def check_page(yaml: Any) -> None:
 
 def check_own(yaml: Any) -> None:
     """The names of checks in the workflows of this repository."""
-    spec = (TOP / "tests/run").read_text(encoding="utf-8")
+    known = ("unit", *module_of(TOP / "tests/run").CHECKS)
     for path in sorted((TOP / ".github/workflows").glob("*.yml")):
         for step in steps_of(yaml.safe_load(path.read_text(encoding="utf-8"))):
             names = step.partition("tests/run ")[2].split()
             for name in names[2:] if names[:1] == ["--program"] else names:
-                if name != "unit" and f'    "{name}": [' not in spec:
+                if name not in known:
                     fail(str(path.relative_to(TOP)), f"names the check {name}, which tests/run doesn't have")
     passed("the workflows of this repository")
 
 
-def check(_options: argparse.Namespace) -> None:
+def check(_options: Options) -> None:
     missing = [name for name in ("make",) if shutil.which(name) is None]
     missing += ["yaml, a package of Python"] if importlib.util.find_spec("yaml") is None else []
     if missing:
@@ -96,7 +95,3 @@ def check(_options: argparse.Namespace) -> None:
     yaml = importlib.import_module("yaml")
     check_own(yaml)
     check_page(yaml)
-
-
-if __name__ == "__main__":
-    main(check, with_program=False)

@@ -40,7 +40,7 @@ LEFT_OUT = ("note", "by", "maps", "maps_line", "permissions", "answer", "reply_t
 # The changes that change no answer, by why they don't. That rests on three things. The reasons were read, and nothing proves
 # them. No case of the suite notices one of these changes (`tests/run suite`). No random trace of drawn.py did: none of the first
 # 20,000 of `generate 30 SEED`, of 15,000 of profiles, and of 14,500 of edges. `tests/run suite` tries 60 of each kind again
-# (`tests/checks/suite.py --random N PROGRAM`). Of the 352 other changes the traces of the first 1,000 seeds notice 337.
+# (`tests/run suite -- --random N`). Of the 352 other changes the traces of the first 1,000 seeds notice 337.
 ALIKE: dict[str, tuple[str, ...]] = {
     "no call comes here with an empty range, or an empty range changes nothing": (
         "areas_in: `areas[first_above(areas, lo):bisect.bisect_left(areas, (hi,))] if lo < hi else []`"

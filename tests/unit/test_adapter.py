@@ -11,13 +11,12 @@ import unittest
 from pathlib import Path
 from typing import Any
 
-TOP = Path(__file__).resolve().parents[2]
-sys.path.insert(0, str(TOP / "tools"))
 from vmatools import adapter, model
 from vmatools.adapter import Area, File, Settings
 from vmatools.systems.batch import Adapter, Adapters
 from vmatools.systems.capabilities import Capabilities, split
 from vmatools.traces import PAGE, read_trace
+from vmatools.program import TOP
 
 EXAMPLE = [sys.executable, str(TOP / "examples/batch/adapter.py")]
 ANONYMOUS = "MAP_PRIVATE|MAP_ANONYMOUS"
@@ -178,7 +177,3 @@ class Example(unittest.TestCase):
             limited = ["sh", "-c", 'ulimit -f 16; exec "$@"', "sh", sys.executable, str(TOP / "tools/vma")]
             done = subprocess.run([*limited, "new-adapter", "c", folder], capture_output=True, text=True)
             self.assertEqual((done.returncode, os.listdir(folder)), (74, []), done.stderr)
-
-
-if __name__ == "__main__":
-    unittest.main()

@@ -2,21 +2,18 @@
 from __future__ import annotations
 
 import argparse
-import sys
 import unittest
-from pathlib import Path
 from typing import Optional
 from unittest import mock
 
-sys.path.insert(0, str(Path(__file__).resolve().parents[2] / "tools"))
-from vmatools import comparison, console, oracles, program, windows  # noqa: E402
-from vmatools.commands import compare  # noqa: E402
-from vmatools.linux.kernel import running_version  # noqa: E402
-from vmatools.outputs import Difference  # noqa: E402
-from vmatools.program import Ran  # noqa: E402
-from vmatools.systems import beside, machines, words  # noqa: E402
-from vmatools.systems.places import Window  # noqa: E402
-from vmatools.traces import Trace, read_trace  # noqa: E402
+from vmatools import comparison, console, oracles, program, windows
+from vmatools.commands import compare
+from vmatools.linux.kernel import running_version
+from vmatools.outputs import Difference
+from vmatools.program import Ran
+from vmatools.systems import beside, machines, words
+from vmatools.systems.places import Window
+from vmatools.traces import Trace, read_trace
 
 MAP = "0 mmap 0x10000 4096 PROT_READ MAP_PRIVATE|MAP_ANONYMOUS|MAP_FIXED -1 0"
 AREA = "00010000-00011000 r--p 00000000 00:00 0 "
@@ -142,7 +139,3 @@ class Windows(unittest.TestCase):
     def test_names_of_heaps_count_for_nothing(self) -> None:
         shown = beside.Windowed(Window(0x10000, 0x20000)).shown
         self.assertEqual(shown(f"{AREA.rstrip()}              [heap]\n"), shown(f"{AREA.rstrip()} \n"))
-
-
-if __name__ == "__main__":
-    unittest.main()

@@ -10,14 +10,13 @@ import unittest
 from pathlib import Path
 from unittest import mock
 
-CHECKS = Path(__file__).resolve().parents[1] / "checks"
-sys.path.insert(0, str(CHECKS))
 import checking
 import examples
 import judged_runs
 import kit
-import workflows
 import lint
+import workflows
+
 from models.loading import module_of
 
 
@@ -44,7 +43,7 @@ class Peaks(unittest.TestCase):
     def resident(self, *command: str, addresses: int = 1 << 40) -> tuple[int, int]:
         """The status of a command, and the KiB that it has resident at most."""
         told, writer = os.pipe()
-        words = [sys.executable, "-IS", str(CHECKS / "peak.py"), str(writer), str(addresses), *command]
+        words = [sys.executable, "-IS", str(checking.TOP / "tests/checks/peak.py"), str(writer), str(addresses), *command]
         done = subprocess.run(words, pass_fds=[writer], stderr=subprocess.DEVNULL)
         os.close(writer)
         with open(told, "rb") as source:
@@ -147,7 +146,3 @@ class Running(unittest.TestCase):
         self.assertEqual(self.pythons("3 99 0", "unit"), [own])
         self.assertEqual(self.pythons(" ".join(map(str, sys.version_info[:3]))), [own])
         self.assertEqual(self.pythons("3 9 2"), [own])
-
-
-if __name__ == "__main__":
-    unittest.main()

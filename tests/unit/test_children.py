@@ -11,9 +11,8 @@ import unittest
 from collections.abc import Callable
 from pathlib import Path
 
-TOP = Path(__file__).resolve().parents[2]
-sys.path.insert(0, str(TOP / "tools"))
 from vmatools import children, keeper
+from vmatools.program import TOP
 
 SECONDS = 60  # for what is done at once on a machine that is not busy
 # An adapter that hangs, with a child in its group and one in a session of its own. Each writes its number.
@@ -115,7 +114,3 @@ class Children(unittest.TestCase):
                 self.assertEqual(gone.wait(SECONDS), -signal.SIGKILL)
             self.assertIsNone(kept.poll())
             kept.kill()
-
-
-if __name__ == "__main__":
-    unittest.main()

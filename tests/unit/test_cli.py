@@ -18,11 +18,10 @@ from pathlib import Path
 from typing import Any
 from unittest import mock
 
-TOP = Path(__file__).resolve().parents[2]
-sys.path[:0] = [str(TOP / "tools"), str(TOP / "tests")]
 from models.loading import needs
 from vmatools import VERSION, cli, console, program, versions
 from vmatools.systems import adapter, batch
+from vmatools.program import TOP
 
 VMA = str(TOP / "tools/vma")
 TRACE = str(TOP / "examples/readme.trace")
@@ -429,7 +428,3 @@ class Words(unittest.TestCase):
     def test_a_failure_of_the_system_has_no_number(self) -> None:
         self.assertEqual(console.reason(OSError(2, "No such file", "/a")), "/a: No such file")
         self.assertEqual(console.reason(OSError(28, "No space left"), "b"), "b: No space left")
-
-
-if __name__ == "__main__":
-    unittest.main()

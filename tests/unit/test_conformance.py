@@ -10,16 +10,14 @@ import xml.etree.ElementTree as ElementTree
 from dataclasses import replace
 from pathlib import Path
 
-TOP = Path(__file__).resolve().parents[2]
-sys.path[:0] = [str(TOP / "tools"), str(TOP / "tests")]
-
-from models import cases  # noqa: E402
-from vmatools import conformance  # noqa: E402
-from vmatools.commands import conform  # noqa: E402
-from vmatools.conformance import Case, Verdict  # noqa: E402
-from vmatools.console import Failure  # noqa: E402
-from vmatools.oracles import oracle_of  # noqa: E402
-from vmatools.program import Ran  # noqa: E402
+from models import cases
+from vmatools import conformance
+from vmatools.commands import conform
+from vmatools.conformance import Case, Verdict
+from vmatools.console import Failure
+from vmatools.oracles import oracle_of
+from vmatools.program import Ran
+from vmatools.program import TOP
 
 TRACE = "vmatrace 1\n# It maps a page: mmap(2).\n0 mmap 0 4096 PROT_READ MAP_PRIVATE|MAP_ANONYMOUS -1 0\n"
 CASE = Case("mmap", "page", "It maps a page: mmap(2).", TRACE, ("a\nb\n",))
@@ -204,7 +202,3 @@ class Versions(unittest.TestCase):
         three = cases.with_answer(two, "brk-limit", "6.1.192", "a\n")
         self.assertEqual(three, "# brk-limit of docs/KERNEL.md; Linux 6.1.192, 6.12.117 and 6.18.44 answer\na\n")
         self.assertEqual(cases.with_answer(three, "brk-limit", "6.12.117", "a\n"), three)
-
-
-if __name__ == "__main__":
-    unittest.main()

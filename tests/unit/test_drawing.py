@@ -3,15 +3,11 @@ from __future__ import annotations
 
 import re
 import subprocess
-import sys
 import unittest
-from pathlib import Path
 
-TOP = Path(__file__).resolve().parents[2]
-sys.path.insert(0, str(TOP / "tools"))
-
-from vmatools.drawing.axis import READABLE, Axis  # noqa: E402
-from vmatools.model import Area  # noqa: E402
+from vmatools.drawing.axis import READABLE, Axis
+from vmatools.model import Area
+from vmatools.program import TOP
 
 
 def drawn(trace: str) -> str:
@@ -40,7 +36,3 @@ class Widths(unittest.TestCase):
 
     def test_it_speaks_of_vmas(self) -> None:
         self.assertNotIn("area", drawn("examples/tour.trace").replace("aria", ""))
-
-
-if __name__ == "__main__":
-    unittest.main()

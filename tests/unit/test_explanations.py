@@ -1,12 +1,8 @@
 """The sentences on bad lines, and on maps texts that `retrace` does not take."""
 from __future__ import annotations
 
-import sys
 import unittest
-from pathlib import Path
 
-TOP = Path(__file__).resolve().parents[2]
-sys.path.insert(0, str(TOP / "tools"))
 from vmatools import explanations, maps_texts, serial, traces
 
 HEAD = "vmatrace 1\n"
@@ -97,7 +93,3 @@ class MapsTexts(unittest.TestCase):
     def test_what_seems_one(self) -> None:
         self.assertTrue(maps_texts.seems_one(GOOD.encode()))
         self.assertFalse(maps_texts.seems_one(HEAD.encode()))
-
-
-if __name__ == "__main__":
-    unittest.main()

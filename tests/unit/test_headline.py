@@ -1,15 +1,12 @@
 """The maker of docs/HEADLINE.md: what the headline reaches, and in which order it is shown."""
 from __future__ import annotations
 
-import sys
 import tempfile
 import unittest
 from pathlib import Path
 
-TOP = Path(__file__).resolve().parents[2]
-sys.path.insert(0, str(TOP))
-
-from dev.reference import headline  # noqa: E402
+from dev.reference import headline
+from vmatools.program import TOP
 
 RUN = """ghost use Rattle.std.specs.Prelude.{ℕ};
 ghost use Rattle.vma_replay.specs.Giving.{GivesAll};
@@ -120,7 +117,3 @@ class Whole(unittest.TestCase):
             for named in node.names:
                 if not named.is_of_code:
                     self.assertTrue(place_of[named] > own or place_of[named][0] < own[0], f"{node.place.name}, {named.name}")
-
-
-if __name__ == "__main__":
-    unittest.main()

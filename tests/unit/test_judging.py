@@ -3,13 +3,9 @@ from __future__ import annotations
 
 import io
 import random
-import sys
 import unittest
-from pathlib import Path
 from xml.etree import ElementTree
 
-TOP = Path(__file__).resolve().parents[2]
-sys.path.insert(0, str(TOP / "tools"))
 from vmatools import console, generator, judging, serial, traces
 from vmatools.drawing import page, picture, runs
 
@@ -106,7 +102,3 @@ class Drawing(unittest.TestCase):
     def test_an_output_without_end_is_read_no_further(self) -> None:
         said = runs.stated(b"L2 t0 v0 = 0\n" * 100_000 + b"rubbish\n", 2)
         self.assertLess(len(said[0].answers), 2_000)
-
-
-if __name__ == "__main__":
-    unittest.main()

@@ -1,19 +1,15 @@
 """Tests of dev/linux_rules: terms of recorded traces, the rules of versions, resolved switches, and the evaluation."""
 from __future__ import annotations
 
-import sys
 import unittest
 from dataclasses import replace
-from pathlib import Path
 from typing import Any
 
-TOP = Path(__file__).resolve().parents[2]
-sys.path[:0] = [str(TOP), str(TOP / "tools")]
-
-from dev.linux_rules import choosing, evaluating, planting, recordings, resolving, terms, versions  # noqa: E402
-from dev.linux_rules.planted import PLANTED  # noqa: E402
-from vmatools.linux.kernel import Settings  # noqa: E402
-from vmatools.traces import read_trace  # noqa: E402
+from dev.linux_rules import choosing, evaluating, planting, recordings, resolving, terms, versions
+from dev.linux_rules.planted import PLANTED
+from vmatools.linux.kernel import Settings
+from vmatools.traces import read_trace
+from vmatools.program import TOP
 
 TRACE = b"""vmatrace 1
 heap 0x200000
@@ -132,7 +128,3 @@ class TestChoosing(unittest.TestCase):
         told["other"] = {"c"}
         self.assertIn("other", choosing.best(told))
         self.assertEqual(len(choosing.best(told)), choosing.MOST)
-
-
-if __name__ == "__main__":
-    unittest.main()

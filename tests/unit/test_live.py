@@ -11,8 +11,6 @@ from pathlib import Path
 from typing import Any
 from unittest import mock
 
-TOP = Path(__file__).resolve().parents[2]
-sys.path.insert(0, str(TOP / "tools"))
 from vmatools import comparison, conformance, console, live, program
 from vmatools.commands import compare, conform
 from vmatools.systems.batch import Adapters
@@ -188,7 +186,3 @@ class Places(unittest.TestCase):
         self.assertEqual((options.command, options.batch), ([self.made["given"]], True))
         with self.assertRaises(console.Failure):
             conform.take_live(parsed(conform, ["--live", self.made["given"], "--", "true"]))
-
-
-if __name__ == "__main__":
-    unittest.main()

@@ -1,14 +1,12 @@
 """The model, on the suite of cases: one or more for each row of the tables of docs/MODEL.md."""
 from __future__ import annotations
 
-import sys
 import unittest
 from pathlib import Path
 
-TOP = Path(__file__).resolve().parents[2]
-sys.path.insert(0, str(TOP / "tools"))
 from vmatools import coverage, loads, serial, traces
 from vmatools.model import Area, Space, area_at, areas_in, is_free, joins, replaced
+from vmatools.program import TOP
 
 
 def area(lo: int, hi: int, prot: int = 3, number: int = 0, offset: int = 0) -> Area:
@@ -73,7 +71,3 @@ class Loads(unittest.TestCase):
         self.assertEqual(
             loads.summary(output), ["calls 1", "refused 0", "faults 0", "served 0", "version 1", "areas 1"]
         )
-
-
-if __name__ == "__main__":
-    unittest.main()

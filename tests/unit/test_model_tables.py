@@ -2,15 +2,13 @@
 from __future__ import annotations
 
 import shutil
-import sys
 import tempfile
 import unittest
 from pathlib import Path
 
-TOP = Path(__file__).resolve().parents[2]
-sys.path.insert(0, str(TOP / "tests/checks"))
+import model_tables
 
-import model_tables  # noqa: E402
+from vmatools.program import TOP
 
 
 class Tables(unittest.TestCase):
@@ -50,7 +48,3 @@ class Tables(unittest.TestCase):
     def test_another_flag_is_found(self) -> None:
         found = self.faults_after(model_tables.FLAGS, "`MAP_STACK` 0x20000", "`MAP_STACK` 0x2000")
         self.assertEqual(found, ["docs/MODEL.md or docs/TRACE.md: MAP_STACK is 0x2_0000 and not 0x2000"])
-
-
-if __name__ == "__main__":
-    unittest.main()

@@ -2,13 +2,10 @@
 from __future__ import annotations
 
 import re
-import sys
 import unittest
-from pathlib import Path
 
-TOP = Path(__file__).resolve().parents[2]
-sys.path.insert(0, str(TOP / "tools"))
 from vmatools import outputs
+from vmatools.program import TOP
 
 LOW, NEXT, HIGH = (f"{place:08x}-{place + 4096:08x} rw-p 00000000 00:00 0 " for place in (0x10000, 0x11000, 0x20000))
 JOINED = "00010000-00012000 rw-p 00000000 00:00 0 "
@@ -93,7 +90,3 @@ class Parts(unittest.TestCase):
         if found:
             self.assertEqual(outputs.kind_of(found), ("munmap", "0", "-1 EINVAL"))
         self.assertIsNone(outputs.first_difference(here, here, {2: "munmap"}))
-
-
-if __name__ == "__main__":
-    unittest.main()

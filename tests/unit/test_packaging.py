@@ -2,31 +2,16 @@
 from __future__ import annotations
 
 import argparse
-import importlib.machinery
-import importlib.util
-import sys
 import tempfile
 import tomllib
 import unittest
 from pathlib import Path
-from types import ModuleType
 from unittest import mock
 
-TOP = Path(__file__).resolve().parents[2]
-sys.path[:0] = [str(TOP / "tools"), str(TOP)]
 from dev.packaging import completion, manual
+from models.loading import module_of
 from vmatools import VERSION, cli, program, versions
-
-
-def loaded(name: str) -> ModuleType:
-    """A program of dev as a module."""
-    loader = importlib.machinery.SourceFileLoader(name, str(TOP / "dev" / name))
-    spec = importlib.util.spec_from_loader(name, loader)
-    assert spec
-    module = importlib.util.module_from_spec(spec)
-    sys.modules[name] = module
-    loader.exec_module(module)
-    return module
+from vmatools.program import TOP
 
 
 class Pages(unittest.TestCase):
@@ -60,7 +45,7 @@ class Completion(unittest.TestCase):
 
 class Package(unittest.TestCase):
     def test_what_the_programs_need(self) -> None:
-        package = loaded("package")
+        package = module_of(TOP / "dev/package")
         for told, needs in (
             (" (NEEDED) x: [libm.so.6]\n (NEEDED) x: [libc.so.6]\n GLIBC_2.9 GLIBC_2.34 GLIBC_2.4\n", "libc6 (>= 2.34)"),
             ("nothing is needed\n", ""),
@@ -72,7 +57,7 @@ class Package(unittest.TestCase):
                 package.needs(Path("x"))
 
     def test_only_programs_whose_sums_the_full_check_noted_are_called_proved(self) -> None:
-        package = loaded("package")
+        package = module_of(TOP / "dev/package")
         with tempfile.TemporaryDirectory() as name:
             folder = Path(name)
             paths = {option: folder / option for option in ("program", "live")}
@@ -98,7 +83,3 @@ class Installed(unittest.TestCase):
             self.assertEqual(program.top_of(Path(folder, "tools/vmatools")), Path(folder))
             Path(folder, "tools/vmatools/suite").mkdir(parents=True)
             self.assertEqual(program.top_of(Path(folder, "tools/vmatools")), Path(folder, "tools/vmatools"))
-
-
-if __name__ == "__main__":
-    unittest.main()

@@ -1,15 +1,11 @@
 """The maker of the reference: what it reads of a source, and what it writes of it."""
 from __future__ import annotations
 
-import sys
 import tempfile
 import unittest
 from pathlib import Path
 
-TOP = Path(__file__).resolve().parents[2]
-sys.path.insert(0, str(TOP))
-
-from dev.reference import definitions, pages, sources  # noqa: E402
+from dev.reference import definitions, pages, sources
 
 LIB = """//! Counts sheep.
 //! Slowly.
@@ -130,7 +126,3 @@ class Reading(unittest.TestCase):
         crates = self.top / "crates.txt"
         crates.write_text(crates.read_text().replace("# farm", f"# {pages.TESTS}"))
         self.assertEqual(pages.faults(self.top), [])
-
-
-if __name__ == "__main__":
-    unittest.main()

@@ -1,13 +1,11 @@
 """What the check of tests/shown.txt finds."""
 from __future__ import annotations
 
-import sys
 import tempfile
 import unittest
 from pathlib import Path
 
 CHECKS = Path(__file__).resolve().parents[1] / "checks"
-sys.path.insert(0, str(CHECKS))
 import shown
 
 LIBRARY = """
@@ -114,7 +112,3 @@ class Table(unittest.TestCase):
     def test_rows_of_one_name(self) -> None:
         self.write("crates/rows/stdin", "row the row\nrow the row\n")
         self.refused("two rows of crates/rows/stdin have the name 'the row'")
-
-
-if __name__ == "__main__":
-    unittest.main()

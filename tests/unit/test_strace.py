@@ -6,16 +6,14 @@ import sys
 import tempfile
 import unittest
 from argparse import Namespace
-from pathlib import Path
 
-TOP = Path(__file__).resolve().parents[2]
-sys.path.insert(0, str(TOP / "tools"))
 from vmatools import traces
 from vmatools.console import Failure
 from vmatools.commands.lists import last_list
 from vmatools.strace import importing
 from vmatools.strace.areas import read_sections
 from vmatools.strace.log import Log
+from vmatools.program import TOP
 
 VMA = str(TOP / "tools/vma")
 LOGS = TOP / "tests/logs"
@@ -142,7 +140,3 @@ class Refused(unittest.TestCase):
         done = imported(EXEC + FORMS["plain"], "--replies", "/no/such/folder/replies")
         self.assertEqual((done.returncode, done.stdout), (2, ""))
         self.assertIn("/no/such/folder/replies: No such file or directory", done.stderr)
-
-
-if __name__ == "__main__":
-    unittest.main()

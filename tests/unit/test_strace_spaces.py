@@ -11,8 +11,6 @@ import unittest
 from pathlib import Path
 from unittest import mock
 
-TOP = Path(__file__).resolve().parents[2]
-sys.path.insert(0, str(TOP / "tools"))
 from vmatools.commands.lists import last_list
 from vmatools.console import Failure
 from vmatools.model import Space as Model, answer
@@ -23,6 +21,7 @@ from vmatools.strace.log import Log, split_arguments, unescaped
 from vmatools.strace.processes import Processes
 from vmatools.strace.writing import Choices, Trace
 from vmatools.traces import Line, read_trace
+from vmatools.program import TOP
 
 BEGIN = '7 execve("/bin/a", ["a"], 0x7ffd /* 2 vars */) = 0\n7 brk(NULL) = 0x555555579000\n'
 MAP = "mmap(NULL, 4096, PROT_READ, MAP_PRIVATE|MAP_ANONYMOUS, -1, 0)"
@@ -473,7 +472,3 @@ class Watching(unittest.TestCase):
             self.assertEqual(run(arch, brk, 0), watching.NOTIFY)
             self.assertEqual(run(arch, brk, 1 << 32), watching.ALLOW)
         self.assertEqual(run(0, 59, 0), watching.ALLOW)
-
-
-if __name__ == "__main__":
-    unittest.main()

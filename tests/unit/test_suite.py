@@ -9,17 +9,15 @@ import unittest
 from pathlib import Path
 from unittest import mock
 
-TOP = Path(__file__).resolve().parents[2]
-sys.path[:0] = [str(TOP / "tools"), str(TOP / "tests"), str(TOP / "tests/checks")]
+import suite as check
 
-import suite as check  # noqa: E402
-
-from models import cases, drawn, mutations  # noqa: E402
-from vmatools import conformance, coverage, model  # noqa: E402
-from vmatools.conformance import PART  # noqa: E402
-from vmatools.console import Failure  # noqa: E402
-from vmatools.serial import serial_output  # noqa: E402
-from vmatools.traces import read_trace  # noqa: E402
+from models import cases, drawn, mutations
+from vmatools import conformance, coverage, model
+from vmatools.conformance import PART
+from vmatools.console import Failure
+from vmatools.serial import serial_output
+from vmatools.traces import read_trace
+from vmatools.program import TOP
 
 TEXTS = {cases.where(path): path.read_text(encoding="utf-8") for path in conformance.SUITE.glob("*/*.trace")}
 TRACES = {name: read_trace(text.encode()) for name, text in TEXTS.items()}
@@ -144,7 +142,3 @@ class Drawn(unittest.TestCase):
     def test_they_reach_most_rows(self) -> None:
         rows = {row for trace in drawn.traces_of(range(1, 150)) for row in coverage.rows_of(trace)}
         self.assertGreater(len(rows), 0.9 * len(coverage.ROWS))
-
-
-if __name__ == "__main__":
-    unittest.main()

@@ -10,11 +10,9 @@ import unittest
 from pathlib import Path
 from unittest import mock
 
-TOP = Path(__file__).resolve().parents[2]
-sys.path[:0] = [str(TOP / "tools"), str(TOP / "tests")]
-from models.loading import module_of  # noqa: E402
-from vmatools import console, generator, model, windows  # noqa: E402
-from vmatools.commands import kernel  # noqa: E402
+from models.loading import module_of
+from vmatools import console, generator, model, windows
+from vmatools.commands import kernel
 from vmatools.systems import (
     batch,
     empty,
@@ -28,9 +26,10 @@ from vmatools.systems import (
     searches,
     seen,
     telling,
-)  # noqa: E402
-from vmatools.systems.places import PAST_ALL, Refused, Window, check_window, finds_place, leaves  # noqa: E402
-from vmatools.traces import Trace, read_trace  # noqa: E402
+)
+from vmatools.systems.places import PAST_ALL, Refused, Window, check_window, finds_place, leaves
+from vmatools.traces import Trace, read_trace
+from vmatools.program import TOP
 
 MAP = "MAP_PRIVATE|MAP_ANONYMOUS"
 WINDOW = Window(0x10000, 0x2000000)
@@ -454,7 +453,3 @@ class Known(unittest.TestCase):
             self.assertEqual(machines.newest_image(), names[1])
         with mock.patch("glob.glob", return_value=[]), self.assertRaises(Refused):
             machines.newest_image()
-
-
-if __name__ == "__main__":
-    unittest.main()

@@ -3,12 +3,8 @@ from __future__ import annotations
 
 import io
 import random
-import sys
 import unittest
-from pathlib import Path
 
-TOP = Path(__file__).resolve().parents[2]
-sys.path.insert(0, str(TOP / "tools"))
 from vmatools import generator, loads, traces
 
 HEAD = b"vmatrace 1\n"
@@ -117,7 +113,3 @@ class BothWays(unittest.TestCase):
                 except traces.BadLine as bad:
                     told.append(str(bad))
             self.assertEqual(told[0], told[1], changed)
-
-
-if __name__ == "__main__":
-    unittest.main()
