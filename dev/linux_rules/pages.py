@@ -3,13 +3,14 @@ from __future__ import annotations
 
 import re
 from collections.abc import Mapping, Sequence
-from dataclasses import asdict, dataclass
+from dataclasses import asdict, dataclass, replace
 from pathlib import Path
 
 from vmatools.linux.versions import TABLE, TEXTS, Rules, Version, table, text_of
 
 from ..reference.definitions import Definition, Topic, read_topic
 from .resolving import resolved
+from .versions import ALONE
 
 SPECS = Path("crates/linux_rules/specs")
 FOLDER = Path("docs/linux")
@@ -34,10 +35,10 @@ class Page:
 
 
 def page_list() -> list[Page]:
-    """A page for each set of rules."""
+    """A page for each set of rules, as far as the definitions have them."""
     found: dict[Rules, list[Version]] = {}
     for version, rules in table().items():
-        found.setdefault(rules, []).append(version)
+        found.setdefault(replace(rules, **dict.fromkeys(ALONE, False)), []).append(version)
     return [Page(versions, rules) for rules, versions in found.items()]
 
 
@@ -59,7 +60,8 @@ def switches(rules: Rules) -> list[str]:
     lines = ["| Switch | This version | What a version does that has it | Where |", "|---|---|---|---|"]
     for row in TABLE.read_text(encoding="utf-8").splitlines()[1:]:
         name, where, _, what = row.split("\t")[:TEXTS]
-        lines.append(f"| `{name}` | {'yes' if getattr(rules, name) else 'no'} | {what} | {where} |")
+        if name not in ALONE:
+            lines.append(f"| `{name}` | {'yes' if getattr(rules, name) else 'no'} | {what} | {where} |")
     return lines
 
 

@@ -65,6 +65,13 @@ class TestVersions(unittest.TestCase):
     def test_the_definitions_have_the_table(self) -> None:
         self.assertEqual(versions.compare(TOP), [])
 
+    def test_a_switch_of_the_model_alone_is_none_of_the_definitions(self) -> None:
+        wanted = {"6.1.192": {"a": True, "loses_written": False}}
+        self.assertEqual(list(versions.differences("linux_6_1 = record { a = true }\n", wanted)), [])
+        found = list(versions.differences("linux_6_1 = record { a = true; loses_written = true }\n", wanted))
+        self.assertEqual(len(found), 1)
+        self.assertIn("linux_6_1 has loses_written = True", found[0])
+
     def test_each_kind_of_difference_is_named(self) -> None:
         text = "linux_6_1 = record { a = true; b = false }\nlinux_6_12 = record linux_6_1 { b = true }\nlinux_9_9 = linux_6_1\n"
         wanted = {"6.1.192": {"a": True, "b": True}, "6.12.117": {"a": True, "b": True}, "7.2.12": {"a": True}}

@@ -54,6 +54,7 @@ class Merging(Areas):
         self, prev: Optional[Vma], nxt: Optional[Vma], new: Vma, source: Optional[AnonVma] = None
     ) -> Optional[Vma]:
         """Joins a range that is free with its neighbours. Returns the VMA that has it then."""
+        source = None if self.rules.loses_written else source
         left = prev if self.can_vma_merge_left(prev, new, source) else None
         right = nxt if self.can_vma_merge_right(nxt, new, source, left) else None
         target = left or right

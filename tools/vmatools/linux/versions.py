@@ -28,6 +28,7 @@ class Rules:
     limits_each_mremap: bool
     joins_beside_source: bool
     limits_before_lookup: bool
+    loses_written: bool
 
 
 class WrongOracle(ValueError):
