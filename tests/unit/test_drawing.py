@@ -3,16 +3,29 @@ from __future__ import annotations
 
 import re
 import subprocess
+import sys
+import tempfile
 import unittest
+from pathlib import Path
+from xml.etree import ElementTree
 
 from vmatools.drawing.axis import READABLE, Axis
 from vmatools.model import Area
 from vmatools.program import TOP
 
 
+TOUR = [str(TOP / f"examples/tour.{ending}") for ending in ("trace", "out")]
+OUTPUT = Path(TOUR[1]).read_text()
+
+
+def draw(*words: str, status: int = 0) -> subprocess.CompletedProcess[str]:
+    done = subprocess.run([sys.executable, str(TOP / "tools/vma"), "draw", *words], capture_output=True, text=True)
+    assert done.returncode == status and "Traceback" not in done.stderr, done.stderr
+    return done
+
+
 def drawn(trace: str) -> str:
-    done = subprocess.run([str(TOP / "tools/vma"), "draw", "--svg", str(TOP / trace)], capture_output=True, text=True, check=True)
-    return done.stdout
+    return draw("--svg", str(TOP / trace)).stdout
 
 
 def area(lo: int, hi: int) -> Area:
@@ -36,3 +49,26 @@ class Widths(unittest.TestCase):
 
     def test_it_speaks_of_vmas(self) -> None:
         self.assertNotIn("area", drawn("examples/tour.trace").replace("aria", ""))
+
+
+class Pages(unittest.TestCase):
+    def test_a_page_of_each_example_asks_for_nothing_and_its_pictures_are_xml(self) -> None:
+        for trace in (path for pattern in ("*.trace", "calls/*.trace") for path in (TOP / "examples").glob(pattern)):
+            with self.subTest(trace.name):
+                page = draw(str(trace), str(trace.with_suffix(".out"))).stdout
+                self.assertNotRegex(page, r"(src|href)=|url\(|@import")
+                for picture in re.findall(r"<svg .*?</svg>", page, re.DOTALL):
+                    ElementTree.fromstring(picture)
+
+    def test_the_picture_and_the_list_of_the_tour(self) -> None:
+        self.assertEqual(draw("--svg", *TOUR).stdout, (TOP / "docs/tour.svg").read_text())
+        self.assertEqual(draw("--list", "6", *TOUR).stdout, "maps 4\n" + OUTPUT.split("maps 4\n")[1])
+
+    def test_a_wrong_output_is_marked_and_what_is_none_is_refused(self) -> None:
+        with tempfile.TemporaryDirectory() as folder:
+            wrong = f"{folder}/wrong.out"
+            Path(wrong).write_text(OUTPUT.replace("-1 ENOMEM", "0x100000"))
+            told = draw(TOUR[0], wrong, status=1).stderr
+            self.assertIn("line 9: the output says v5 = 0x100000, and the model v5 = -1 ENOMEM", told)
+            for words in ([wrong + "x", wrong], [wrong, wrong], [*TOUR, "--list", "7"]):
+                draw(*words, status=2)

@@ -1,12 +1,15 @@
 """What strace writes, in each of its forms, and the trace that is made of it."""
 from __future__ import annotations
 
+import platform
 import subprocess
 import sys
 import tempfile
 import unittest
 from argparse import Namespace
+from pathlib import Path
 
+from models.loading import needs
 from vmatools import traces
 from vmatools.console import Failure
 from vmatools.commands.lists import last_list
@@ -34,9 +37,14 @@ FORMS = {
 MANY = "9" * 4301
 
 
+def vma(*words: str, text: str = "") -> subprocess.CompletedProcess[str]:
+    done = subprocess.run([sys.executable, VMA, *words], input=text, capture_output=True, text=True, timeout=300)
+    assert "Traceback" not in done.stderr, done.stderr
+    return done
+
+
 def imported(log: str, *words: str) -> subprocess.CompletedProcess[str]:
-    command = [sys.executable, VMA, "import", "-", "--elsewhere", *words]
-    return subprocess.run(command, input=log, capture_output=True, text=True, timeout=300)
+    return vma("import", "-", "--elsewhere", *words, text=log)
 
 
 def operations(text: str) -> list[str]:
@@ -52,10 +60,19 @@ class Forms(unittest.TestCase):
                 self.assertEqual(operations(done.stdout), OPERATIONS)
 
     def test_the_saved_logs(self) -> None:
-        logs: dict[str, list[str]] = {"plain": [], "mixed": ["--maps", str(LOGS / "mixed.maps")]}
-        for name, more in logs.items():
-            done = imported((LOGS / f"{name}.log").read_text(), "--hints", *more)
-            self.assertEqual(done.stdout, (LOGS / f"{name}.trace").read_text())
+        """Their traces and replies are those that are kept, and what is left out is named."""
+        logs: tuple[tuple[str, list[str], list[str]], ...] = (
+            ("plain", [], ["MAP_HUGETLB 1", "madvise 1", "--exec 2 takes it"]),
+            ("mixed", ["--maps", str(LOGS / "mixed.maps")], ["MAP_LOCKED 2", "shmat 1", "of 1 child"]),
+        )
+        for name, more, left_out in logs:
+            with tempfile.TemporaryDirectory() as folder:
+                replies = Path(folder, "replies")
+                done = imported((LOGS / f"{name}.log").read_text(), "--hints", "--replies", str(replies), *more)
+                self.assertEqual(done.stdout, (LOGS / f"{name}.trace").read_text())
+                self.assertEqual(replies.read_text(), (LOGS / f"{name}.kernel").read_text())
+            for words in left_out:
+                self.assertIn(words, done.stderr)
 
     def test_calls_of_another_form(self) -> None:
         opened = ('openat(AT_FDCWD, "x") = 3', 'open("x") = 3', "ftruncate(3) = 0", "close_range(3) = 0")
@@ -106,8 +123,13 @@ class Maps(unittest.TestCase):
 
 class Refused(unittest.TestCase):
     def test_what_is_no_log(self) -> None:
-        for text in ("", "hello\n", "\0\0\0\n"):
+        for text in ("", "hello\n", "\0\0\0\n", "neither\na call\nnor (a signal\n"):
             self.assertEqual(imported(text).returncode, 2)
+        self.assertEqual(imported(EXEC + "7 getpid() = 7\n7 +++ exited with 0 +++\n").returncode, 1)
+        log = str(LOGS / "plain.log")
+        refused: list[list[str]] = [[], ["/no/such/log"], [log, "--exec", "9"], [log, "--maps", str(VMA)]]
+        for words in refused:
+            self.assertEqual(vma("import", *words).returncode, 2, words)
 
     def test_lines_that_end_with_a_carriage_return(self) -> None:
         why = "-: line 1: a carriage return stands at the end: lines end with a newline byte alone"
@@ -140,3 +162,24 @@ class Refused(unittest.TestCase):
         done = imported(EXEC + FORMS["plain"], "--replies", "/no/such/folder/replies")
         self.assertEqual((done.returncode, done.stdout), (2, ""))
         self.assertIn("/no/such/folder/replies: No such file or directory", done.stderr)
+
+
+class Record(unittest.TestCase):
+    def test_wrong_use(self) -> None:
+        self.assertEqual(vma("record").returncode, 125)
+
+    @unittest.skipUnless(platform.machine() == "x86_64", "strace's log is read as that of x86-64")
+    @needs("strace")
+    def test_a_command_and_the_trace_of_its_log(self) -> None:
+        with tempfile.TemporaryDirectory() as folder:
+            front = f"{folder}/sh"
+            done = vma("record", "-o", front, "sh", "-c", "echo heard; exit 7")
+            if done.returncode == 125:
+                self.skipTest(f"strace may not trace here: {done.stderr}")
+            self.assertEqual((done.returncode, done.stdout), (7, "heard\n"), done.stderr)
+            words = ("--maps", f"{front}.maps", "--hints", "--replies", f"{front}.kernel")
+            made = traces.read_trace(vma("import", f"{front}.log", *words).stdout.encode())
+            areas = [line for line in Path(f"{front}.maps").read_text().splitlines() if not line.endswith("[vsyscall]")]
+            self.assertEqual(len(Path(f"{front}.kernel").read_text().splitlines()), len(made.lines))
+            self.assertGreaterEqual(len(made.lines), len(areas))
+            self.assertEqual(vma("record", "-o", front, "/no/such/command").returncode, 127)
