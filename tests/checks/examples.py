@@ -30,7 +30,7 @@ def check_output(program: str, mode: str, path: Path) -> None:
 
 
 def check_rows(program: str) -> None:
-    command = [sys.executable, str(TOP / "tools/vma"), "rows", "--here", "--program", program]
+    command = [sys.executable, str(TOP / "tools/vma"), "rows", "--as", "profile", "--program", program]
     done = subprocess.run(command, capture_output=True, text=True)
     if done.returncode:
         fail("the rows of docs/KERNEL.md", done.stdout + done.stderr)

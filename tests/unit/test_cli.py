@@ -368,7 +368,7 @@ class Ends(unittest.TestCase):
         self.assertEqual(done.stderr, "vma compare: no trace came to its end in 0.1 seconds: give it more by --for\n")
 
     def test_a_row_of_nearly_this_name(self) -> None:
-        done = run("rows", "--here", "--program", sys.executable, "limit-jion")
+        done = run("rows", "--as", "profile", "--program", sys.executable, "limit-jion")
         self.assertIn("no row has the name limit-jion; did you mean limit-join?", done.stderr)
 
     @NEEDS_CC
@@ -388,8 +388,8 @@ class Ends(unittest.TestCase):
                             self.assertEqual(cli.COMMANDS["rows"].load().run(options), 1)
                     shown = f"== {name}\nvmatrace 1\n0 brk 0\n+L2 t0 v1 = BREAK\n\n1 row, 1 otherwise\n"
                     self.assertEqual(text.getvalue(), shown)
-            done = run("rows", "--here", "--program", str(program), str(trace))
-            self.assertIn("--here leaves the kernel out", done.stderr)
+            done = run("rows", "--as", "profile", "--program", str(program), str(trace))
+            self.assertIn("`--as profile` leaves Linux out", done.stderr)
 
     def test_a_file_that_cannot_be_read(self) -> None:
         for path, why in (("/no/trace", "No such file or directory"), ("/", "Is a directory")):

@@ -1,6 +1,7 @@
 """Linux's model: its versions, its settings, and what it says of single rules."""
 from __future__ import annotations
 
+import argparse
 import gzip
 import subprocess
 import sys
@@ -11,13 +12,15 @@ from pathlib import Path
 TOP = Path(__file__).resolve().parents[2]
 sys.path.insert(0, str(TOP / "tools"))
 from vmatools import oracles, traces
+from vmatools.commands import conform
 from vmatools.linux import by_version, generators, selecting, vectors, versions
 from vmatools.linux.areas import NotModelled
-from vmatools.linux.kernel import Kernel, Settings, kernel_of
+from vmatools.linux.kernel import Kernel, Settings, kernel_of, running_version
 from vmatools.linux.space import LinuxSpace
 from vmatools.linux.versions import WrongOracle
 
 ANONYMOUS = "MAP_PRIVATE|MAP_ANONYMOUS|MAP_FIXED -1 0"
+MOVED = "MREMAP_MAYMOVE|MREMAP_FIXED"
 READ, WRITE = f"PROT_READ {ANONYMOUS}", f"PROT_READ|PROT_WRITE {ANONYMOUS}"
 
 
@@ -109,6 +112,12 @@ class Rules(unittest.TestCase):
         lines += ["0 fault 0x101000 w", "0 mprotect 0x101000 4096 PROT_READ|PROT_WRITE"]
         self.assertEqual(borders("linux-6.18", *lines), ["00100000-00102000"])
         self.assertEqual(borders("linux-6.12", *lines), ["00100000-00101000", "00101000-00102000"])
+
+    def test_6_17_forgets_what_was_written_to_memory_that_moves(self) -> None:
+        lines = (f"0 mmap 0x101000 4096 {WRITE}", "0 fault 0x101000 w", f"0 mremap 0x101000 4096 4096 {MOVED} 0x180000")
+        moved = (*lines, f"0 mmap 0x100000 4096 {WRITE}", f"0 mremap 0x180000 4096 4096 {MOVED} 0x101000")
+        for name, last in (("linux-6.17", "00100000-00103000"), ("linux-6.18.15", "00102000-00103000")):
+            self.assertEqual(borders(name, *moved, "0 fork 1", f"1 mmap 0x102000 4096 {WRITE}")[-1], last)
 
     def test_7_2_tests_each_mremap_against_the_limit_and_asks_for_less_room(self) -> None:
         moved = "0 mremap 0x100000 4096 4096 MREMAP_MAYMOVE|MREMAP_FIXED 0x200000"
@@ -219,6 +228,70 @@ class Commands(unittest.TestCase):
         status, _, message = self.vma("serial", "--as", "linux-6.18", text="vmatrace 1\n0 brk 0x100000\n")
         self.assertEqual(status, 2)
         self.assertIn("line 2: every process has a break", message)
+
+    def test_what_is_right_by_default(self) -> None:
+        for system, given, right in (
+            (None, None, oracles.PROFILE),
+            (None, oracles.oracle_of("linux-6.12"), oracles.oracle_of("linux-6.12")),
+            ("native", oracles.PROFILE, oracles.PROFILE),
+        ):
+            options = argparse.Namespace(system=system, oracle=given, list=False)
+            self.assertEqual(conform.oracle_for(options), right)
+        options = argparse.Namespace(system="native", oracle=None, list=False)
+        self.assertEqual(conform.oracle_for(options).name, f"linux-{versions.text_of(running_version())}")
+
+    def test_live_answers_as_linux(self) -> None:
+        sealed = (f"0 mmap 0x100000 8192 {WRITE}", "0 mseal 0x101000 4096 0")
+        lines = (*sealed, "query 0x100000", "0 mprotect 0x100000 8192 PROT_READ")
+        text = "\n".join(["vmatrace 1", *lines, ""])
+        for name, second, found, third in (
+            ("linux-6.18", "L3 t0 v2 = 0", "00100000-00101000 rw-p", "L5 t0 v3 = -1 EPERM"),
+            ("linux-6.1", "trace line 3 not modelled: this version has no mseal", "00100000-00102000 rw-p", "L5 t0 v2 = 0"),
+        ):
+            with self.subTest(name):
+                status, output, message = self.vma("live", "--as", name, text=text)
+                told = output.splitlines()
+                self.assertEqual((status, message, told[1], told[2][:22], told[3]), (0, "", second, found, third))
+                self.assertEqual(told[5][18:22], "r--p")  # as far as the sealed page
+
+    def test_draw_marks_what_linux_answers_otherwise(self) -> None:
+        mapped = "0 mmap 0x100000 4096 PROT_READ MAP_SHARED|MAP_FIXED 3 0"
+        lines = (mapped, f"0 mmap 0x200000 4096 PROT_EXEC {ANONYMOUS}", "0 fault 0x200000 r")
+        text = trace_of("file 3 r 4096 8:1 7 /a", *lines).text()
+        with tempfile.TemporaryDirectory() as folder:
+            trace, output = Path(folder, "a.trace"), Path(folder, "a.out")
+            trace.write_text(text)
+            output.write_text(self.vma("serial", "--as", "profile", str(trace))[1])
+            status, page, message = self.vma("draw", "--as", "linux-6.18", str(trace), str(output))
+            self.assertIn("the output says v2 = served", message)
+            self.assertIn("and linux-6.18.44 v2 = SIGSEGV SEGV_PKUERR", message)
+            self.assertEqual((status, "A run of a.trace, beside linux-6.18.44" in page), (1, True))
+            self.assertEqual(self.vma("draw", "--as", "linux-6.18,keys=0", "--svg", str(trace), str(output))[0], 0)
+            drawn = self.vma("draw", "--as", "linux-6.18", "--list", "2", str(trace))[1]
+            self.assertEqual(drawn, "maps" + self.vma("serial", "--as", "linux-6.18", str(trace))[1].split("maps")[1])
+            trace.write_text("vmatrace 1\n0 brk 0\n")
+            self.assertIn("line 2: every process has a break", self.vma("draw", "--as", "linux-6.18", str(trace))[2])
+
+    def test_explain_names_the_rows(self) -> None:
+        lines = ["vmatrace 1", "0 brk 0", "# a seal", f"0 mmap 0x100000 8192 {WRITE}", "0 mseal 0x101000 4096 0"]
+        text = "\n".join([*lines, "0 mprotect 0x100000 8192 PROT_READ", "0 fault 0x100000 w", ""])
+        status, output, _ = self.vma("explain", "--as", "linux-6.18", "-", text=text)
+        self.assertEqual(status, 0)
+        self.assertIn("line 2, not modelled: every process has a break", output)
+        self.assertIn("line 6, mprotect: profile list: permissions, linux-6.18.44 list: other permissions (seal-prefix: ", output)
+        self.assertNotIn("line 7", output)  # which differs for line 6 alone
+        output = self.vma("explain", "--as", "linux-6.18", "-", text="vmatrace 1\n")[1]
+        self.assertIn("linux-6.18.44 answers each of them as the profile does", output)
+
+    def test_rows_run_on_a_model(self) -> None:
+        status, output, _ = self.vma("rows", "--as", "linux-6.18", "brk-none", "aligned-file")
+        self.assertEqual((status, output.splitlines()[0]), (0, "brk-none: not modelled"))
+        self.assertIn("\n2 rows, 0 otherwise\n", output)
+        status, output, _ = self.vma("rows", "--as", "linux-6.12", "seal-several")
+        self.assertIn("seal-several: linux-6.12.117 answers otherwise\n", output)
+        self.assertEqual((status, output.splitlines()[-1]), (1, "1 row, 1 otherwise"))
+        message = self.vma("rows", "--as", "linux", "--system", "native")[2]
+        self.assertIn("--as stands in the place of the kernel of --system", message)
 
     def test_emitted_answers_name_their_kernel(self) -> None:
         with tempfile.TemporaryDirectory() as folder:

@@ -1,7 +1,7 @@
 """Who is right: of a difference the answers of the profile and of Linux by version, beside yours, and a sentence about them."""
 from __future__ import annotations
 
-from collections.abc import Callable, Sequence
+from collections.abc import Callable, Iterator, Sequence
 from dataclasses import fields, replace
 from typing import NamedTuple, Optional
 
@@ -10,7 +10,7 @@ from .linux import rows
 from .linux.areas import NotModelled
 from .linux.kernel import Kernel, kernel_of
 from .linux.versions import Rules as LinuxRules, table, text_of
-from .oracles import PROFILE, Oracle
+from .oracles import PROFILE, Oracle, left
 from .outputs import Difference, is_list, parts_of
 from .program import Ran
 from .traces import Trace
@@ -50,6 +50,31 @@ def row_of(trace: Trace, kernel: Kernel) -> Optional[str]:
     except NotModelled:
         return None
     return found and (rows.name_of(trace, kernel, found) or "of no name")
+
+
+def parts(trace: Trace, kernel: Kernel) -> Iterator[tuple[Optional[int], str]]:
+    """Each line that a kernel answers otherwise than the profile, or that isn't modelled: its number, and a sentence.
+
+    The line is taken out, and the rest runs again. So what follows from an earlier difference isn't one."""
+    models = Models(kernel)
+    while True:
+        gap = models.linux.gap(trace)
+        found = None if gap else models.difference(trace)
+        number = gap.line if gap else found.number if found else None
+        if gap:
+            yield number, f"not modelled: {gap.why}"
+        elif found:
+            yield number, difference_of(trace, kernel, found)
+        if number is None:
+            return
+        trace = left(trace, number)
+
+
+def difference_of(trace: Trace, kernel: Kernel, found: Difference) -> str:
+    """A difference of profile and kernel in words, with its row."""
+    row = rows.name_of(trace, kernel, found)
+    named = f" ({row}: {rows.SAYS[row]})" if row in rows.SAYS else f" ({row})" if row else ""
+    return f"{found.operation}: profile {found.here}, {kernel.name} {found.there}{named}"
 
 
 class Place(NamedTuple):

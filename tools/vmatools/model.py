@@ -465,16 +465,20 @@ class Space:
         return [f"maps {len(self.areas)}", *map(self.maps_line, self.areas)]
 
     def maps_line(self, area: Area) -> str:
-        file = self.file_of.get(area.object)
-        if file:
-            major, minor, inode, name = file.major, file.minor, file.inode, file.name
-        elif area.object:
-            major, minor, inode, name = 0, 1, area.object, "/dev/zero (deleted)"
-        else:
-            major, minor, inode, name = 0, 0, 0, "[heap]" if area.heap else ""
-        front = f"{permissions(area)} {area.offset * PAGE:08x} {major:02x}:{minor:02x} {inode} "
-        # A name begins in column 74, or after one more space where the line is longer than that already.
-        return front + " " * max(73 - len(front), 1) + name if name else front
+        return line_of(area, self.file_of.get(area.object))
+
+
+def line_of(area: Area, file: File | None) -> str:
+    """The line of an area in a list, and of the file that it maps, if it maps one."""
+    if file:
+        major, minor, inode, name = file.major, file.minor, file.inode, file.name
+    elif area.object:
+        major, minor, inode, name = 0, 1, area.object, "/dev/zero (deleted)"
+    else:
+        major, minor, inode, name = 0, 0, 0, "[heap]" if area.heap else ""
+    front = f"{permissions(area)} {area.offset * PAGE:08x} {major:02x}:{minor:02x} {inode} "
+    # A name begins in column 74, or after one more space where the line is longer than that already.
+    return front + " " * max(73 - len(front), 1) + name if name else front
 
 
 def permits(area: Area, access: str) -> bool:

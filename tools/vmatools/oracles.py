@@ -11,10 +11,11 @@ from .linux.kernel import Kernel, kernel_of, running_kernel
 from .linux.space import LinuxSpace
 from .linux.versions import WrongOracle, table, text_of
 from .model import Space
-from .serial import AnySpace, serial_output
+from .serial import ModelSpace, serial_output
 from .traces import Trace
 
 PROFILE_NAME, RUNNING = "profile", "linux"
+BY_SYSTEM = "the profile beside a COMMAND, and Linux of its own version beside a system of --system"  # the default of two
 
 
 @dataclass(frozen=True)
@@ -35,7 +36,7 @@ class Oracle:
         """The word of `--as` that names it."""
         return self.kernel.option() if self.kernel else PROFILE_NAME
 
-    def space(self, trace: Trace) -> AnySpace:
+    def space(self, trace: Trace) -> ModelSpace:
         if self.kernel:
             return LinuxSpace(trace, self.kernel)
         return Space(trace)
@@ -44,26 +45,34 @@ class Oracle:
         """What is right for a trace, as `serial` writes it."""
         return serial_output(trace, self.space)
 
-    def modelled(self, trace: Trace) -> tuple[Trace, list[NotModelled]]:
-        """The trace without the lines of which the model doesn't say what a kernel answers, and these."""
-        gaps: list[NotModelled] = []
-        while self.kernel:
-            try:
+    def gap(self, trace: Trace) -> Optional[NotModelled]:
+        """The first line of which the model doesn't say what a kernel answers."""
+        try:
+            if self.kernel:
                 self.output(trace)
-                break
-            except NotModelled as gap:
-                gaps.append(gap)
-                trace = without(trace, gap.line)
+        except NotModelled as gap:
+            return gap
+        return None
+
+    def modelled(self, trace: Trace) -> tuple[Trace, list[NotModelled]]:
+        """The trace without these lines, and why of each."""
+        gaps: list[NotModelled] = []
+        while gap := self.gap(trace):
+            gaps.append(gap)
+            trace = without(trace, gap.line)
         return trace, gaps
 
 
-def without(trace: Trace, number: int) -> Trace:
+def left(trace: Trace, number: int) -> Trace:
     """The trace without the line of a number, and, where that forks, without the lines of the child."""
     gone = next(line for line in trace.lines if line.number == number)
     child = gone.arguments[0] if gone.word == "fork" else None
-    return trace.with_lines(
-        line for line in trace.lines if line is not gone and (child is None or line.thread != child)
-    ).numbered()
+    return trace.with_lines(line for line in trace.lines if line is not gone and (child is None or line.thread != child))
+
+
+def without(trace: Trace, number: int) -> Trace:
+    """The same, with the numbers that its lines then have."""
+    return left(trace, number).numbered()
 
 
 PROFILE = Oracle()

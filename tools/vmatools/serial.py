@@ -6,12 +6,12 @@ from dataclasses import dataclass, field
 from typing import Protocol
 
 from .linux.areas import NotModelled
-from .model import Space
+from .model import Area, Space
 from .traces import Line, Trace
 
 
 class AnySpace(Protocol):
-    """An address space of a model: the profile's, or one of Linux."""
+    """An address space."""
 
     def answer(self, line: Line) -> tuple[list[str], bool]:
         """Does what a line asks for, a fork apart: the lines of its result, and whether it was a call."""
@@ -21,6 +21,20 @@ class AnySpace(Protocol):
 
     def maps(self) -> list[str]:
         """The list, as lines."""
+
+
+class ModelSpace(AnySpace, Protocol):
+    """One of a model: the profile's, or one of Linux."""
+
+    @property
+    def areas(self) -> list[Area]:
+        """The list."""
+
+    def child(self) -> ModelSpace:
+        """The space of a child."""
+
+    def maps_line(self, area: Area) -> str:
+        """The line of an area in the list."""
 
 
 @dataclass

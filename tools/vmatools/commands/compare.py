@@ -122,7 +122,7 @@ def add_arguments(parser: argparse.ArgumentParser) -> None:
     group.add_argument(
         "--traces", type=Path, metavar="FOLDER", help="the files *.trace there, or one file, in place of random traces"
     )
-    oracles.add_argument(parser, None, "profile, and with --system Linux of the system's version")
+    oracles.add_argument(parser, None, oracles.BY_SYSTEM)
     group.add_argument(
         "--suite",
         action=argparse.BooleanOptionalAction,

@@ -62,7 +62,7 @@ def add_arguments(parser: argparse.ArgumentParser) -> None:
         default=[],
         help="these cases alone; may be given several times",
     )
-    oracles.add_argument(parser, None, "profile, and with --system Linux of the system's version")
+    oracles.add_argument(parser, None, oracles.BY_SYSTEM)
     parser.add_argument(
         "--seconds", type=time_limit, default=SECONDS, metavar="T", help="how long COMMAND may take for a case (10)"
     )

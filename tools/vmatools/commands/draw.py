@@ -3,9 +3,9 @@
 Time goes down, by version. On the left is a lane for each thread, with its calls, faults and reads; on the right are the VMAs
 by address. A box goes from the version that made a VMA to the one that ended it. Its colour is the protection. Gaps are
 folded, and so are VMAs far from any change. What a call changed is outlined, what it unmapped is dashed, and a fault points
-to its address. Lines of OUTPUT that differ from the tools' model are marked.
+to its address. Lines of OUTPUT that differ from the tools' model are marked, with --as those that differ from Linux.
 
-OUTPUT is what `diltzekun serial` or `threads` wrote for TRACE, or another system in this form. Without it, the model's is
+OUTPUT is what `diltzekun serial` or `threads` wrote for TRACE, or another system in this form. Without it, what is right is
 drawn. TRACE and OUTPUT are files; one of them may be -, standard input.
 
 Exit status: 0 if OUTPUT is legal, as for `vma judge`, 1 if it isn't (the page is written all the same), 2 on wrong use, or
@@ -17,10 +17,11 @@ import argparse
 import os
 import sys
 
-from .. import console, explanations
+from .. import console, explanations, oracles
 from ..drawing.page import page
 from ..drawing.picture import picture
 from ..drawing.runs import Run, read_numbered, replayed
+from ..linux.areas import NotModelled
 from ..traces import BadLine, File
 from ..words import count, number
 
@@ -32,6 +33,7 @@ MOST_BYTES = 1 << 28  # of an output
 def add_arguments(parser: argparse.ArgumentParser) -> None:
     parser.add_argument("trace", metavar="TRACE", help="the trace")
     parser.add_argument("output", metavar="OUTPUT", nargs="?", help="what was written for it")
+    oracles.add_argument(parser)
     parser.add_argument("--svg", action="store_true", help="the picture alone")
     parser.add_argument(
         "--list", metavar="N", type=number, help="prints the list after version N instead, as a maps line would"
@@ -52,7 +54,7 @@ def run(options: argparse.Namespace) -> int:
     elif options.svg:
         text = picture(chosen, files)
     else:
-        text = page(chosen, files, os.path.basename(console.named(options.trace)))
+        text = page(chosen, files, title_of(options))
     sys.stdout.write(text)
     sys.stdout.flush()
     wrong = [difference for run in runs for difference in run.differences]
@@ -61,6 +63,13 @@ def run(options: argparse.Namespace) -> int:
     if len(wrong) > MOST_TOLD:
         console.say(f"and {console.counted(len(wrong) - MOST_TOLD, 'more difference')}")
     return console.FOUND if wrong else console.DONE
+
+
+def title_of(options: argparse.Namespace) -> str:
+    title = f"A run of {os.path.basename(console.named(options.trace))}"
+    if options.oracle.kernel is None:
+        return title
+    return f"{title}, {'beside' if options.output else 'as answered by'} {options.oracle.name}"
 
 
 def runs_of(options: argparse.Namespace) -> tuple[list[Run], dict[int, File]]:
@@ -75,7 +84,10 @@ def runs_of(options: argparse.Namespace) -> tuple[list[Run], dict[int, File]]:
     for other in others:
         with console.reading(options.output):
             output = other.read(MOST_BYTES)
-    return replayed(trace, texts, output), {file.descriptor: file for file in trace.files}
+    try:
+        return replayed(trace, texts, output, options.oracle), {file.descriptor: file for file in trace.files}
+    except NotModelled as gap:
+        raise console.Failure(f"{console.named(options.trace)}: {gap}") from None
 
 
 def list_after(run: Run, version: int) -> str:

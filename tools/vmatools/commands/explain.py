@@ -4,6 +4,9 @@ TRACE is a file, or - for standard input. The line and the cause are those that 
 Name`, when it ends with status 3. Words are counted from 1; the thread of an operation is the first. Of a maps text it says
 whether `diltzekun retrace` takes it, and if not, why.
 
+With --as it says, too, which lines of a trace Linux of a version answers otherwise than the profile, with their rows of
+docs/KERNEL.md, and of which its model says nothing.
+
 Exit status: 0 if TRACE is a trace, or a maps text that `retrace` takes, 1 if a line is bad, 2 on wrong use, or if TRACE
 can't be read.
 """
@@ -11,7 +14,8 @@ from __future__ import annotations
 
 import argparse
 
-from .. import console, explanations, maps_texts, traces
+from .. import answers, console, explanations, maps_texts, oracles, traces
+from ..linux.kernel import Kernel
 
 SUMMARY = "say what is wrong with a trace, and mark the word"
 WIDTH = 110  # a longer line is shown in part
@@ -19,19 +23,25 @@ WIDTH = 110  # a longer line is shown in part
 
 def add_arguments(parser: argparse.ArgumentParser) -> None:
     parser.add_argument("trace", metavar="TRACE", help="the file of the trace, or - for standard input")
+    oracles.add_argument(parser)
 
 
 def run(options: argparse.Namespace) -> int:
     with console.open_input(options.trace) as source, console.reading(options.trace):
         if maps_texts.seems_one(source.peek(maps_texts.MOST_LINE)):
             return explain_maps(source.read(traces.LIMITS["bytes"] + 1))
-        return explain_trace(traces.Reader(source))
+        return explain_trace(traces.Reader(source), options.oracle.kernel)
 
 
-def explain_trace(reader: traces.Reader) -> int:
+def explain_trace(reader: traces.Reader, kernel: Kernel | None) -> int:
     progress, count = console.Progress(), 0
+    lines: list[traces.Line] = []
+    texts: dict[int, str] = {}
     try:
-        for count, _ in enumerate(reader, 1):
+        for count, line in enumerate(reader, 1):
+            if kernel:
+                lines.append(line)
+                texts[line.number] = reader.texts.raw.decode()
             if count % 10_000 == 0:
                 progress.tell(f"{count:,} operations read")
     except traces.BadLine as bad:
@@ -42,7 +52,20 @@ def explain_trace(reader: traces.Reader) -> int:
     finally:
         progress.clear()
     print(f"a trace of version {reader.trace.version}, with {count} operations: no line is bad")
+    if kernel:
+        explain_linux(reader.trace.with_lines(lines), kernel, texts)
     return console.DONE
+
+
+def explain_linux(trace: traces.Trace, kernel: Kernel, texts: dict[int, str]) -> None:
+    """Says where a kernel answers otherwise than the profile."""
+    found = 0
+    for found, (number, says) in enumerate(answers.parts(trace, kernel), 1):
+        print(f"line {number}, {says}" if number else f"at the end, {says}")
+        if number:
+            print(f"    {shown_line(texts[number].rstrip(), 0, 0)[0]}")
+    if not found:
+        print(f"{kernel.name} answers each of them as the profile does")
 
 
 def explain_maps(data: bytes) -> int:

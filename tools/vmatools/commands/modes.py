@@ -15,6 +15,7 @@ from typing import IO, NoReturn
 from .. import console, explanations, maps_texts, oracles, program
 from ..linux.areas import NotModelled
 from ..traces import LIMITS, number_of
+from ..unproved import sessions
 from ..unproved.modes import MOST_GENERATED, MOST_READ
 from ..words import count, number
 
@@ -250,11 +251,14 @@ def explain_check(options: Options, text: IO[bytes], message: str) -> None:
 
 
 def run_live(options: Options) -> int:
-    """Becomes diltzekun-live, which answers from then on, and whose status it is."""
-    path = program.find(options.live, options.verbose, program.LIVE)
+    """Becomes diltzekun-live, which answers from then on, and whose status it is. The model of Linux answers where --as names
+    it."""
+    path = None if options.oracle.kernel else program.find(options.live, options.verbose, program.LIVE)
     if options.file != "-":
         source = console.open_input(options.file)
         os.dup2(source.fileno(), 0)
+    if path is None:
+        return sessions.main([], options.oracle.space)
     become(path)
 
 
@@ -301,6 +305,7 @@ def add_query(parser: argparse.ArgumentParser) -> None:
 def add_live(parser: argparse.ArgumentParser) -> None:
     parser.add_argument("file", metavar="FILE", nargs="?", default="-", help="lines to answer, or - for standard input")
     parser.add_argument("--live", metavar="PATH", help=f"diltzekun-live (${program.LIVE.variable}, or where the program is)")
+    oracles.add_argument(parser)
 
 
 MODES = {
@@ -351,7 +356,8 @@ MODES = {
     ),
     "live": Mode(
         "answer line by line, as a session",
-        "Answers a trace line by line, as diltzekun-live does: a session for sandboxes, fuzzers and tests.",
+        "Answers a trace line by line, as diltzekun-live does: a session for sandboxes, fuzzers and tests.\n\n"
+        "With --as Linux of a version answers, and a line of which its model says nothing by `trace line N not modelled: why`.",
         add_live,
         run_live,
         "\nExit status: that of diltzekun-live, 0 where all was answered.\n",

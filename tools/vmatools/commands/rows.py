@@ -6,6 +6,9 @@ shown: the trace, and the lines in which the program (-) and the running kernel 
 standard input, is a trace of yours, which is shown in the same way. A row that this machine can't run, such as one with
 another lowest address, is named and passed over.
 
+With --as Linux of a version answers beside the program, by its model, and no kernel is run; with `--as profile` the program
+answers alone.
+
 Exit status: 0 if all rows are as in the file, and both answer a trace of yours alike, 1 if one isn't, 2 on wrong use, or if
 a run fails.
 """
@@ -16,7 +19,7 @@ import contextlib
 import difflib
 import os
 
-from .. import console, program
+from .. import console, oracles, program
 from ..systems import rows
 
 SUMMARY = "repeat the known differences of Linux, each on a few lines"
@@ -25,11 +28,9 @@ SUMMARY = "repeat the known differences of Linux, each on a few lines"
 def add_arguments(parser: argparse.ArgumentParser) -> None:
     program.add_arguments(parser)
     parser.add_argument(
-        "--system", metavar="NAME", default="native", help="another kernel: machine, or machine:IMAGE (native)"
+        "--system", metavar="NAME", help="another kernel: machine, or machine:IMAGE (native)"
     )
-    parser.add_argument(
-        "--here", action="store_true", help="runs the program alone, and not the kernel, which may be another one"
-    )
+    oracles.add_argument(parser, None, "the kernel of --system")
     parser.add_argument("names", metavar="NAME", nargs="*", help="these rows alone, which are shown")
 
 
@@ -37,7 +38,16 @@ def is_trace(name: str) -> bool:
     return name == "-" or "/" in name or os.path.isfile(name)
 
 
-def run_all(chosen: list[rows.Row], path: str, kernel: rows.Kernel | None) -> list[rows.Row]:
+def beside(options: argparse.Namespace) -> rows.Answering | None:
+    """What answers beside the program."""
+    if options.oracle is None:
+        return rows.Kernel(options.system or "native")
+    if options.system:
+        raise console.Failure("--as stands in the place of the kernel of --system: only one of them can be given")
+    return rows.Model(options.oracle.kernel) if options.oracle.kernel else None
+
+
+def run_all(chosen: list[rows.Row], path: str, kernel: rows.Answering | None) -> list[rows.Row]:
     """The rows with what is answered now."""
     again, progress = [], console.Progress()
     for place, row in enumerate(chosen, 1):
@@ -57,16 +67,16 @@ def run(options: argparse.Namespace) -> int:
         near = difflib.get_close_matches(unknown[0], [row.name for row in known], 1)
         hint = f"did you mean {near[0]}?" if near else "examples/kernel-rows.txt has them"
         raise console.Failure(f"no row has the name {console.printable(unknown[0])}; {hint}")
-    if own and (path is None or options.here):
-        raise console.Failure("a trace of yours runs on both: the program has to be there, and --here leaves the kernel out")
+    kernel = beside(options)
+    if own and kernel is None:
+        raise console.Failure("a trace of yours runs on both, and `--as profile` leaves Linux out")
     chosen = [(by_name | own)[name] for name in options.names or by_name]
-    kernel = None if options.here else rows.Kernel(options.system)
     with contextlib.closing(kernel) if kernel else contextlib.nullcontext():
         again = run_all(chosen, path, kernel)
     for row in again if options.names else []:
         rows.show(row)
     others = sum(
-        now.here != now.there if row.name in own else not rows.check(row, now) for row, now in zip(chosen, again)
+        now.here != now.there if row.name in own else not rows.check(row, now, kernel) for row, now in zip(chosen, again)
     )
     print(f"{len(chosen)} {'row' if len(chosen) == 1 else 'rows'}, {others} otherwise")
     return 1 if others else 0

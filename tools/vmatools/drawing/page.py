@@ -45,10 +45,9 @@ def summary_of(run: Run, first: int, last: int) -> str:
     )
 
 
-def page(runs: list[Run], files: dict[int, File], name: str) -> str:
+def page(runs: list[Run], files: dict[int, File], title: str) -> str:
     items = [item for run in runs for item in run.items]
     threads = {item.line.thread for item in items}
-    title = f"A run of {name}"
     out = [
         "<!DOCTYPE html>",
         f'<html lang="en"><head><meta charset="utf-8"><title>{escape(title)}</title>',

@@ -306,7 +306,7 @@ class Picture:
     def labels(self, area: Area, letters: str, x: float, y: float, width: float, height: float) -> None:
         perms = letters + ("s" if area.shared else "p")
         marks = [name for name in ("grows", "sealed", "heap") if getattr(area, name)]
-        file = self.run.space.file_of.get(area.object)
+        file = self.run.file_of.get(area.object)
         name = file.name.rsplit("/", 1)[-1] if file else "shared memory" if area.object else ""
         lines = [perms + "".join(f" {mark}" for mark in marks), name]
         if width < 6.4 * len(lines[0]) + 4 and marks:
@@ -393,7 +393,7 @@ class Picture:
         place = self.threads.index(line.thread)
         x, y, colour = self.lanes_x + self.lane * (place + 0.5), row + ROW / 2 - 2, thread_colour(line.thread)
         title = f"line {line.number}, thread {line.thread}, version {item.version}: {item.text}\n= {item.result}"
-        title += f"\nThe model says {item.expected}" if item.expected else ""
+        title += f"\n{self.run.right}: {item.expected}" if item.expected else ""
         wrong = item.expected is not None
         if wrong:
             self.out.append(rect(self.text_x - 4, row, self.call_width + 12, ROW - 4, rx=3, fill="#fde7e7", stroke=RED))

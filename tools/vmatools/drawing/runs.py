@@ -1,4 +1,4 @@
-"""A run that is to be drawn: what a trace asks for, what an output says of it, and what the model says, version by version."""
+"""A run that is to be drawn: what a trace asks for, what an output says of it, and what is right, version by version."""
 from __future__ import annotations
 
 import re
@@ -7,8 +7,11 @@ from dataclasses import dataclass, field
 
 from .. import judging
 from ..console import Failure, counted, printable
-from ..model import Area, Space, answer
-from ..traces import Line, Reader, Source, Trace
+from ..linux.areas import NotModelled
+from ..model import Area
+from ..oracles import PROFILE, Oracle
+from ..serial import ModelSpace
+from ..traces import File, Line, Reader, Source, Trace
 
 RESULT = re.compile(r"L([0-9]{1,20}) t([0-9]{1,20}) v([0-9]{1,20}) = (.*)", re.DOTALL)
 CHILD = re.compile(r"child ([0-9]{1,20}) of L[0-9]{1,20} v[0-9]{1,20}")
@@ -18,7 +21,7 @@ MOST_RUBBISH = 1_000  # lines of no form, or answers too many, behind which an o
 
 @dataclass
 class Item:
-    """One operation: its line, its version, what the output says of it, and what the model says where that is another."""
+    """One operation: its line, its version, what the output says of it, and what is right where that is another."""
 
     line: Line
     text: str
@@ -34,7 +37,9 @@ class Run:
     """What was done in one space: its items in their order, and its list after each version."""
 
     title: str
-    space: Space
+    space: ModelSpace
+    file_of: dict[int, File]  # by the objects of areas
+    right: str  # who says what is right
     child: int | None = None
     items: list[Item] = field(default_factory=list)
     lists: list[list[Area]] = field(default_factory=list)
@@ -118,16 +123,16 @@ def by_lines(lines: list[Line]) -> list[Said]:
     return said
 
 
-# What the model says
+# What is right
 
 
 class Replay:
-    """The runs of the parent and of its children, each answered by the model too."""
+    """The runs of the parent and of its children, each answered by a model too."""
 
-    def __init__(self, trace: Trace, texts: dict[int, str]) -> None:
-        self.trace, self.texts = trace, texts
+    def __init__(self, trace: Trace, texts: dict[int, str], oracle: Oracle) -> None:
+        self.trace, self.texts, self.oracle = trace, texts, oracle
         self.lines = {line.number: line for line in trace.lines}
-        self.forks: dict[int, tuple[Item, Space]] = {}
+        self.forks: dict[int, tuple[Item, ModelSpace]] = {}
         self.runs: list[Run] = []
 
     def follow(self, said: list[Said]) -> list[Run]:
@@ -150,12 +155,14 @@ class Replay:
 
     def begun(self, child: int | None) -> Run | None:
         """The run of the parent or of a child, where a line forked it."""
-        if child is None:
-            return Run("The space of the trace", Space(self.trace))
-        if child not in self.forks:
+        title, space = "The space of the trace", None
+        if child in self.forks:
+            fork, space = self.forks[child]
+            title = f"Child {child}, forked by line {fork.line.number} at version {fork.version}"
+        elif child is not None:
             return None
-        fork, space = self.forks[child]
-        return Run(f"Child {child}, forked by line {fork.line.number} at version {fork.version}", space, child)
+        right = self.oracle.name if self.oracle.kernel else "the model"
+        return Run(title, space or self.oracle.space(self.trace), dict(enumerate(self.trace.files, 1)), right, child)
 
     def take(self, run: Run, said: Answer) -> None:
         """Does what one line asks for, and keeps what came of it."""
@@ -171,7 +178,7 @@ class Replay:
             item.expected = f"v{item.version} = {answered[0]}"
             what = f"v{said.version} = {printable(said.lines[0])}"
             other = ", with another list" if said.lines[0] == answered[0] and said.lines != answered else ""
-            run.differences.append(f"line {said.line}: the output says {what}, and the model {item.expected}{other}")
+            run.differences.append(f"line {said.line}: the output says {what}, and {run.right} {item.expected}{other}")
         item.was_refused = item.result.startswith(("-1 ", "SIG"))
         run.items.append(item)
 
@@ -181,7 +188,10 @@ class Replay:
         if line.word == "fork":
             self.forks[line.arguments[0]] = (item, space.child())
             return [f"child {line.arguments[0]} areas {len(space.areas)}"]
-        answered, item.is_call = answer(space, line)
+        try:
+            answered, item.is_call = space.answer(line)
+        except NotModelled as gap:
+            raise NotModelled(gap.why, line.number) from None
         if item.is_call:
             run.lists.append(space.areas)
             item.version += 1
@@ -192,18 +202,18 @@ def ends(run: Run, said: Said) -> Iterator[str]:
     """What is wrong with the end of what an output says of a space."""
     if said.final is not None and said.final != run.space.maps():
         of_whom = "" if said.child is None else f" of child {said.child}"
-        yield f"the list at the end{of_whom} is another than the model's"
+        yield f"the list at the end{of_whom} is another than {run.right}'s"
     if said.rubbish:
         many = counted(len(said.rubbish), "line")
         yield f"{many} of the output of no form, the first of them line {said.rubbish[0]}"
 
 
-def replayed(trace: Trace, texts: dict[int, str], output: bytes | None) -> list[Run]:
-    """The runs of a trace, and of each what an output says otherwise than the model. It says nothing where `judge` says legal."""
+def replayed(trace: Trace, texts: dict[int, str], output: bytes | None, oracle: Oracle = PROFILE) -> list[Run]:
+    """The runs of a trace, and of each what an output says otherwise than is right: nothing where `judge` says legal."""
     said = by_lines(trace.lines) if output is None else stated(output, len(trace.lines))
-    runs = Replay(trace, texts).follow(said)
+    runs = Replay(trace, texts, oracle).follow(said)
     if output is not None and not any(run.differences for run in runs):
-        wrong = judging.first_wrong(trace, output)
+        wrong = judging.first_wrong(trace, output, oracle)
         if wrong:
             runs[0].differences.append(f"line {wrong.line} of the output: {wrong.why}")
     return runs

@@ -1,9 +1,25 @@
 """One address space of Linux, which answers the operations of a trace in their order."""
 from __future__ import annotations
 
+from ..model import Area, line_of
 from ..traces import PAGE, Line, Trace
-from .areas import TASK_SIZE, VM_ACCOUNT, WORD, AnonVma, NotModelled, Refusal, Vma
-from .faults import Faulting, permissions
+from .areas import (
+    TASK_SIZE,
+    VM_ACCESS,
+    VM_ACCOUNT,
+    VM_GROWSDOWN,
+    VM_MAY,
+    VM_MAYREAD,
+    VM_MAYSHARE,
+    VM_READ,
+    VM_SEALED,
+    WORD,
+    AnonVma,
+    NotModelled,
+    Refusal,
+    Vma,
+)
+from .faults import Faulting
 from .kernel import Kernel
 
 ABOVE_47 = "what Linux does with addresses above 47 bits isn't modelled"
@@ -40,28 +56,34 @@ class LinuxSpace(Faulting):
             return lo < self.brk_now and hi > self.start_brk
         return lo <= self.brk_now and hi >= self.start_brk
 
-    def shown(self) -> list[Vma]:
-        """The VMAs of the trace: without those of the process itself."""
-        return [vma for vma in self.vmas if not any(lo <= vma.lo < hi for lo, hi in self.kernel.process.taken)]
+    @property
+    def areas(self) -> list[Area]:
+        """The VMAs of the trace in the profile's form: without those of the process itself."""
+        taken = self.kernel.process.taken
+        return [self.area_of(vma) for vma in self.vmas if not any(lo <= vma.lo < hi for lo, hi in taken)]
+
+    def area_of(self, vma: Vma) -> Area:
+        flags = vma.flags
+        return Area(
+            vma.lo,
+            vma.hi,
+            (flags & VM_ACCESS) // VM_READ,
+            (flags & VM_MAY) // VM_MAYREAD,
+            bool(flags & VM_MAYSHARE),
+            bool(flags & VM_GROWSDOWN),
+            bool(flags & VM_SEALED),
+            vma.is_anonymous and self.vma_is_initial_heap(vma),
+            vma.file,
+            vma.pgoff % (WORD // PAGE) if vma.file else 0,
+        )
 
     def maps(self) -> list[str]:
         """The list, as lines."""
-        shown = self.shown()
-        return [f"maps {len(shown)}", *map(self.maps_line, shown)]
+        areas = self.areas
+        return [f"maps {len(areas)}", *map(self.maps_line, areas)]
 
-    def maps_line(self, vma: Vma) -> str:
-        device, inode, offset, name = "00:00", 0, 0, ""
-        if vma.file:
-            offset = vma.pgoff * PAGE % WORD
-        if 0 < vma.file <= len(self.files):
-            file = self.files[vma.file - 1]
-            device, inode, name = f"{file.major:02x}:{file.minor:02x}", file.inode, file.name
-        elif vma.file:
-            device, inode, name = "00:01", vma.file, "/dev/zero (deleted)"
-        elif self.vma_is_initial_heap(vma):
-            name = "[heap]"
-        front = f"{vma.lo * PAGE:08x}-{vma.hi * PAGE:08x} {permissions(vma)} {offset:08x} {device} {inode} "
-        return front + " " * max(73 - len(front), 1) + name if name else front
+    def maps_line(self, area: Area) -> str:
+        return line_of(area, self.files[area.object - 1] if 0 < area.object <= len(self.files) else None)
 
     def answer(self, line: Line) -> tuple[list[str], bool]:
         """Does what a line asks for, a fork apart: the lines of its result, and whether it is a call."""

@@ -7,7 +7,10 @@ from dataclasses import dataclass, replace
 from pathlib import Path
 
 from .. import console, program
-from ..traces import BadLine
+from ..linux import kernel as linux
+from ..linux.areas import NotModelled
+from ..oracles import Oracle
+from ..traces import BadLine, read_trace
 from .adapter import Adapter
 from .known import system_of
 from .places import Refused
@@ -54,8 +57,45 @@ def write_rows(head: str, rows: list[Row], path: Path = ROWS) -> None:
     path.write_text(head + "\n".join(row.text() for row in rows), encoding="utf-8")
 
 
-class Kernel:
+class Answering:
+    """What answers the rows beside the program."""
+
+    cannot: str  # why it doesn't answer one
+    otherwise: str  # where it answers one otherwise than 6.18
+
+    def output(self, row: Row) -> str | None:
+        """What it answers to a row, or None where it cannot run it."""
+        raise NotImplementedError
+
+    def close(self) -> None:
+        """Ends it."""
+
+
+class Model(Answering):
+    """A model, as `--as` names it."""
+
+    cannot = "not modelled"
+
+    def __init__(self, kernel: linux.Kernel) -> None:
+        self.otherwise = f"{kernel.name} answers otherwise"
+        self.in_memory = Oracle(kernel)
+        self.on_disk = Oracle(replace(kernel, settings=replace(kernel.settings, files="disk")))
+
+    def output(self, row: Row) -> str | None:
+        oracle = self.on_disk if row.name in ON_DISK else self.in_memory
+        try:
+            return oracle.output(read_trace(row.trace.encode(errors="surrogateescape")))
+        except BadLine as bad:
+            raise console.Failure(f"{row.name}: trace {bad}") from None
+        except NotModelled:
+            return None
+
+
+class Kernel(Answering):
     """The kernel that answers the rows."""
+
+    cannot = "this machine cannot run it"
+    otherwise = "the kernel answers otherwise now"
 
     def __init__(self, name: str) -> None:
         system = system_of(name)
@@ -63,7 +103,6 @@ class Kernel:
         self.on_disk = self.in_memory if system.boots else Adapter(system, folder=program.TOP)
 
     def output(self, row: Row) -> str | None:
-        """What it answers to a row, or None where it cannot run it."""
         adapter = self.on_disk if row.name in ON_DISK else self.in_memory
         try:
             return OWN_BREAK.sub(SOME_BREAK, adapter.answer(row.trace.encode(errors="surrogateescape")))
@@ -86,12 +125,12 @@ def program_output(path: str, row: Row) -> str:
     return ran.output
 
 
-def run_again(row: Row, path: str | None, kernel: Kernel | None) -> Row:
+def run_again(row: Row, path: str | None, kernel: Answering | None) -> Row:
     """The row with what is answered now."""
     here = program_output(path, row) if path else row.here
     there = kernel.output(row) if kernel else row.there
-    if there is None:
-        print(f"{row.name}: this machine cannot run it")
+    if kernel and there is None:
+        print(f"{row.name}: {kernel.cannot}")
     return replace(row, here=here, there=there if there is not None else row.there)
 
 
@@ -106,11 +145,10 @@ def show(row: Row) -> None:
     print("\n".join([f"== {row.name}", row.trace.rstrip("\n"), *differing(row.here, row.there), ""]))
 
 
-def check(row: Row, now: Row) -> bool:
+def check(row: Row, now: Row, kernel: Answering | None) -> bool:
     """Prints what is answered otherwise than it stands in the file. Returns whether all is as there."""
-    for side, old, new in (("the program", row.here, now.here), ("the kernel", row.there, now.there)):
+    other = kernel.otherwise if kernel else ""
+    for otherwise, old, new in (("the program answers otherwise now", row.here, now.here), (other, row.there, now.there)):
         if old != new:
-            print(
-                "\n".join([f"{row.name}: {side} answers otherwise now", *(f"  {line}" for line in differing(old, new))])
-            )
+            print("\n".join([f"{row.name}: {otherwise}", *(f"  {line}" for line in differing(old, new))]))
     return row == now

@@ -1,14 +1,18 @@
 """What diltzekun-live answers to an input.
 
-It is written from docs/diltzekun-live.1 alone, and has nothing of the program's code.
+It is written from docs/diltzekun-live.1 alone, and has nothing of the program's code. `vma live --as` has the calls of a session
+answered by a model of Linux.
 """
 from __future__ import annotations
 
 import os
 import sys
+from collections.abc import Callable
 
 from .. import model, traces
-from ..traces import BadLine, Line
+from ..linux.areas import NotModelled
+from ..serial import ModelSpace
+from ..traces import BadLine, Line, Trace
 
 PIECE = 65_536  # bytes of a read
 
@@ -16,18 +20,19 @@ PIECE = 65_536  # bytes of a read
 class Session:
     """A session, which answers the lines of one address space after another."""
 
-    def __init__(self) -> None:
+    def __init__(self, space_of: Callable[[Trace], ModelSpace] = model.Space) -> None:
+        self.space_of = space_of
         self.begin()
 
     def begin(self) -> None:
         """Before a header."""
         self.reader = traces.Reader(b"")
         self.number = 0  # of the last line; 0 until a header comes
-        self.opened: model.Space | None = None
+        self.opened: ModelSpace | None = None
         self.version = 0
 
-    def space(self) -> model.Space:
-        return self.opened or model.Space(self.reader.trace)
+    def space(self) -> ModelSpace:
+        return self.opened or self.space_of(self.reader.trace)
 
     def answer(self, raw: bytes, is_ended: bool = True) -> list[str]:
         """The lines of the answer to a line."""
@@ -85,7 +90,10 @@ class Session:
         return [space.maps_line(space.areas[place])] if place < len(space.areas) else ["none"]
 
     def result(self, line: Line) -> list[str]:
-        result, is_call = model.answer(self.space(), line)
+        try:
+            result, is_call = self.space().answer(line)
+        except NotModelled as gap:
+            return [f"trace line {line.number} not modelled: {gap.why}"]
         self.version += is_call
         return [f"L{line.number} t{line.thread} v{self.version} = {result[0]}", *result[1:]]
 
@@ -119,12 +127,12 @@ def answers(data: bytes, has_end: bool = True) -> bytes:
     return written + bytes_of(session.closing()) if has_end else written
 
 
-def main(words: list[str]) -> int:
+def main(words: list[str], space_of: Callable[[Trace], ModelSpace] = model.Space) -> int:
     """A session on standard input, whose lines are answered as they come, and its status."""
     if words:
         sys.stderr.write("words\n")
         return 2
-    session, rest = Session(), b""
+    session, rest = Session(space_of), b""
     try:
         while piece := os.read(0, PIECE):
             *lines, rest = (rest + piece).split(b"\n")
