@@ -100,9 +100,6 @@ ALSO: dict[str, str | None] = {
     "brk-moved": "brk-name",
     "brk-hole": "brk-name",
     "brk-below": "brk-name",
-    "seal-denied": "seal-hole",
-    "seal-dontunmap": "mremap-dontunmap",
-    "seal-several": "seal-other-error",
     "seal-fixed": "seal-split",
     "fork-written": "border",
 }

@@ -11,13 +11,14 @@ from pathlib import Path
 
 TOP = Path(__file__).resolve().parents[2]
 sys.path.insert(0, str(TOP / "tools"))
-from vmatools import oracles, traces
+from vmatools import answers as answers_of_models, oracles, traces
 from vmatools.commands import conform
 from vmatools.linux import by_version, generators, selecting, vectors, versions
 from vmatools.linux.areas import NotModelled
 from vmatools.linux.kernel import Kernel, Settings, kernel_of, running_version
 from vmatools.linux.space import LinuxSpace
 from vmatools.linux.versions import WrongOracle
+from vmatools.systems import rows
 
 ANONYMOUS = "MAP_PRIVATE|MAP_ANONYMOUS|MAP_FIXED -1 0"
 MOVED = "MREMAP_MAYMOVE|MREMAP_FIXED"
@@ -191,6 +192,15 @@ class Pages(unittest.TestCase):
                 Path(file.name).write_bytes(data)
                 with self.assertRaisesRegex(WrongOracle, "it is no file of vectors"):
                     vectors.read(Path(file.name))
+
+
+class Rows(unittest.TestCase):
+    def test_the_trace_of_a_row_is_of_its_name(self) -> None:
+        names = ["seal-dontunmap", "seal-several", "seal-denied", "seal-hole", "seal-other-error", "mremap-dontunmap"]
+        for row in rows.read_rows()[1]:
+            if row.name in names:
+                trace = traces.read_trace(row.trace.encode())
+                self.assertEqual(answers_of_models.row_of(trace, kernel_of("6.18")), row.name)
 
 
 class Generators(unittest.TestCase):

@@ -82,6 +82,15 @@ def is_mremap(test: Callable[[Seen], bool], here: str = "-1 E", there: str = "")
     return lambda seen: seen.is_of("mremap", here, there) and test(seen)
 
 
+def has_dontunmap(seen: Seen) -> bool:
+    return bool(seen.arguments[3] & MREMAP["MREMAP_DONTUNMAP"])
+
+
+def begins_sealed(seen: Seen) -> bool:
+    area = area_at(seen.areas, seen.pages()[0])
+    return area is not None and area.sealed
+
+
 def has_several(seen: Seen) -> bool:
     lo, hi = seen.pages()
     area = area_at(seen.areas, lo)
@@ -313,9 +322,14 @@ CASES: list[Case] = [
     Case("heap-joined", "mremap over the border of the heap and plain memory, which Linux joined", is_heap_joined),
     Case("seal-split", "a call that a seal refuses leaves the first area split", is_seal_split),
     Case(
+        "seal-dontunmap",
+        "MREMAP_DONTUNMAP of a sealed area",
+        lambda seen: seen.is_of("mremap", "-1 EINVAL", "-1 EPERM") and has_dontunmap(seen) and seen.has_sealed(),
+    ),
+    Case(
         "mremap-dontunmap",
         "MREMAP_DONTUNMAP",
-        is_mremap(lambda seen: bool(seen.arguments[3] & MREMAP["MREMAP_DONTUNMAP"])),
+        is_mremap(has_dontunmap),
     ),
     Case("mremap-old-zero", "mremap with an old length of 0", is_mremap(lambda seen: bool(seen.arguments[1] == 0))),
     Case(
@@ -334,6 +348,11 @@ CASES: list[Case] = [
         is_mremap(lambda seen: seen.new_pages > seen.space.limit, "-1 ENOMEM"),
     ),
     Case("mremap-object-end", "mremap of a file past page 2^51 - 1", is_mremap(is_past_object, "-1 EINVAL")),
+    Case(
+        "seal-several",
+        "mremap of several areas to a fixed place, one of them sealed",
+        lambda seen: seen.is_of("mremap", "-1 EFAULT", "-1 EPERM") and has_several(seen) and seen.has_sealed(),
+    ),
     Case(
         "seal-other-error",
         "mremap of a sealed area that fails for another reason too",
@@ -356,6 +375,11 @@ CASES: list[Case] = [
         lambda seen: seen.is_of("mremap", "-1 EPERM", "an address") and seen.has_sealed(),
     ),
     Case("border-refused", "mremap over a border that only the kernel has", is_border_refused),
+    Case(
+        "seal-denied",
+        "mprotect of a sealed area whose file denies the access",
+        lambda seen: seen.is_of("mprotect", "-1 EPERM", "-1 EACCES") and begins_sealed(seen),
+    ),
     Case(
         "seal-hole",
         "mprotect of a range with a hole or a refused area before the sealed one",
