@@ -1,5 +1,38 @@
 //! The rules of an address space: what each call and each page fault answers and changes, as definitions over lists of areas; the
 //! tests of requests and the areas that calls make, which run; and laws of the definitions.
+
+// The problem. What does each call and each page fault do to the list of VMAs? This crate is the answer as definitions (specs/), and the parts of
+// it that run: the tests of a request which ask nothing of the list, the new VMAs that calls make, and the verdict on a fault. docs/MODEL.md
+// tells the same in tables.
+//
+//    specs/Mmap.antt, Munmap, Mprotect, Mremap, Brk, Mseal   a call as a list of rows, each a test and an answer; the first whose test holds decides
+//    specs/Steps.antt                                        one match over the calls: `step`, the address space after a call, and its reply
+//    specs/Placement.antt                                    a place is the greatest, or least, member of a set of free starts
+//    specs/Verdicts.antt                                     a fault
+//
+//    definition          ┌──▶ area_model: a slow program that computes it
+//    `mmap_rows` ..      ├──▶ sys_map .. sys_seal, by split_merge: a plan, which makes the list of the definition
+//                        └──▶ history, vma_replay: what a legal result is
+//
+// A row of a definition and its test here stand in the same order (`mmap_rows`, `mmap_refusal`). The tests are in the order in which the row
+// decides, not in the cheapest one: where two errors apply, the order is what a caller sees. Tests that need the list are the plans', or come in
+// as an argument (`taken`).
+//
+// Addresses are bytes, and lists have pages. Numbers of definitions have no upper bound, so nothing wraps: `end_of` is a u128, since an address
+// and a length together may need 65 bits.
+//
+// Laws (laws.rt, page_laws.rt, ..) say what the definitions come to: which pages a call changes and that all others stay, that a sealed page
+// never changes, that lists stay sound, that so many calls add at most three VMAs each (area_limit.rt). They run nothing. If a definition is
+// wrong, no proof notices, but a law may: that is what they are for.
+//
+// To be changed freely: how a test is computed, since each is proved equal to its row. Not to be changed without docs/MODEL.md, the suite and the
+// model in Python (tools/vmatools): any row, or the order of rows. FLOOR is a third of the window of 47 bits, rounded up to a page, with wide
+// addresses too.
+//
+// In Linux: do_mmap, do_munmap and do_brk_flags (mm/mmap.c, mm/vma.c), do_mprotect_pkey (mm/mprotect.c), mremap (mm/mremap.c), do_mseal
+// (mm/mseal.c), unmapped_area_topdown, and handle_mm_fault with its callers. The rules here are the manual pages', with the choices that
+// docs/MODEL.md lists; docs/KERNEL.md has the differences.
+
 #![tactic(auto)]
 
 mod area_limit;

@@ -18,7 +18,7 @@ use mm_types::{
     MAP_PRIVATE, MAP_SHARED, MmapArgs, Prot, Record, Span, has_flag,
 };
 
-/// The greatest byte that a mapping of a file may end at, 2^63 - 1.
+/// The greatest byte that a mapping of a file may end at: 2^63 - 1, the greatest offset of a file.
 const LAST_OFFSET: u128 = 0x7fff_ffff_ffff_ffff;
 
 /// Every access.

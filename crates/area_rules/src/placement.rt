@@ -6,7 +6,7 @@ use area_list::page_of;
 use mm_types::{ADDRESS_LIMIT, Config, PAGE_SIZE};
 
 /// The lowest page of the second search: a third of user memory, rounded up to a page.
-pub const FLOOR: u64 = 0x2_aaaa_aaab;
+pub const FLOOR: u64 = 0x2_aaaa_aaab; // as the kernel's TASK_UNMAPPED_BASE
 
 /// The page at which the memory ends that calls use whose hint asks for no more: the window of 47 bits.
 pub const WINDOW_END: u64 = ADDRESS_LIMIT / PAGE_SIZE;

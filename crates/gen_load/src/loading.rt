@@ -12,7 +12,7 @@ use mm_types::NoMemory;
 use std::alloc::Global;
 
 /// The most operations of a load.
-pub const MOST_OPERATIONS: u32 = 400_000;
+pub const MOST_OPERATIONS: u32 = 400_000; // so many lines are within the limit of an input
 
 /// Line 1 of each trace.
 const HEADER: &[u8] = b"vmatrace 1\n";

@@ -12,7 +12,7 @@ use mm_types::{NoMemory, Row};
 use std::alloc::Global;
 use std::marker::Model;
 
-/// What stands for a reader that is none.
+/// What stands for a reader that is none. It counts as joined, so that it holds no row back.
 const NO_CLEARING: Clearing = Clearing {
     cleared: 0,
     pin: 0,

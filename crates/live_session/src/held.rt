@@ -14,7 +14,7 @@ use std::alloc::Global;
 use std::marker::Model;
 use text_lexer::LINE_LIMIT;
 
-/// How many bytes a read asks for at most.
+/// How many bytes a read asks for at most: as many as two of the longest lines have.
 const PIECE: usize = 8_192;
 
 /// How many bytes of a line are kept while its end was not read: as many as show that it is too long.

@@ -4,6 +4,33 @@
 //! and cause, and changes nothing.
 //!
 //! `specs/Sessions.antt` says what each line is answered by.
+
+// The problem. A trace that is read whole is answered at its end. Somebody who makes calls by hand, or a program that compares each reply, wants
+// each answer at once. A session answers each line as it comes, by what `serial` prints for it.
+//
+//    source ──reads of 8,192 bytes──▶ Held: whole lines, and the beginning of one ──line──▶ answer_line ──▶ piece ──▶ sink
+//                                                                                                │
+//             Says: the lines since `new`, as a trace (TraceBuilder)   ◀──────────────────────────┤
+//             LiveSpace: the address space, once an operation came     ◀──────────────────────────┘
+//
+// When answers are given. Before a read, all answers so far are given (`find_line`), since a read may wait for whoever waits for an answer; and a
+// piece is given when it is full. So a pipe that sends many lines at once gets few writes, and a person gets each answer.
+//
+// When a space opens: at the first operation, since settings come before and the configuration isn't known earlier. `new` ends the space with its
+// list; its memory serves the next one, if that allows as many VMAs (`Spare`).
+//
+// A bad line is answered `bad`, and changes nothing: all tests of a line come before it adds anything (trace_reader). A line that is too long is
+// kept only as far as shows that (MOST_KEPT, 4,097 bytes), however long it is. Memory is bounded by what a trace may have, and not by how long
+// the session is. Beyond a trace's 64 `maps` a read of the list is answered all the same, since it adds nothing
+// (`operations_are_answered_by_items`).
+//
+// One address space, one caller: threads and `after=` are tested as in a trace, and the lines run in their order. A fork is refused
+// (`Cause::Child`).
+//
+// To be changed freely: how many bytes a read asks for, and how pieces are kept. Not to be changed: that answers are given before a read, or a
+// session that speaks line by line stops for ever; and that the text of an answer is that of an item (`item_text` of output_text): sessions and
+// `serial` agree by it.
+
 #![tactic(auto)]
 
 mod answering;

@@ -6,7 +6,7 @@ ghost use Rattle.maple_items.specs.Splices.{ending_after};
 use arrayvec::ArrayVec;
 use maple_node::NodeItem;
 
-/// How many items a list has room for: those of two nodes, and some new ones between.
+/// How many items a list has room for: those of two leaves of 16, and three new ones between, are 35.
 const ROOM: usize = 40;
 
 /// A list of at most 40 items, in an array of its own, so that no memory is asked for.

@@ -1,4 +1,35 @@
 //! Nodes of the tree of areas: rows of 32 words, what they list, and the layout of a tree over rows.
+
+// The problem. Readers load a tree word by word, from shared words, so a node must be plain words, whose meaning doesn't depend on what was read
+// before. This crate says what 32 words mean as a node, and when rows of words are a tree. It has no tree itself: node_slots has the shared
+// words.
+//
+//    leaf     word  0   1      2   3      ..  30  31
+//                   end slot+1 end slot+1     end slot+1           at most 16 entries; 0 in place of slot + 1 is a gap
+//    inner    word  0   1   2  3   4   5  ..  27  28  29 30 31
+//                   end row gap end row gap   end row gap 0  0     at most 10 children; gap is the largest gap under the child, in pages
+//
+//    root     bit   63 .. 24           23 .. 20   19 .. 0
+//                   number of the tree   height   row of the root  (height 1: the root is a leaf)
+//
+// `end` is the first page after an item; the item begins where the one before it ends, and the first item of a node where the node begins, which
+// its parent tells. The items of a node end at the first word that is 0 in place of an end: an end is above 0. What follows is zeros, so that
+// equal nodes have equal words, and a new version of a node differs from the old one in few words.
+//
+// When rows are a tree (`IsLayout`): every row that is pointed to is a node (`IsNode`), from the root down. A node's items ascend and end where
+// it does; its gap is its largest. It has at least 6 entries or 4 children, unless it ends at the limit of the tree: the nodes on the rightmost
+// path, and so the root. The entries cover all pages up to the limit, and two gaps never follow each other. No row is reached twice.
+//
+// Why 6 and 4: these are Linux's (mt_min_slots of lib/maple_tree.c). With them 65,530 VMAs need nine levels at most, and 17 items always give two
+// nodes with enough each (`share` of maple_items). Why a number in the root word: one load finds a whole tree, and tells which call it is the
+// list after. 40 bits are 10^12 calls; the height has 4 bits, and a row 20, which is enough for 65,530 + 128 rows.
+//
+// To be changed freely: little. Readers, stores and searches each know the form, through `width_of`, `listed_at` and `Layout`. Not to be changed:
+// the bounds of a node, since height and the number of rows are proved from them.
+//
+// In Linux: struct maple_range_64 and maple_arange_64 of include/linux/maple_tree.h, with 16 slots and 10, pivots that are the last page of a
+// range, and gaps in inner nodes alone. There a leaf's slots are pointers, and a node knows its parent.
+
 #![tactic(auto)]
 
 mod codec;

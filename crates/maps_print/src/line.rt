@@ -8,6 +8,7 @@ use mm_types::{Files, NoMemory, Record};
 use std::alloc::Global;
 
 /// The column at which a name starts, counted from 0, unless what stands before it is as long.
+/// Linux sets a width of 25 + 6 * sizeof(void *) - 1 in show_vma_header_prefix (fs/proc/task_mmu.c), and puts a space behind it.
 const NAME_COLUMN: usize = 73;
 
 /// Prints the line of one area as proc_pid_maps(5) has it, with the newline that ends it.

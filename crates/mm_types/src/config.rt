@@ -12,7 +12,7 @@ pub const PAGE_SIZE: u64 = 4096;
 pub const ADDRESSES_END: u128 = 1 << 64;
 
 /// The most pages that an object may have, 2^51 - 1.
-pub const MOST_OBJECT_PAGES: u64 = (1 << 51) - 1;
+pub const MOST_OBJECT_PAGES: u64 = (1 << 51) - 1; // offsets are below 2^63 bytes
 
 /// The address at which user memory ends, in bytes, where addresses are not wide: one page below 2^47.
 pub const ADDRESS_LIMIT: u64 = 0x7fff_ffff_f000;
@@ -108,6 +108,7 @@ pub fn rows_for(areas: u32) -> u32
     requires { areas ≤ MOST_AREAS }
     ensures { result ≡ rows_for areas }
 {
+    // 4 areas / 9 + 9 for the present tree, as many for the next, 40 for the store that runs, and some more: span_tree counts them
     areas + 128
 }
 
@@ -116,6 +117,7 @@ pub fn slots_for(areas: u32) -> u32
     requires { areas ≤ MOST_AREAS }
     ensures { result ≡ slots_for areas }
 {
+    // those of the list, and as many as a call can add before the slots that it takes away are free again
     2 * areas + 2
 }
 

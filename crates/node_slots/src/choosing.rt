@@ -36,10 +36,12 @@ pub(crate) fn note_replaced(notes: &mut Vec<RowNote>, row: Row, replaced: Row)
     }
 }
 
-/// Among how many rows, of those that were taken before, one is taken in turn.
+/// Among how many rows, of those that were taken before, one is taken in turn. In turn, since the place of a row that is taken goes to the row
+/// that became free last: the same place twice would take the row of a node that may want it back.
 const TURNS: usize = 32;
 
-/// How many more free rows were taken before than twice the rows in use, before no fresh one is taken.
+/// How many more free rows were taken before than twice the rows in use, before no fresh one is taken. With twice as many most nodes find the
+/// row of their version before; these more are for a tree of few nodes.
 const SPARE: usize = 64;
 
 impl NodeWriter {

@@ -8,7 +8,7 @@ use mm_types::NoMemory;
 use std::alloc::Global;
 use std::marker::Model;
 
-/// The readers that a table has at most.
+/// The readers that a table has at most: as many as a trace may have threads.
 const MOST_READERS: u32 = 64;
 
 /// Words that are zeros but for the first, for new tables to be copied from.

@@ -20,7 +20,7 @@ use trace_reader::{Trace, read};
 const MARK: &[u8] = b"==\n";
 
 /// The most bytes behind the line `==`.
-pub const TEXT_LIMIT: usize = 268_435_456;
+pub const TEXT_LIMIT: usize = 268_435_456; // four times the bytes of a trace
 
 /// A trace, and the text that is judged.
 #[derive(Drop)]

@@ -13,13 +13,13 @@ use mm_types::{NoMemory, Record};
 use std::alloc::Global;
 use std::marker::Model;
 
-/// The most areas of a chunk.
+/// The most areas of a chunk. Chunks are few and roomy, since memory is taken for all of them beforehand, and room that isn't used isn't touched.
 pub(crate) const MOST_IN_CHUNK: usize = 1024;
 
-/// How many areas each chunk but the last has when all areas were shared out anew.
+/// How many areas each chunk but the last has when all areas were shared out anew. Half, so that each has room again.
 pub(crate) const HALF: usize = MOST_IN_CHUNK / 2;
 
-/// A chunk with so many areas is divided while another one is spare.
+/// A chunk with so many areas is divided while another one is spare: what a change costs is to move the areas of its chunk.
 const LARGE: usize = 128;
 
 /// Some areas in order, with room for as many as a chunk may have. Contracts see it as their list.

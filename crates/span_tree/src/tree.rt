@@ -93,6 +93,7 @@ impl SpanTree {
         // and just once where enough rows are free already
         ensures once { enough self.old.areas ≤ self.old.free → self.new.scans ≡ self.old.scans + length self.old.pins }
     {
+        // A tree of n areas has at most 4 n / 9 + 9 rows, which is below n / 2 + 9, and a store needs 40 more. The head of the crate counts them.
         wait_for_rows(rt, &self.nodes, &mut self.writer, self.areas / 2 + 60);
         if self.number == 0 {
             let pages = Span {

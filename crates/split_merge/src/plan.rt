@@ -61,6 +61,7 @@ impl Plan {
     pub fn with_room(alloc: Global, areas: u32) -> Result<Plan, NoMemory>
         ensures { IfOk result (λ plan. plan ≡ record { changes = []; room = 2 * areas + 4 }) }
     {
+        // a plan has at most two changes for each area near its spans, and four (`IsLocal`)
         let changes = Vec::with_capacity(alloc, 2 * areas as usize + 4)?;
         Ok(Plan { changes })
     }

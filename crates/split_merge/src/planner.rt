@@ -1,4 +1,4 @@
-//! The planner: what becomes of the areas of a list, joined as it goes, as changes of the list.
+//! The planner: it builds the new list of areas piece by piece, merging as it goes, and plans its difference from the old list.
 ghost use Rattle.std.specs.Prelude.{◌≡◌, ◌<◌, ◌≤◌, ◌+◌, ◌++◌, [], ◌∷◌, None, Some, length, map, min, max};
 ghost use Rattle.std.specs.Option.{option_len, option_or};
 ghost use Rattle.mm_types.specs.Records.{IsValid};
@@ -12,27 +12,27 @@ use crate::plan::{Change, Plan};
 use area_list::{AttrChange, joins, piece, with_attr};
 use mm_types::{Record, Span};
 
-/// An area of the new list that is being made, and the old area that it replaces, if there is one.
+/// The last area of the new list, which the next piece may extend, and the old area that it updates in place, if there is one.
 #[derive(Clone, Copy)]
 pub(crate) struct Merging {
     replaces: Option<Record>,
     area: Record,
 }
 
-/// The plan of a call along a list. Of the old list and the new one, each by ascending page, it plans the difference: an old area
-/// becomes the new one with the first part that begins within it, or, where none does, the one that lies over its first page. Where
-/// there is none, or another old area became that already, it goes.
+/// The plan of a call, made in one walk by ascending page over the old list. An old area is updated in place to the new one that its first
+/// piece is in, or, if no piece of it is left, to the one that covers its first page. If there is none, or that one updates another old area
+/// already, it is detached.
 #[derive(Clone, Copy)]
 pub(crate) struct Planner {
-    /// The new area, until its place is reached.
+    /// The area that the call maps, until its place in the list is reached.
     coming: Option<Record>,
-    /// The last old area, until a part of it comes.
+    /// The last old area, until a piece of it is in the new list.
     pending: Option<Record>,
-    /// The area that is being made.
+    /// The last area of the new list.
     merging: Option<Merging>,
 }
 
-/// Plans that the old area goes, if there is one.
+/// Detaches the old area, if there is one.
 fn detach(old: &Option<Record>, plan: &mut Plan)
     requires { length plan.old.changes + option_len old.now ≤ plan.old.room }
     ensures { plan.new ≡ record plan.old { changes = plan.old.changes ++ detaching old.now } }
@@ -42,7 +42,7 @@ fn detach(old: &Option<Record>, plan: &mut Plan)
     }
 }
 
-/// Plans that the new area takes the place of the old one, or is added where there is none.
+/// Updates the old area in place to the new one, or adds the new one if there is no old one. An area that stays as it is makes no change.
 fn replace(old: &Option<Record>, new: &Record, plan: &mut Plan)
     requires { length plan.old.changes < plan.old.room }
     ensures { plan.new ≡ record plan.old { changes = plan.old.changes ++ replacing old.now new.now } }
@@ -60,7 +60,7 @@ fn replace(old: &Option<Record>, new: &Record, plan: &mut Plan)
     }
 }
 
-/// Plans the area that was made, if there is one.
+/// Plans the last area of the new list, if there is one: no piece extends it any more.
 fn close(merging: &Option<Merging>, plan: &mut Plan)
     requires { length plan.old.changes + option_len merging.now ≤ plan.old.room }
     ensures { plan.new ≡ record plan.old { changes = plan.old.changes ++ closing merging.now } }
@@ -70,7 +70,7 @@ fn close(merging: &Option<Merging>, plan: &mut Plan)
     }
 }
 
-/// Takes the pending old area, where the part begins below its end.
+/// Takes the pending old area, if the piece begins below its end, and so is a piece of it or covers some of it.
 fn take_pending(pending: &mut Option<Record>, part: &Record) -> Option<Record>
     ensures taken { result ≡ taken pending.old part.now }
     ensures left { pending.new ≡ left pending.old part.now }
@@ -87,7 +87,8 @@ impl Merging {
     ghost use Rattle.area_list.specs.Changes.{joined_area};
     ghost use Rattle.split_merge.specs.Internal.Planner.{detaching, spare};
 
-    /// Goes on with a part that joins, and takes the place of the old area, if it has none yet.
+    /// Extends the area by a piece that merges with it. It updates the old area of the piece, unless it updates another already: then that
+    /// one is detached.
     fn go_on(&mut self, part: &Record, old: Option<Record>, plan: &mut Plan)
         requires { length plan.old.changes + 1 ≤ plan.old.room }
         ensures merging { self.new ≡ record { replaces = option_or self.old.replaces old; area = joined_area self.old.area part.now } }
@@ -111,7 +112,7 @@ impl Planner {
     ghost use Rattle.split_merge.specs.Internal.Becoming.{parts_outside_both, parts_left};
     ghost use Rattle.split_merge.specs.Internal.Planner.{Event, detaching, settled, unsettled, planned_with, laid, reached, reaching, planned, held, weight, GoesAlong};
 
-    /// A planner at the begin of a list, with at most one new area to come.
+    /// A planner at the beginning of a list, for a call that maps at most one new area.
     pub(crate) fn new(coming: Option<Record>) -> Planner
         ensures { result ≡ record { coming = coming; pending = None; merging = None } }
     {
@@ -122,8 +123,8 @@ impl Planner {
         }
     }
 
-    /// Lays a part: the area that is being made goes on where the part joins it, and else another begins. Either takes the place of
-    /// the pending old area, if it has none yet.
+    /// Appends a piece to the new list: it extends the last area if the two merge, and else begins another. Either updates the pending
+    /// old area, if it updates none yet.
     fn lay(&mut self, part: &Record, plan: &mut Plan)
         requires { length plan.old.changes + 1 ≤ plan.old.room }
         ensures planner { self.new ≡ laid self.old part.now }
@@ -143,8 +144,8 @@ impl Planner {
         });
     }
 
-    /// Settles what becomes of the pending old area, of which no more parts come: the area that is being made takes its place, if it
-    /// has its first page and no old area yet, and else it goes.
+    /// Decides about the pending old area, of which no piece is left: the last area of the new list updates it, if that covers its first
+    /// page and updates none yet, and else it is detached.
     fn settle(&mut self, plan: &mut Plan)
         requires { length plan.old.changes + option_len self.old.pending ≤ plan.old.room }
         ensures planner { self.new ≡ record self.old { pending = None; merging = settled self.old.pending self.old.merging } }
@@ -162,7 +163,7 @@ impl Planner {
         }
     }
 
-    /// Lays the new area, if it begins below the page and is still to come.
+    /// Appends the new area of the call, if it begins below the page and isn't in the list yet.
     fn reach(&mut self, page: u64, plan: &mut Plan)
         requires { length plan.old.changes + option_len self.old.coming ≤ plan.old.room }
         ensures planner { self.new ≡ reached self.old page }
@@ -176,7 +177,7 @@ impl Planner {
         }
     }
 
-    /// Comes to the first page of an old area.
+    /// Begins an old area: the one before it is decided, and this one is pending.
     fn begin(&mut self, area: &Record, plan: &mut Plan)
         requires { length plan.old.changes + (held self.old + 1) ≤ plan.old.room }
         ensures { GoesAlong (Event.Begins area.now ∷ []) self.old self.new plan.old plan.new }
@@ -186,7 +187,7 @@ impl Planner {
         self.pending = Some(*area);
     }
 
-    /// Comes to a part.
+    /// Appends a piece of an old area, after the new area of the call if that begins below it.
     fn come_to(&mut self, part: &Record, plan: &mut Plan)
         requires { length plan.old.changes + (held self.old + 1) ≤ plan.old.room }
         ensures { GoesAlong (Event.Comes part.now ∷ []) self.old self.new plan.old plan.new }
@@ -195,7 +196,7 @@ impl Planner {
         self.lay(part, plan);
     }
 
-    /// Comes to the part of an area from `lo` up to `hi`, if it has a page.
+    /// Appends the piece of an area from `lo` up to `hi`, if that has a page.
     fn come_to_piece(&mut self, area: &Record, lo: u64, hi: u64, plan: &mut Plan)
         requires valid { IsValid area.now }
         requires within { hi ≤ area.now.span.hi }
@@ -207,7 +208,7 @@ impl Planner {
         }
     }
 
-    /// Comes to the parts of an area outside both spans: below the lower, between the two, and above the upper.
+    /// Appends what the call leaves of an area: below the lower span, between the two, and above the upper.
     fn come_to_outside(&mut self, low: &Span, high: &Span, area: &Record, plan: &mut Plan)
         requires valid { IsValid area.now }
         requires room { length plan.old.changes + (held self.old + length (parts_outside_both low.now high.now area.now))
@@ -220,7 +221,7 @@ impl Planner {
         self.come_to_piece(area, whole.lo.max(high.hi), whole.hi, plan);
     }
 
-    /// Comes to the part of an area within the span, with its attributes changed, if it has a page.
+    /// Appends the piece of an area within the span, with its attributes changed, if that has a page.
     fn come_to_within(&mut self, span: &Span, change: AttrChange, area: &Record, plan: &mut Plan)
         requires valid { IsValid area.now }
         requires room { length plan.old.changes
@@ -236,7 +237,7 @@ impl Planner {
         }
     }
 
-    /// Comes to the parts of an area: below the span, within it with its attributes changed, and above it.
+    /// Appends the pieces of an area: below the span, within it with its attributes changed, and above it.
     fn come_to_changed(&mut self, span: &Span, change: AttrChange, area: &Record, plan: &mut Plan)
         requires valid { IsValid area.now }
         requires room { length plan.old.changes + (held self.old + length (parts_changed change span.now area.now)) ≤ plan.old.room }
@@ -248,7 +249,7 @@ impl Planner {
         self.come_to_piece(area, whole.lo.max(span.hi), whole.hi, plan);
     }
 
-    /// Comes to an area that parts take the place of.
+    /// Visits an area near the spans of the call: splits it where they begin and end, and drops or changes the pieces within.
     pub(crate) fn take(&mut self, becoming: &Becoming, area: &Record, plan: &mut Plan)
         requires valid { IsValid area.now }
         requires room { length plan.old.changes + (held self.old + (1 + length (parts_left becoming.now area.now))) ≤ plan.old.room }
@@ -261,7 +262,7 @@ impl Planner {
         }
     }
 
-    /// Passes over an area, which joins nothing.
+    /// Passes over an area between the two spans, which merges with nothing.
     pub(crate) fn pass(&mut self, area: &Record, plan: &mut Plan)
         requires { length plan.old.changes + held self.old ≤ plan.old.room }
         ensures along { GoesAlong (Event.Passed area.now ∷ []) self.old self.new plan.old plan.new }
@@ -275,7 +276,7 @@ impl Planner {
         self.merging = None;
     }
 
-    /// Comes to the end of the list.
+    /// Ends the list: the new area, if it is above all others, and what is pending.
     pub(crate) fn finish(&mut self, plan: &mut Plan)
         requires { length plan.old.changes + held self.old ≤ plan.old.room }
         ensures { plan.new ≡ record plan.old { changes = plan.old.changes ++ planned self.old [] } }

@@ -9,11 +9,11 @@ use mm_types::NoMemory;
 use std::alloc::Global;
 use std::marker::Model;
 
-/// The most lines of a script, those that are passed over included.
+/// The most lines of a script, those that are passed over included. Each event prints a whole state, and `end` runs the slow model.
 pub const MOST_LINES: u64 = 10_000;
 
 /// The most readers, slots or rows of a script.
-pub const MOST_PARTS: u64 = 8;
+pub const MOST_PARTS: u64 = 8; // a line of output shows the state of all
 
 /// A script: the core that it names, and its events.
 #[derive(Debug, Drop)]

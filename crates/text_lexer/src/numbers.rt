@@ -9,7 +9,7 @@ ghost use Rattle.text_lexer.specs.Reading.{Reads};
 
 use crate::error::Cause;
 
-/// So many digits of any base of at most 36 spell a value that fits 64 bits.
+/// So many digits of any base of at most 36 spell a value that fits 64 bits (36^12 < 2^63), so they need no test for overflow.
 const FEW_DIGITS: usize = 12;
 
 /// The number that a word is: 1 to 20 decimal digits, or `0x` and 1 to 16 hexadecimal digits of either case, with a

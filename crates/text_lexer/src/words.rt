@@ -8,7 +8,7 @@ ghost use Rattle.text_lexer.specs.Words.{is_blank, is_part, words_of, after_blan
 use std::alloc::{AllocError, Global};
 use std::simd::prelude::*;
 
-/// How many bytes are tested together.
+/// How many bytes are tested together: those of a vector of 128 bits.
 const LANES: usize = 16;
 
 /// Spaces and tabs stand between words.

@@ -25,6 +25,24 @@
 //!
 //! `text_lexer` has the lines, words and numbers that other formats share, and the causes. Those of its items by which a trace is
 //! read are public here too.
+
+// The idea. A line is read by itself, behind what the lines before it said (`TraceBuilder`): so a session (live_session) and `check`
+// (output_check) read traces by the same function, line by line. A line has up to four kinds of test, and their order is the order of causes:
+//
+//    bytes of the line   too long, no end, not UTF-8                                         text_lexer
+//    its words           header, thread, name, how many, each from the left, after=          settings.rt, operations.rt, calls.rt
+//    against the others  the line that is named, the child, the descriptor                   builder.rt
+//    how many            lines, maps, named, forks, files                                    builder.rt, limits.rt
+//
+// All tests of a line come before it takes memory. So a bad line is never hidden behind a lack of memory, and a line that was refused leaves the
+// builder as it was.
+//
+// The limits. 64 threads, since the tables of a space have at most so many readers. 65,530 VMAs are the default of vm.max_map_count. 64 `maps`,
+// since each copies the whole list; 1,000 `after=`, since each may begin a round; 8 forks, since each opens a space.
+//
+// To be changed freely: how a word is read. Not to be changed: the number of a cause, by which programs tell it, and the order above. A new
+// operation, setting or flag comes with its definition (`trace_of`), and docs/TRACE.md.
+
 #![tactic(auto)]
 
 mod builder;

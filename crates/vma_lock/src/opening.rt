@@ -13,7 +13,7 @@ use mm_types::{Config, NoMemory, slots_for};
 use std::alloc::Global;
 use std::sync::Arc;
 
-/// The sequence of a new table.
+/// The sequence of a new table: even, since no call runs, and not 0, which is the lock sequence of a slot that was never marked.
 pub const FIRST_SEQ: u64 = 2;
 
 impl VmaTable {

@@ -9,7 +9,8 @@ use mm_types::{Config, slots_for};
 /// The words of a cache line, which has 64 bytes.
 const LINE: usize = 8;
 
-/// A mark word is the lock sequence times this, plus the count of readers.
+/// A mark word is the lock sequence times this, plus the count of readers. There are at most 64 readers, and each holds one slot, so the count
+/// never runs over into the sequence.
 pub(crate) const COUNTS: u64 = 256;
 
 /// The place of a slot's mark word.
