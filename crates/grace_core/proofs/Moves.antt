@@ -15,8 +15,6 @@ use Rattle.grace_core.proofs.Leaving.{length-since_from, since_left, since_same,
 pub free_fact : (writer_state : WriterState) → ((reader : ℕ) → (clearing_at writer_state.clearings reader).cleared ≤ (clearing_at writer_state.clearings reader).tree)
     → ((reader : ℕ) → (clearing_at writer_state.clearings reader).tree ≤ writer_state.tree.number) → FreeFact writer_state
 free_fact writer_state before scanned = record {
-  waiting = λ row waits. not-true (has_row writer_state.tree row) (and_parts (not (has_row writer_state.tree row)) (nat_lt writer_state.passed (since_at writer_state.since row)) waits).0;
-  free = λ row free. not-true (has_row writer_state.tree row) (and_parts (not (has_row writer_state.tree row)) (nat_le (since_at writer_state.since row) writer_state.passed) free).0;
   cleared = λ reader. omega (arith, before reader, scanned reader);
   scanned = scanned;
 }

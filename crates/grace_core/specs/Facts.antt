@@ -1,7 +1,7 @@
 -- What every state of the grace protocol keeps.
 use Rattle.std.specs.Prelude.{ℕ, ◌≡◌, ◌≤◌, ◌<◌, ◌%◌, ◌^◌, true, false, List, length, Some}
 use Rattle.grace_core.specs.declared.clearing.Clearing.{Clearing}
-use Rattle.grace_core.specs.Core.{Tree, WriterState, Core, has_row, row_at, since_at, clearing_at, pin_at, snapshot_at, is_free, waits, Exists}
+use Rattle.grace_core.specs.Core.{Tree, WriterState, Core, has_row, row_at, since_at, clearing_at, pin_at, snapshot_at, is_free, Exists}
 use Rattle.grace_core.specs.Steps.{least}
 
 -- the rows of a tree exist, and have the words that they had when the tree was published
@@ -28,11 +28,8 @@ pub record Keeps (writer_state : WriterState) (reader pin : ℕ) (tree : Tree) :
   pub words : KeepsWords writer_state.words tree
   pub holds : HoldsRows writer_state reader pin tree
 
--- The free fact: a row that waits or is free is in no present tree. No reader is cleared up to a tree above the present
--- one, and no last scan was made at a tree above it.
+-- the free fact: no reader is cleared up to a tree above the present one, and no last scan was made at a tree above it
 pub record FreeFact (writer_state : WriterState) : Type 0 where
-  pub waiting : (row : ℕ) → waits writer_state row ≡ true → has_row writer_state.tree row ≡ false
-  pub free : (row : ℕ) → is_free writer_state row ≡ true → has_row writer_state.tree row ≡ false
   pub cleared : (reader : ℕ) → (clearing_at writer_state.clearings reader).cleared ≤ writer_state.tree.number
   pub scanned : (reader : ℕ) → (clearing_at writer_state.clearings reader).tree ≤ writer_state.tree.number
 
