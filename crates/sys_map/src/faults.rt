@@ -30,7 +30,6 @@ fn unmapped_verdict(grower: Option<Record>) -> Verdict
 /// The verdict on a fault that grows no area. Two looks by page at most.
 #[tactic(auto, unfolding(area_rules::specs::Verdicts::verdict))]
 pub fn verdict<A: Areas>(config: &Config, areas: &A, page: Page, access: Access) -> Verdict
-    requires valid { IsValidConfig config.now }
     requires canonical { IsCanonical (A.bounds areas.now).limit (A.list areas.now) }
     ensures { result ≡ verdict config.now (A.list areas.now) page.0 access }
 {
@@ -43,7 +42,6 @@ pub fn verdict<A: Areas>(config: &Config, areas: &A, page: Page, access: Access)
 /// Whether a fault grows an area: one grows into its page, and allows the access. One look by page.
 #[tactic(auto, unfolding(area_rules::specs::Growing::grows))]
 pub fn grows<A: Areas>(config: &Config, areas: &A, page: Page, access: Access) -> bool
-    requires valid { IsValidConfig config.now }
     requires canonical { IsCanonical (A.bounds areas.now).limit (A.list areas.now) }
     ensures { result ≡ grows config.now (A.list areas.now) page.0 access }
 {
