@@ -4,9 +4,9 @@ use Rattle.std.specs.Prelude.{Contains, IsPermutation}
 use Rattle.mm_types.specs.declared.area.Record.{Record}
 use Rattle.mm_types.specs.declared.slot.Slot.{Slot}
 use Rattle.area_rules.specs.Placement.{is_free}
-use Rattle.maple_items.specs.Pairs.{overwritten}
+use Rattle.maple_node.specs.Pairs.{overwritten}
 use Rattle.maple_gap.specs.Gaps.{first_from, slot_in}
-use Rattle.span_tree.specs.SpanTrees.{SpanView, ArePairs}
+use Rattle.area_tree.specs.SpanTrees.{SpanView, ArePairs}
 use Rattle.area_tree.specs.declared.shown.ShownArea.{ShownArea}
 use Rattle.area_tree.specs.declared.tree.AreaTree.TheInside.{Inside}
 use Rattle.area_tree.specs.AreaTrees.{AreaTreeView, shown_of, areas_of, times_shown, AreRecords}

@@ -12,7 +12,7 @@ use Rattle.mm_types.specs.declared.slot.Slot.{Slot}
 use Rattle.maple_node.specs.Trees.{Pair}
 use Rattle.maple_gap.specs.Gaps.{span_of, first_from, last_before, slot_in}
 use Rattle.split_merge.specs.Finding.{first_from as first_area, last_before as last_area}
-use Rattle.span_tree.specs.SpanTrees.{ArePairs}
+use Rattle.area_tree.specs.SpanTrees.{ArePairs}
 use Rattle.area_tree.specs.declared.shown.ShownArea.{ShownArea}
 use Rattle.area_tree.specs.AreaTrees.{area_in, shown_at, areas_shown, AreRecords}
 use Rattle.area_tree.proofs.Order.{each_pair, contained_twice}

@@ -1,3 +1,15 @@
+pub mod Sums
+pub mod Waits
+pub mod Pairs
+pub mod Scanning
+pub mod Counts
+pub mod Sizes
+pub mod Writing
+pub mod SpanFacts
+pub mod SpanStoring
+pub mod Publishing
+pub mod Preparing
+pub mod Opening
 pub mod Order
 pub mod Padding
 pub mod Storing

@@ -6,7 +6,7 @@ use Rattle.std.proofs.lemmas.List.Elements.{All-nil, All-cons, All-head, All-tai
 use Rattle.mm_types.specs.declared.area.Span.{Span}
 use Rattle.mm_types.specs.declared.area.Record.{Record}
 use Rattle.maple_node.specs.Trees.{Pair}
-use Rattle.span_tree.specs.SpanTrees.{ArePairs}
+use Rattle.area_tree.specs.SpanTrees.{ArePairs}
 use Rattle.maple_gap.specs.Gaps.{span_of}
 use Rattle.area_tree.specs.AreaTrees.{area_in, shown_at, areas_shown, AreasRise, AreRecords}
 

@@ -5,8 +5,8 @@ use Rattle.std.specs.List.{flat_map}
 use Rattle.std.proofs.lemmas.Bool.{lt-ltb, ne_eqb}
 use Rattle.std.proofs.lemmas.List.Elements.{All-cons, All-head, All-tail, All-weaker}
 use Rattle.maple_node.specs.Trees.{Pair}
-use Rattle.maple_items.specs.Pairs.{lower_part, upper_part, overwritten}
-use Rattle.span_tree.specs.SpanTrees.{ArePairs}
+use Rattle.maple_node.specs.Pairs.{lower_part, upper_part, overwritten}
+use Rattle.area_tree.specs.SpanTrees.{ArePairs}
 use Rattle.area_tree.proofs.Order.{IsPair, each_pair}
 use Rattle.area_tree.proofs.Storing.{OneSide, lower_away, upper_away, lower_none, upper_all, stays}
 

@@ -6,8 +6,8 @@ use Rattle.std.proofs.lemmas.Bool.{cases_lt, lt-ltb, le-ltb}
 use Rattle.std.proofs.lemmas.Grind.{flat_map-append}
 use Rattle.std.proofs.lemmas.List.Elements.{All-nil, All-cons, All-append}
 use Rattle.maple_node.specs.Trees.{Pair, pair_of}
-use Rattle.maple_items.specs.Pairs.{lower_part, upper_part, overwritten}
-use Rattle.span_tree.specs.SpanTrees.{ArePairs}
+use Rattle.maple_node.specs.Pairs.{lower_part, upper_part, overwritten}
+use Rattle.area_tree.specs.SpanTrees.{ArePairs}
 use Rattle.area_tree.proofs.Storing.{OneSide, lower_away, lower_none, upper_all, upper_away, stays}
 
 -- a part of a part of a pair

@@ -9,9 +9,9 @@ use Rattle.std.proofs.lemmas.List.Sorted.{IsPermutation-sym, IsPermutation-map, 
 use Rattle.mm_types.specs.declared.area.Span.{Span}
 use Rattle.mm_types.specs.declared.area.Record.{Record}
 use Rattle.maple_node.specs.Trees.{Pair}
-use Rattle.maple_items.specs.Pairs.{overwritten}
+use Rattle.maple_node.specs.Pairs.{overwritten}
 use Rattle.area_slots.specs.Slots.{one_at}
-use Rattle.span_tree.specs.SpanTrees.{SpanView, ArePairs}
+use Rattle.area_tree.specs.SpanTrees.{SpanView, ArePairs}
 use Rattle.area_tree.specs.declared.shown.ShownArea.{ShownArea}
 use Rattle.area_tree.specs.declared.tree.AreaTree.TheInside.{Inside}
 use Rattle.maple_gap.specs.Gaps.{span_of}

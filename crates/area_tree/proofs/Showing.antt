@@ -13,9 +13,9 @@ use Rattle.mm_types.specs.declared.area.Span.{Span}
 use Rattle.mm_types.specs.declared.area.Record.{Record}
 use Rattle.area_rules.specs.Placement.{is_free}
 use Rattle.maple_node.specs.Trees.{Pair}
-use Rattle.maple_items.specs.Pairs.{overwritten}
+use Rattle.maple_node.specs.Pairs.{overwritten}
 use Rattle.area_slots.specs.Slots.{one_at}
-use Rattle.span_tree.specs.SpanTrees.{ArePairs}
+use Rattle.area_tree.specs.SpanTrees.{ArePairs}
 use Rattle.area_tree.specs.declared.shown.ShownArea.{ShownArea}
 use Rattle.maple_gap.specs.Gaps.{span_of}
 use Rattle.area_tree.specs.AreaTrees.{no_area, area_in, shown_at, areas_shown, times_shown, AreRecords}

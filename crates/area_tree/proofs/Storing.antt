@@ -5,8 +5,8 @@ use Rattle.std.specs.List.{flat_map, insert, remove}
 use Rattle.std.proofs.lemmas.Bool.{lt-ltb, le-ltb, ne_eqb}
 use Rattle.std.proofs.lemmas.List.Elements.{All-head, All-tail}
 use Rattle.maple_node.specs.Trees.{Pair, pair_of}
-use Rattle.maple_items.specs.Pairs.{lower_part, upper_part, overwritten}
-use Rattle.span_tree.specs.SpanTrees.{ArePairs}
+use Rattle.maple_node.specs.Pairs.{lower_part, upper_part, overwritten}
+use Rattle.area_tree.specs.SpanTrees.{ArePairs}
 use Rattle.area_tree.proofs.Order.{each_pair}
 
 -- what is left of a pair on one side of a page

@@ -7,8 +7,8 @@ use Rattle.mm_types.specs.declared.area.Span.{Span}
 use Rattle.mm_types.specs.declared.area.Record.{Record}
 use Rattle.maple_node.specs.Trees.{Pair}
 use Rattle.maple_gap.specs.Gaps.{span_of}
-use Rattle.maple_items.specs.Pairs.{overwritten}
-use Rattle.span_tree.specs.SpanTrees.{SpanView, ArePairs}
+use Rattle.maple_node.specs.Pairs.{overwritten}
+use Rattle.area_tree.specs.SpanTrees.{SpanView, ArePairs}
 use Rattle.area_tree.specs.declared.shown.ShownArea.{ShownArea}
 use Rattle.area_tree.specs.declared.tree.AreaTree.TheInside.{Inside}
 use Rattle.area_tree.specs.AreaTrees.{AreaTreeView, area_in, shown_at, shown_of, areas_shown, AreRecords, Adjoin}

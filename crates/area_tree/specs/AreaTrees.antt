@@ -8,7 +8,7 @@ use Rattle.area_rules.specs.Placement.{is_free}
 use Rattle.maple_node.specs.Trees.{Pair}
 use Rattle.maple_gap.specs.Gaps.{span_of}
 use Rattle.area_slots.specs.Slots.{one_at}
-use Rattle.span_tree.specs.SpanTrees.{SpanView}
+use Rattle.area_tree.specs.SpanTrees.{SpanView}
 use Rattle.area_tree.specs.declared.shown.ShownArea.{ShownArea}
 
 -- the tree of spans and slots, what each slot shows or showed last, the pages between which areas are placed, and whether a slot ever

@@ -3,11 +3,11 @@ ghost use Rattle.std.specs.Prelude.{◌≡◌, ◌≤◌, [], length, map, IfOk}
 ghost use Rattle.std.specs.Vec.{vec_capacity};
 ghost use Rattle.area_tree.specs.AreaTrees.{AreRecords, areas_shown, shown_at, areas_of};
 
+use crate::SpanTree;
 use crate::placing::shown_by;
 use crate::records::Records;
 use crate::tree::AreaTree;
 use mm_types::{AreaList, NoMemory, Page, Record};
-use span_tree::SpanTree;
 use std::alloc::Global;
 
 /// Appends what the slots of a tree show, in order, within the room.

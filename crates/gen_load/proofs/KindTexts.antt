@@ -6,8 +6,8 @@ use Rattle.mm_types.specs.declared.config.TheConstants.{PAGE_SIZE}
 use Rattle.flag_table.specs.Printing.{printed}
 use Rattle.flag_table.specs.Tables.{map_flags, mremap_flags}
 use Rattle.trace_reader.specs.Fields.{prot_of_bits}
-use Rattle.trace_text.specs.LineTexts.{address_word, prot_word, call_words, op_words, line_words, text_of, line_text}
-use Rattle.trace_text.proofs.Numerals.{address_word-some}
+use Rattle.trace_reader.specs.LineTexts.{address_word, prot_word, call_words, op_words, line_words, text_of, line_text}
+use Rattle.trace_reader.proofs.Numerals.{address_word-some}
 use Rattle.gen_load.specs.declared.draw.Kind.{Kind}
 use Rattle.gen_load.specs.declared.draw.Kind.TheVariants.{MapExactly, MapNear, MapAnywhere, Unmap, Protect, Move}
 use Rattle.gen_load.specs.declared.draw.Kind.TheVariants as kinds

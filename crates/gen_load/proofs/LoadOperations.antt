@@ -14,13 +14,13 @@ use Rattle.trace_reader.specs.declared.trace.Op.{Op}
 use Rattle.trace_reader.specs.declared.trace.Op.TheVariants as ops
 use Rattle.trace_reader.specs.Fields.{prot_of_bits}
 use Rattle.trace_reader.specs.Values.{IsOpValue, is_maps, child_of}
-use Rattle.trace_text.specs.LineTexts.{prot_word, access_word, call_words, op_words, HasNames}
+use Rattle.trace_reader.specs.LineTexts.{prot_word, access_word, call_words, op_words, HasNames}
 use Rattle.gen_load.specs.declared.draw.Kind.{Kind}
 use Rattle.gen_load.specs.declared.draw.Kind.TheVariants.{MapExactly, MapNear, MapAnywhere, Unmap, Protect, Move}
 use Rattle.gen_load.specs.declared.draw.Kind.TheVariants as kinds
 use Rattle.gen_load.specs.Loads.{address_of, length_of, prot_bits_of, new_length_of, mapping, exactly, anywhere, operation}
-use Rattle.trace_text.proofs.PlainWords.{room_of}
-use Rattle.trace_text.proofs.Numerals.{length-address, length-number}
+use Rattle.trace_reader.proofs.PlainWords.{room_of}
+use Rattle.trace_reader.proofs.Numerals.{length-address, length-number}
 
 -- an operation with values that fit, flags with names, and short words
 pub record IsLoaded (op : Op) : Type 0 where

@@ -4,9 +4,9 @@ use Rattle.std.proofs.lemmas.List.Elements.{All-nil, All-cons}
 use Rattle.mm_types.specs.Config.{default_config}
 use Rattle.trace_reader.specs.Grammar.{nothing, config_of, lines_read, trace_of}
 use Rattle.text_lexer.specs.Lines.{input_limit}
-use Rattle.trace_text.specs.LineTexts.{op_words, text_of, line_text}
-use Rattle.trace_text.proofs.PrintedLines.{printed_line}
-use Rattle.trace_text.proofs.LinesRead.{IsReadableBy, AreNumberedFrom, with_lines, length-text, after_all, lines_read-header, trace_of-read}
+use Rattle.trace_reader.specs.LineTexts.{op_words, text_of, line_text}
+use Rattle.trace_reader.proofs.PrintedLines.{printed_line}
+use Rattle.trace_reader.proofs.LinesRead.{IsReadableBy, AreNumberedFrom, with_lines, length-text, after_all, lines_read-header, trace_of-read}
 use Rattle.gen_load.specs.Loads.{kind_of, next_of, draw_of, line_of, lines_after, load_lines, load_trace, load_text}
 use Rattle.gen_load.proofs.LoadOperations.{operation-loaded}
 

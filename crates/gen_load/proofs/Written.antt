@@ -2,7 +2,7 @@
 use Rattle.std.proofs.Common.{◌≡◌, ℕ, suc, ◌+◌, ◌-◌, ◌<◌, ◌≤◌, List, ◌++◌, flat_map, codes, Result, Ok, Err, OnOk, refl, sym, ap, ◌∙◌, append_assoc, arith}
 use Rattle.std.proofs.lemmas.List.{append-nil}
 use Rattle.mm_types.specs.declared.memory.NoMemory.{NoMemory}
-use Rattle.trace_text.specs.LineTexts.{line_words, text_of, line_text}
+use Rattle.trace_reader.specs.LineTexts.{line_words, text_of, line_text}
 use Rattle.gen_load.specs.Loads.{next_of, draw_of, line_of, lines_after, load_text}
 
 -- three parts that are appended one after the other, unless memory runs out in the last, are a text

@@ -10,12 +10,12 @@ use Rattle.trace_reader.specs.declared.trace.Op.{Op}
 use Rattle.trace_reader.specs.declared.trace.Op.TheVariants.{Call, Fault}
 use Rattle.trace_reader.specs.declared.trace.Trace.{Trace}
 use Rattle.trace_reader.specs.declared.trace.TraceLine.{TraceLine}
-use Rattle.draws.specs.Numbers.{next_state, number_below}
+use Rattle.gen_load.specs.Numbers.{next_state, number_below}
 use Rattle.gen_load.specs.declared.draw.Kind.{Kind}
 use Rattle.gen_load.specs.declared.draw.Kind.TheVariants.{MapExactly, MapNear, MapAnywhere, Unmap, Protect, Move}
 use Rattle.gen_load.specs.declared.draw.Kind.TheVariants as kinds
 use Rattle.gen_load.specs.declared.draw.TheConstants.{FIRST_ADDRESS, DRAWS}
-use Rattle.trace_text.specs.LineTexts.{header, line_text}
+use Rattle.trace_reader.specs.LineTexts.{header, line_text}
 
 -- the number after a number
 abbrev pub next_of : ℕ → ℕ

@@ -2,7 +2,7 @@
 
 ghost use Rattle.std.specs.Prelude.{◌≡◌};
 ghost use Rattle.trace_reader.specs.Fields.{prot_of_bits};
-ghost use Rattle.trace_text.specs.LineTexts.{prot_word};
+ghost use Rattle.trace_reader.specs.LineTexts.{prot_word};
 ghost use Rattle.gen_load.specs.Loads.{kind_of, thread_of, address_of, length_of, prot_bits_of, new_length_of};
 
 use mm_types::PAGE_SIZE;

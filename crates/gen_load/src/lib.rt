@@ -1,8 +1,9 @@
 //! Loads: traces of pseudo-random operations, each made from two numbers alone, how many operations and a seed, so that the same
 //! two always make the same trace.
 //!
-//! The generator of `draws` starts at the seed, and each line takes its next number of 31 bits, which is the draw of the line: its kind of operation, its thread of four, its page of 65,536, its length of 1 to 16
-//! pages, its protection, and for a move the new length of 1 to 8 pages.
+//! The numbers (`Draws`) start at the seed, and each line takes the next one of 31 bits, which is the draw of the line: its kind of operation,
+//! its thread of four, its page of 65,536, its length of 1 to 16 pages, its protection, and for a move the new length of 1 to 8 pages. Tests
+//! that draw what they try, and the program that measures, take their numbers here too.
 
 // The problem. Measurements and long tests need large traces that anybody can make again. A load is a count and a seed, and nothing else: the
 // same two make the same bytes on any machine, and are all that a report has to name.
@@ -26,6 +27,8 @@
 mod draw;
 mod laws;
 mod loading;
+mod numbers;
 
 pub use laws::{flags_are_printed, generator_numbers, loads_are_traces};
 pub use loading::{MOST_OPERATIONS, load};
+pub use numbers::Draws;

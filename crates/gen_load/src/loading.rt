@@ -2,11 +2,11 @@
 
 ghost use Rattle.std.specs.Prelude.{◌≡◌, ◌≤◌, ◌++◌, false, codes, decimal, IfOk, OnOk};
 ghost use Rattle.std.specs.Fmt.{digits};
-ghost use Rattle.trace_text.specs.LineTexts.{line_text};
+ghost use Rattle.trace_reader.specs.LineTexts.{line_text};
 ghost use Rattle.gen_load.specs.Loads.{line_of, load_text};
 
+use crate::Draws;
 use crate::draw::{DRAWS, Draw, Kind};
-use draws::Draws;
 use maps_print::{push_decimal, push_hex};
 use mm_types::NoMemory;
 use std::alloc::Global;

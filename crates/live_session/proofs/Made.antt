@@ -15,7 +15,7 @@ use Rattle.trace_reader.specs.Grammar.{config_of}
 use Rattle.trace_reader.specs.Lines.{SoFar, after_line}
 use Rattle.history.specs.declared.items.Item.{Item}
 use Rattle.history.specs.Histories.{answer_of, call_of, caller_of, gather, items_from, serial_history, space_after, version_after}
-use Rattle.output_text.specs.Output.{content_text, item_text, start_text, maps_text}
+use Rattle.output.specs.Output.{content_text, item_text, start_text, maps_text}
 use Rattle.live_session.specs.declared.asking.Asked.{Asked}
 use Rattle.live_session.specs.declared.asking.Asked.TheVariants as asks
 use Rattle.live_session.specs.Asking.{asked_by_words, asked_of, asked_of_new, is_new, list_read, own_line, own_or}

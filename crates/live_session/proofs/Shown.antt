@@ -3,7 +3,7 @@ use Rattle.std.proofs.Common.{◌≡◌, ℕ, List, ◌++◌, Result, Ok, Err, c
 use Rattle.std.specs.Prelude.{OnOk}
 use Rattle.area_rules.specs.Steps.{opening}
 use Rattle.trace_reader.specs.Lines.{SoFar}
-use Rattle.output_text.specs.Output.{maps_text}
+use Rattle.output.specs.Output.{maps_text}
 use Rattle.live_session.specs.Sessions.{areas_text, found_text, opened_by}
 
 no_areas : (s : SoFar) → areas_text (opened_by s) ≡ codes "maps " ++ (decimal 0 ++ codes "\n")

@@ -4,8 +4,8 @@ use Rattle.std.specs.Prelude.{Bool, IsErrAnd, Result}
 use Rattle.std.specs.Io.KnownBytes.{Appends, Consumes, IsAtEnd, Keeps}
 use Rattle.std.proofs.KnownBytes.{Appends-trans, Consumes-trans, Consumes-kept, Consumes-nil, Appends-nil}
 use Rattle.io_edge.specs.Edge.{SourceView, SinkView, FailedLast}
-use Rattle.output_print.specs.declared.error.PrintError.{PrintError}
-use Rattle.output_print.specs.Giving.{Gave, IsCut, Prints}
+use Rattle.output.specs.declared.error.PrintError.{PrintError}
+use Rattle.output.specs.Giving.{Gave, IsCut, Prints}
 use Rattle.live_session.specs.declared.status.Status.{Status}
 use Rattle.live_session.specs.declared.status.Status.TheVariants as statuses
 use Rattle.live_session.specs.Statuses.{status_of_print}

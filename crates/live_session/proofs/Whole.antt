@@ -23,9 +23,9 @@ use Rattle.history.specs.declared.items.Item.{Item}
 use Rattle.history.specs.Histories.{gather, items_from, serial_history, space_after, space_after_all, version_after}
 use Rattle.history.specs.Labels.{labelled}
 use Rattle.history.proofs.SerialOrder.{serial_space}
-use Rattle.output_text.specs.Output.{item_text, listed_text, maps_text, output_text, serial_output, told_by}
-use Rattle.output_print.specs.Telling.{told_in_turn}
-use Rattle.output_print.proofs.InTurn.{told_of_lines}
+use Rattle.output.specs.Output.{item_text, listed_text, maps_text, output_text, serial_output, told_by}
+use Rattle.output.specs.Telling.{told_in_turn}
+use Rattle.output.proofs.InTurn.{told_of_lines}
 use Rattle.live_session.specs.Asking.{asked_of_new}
 use Rattle.live_session.specs.Items.{after_operations, items_made, output_in_turn}
 use Rattle.live_session.specs.Sessions.{Answer, Opened, Session, after_operation, answer_by, answer_read, answered, answers, answers_of, areas_text, begun, closing_text, ending_text, last_piece, opened_by, operation_text, pieces_of, session_after, session_text, space_of, whole_lines}

@@ -6,8 +6,8 @@ use Rattle.trace_reader.specs.declared.trace.Trace.{Trace}
 use Rattle.trace_reader.specs.declared.trace.TraceLine.{TraceLine}
 use Rattle.history.specs.declared.items.Item.{Item}
 use Rattle.history.specs.Histories.{items_from, space_after_all}
-use Rattle.output_text.specs.Output.{item_text, maps_text}
-use Rattle.output_print.specs.Telling.{told_in_turn}
+use Rattle.output.specs.Output.{item_text, maps_text}
+use Rattle.output.specs.Telling.{told_in_turn}
 use Rattle.live_session.specs.Sessions.{Opened, after_operation}
 
 -- an address space after operations, one after another

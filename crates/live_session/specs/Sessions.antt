@@ -16,7 +16,7 @@ use Rattle.trace_reader.specs.declared.trace.TraceLine.{TraceLine}
 use Rattle.trace_reader.specs.Grammar.{nothing, config_of}
 use Rattle.trace_reader.specs.Lines.{SoFar}
 use Rattle.history.specs.Histories.{answer_of, space_after, version_after}
-use Rattle.output_text.specs.Output.{item_text, maps_text, start_text}
+use Rattle.output.specs.Output.{item_text, maps_text, start_text}
 use Rattle.live_session.specs.declared.asking.Asked.{Asked}
 use Rattle.live_session.specs.declared.asking.Asked.TheVariants as asks
 use Rattle.live_session.specs.Asking.{asked_of}

@@ -1,7 +1,7 @@
 -- What a session ends with, as a number and as a line of text.
 use Rattle.std.specs.Prelude.{ℕ, List, [], codes}
-use Rattle.output_print.specs.declared.error.PrintError.{PrintError}
-use Rattle.output_print.specs.declared.error.PrintError.TheVariants as errors
+use Rattle.output.specs.declared.error.PrintError.{PrintError}
+use Rattle.output.specs.declared.error.PrintError.TheVariants as errors
 use Rattle.live_session.specs.declared.status.Status.{Status}
 use Rattle.live_session.specs.declared.status.Status.TheVariants as statuses
 

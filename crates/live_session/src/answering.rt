@@ -8,7 +8,7 @@ ghost use Rattle.live_session.specs.Internal.Talking.{AnswersLine, HasRoom, IsRe
 use crate::asking::{Asked, Says};
 use crate::live_space::LiveSpace;
 use mm_types::NoMemory;
-use output_text::{push_count, push_start};
+use output::{push_count, push_start};
 use std::alloc::Global;
 use std::io::Write;
 use text_lexer::{CallError, Cause, RawLine, text_of};

@@ -14,7 +14,7 @@ use crate::held::Held;
 use crate::live_space::{LiveSpace, Spare};
 use crate::status::Status;
 use io_edge::{Sink, Source};
-use output_print::give_full;
+use output::give_full;
 use std::alloc::Global;
 use trace_reader::TraceLine;
 

@@ -3,7 +3,7 @@ ghost use Rattle.std.specs.Prelude.{◌<◌, ◌-◌, ◌^◌};
 ghost use Rattle.live_session.specs.Internal.Giving.{GivesAnswers};
 
 use io_edge::Sink;
-use output_print::{PrintError, give_all};
+use output::{PrintError, give_all};
 
 /// Gives a sink the answers in a piece, which has none then. Without an answer nothing is given, and so nothing fails.
 pub(crate) fn give_answers<K: Sink>(sink: &mut K, piece: &mut Vec<u8>) -> Result<(), PrintError>

@@ -8,7 +8,7 @@ ghost use Rattle.trace_reader.specs.Values.{children_of};
 ghost use Rattle.trace_reader.specs.declared.trace.Trace.{Trace};
 ghost use Rattle.trace_reader.specs.declared.trace.TraceLine.{TraceLine};
 ghost use Rattle.history.specs.Histories.{gather, serial_history, space_after_all};
-ghost use Rattle.output_text.specs.Output.{listed_text, serial_output};
+ghost use Rattle.output.specs.Output.{listed_text, serial_output};
 ghost use Rattle.live_session.specs.declared.held.TheConstants.{MOST_KEPT, PIECE};
 ghost use Rattle.live_session.specs.Items.{IsTextOfItem, after_operations, items_made, output_in_turn};
 ghost use Rattle.live_session.specs.Sessions.{IsWithinLimits, answered, answers_of, begun, opened_by, read_at, session_after, session_text, space_of};

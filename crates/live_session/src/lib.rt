@@ -28,7 +28,7 @@
 // (`Cause::Child`).
 //
 // To be changed freely: how many bytes a read asks for, and how pieces are kept. Not to be changed: that answers are given before a read, or a
-// session that speaks line by line stops for ever; and that the text of an answer is that of an item (`item_text` of output_text): sessions and
+// session that speaks line by line stops for ever; and that the text of an answer is that of an item (`item_text` of output): sessions and
 // `serial` agree by it.
 
 #![tactic(auto)]

@@ -8,7 +8,7 @@ ghost use Rattle.live_session.specs.Sessions.{after_operation, areas_text, found
 use history::{Content, Item, made_call};
 use maps_print::push_line;
 use mm_types::{Config, NoMemory, PAGE_SIZE, Page};
-use output_text::{push_item, push_maps};
+use output::{push_item, push_maps};
 use plain_space::{PlainSpace, Room};
 use std::alloc::Global;
 use std::marker::Model;

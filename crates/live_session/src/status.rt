@@ -3,7 +3,7 @@ ghost use Rattle.live_session.specs.Statuses.{line_of_status, number_of_status};
 ghost use Rattle.live_session.specs.declared.status.Status.TheVariants.{NoMemory as no_memory};
 
 use mm_types::NoMemory;
-use output_print::PrintError;
+use output::PrintError;
 use std::alloc::AllocError;
 
 /// What a session ends with.

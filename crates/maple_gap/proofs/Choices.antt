@@ -6,9 +6,9 @@ use Rattle.std.proofs.lemmas.Bool.{cases_Bool}
 use Rattle.maple_node.specs.declared.item.NodeItem.{NodeItem}
 use Rattle.maple_node.specs.Nodes.{items_of, end_of}
 use Rattle.maple_node.specs.Levels.{AllFrom}
-use Rattle.maple_items.specs.declared.place.Place.{Place}
+use Rattle.maple_node.specs.declared.place.Place.{Place}
 use Rattle.maple_node.specs.Codec.{width_of, listed_at}
-use Rattle.maple_items.proofs.Parts.{listed_there}
+use Rattle.maple_node.proofs.Parts.{listed_there}
 use Rattle.maple_gap.specs.declared.window.Side.{Side}
 use Rattle.maple_gap.specs.declared.window.Side.TheVariants.{Low, High}
 use Rattle.maple_gap.specs.declared.window.Window.{Window}

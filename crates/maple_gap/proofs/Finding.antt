@@ -8,9 +8,9 @@ use Rattle.maple_node.specs.declared.item.NodeItem.{NodeItem}
 use Rattle.maple_node.specs.Nodes.{end_of, Ascends}
 use Rattle.maple_node.specs.Levels.{is_leaf, read, item_at, AllFrom, IsNode, level_of}
 use Rattle.maple_node.proofs.Lists.{end_of-append, ends_above}
-use Rattle.maple_items.specs.declared.place.Place.{Place}
-use Rattle.maple_items.specs.Splices.{ending_by}
-use Rattle.maple_items.proofs.Lists.{ending_by-first, ending_by-later, item_at-first, item_at-later, ending_by_all, ending_by_none, ending_by_first, end_ending_by, item_at-left, item_at-right}
+use Rattle.maple_node.specs.declared.place.Place.{Place}
+use Rattle.maple_node.specs.Splices.{ending_by}
+use Rattle.maple_node.proofs.ItemLists.{ending_by-first, ending_by-later, item_at-first, item_at-later, ending_by_all, ending_by_none, ending_by_first, end_ending_by, item_at-left, item_at-right}
 use Rattle.maple_gap.specs.declared.branch.Branch.{Branch}
 use Rattle.maple_gap.specs.Internal.Searches.{IsUnder, with_gap, IsAnyBranch, IsPartOf, entries_under}
 use Rattle.maple_gap.proofs.Rows.{node_under}

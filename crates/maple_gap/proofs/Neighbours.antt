@@ -13,8 +13,8 @@ use Rattle.maple_node.specs.Levels.{item_at}
 use Rattle.maple_node.specs.Words.{slot_of}
 use Rattle.maple_node.specs.Trees.{Pair, pairs_from, ApartFrom}
 use Rattle.maple_node.proofs.Lists.{ends_above}
-use Rattle.maple_items.specs.Splices.{ending_by}
-use Rattle.maple_items.proofs.Lists.{item_at-first, item_at-later, ending_by-first, ending_by_first, stands, end_ending_by}
+use Rattle.maple_node.specs.Splices.{ending_by}
+use Rattle.maple_node.proofs.ItemLists.{item_at-first, item_at-later, ending_by-first, ending_by_first, stands, end_ending_by}
 use Rattle.maple_gap.specs.Gaps.{first_from, slot_in}
 
 -- an item that is found is the first, or one of the others

@@ -10,7 +10,7 @@ use Rattle.maple_node.specs.Levels.{is_leaf, read, below, AllFrom, IsNode, level
 use Rattle.maple_node.specs.Trees.{pairs_from, entries_of, ApartFrom}
 use Rattle.maple_node.proofs.Trees.{limit_above}
 use Rattle.maple_node.proofs.Levels.{below-ascends}
-use Rattle.maple_items.proofs.Lists.{AllFrom-left, AllFrom-right}
+use Rattle.maple_node.proofs.ItemLists.{AllFrom-left, AllFrom-right}
 use Rattle.node_slots.specs.declared.tree.Tree.{Tree as View}
 use Rattle.node_slots.specs.declared.seats.NodeWriter.{NodeWriter}
 use Rattle.node_slots.specs.Seats.{sight, row_count}

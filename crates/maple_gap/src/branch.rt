@@ -4,14 +4,13 @@ ghost use Rattle.std.specs.Prelude.{◌≡◌, ◌<◌, ◌≤◌, ◌+◌, true
 ghost use Rattle.std.specs.Option.{option_or};
 ghost use Rattle.maple_node.specs.Nodes.{end_of};
 ghost use Rattle.maple_node.specs.Levels.{is_leaf, item_at};
-ghost use Rattle.maple_items.specs.Splices.{ending_by};
+ghost use Rattle.maple_node.specs.Splices.{ending_by};
 ghost use Rattle.node_slots.specs.Seats.{row_count};
 ghost use Rattle.node_slots.specs.Built.{words_at, IsWriters};
 ghost use Rattle.maple_gap.specs.Internal.Searches.{may_have, entries_under, best_under, best_of, spare_from, IsBranch, IsAnyBranch, IsSpare, IsFar, IsPartOf, IsRootOf};
 
 use crate::window::{Side, Window, choose};
-use maple_items::{Place, gap_in, item_in, lists_nothing};
-use maple_node::NodeItem;
+use maple_node::{NodeItem, Place, gap_in, item_in, lists_nothing};
 use mm_types::{Row, Steps};
 use node_slots::{NodeWriter, Tree};
 

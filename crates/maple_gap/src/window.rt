@@ -5,8 +5,7 @@ ghost use Rattle.maple_node.specs.Nodes.{items_of};
 ghost use Rattle.maple_gap.specs.Internal.Searches.{may_have, edge, chosen, nothing_chosen, chosen_from};
 ghost use Rattle.maple_gap.specs.Internal.Spots.{IsNextRoom, HasNoRoom};
 
-use maple_items::{Place, item_gap};
-use maple_node::{NODE_WORDS, listed_at, width_of};
+use maple_node::{NODE_WORDS, Place, item_gap, listed_at, width_of};
 
 /// Which start is sought: the least or the greatest.
 #[derive(Clone, Copy)]

@@ -1,3 +1,13 @@
+pub mod ItemLists
+pub mod Listed
+pub mod Parts
+pub mod Words
+pub mod Spliced
+pub mod Swapped
+pub mod Pairs
+pub mod Pages
+pub mod ItemEntries
+pub mod Gaps
 pub mod Packing
 pub mod Padded
 pub mod Places

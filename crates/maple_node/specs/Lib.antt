@@ -1,3 +1,7 @@
+pub mod Splices
+pub mod Parts
+pub mod Pairs
+pub mod Internal
 pub mod Nodes
 pub mod Words
 pub mod Codec

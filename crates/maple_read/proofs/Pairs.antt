@@ -9,7 +9,7 @@ use Rattle.maple_node.specs.declared.item.NodeItem.{NodeItem}
 use Rattle.maple_node.specs.Nodes.{Ascends}
 use Rattle.maple_node.specs.Levels.{item_at}
 use Rattle.maple_node.specs.Trees.{Pair, pairs_from}
-use Rattle.maple_items.specs.Pairs.{has_page}
+use Rattle.maple_node.specs.Pairs.{has_page}
 use Rattle.maple_read.proofs.Items.{item_at-first, item_at-later}
 
 -- a pair that begins above a page, or ends at it or below, does not have it

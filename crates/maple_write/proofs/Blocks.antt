@@ -4,8 +4,8 @@ use Rattle.std.proofs.lemmas.Bool.{cases_lt}
 use Rattle.maple_node.specs.declared.item.NodeItem.{NodeItem}
 use Rattle.maple_node.specs.Nodes.{items_of, leaf_items, inner_items, end_of, Ascends, IsPlain}
 use Rattle.maple_node.specs.Levels.{item_at, times}
-use Rattle.maple_items.specs.Splices.{ending_by, ending_after}
-use Rattle.maple_items.proofs.Lists.{ending_by-first, ending_by-later, ending_after-first, ending_after-later, item_at-first, item_at-later, ending_by_first, ending_by-ending_after, ending_by-ascends, stands, item_at-left}
+use Rattle.maple_node.specs.Splices.{ending_by, ending_after}
+use Rattle.maple_node.proofs.ItemLists.{ending_by-first, ending_by-later, ending_after-first, ending_after-later, item_at-first, item_at-later, ending_by_first, ending_by-ending_after, ending_by-ascends, stands, item_at-left}
 use Rattle.maple_write.specs.Internal.Tables.{rows_in}
 
 -- the first item from a page on, before a page where an item ends

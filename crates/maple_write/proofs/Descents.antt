@@ -6,9 +6,9 @@ use Rattle.maple_node.specs.Nodes.{end_of, Ascends}
 use Rattle.maple_node.specs.Levels.{at_of, item_at, level_of, rows_of, times, Agree}
 use Rattle.maple_node.proofs.Levels.{level-ascends}
 use Rattle.maple_node.proofs.Frames.{level_of-agree}
-use Rattle.maple_items.specs.Splices.{ending_by}
-use Rattle.maple_items.proofs.Lists.{ending_by-first, item_at-first, item_at-later, ending_by_first, end_ending_by}
-use Rattle.maple_items.specs.declared.place.Place.{Place}
+use Rattle.maple_node.specs.Splices.{ending_by}
+use Rattle.maple_node.proofs.ItemLists.{ending_by-first, item_at-first, item_at-later, ending_by_first, end_ending_by}
+use Rattle.maple_node.specs.declared.place.Place.{Place}
 use Rattle.maple_write.specs.declared.rows.Rooted.{Rooted}
 use Rattle.maple_write.specs.declared.descent.Descent.{Descent}
 use Rattle.maple_write.specs.declared.state.WriteState.{WriteState}

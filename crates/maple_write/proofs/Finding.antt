@@ -3,8 +3,8 @@ use Rattle.std.proofs.Common.{ℕ, ◌≡◌, ◌<◌, ◌≤◌, ◌+◌, ◌-�
 use Rattle.maple_node.specs.declared.item.NodeItem.{NodeItem}
 use Rattle.maple_node.specs.Nodes.{end_of, Ascends}
 use Rattle.maple_node.specs.Levels.{is_leaf, at_of, read, item_at, level_of, IsTower, times}
-use Rattle.maple_items.specs.Splices.{ending_by, ending_after}
-use Rattle.maple_items.proofs.Lists.{item_at-first, ending_by-later, stands}
+use Rattle.maple_node.specs.Splices.{ending_by, ending_after}
+use Rattle.maple_node.proofs.ItemLists.{item_at-first, ending_by-later, stands}
 use Rattle.maple_write.specs.Internal.Tables.{rows_in}
 use Rattle.maple_write.proofs.Levels.{descend, row_there, step_down, level_of-top}
 use Rattle.maple_write.proofs.Times.{times_same}

@@ -9,8 +9,8 @@ use Rattle.maple_node.specs.Nodes.{items_of, leaf_items, inner_items, end_of}
 use Rattle.maple_node.specs.Levels.{is_leaf, at_of, read, below, item_at, AllFrom, IsNode, level_of, IsTower}
 use Rattle.maple_node.proofs.Lists.{end_of-append}
 use Rattle.maple_node.proofs.Levels.{nodes-ascend, end_of-below, below-ascends}
-use Rattle.maple_items.specs.Splices.{ending_by, ending_after}
-use Rattle.maple_items.proofs.Lists.{ending_by-first, ending_after-later, item_at-first, item_at-later, ending_by_all, ending_by_none, ending_by_first, ending_after_all, ending_after_none, stands, item_at-left, item_at-right, AllFrom-at, ending_by_below}
+use Rattle.maple_node.specs.Splices.{ending_by, ending_after}
+use Rattle.maple_node.proofs.ItemLists.{ending_by-first, ending_after-later, item_at-first, item_at-later, ending_by_all, ending_by_none, ending_by_first, ending_after_all, ending_after_none, stands, item_at-left, item_at-right, AllFrom-at, ending_by_below}
 
 -- nodes, of which the first begins at a page
 abbrev pub AreNodes : (ℕ → List ℕ) → Bool → ℕ → ℕ → List NodeItem → Type 0

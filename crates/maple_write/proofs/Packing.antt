@@ -7,7 +7,7 @@ use Rattle.maple_node.specs.Nodes.{items_of, words_of, most, least, end_of, Asce
 use Rattle.maple_node.specs.Levels.{at_of, read, below, IsNode, times, Agree}
 use Rattle.maple_node.proofs.Lists.{end_of-append}
 use Rattle.maple_node.proofs.Places.{items_of_words}
-use Rattle.maple_items.proofs.Lists.{Ascends-left, Ascends-right, IsPlain-left, IsPlain-right}
+use Rattle.maple_node.proofs.ItemLists.{Ascends-left, Ascends-right, IsPlain-left, IsPlain-right}
 use Rattle.maple_write.specs.Internal.Tables.{rows_in}
 use Rattle.maple_write.proofs.Levels.{AreNodes}
 use Rattle.maple_write.proofs.Times.{times-rows_in, times_same, apart, kept_other, written_row, below_pushed, pushed}

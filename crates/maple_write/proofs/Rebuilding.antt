@@ -6,8 +6,8 @@ use Rattle.maple_node.specs.Nodes.{end_of, Ascends, IsPlain}
 use Rattle.maple_node.specs.Levels.{is_leaf, at_of, read, below, IsNode, level_of, IsTower, rows_of, times, Agree}
 use Rattle.maple_node.proofs.Levels.{nodes-ascend, end_of-below}
 use Rattle.maple_node.proofs.Frames.{times-append, below-agree}
-use Rattle.maple_items.specs.Splices.{ending_by, ending_after, spliced}
-use Rattle.maple_items.proofs.Lists.{AllFrom-append, AllFrom-right, ending_by-ending_after}
+use Rattle.maple_node.specs.Splices.{ending_by, ending_after, spliced}
+use Rattle.maple_node.proofs.ItemLists.{AllFrom-append, AllFrom-right, ending_by-ending_after}
 use Rattle.node_slots.specs.declared.seats.NodeWriter.{NodeWriter}
 use Rattle.maple_write.specs.Internal.Tables.{Table, table_at, rows_in, rows_between, gone, AreInUse}
 use Rattle.maple_write.specs.Internal.Stores.{upper_rows, Level, next_level, old_nodes, node_begin, new_level, new_entries, Partly, Cut}

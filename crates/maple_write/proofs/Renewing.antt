@@ -4,9 +4,9 @@ use Rattle.maple_node.specs.declared.item.NodeItem.{NodeItem}
 use Rattle.maple_node.specs.Nodes.{words_of, items_of, most, least, end_of, Ascends}
 use Rattle.maple_node.specs.Levels.{is_leaf, at_of, read, below, item_at, times}
 use Rattle.maple_node.proofs.Places.{items_of_words}
-use Rattle.maple_items.specs.declared.place.Place.{Place}
-use Rattle.maple_items.specs.Splices.{ending_by, spliced}
-use Rattle.maple_items.proofs.Spliced.{ascends_from}
+use Rattle.maple_node.specs.declared.place.Place.{Place}
+use Rattle.maple_node.specs.Splices.{ending_by, spliced}
+use Rattle.maple_node.proofs.Spliced.{ascends_from}
 use Rattle.maple_write.specs.Internal.Tables.{Table, rows_in, rows_between, gone}
 use Rattle.maple_write.specs.Internal.Stores.{Level, old_nodes, node_begin, Partly, Cut, IsRenewed}
 use Rattle.maple_write.proofs.Levels.{AreNodes}

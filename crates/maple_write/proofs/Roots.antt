@@ -10,11 +10,11 @@ use Rattle.maple_node.specs.Trees.{Tree, entries_of}
 use Rattle.maple_node.proofs.Lists.{ends_above, ends_behind}
 use Rattle.maple_node.proofs.Levels.{level-ascends, level-ends}
 use Rattle.maple_node.proofs.Frames.{times-append}
-use Rattle.maple_items.specs.Splices.{ending_by, ending_after, spliced, piece_of, piece_below, overwrite}
-use Rattle.maple_items.proofs.Lists.{ending_by-later, ending_by_all, ending_after_none, ending_by_below, ending_by-ascends, ending_after-ends}
-use Rattle.maple_items.proofs.Entries.{overwrite-ascends}
+use Rattle.maple_node.specs.Splices.{ending_by, ending_after, spliced, piece_of, piece_below, overwrite}
+use Rattle.maple_node.proofs.ItemLists.{ending_by-later, ending_by_all, ending_after_none, ending_by_below, ending_by-ascends, ending_after-ends}
+use Rattle.maple_node.proofs.ItemEntries.{overwrite-ascends}
 use Rattle.maple_write.specs.declared.rows.Rooted.{Rooted}
-use Rattle.maple_items.specs.declared.place.Place.{Place}
+use Rattle.maple_node.specs.declared.place.Place.{Place}
 use Rattle.maple_write.specs.Internal.Tables.{Table, rows_in, rows_between, gone, Stand}
 use Rattle.maple_write.specs.Internal.Stores.{IsUpper, upper_rows, old_level, Level, new_level, new_entries, Partly, IsShaped, tree_under, HasPage}
 use Rattle.maple_write.proofs.Levels.{AreNodes, tower_from, level_of-top}

@@ -8,8 +8,8 @@ use Rattle.maple_node.specs.Levels.{is_leaf, at_of, read, below, item_at, IsNode
 use Rattle.maple_node.proofs.Lists.{end_of-append, Ascends-append}
 use Rattle.maple_node.proofs.Levels.{nodes-ascend, end_of-below, level-ends}
 use Rattle.maple_node.proofs.Frames.{times-append}
-use Rattle.maple_items.specs.Splices.{ending_by, ending_after}
-use Rattle.maple_items.proofs.Lists.{Ascends-left, Ascends-right, IsPlain-append, IsPlain-ending_by, IsPlain-ending_after, item_at-first, item_at-later, stands, AllFrom-at, ending_after-ends}
+use Rattle.maple_node.specs.Splices.{ending_by, ending_after}
+use Rattle.maple_node.proofs.ItemLists.{Ascends-left, Ascends-right, IsPlain-append, IsPlain-ending_by, IsPlain-ending_after, item_at-first, item_at-later, stands, AllFrom-at, ending_after-ends}
 use Rattle.maple_write.specs.Internal.Tables.{Table, rows_in, gone, Stand}
 use Rattle.maple_write.specs.Internal.Stores.{old_level, Level, old_nodes, node_begin, new_level, Partly, Cut}
 use Rattle.maple_write.proofs.Levels.{AreNodes, ending_by-below, ending_after-below, descend, nodes-ending_by, row_there, Step, step_down}

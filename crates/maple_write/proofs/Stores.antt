@@ -9,11 +9,11 @@ use Rattle.maple_node.specs.Nodes.{leaf_items, least, end_of, Ascends, IsPlain, 
 use Rattle.maple_node.specs.Levels.{is_leaf, at_of, read, item_at, IsNode, level_of, IsTower, rows_of, times}
 use Rattle.maple_node.specs.Trees.{Tree, Pair, top_of, entries_of, tree_rows, pairs_from, pairs_of, ApartFrom, IsLayout}
 use Rattle.maple_node.proofs.Trees.{root-named, limit_above}
-use Rattle.maple_items.specs.Splices.{ending_by, ending_after, piece_of, overwrite, gap_end, widened_lo, widened_hi}
-use Rattle.maple_items.specs.Pairs.{overwritten}
-use Rattle.maple_items.proofs.Lists.{item_at-past, item_at-first, ending_by-later}
-use Rattle.maple_items.proofs.Entries.{overwrite-pairs, overwrite-words}
-use Rattle.maple_items.proofs.Gaps.{widened, stored-apart}
+use Rattle.maple_node.specs.Splices.{ending_by, ending_after, piece_of, overwrite, gap_end, widened_lo, widened_hi}
+use Rattle.maple_node.specs.Pairs.{overwritten}
+use Rattle.maple_node.proofs.ItemLists.{item_at-past, item_at-first, ending_by-later}
+use Rattle.maple_node.proofs.ItemEntries.{overwrite-pairs, overwrite-words}
+use Rattle.maple_node.proofs.Gaps.{widened, stored-apart}
 use Rattle.node_slots.specs.declared.tree.Tree.{Tree as View}
 use Rattle.node_slots.specs.declared.view.Size.{Size}
 use Rattle.node_slots.specs.declared.view.NodeView.{NodeView}

@@ -5,9 +5,9 @@ use Rattle.maple_node.specs.declared.item.NodeItem.{NodeItem}
 use Rattle.maple_node.specs.Nodes.{words_of, items_of, end_of, Ascends, gap_of}
 use Rattle.maple_node.specs.Levels.{is_leaf, at_of, read, item_at}
 use Rattle.maple_node.proofs.Levels.{nodes-ascend}
-use Rattle.maple_items.specs.declared.place.Place.{Place}
-use Rattle.maple_items.specs.Splices.{ending_by, spliced}
-use Rattle.maple_items.proofs.Lists.{stands}
+use Rattle.maple_node.specs.declared.place.Place.{Place}
+use Rattle.maple_node.specs.Splices.{ending_by, spliced}
+use Rattle.maple_node.proofs.ItemLists.{stands}
 use Rattle.maple_write.specs.Internal.Tables.{Table}
 use Rattle.maple_write.specs.Internal.Stores.{old_level, Level, old_nodes, node_begin, Partly, IsRenewed}
 use Rattle.maple_write.proofs.Steps.{upper_of, there_at}

@@ -7,7 +7,7 @@ use Rattle.maple_node.specs.declared.item.NodeItem.{NodeItem}
 use Rattle.maple_node.specs.Nodes.{items_of, words_of, most, least, end_of, Ascends, gap_of}
 use Rattle.maple_node.specs.Levels.{is_leaf, at_of, read, below, IsNode, level_of, IsTower, rows_of, times, Agree}
 use Rattle.maple_node.proofs.Frames.{times-append, times-first, below-agree, rows_of-agree, level_of-agree, tower-agree}
-use Rattle.maple_items.proofs.Lists.{AllFrom-append}
+use Rattle.maple_node.proofs.ItemLists.{AllFrom-append}
 use Rattle.maple_write.specs.Internal.Tables.{rows_in}
 use Rattle.maple_write.proofs.Levels.{AreNodes}
 

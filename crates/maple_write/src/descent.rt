@@ -5,8 +5,7 @@ ghost use Rattle.node_slots.specs.Built.{words_at};
 ghost use Rattle.maple_write.specs.Internal.Stores.{IsUpper, HasPage, IsDescent};
 
 use crate::rows::{Rooted, words};
-use maple_items::{Place, item_in};
-use maple_node::NodeItem;
+use maple_node::{NodeItem, Place, item_in};
 use node_slots::NodeWriter;
 
 /// How many levels a descent keeps, from the entries up. A published tree has no more: nine are enough for 131,061 entries, which 65,530 areas

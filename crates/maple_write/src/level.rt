@@ -4,7 +4,7 @@ ghost use Rattle.std.specs.Prelude.{◌≡◌, ◌≢◌, ◌<◌, ◌≤◌, �
 ghost use Rattle.maple_node.specs.declared.item.NodeItem.{NodeItem};
 ghost use Rattle.maple_node.specs.Nodes.{items_of, least, end_of, gap_of};
 ghost use Rattle.maple_node.specs.Levels.{is_leaf, read, item_at};
-ghost use Rattle.maple_items.specs.Splices.{ending_by, ending_after};
+ghost use Rattle.maple_node.specs.Splices.{ending_by, ending_after};
 ghost use Rattle.maple_node.specs.Padding.{padded};
 ghost use Rattle.node_slots.specs.Seats.{row_count};
 ghost use Rattle.node_slots.specs.Built.{words_at};
@@ -14,8 +14,9 @@ ghost use Rattle.maple_write.specs.Internal.Stores.{IsUpper, old_level, level_in
 use crate::descent::{Descent, find};
 use crate::rows::{pack, pack_words, words};
 use crate::state::{Replacement, WriteState};
-use maple_items::{ItemList, Part, Place, gap_in, push_all, push_part, spliced_words, swap_child};
-use maple_node::{NodeWords, least};
+use maple_node::{
+    ItemList, NodeWords, Part, Place, gap_in, least, push_all, push_part, spliced_words, swap_child,
+};
 use mm_types::{Row, Span};
 use node_slots::NodeWriter;
 

@@ -21,14 +21,14 @@
 //                                                       12: 48 gap
 //
 // An item has only its end, and begins where the one before it ends. So the entry where a span ends needs no change, and the entry where it
-// begins leaves a piece with a new end (`first`). 18 entries are too many for one leaf: 12 and 6, as `share` of maple_items has it. If a level's
+// begins leaves a piece with a new end (`first`). 18 entries are too many for one leaf: 12 and 6, as `share` of maple_node has it. If a level's
 // items are too few for a node, the next node's are taken in (`rebalanced`). The lists stay below 36 items: two nodes and three new items.
 //
 // The end. As soon as one new item has all pages, it is the root, and what is left above is retired: so a tree becomes lower. If the root's level
 // leaves two or three items, a new root lists them: so it becomes higher by one. A gap takes in the gaps beside it, so that two gaps never follow
 // each other: a free range is one entry, and a gap search has to look at one item only.
 //
-// How many rows. At most three nodes a level and one root: 3 height + 1. A store asks for 4 height + 4 free rows, and span_tree waits for them
+// How many rows. At most three nodes a level and one root: 3 height + 1. A store asks for 4 height + 4 free rows, and area_tree waits for them
 // before a call begins. A row that was taken since the last publish is free again as soon as it is left, so the stores of one call don't add up.
 //
 // To be changed freely: the two shorter ways of `rebuild_level`. Most stores change one node a level. `swapped` then writes only the row and the

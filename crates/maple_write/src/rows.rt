@@ -9,8 +9,7 @@ ghost use Rattle.maple_write.specs.Internal.Tables.{rows_in};
 ghost use Rattle.maple_write.specs.Tables.{FillsRows};
 
 use arrayvec::ArrayVec;
-use maple_items::{gap_in, share};
-use maple_node::{NodeItem, node_words};
+use maple_node::{NodeItem, gap_in, node_words, share};
 use mm_types::{Row, Steps};
 use node_slots::NodeWriter;
 

@@ -3,8 +3,8 @@
 ghost use Rattle.std.specs.Prelude.{◌≡◌, ◌<◌, ◌≤◌, ◌+◌, ◌-◌, ◌*◌, ◌^◌, ℕ, [], length, nat_eq};
 ghost use Rattle.maple_node.specs.Trees.{entries_of, pairs_of};
 ghost use Rattle.maple_node.specs.Words.{slot_word};
-ghost use Rattle.maple_items.specs.Splices.{overwrite, widened_lo, widened_hi};
-ghost use Rattle.maple_items.specs.Pairs.{overwritten};
+ghost use Rattle.maple_node.specs.Splices.{overwrite, widened_lo, widened_hi};
+ghost use Rattle.maple_node.specs.Pairs.{overwritten};
 ghost use Rattle.node_slots.specs.Views.{publish_at};
 ghost use Rattle.node_slots.specs.Seats.{Writes, sight, writer_state, row_count, free_of, left_of, is_kept, next_root};
 ghost use Rattle.node_slots.specs.Built.{words_at, built, IsBuilt, IsWriters, pairs_now};
@@ -15,8 +15,9 @@ ghost use Rattle.maple_write.specs.Internal.Stores.{IsShaped, IsWhole, Finds, tr
 use crate::descent::{Descent, LEVELS, NO_PLACE, find};
 use crate::rows::{Rooted, put, words};
 use crate::tree::{first, replace};
-use maple_items::{ItemList, Place, gap_in, lists_nothing, push_all, push_ending_after};
-use maple_node::{NodeItem, slot_word};
+use maple_node::{
+    ItemList, NodeItem, Place, gap_in, lists_nothing, push_all, push_ending_after, slot_word,
+};
 use mm_types::{Row, Slot, Span};
 use node_slots::{NodeTable, NodeWriter, Tree};
 

@@ -4,7 +4,7 @@ ghost use Rattle.std.specs.Prelude.{◌≡◌, ◌≢◌, ◌⊎◌, ◌<◌, �
 ghost use Rattle.maple_node.specs.Nodes.{end_of, Ascends};
 ghost use Rattle.maple_node.specs.Levels.{below, level_of, IsTower, rows_of};
 ghost use Rattle.maple_node.specs.Trees.{entries_of};
-ghost use Rattle.maple_items.specs.Splices.{piece_of, overwrite};
+ghost use Rattle.maple_node.specs.Splices.{piece_of, overwrite};
 ghost use Rattle.node_slots.specs.Seats.{free_of};
 ghost use Rattle.node_slots.specs.Built.{words_at};
 ghost use Rattle.maple_write.specs.Internal.Tables.{table_at, Stand, LeavesRows};
@@ -15,8 +15,7 @@ use crate::descent::{Descent, find};
 use crate::level::{leave_block, rebuild_level};
 use crate::rows::{FewItems, Rooted, put};
 use crate::state::{Replacement, WriteState};
-use maple_items::Place;
-use maple_node::NodeItem;
+use maple_node::{NodeItem, Place};
 use mm_types::{Row, Span};
 use node_slots::NodeWriter;
 

@@ -1,3 +1,8 @@
+pub mod Mappings
+pub mod FileLines
+pub mod Retracing
+pub mod RetraceLaws
+pub mod Internal
 pub mod Fields
 pub mod Maps
 pub mod Query

@@ -5,7 +5,7 @@ use Rattle.std.proofs.lemmas.List.{length-map}
 use Rattle.std.proofs.lemmas.List.Elements.{recursion_from_All}
 use Rattle.split_merge.proofs.Lists.{filter_all}
 use Rattle.node_slots.specs.Seats.{AreOut, HasOpen}
-use Rattle.span_tree.proofs.Scanning.{out_or_open}
+use Rattle.area_tree.proofs.Scanning.{out_or_open}
 use Rattle.area_slots.specs.declared.leaving.Leaving.{Leaving}
 use Rattle.area_slots.specs.Slots.{SlotSet, left_by, gone_by, gone_after, slots_of}
 use Rattle.area_tree.specs.AreaTrees.{AreaTreeView}

@@ -11,7 +11,7 @@ ghost use Rattle.lock_core.specs.declared.stage.Stage.TheVariants.{Out};
 ghost use Rattle.lock_core.specs.Core.{free_slot, StartsWith};
 ghost use Rattle.lock_core.specs.Rows.{Exactly};
 ghost use Rattle.vma_lock.specs.Views.{slot_count, opened_view, look_at};
-ghost use Rattle.span_tree.specs.SpanTrees.{IsFreshWriter};
+ghost use Rattle.area_tree.specs.SpanTrees.{IsFreshWriter};
 ghost use Rattle.vma_lock.specs.Seats.{view, seen, stage, sight, HasTurn};
 
 use crate::store::AreaStore;

@@ -16,15 +16,14 @@ ghost use Rattle.area_tree.specs.AreaTrees.{areas_of};
 ghost use Rattle.mm_state.specs.Internal.AreaStores.{IsWritten, CanChange, Carries, IsSane, IsChanging, IsAtRest, IsReadied, IsEntered, IsCarriedOut, adds, adds_of, CanFree};
 ghost use Rattle.mm_state.specs.Internal.Runs.{IsRun, IsLetGo, CarriesAll};
 ghost use Rattle.mm_state.specs.Internal.Waits.{HasReader};
-ghost use Rattle.span_tree.specs.SpanTrees.{IsFreshWriter};
+ghost use Rattle.area_tree.specs.SpanTrees.{IsFreshWriter};
 
 use crate::runs::run_before;
 use crate::spans::{count_adds, has_room, is_end, pop_moved_at, store_moved, wait_for_slots};
 use area_slots::AreaSlots;
-use area_tree::{AreaTree, ShownArea, beside};
+use area_tree::{AreaTree, OpenCall, ShownArea, beside};
 use mm_types::{Config, Entry, NoMemory, Record, Slot, Span, pack, slots_for};
 use node_slots::NodeWriter;
-use span_tree::OpenCall;
 use split_merge::Change;
 use std::alloc::Global;
 use std::sync::Wait;

@@ -108,7 +108,7 @@ pub fn rows_for(areas: u32) -> u32
     requires { areas ≤ MOST_AREAS }
     ensures { result ≡ rows_for areas }
 {
-    // 4 areas / 9 + 9 for the present tree, as many for the next, 40 for the store that runs, and some more: span_tree counts them
+    // 4 areas / 9 + 9 for the present tree, as many for the next, 40 for the store that runs, and some more: area_tree counts them
     areas + 128
 }
 

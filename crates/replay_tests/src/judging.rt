@@ -7,7 +7,7 @@ use history::{Answer, CheckError, History, MOST_THREADS, check, gather};
 use mm_fork::{check_child, child_history, has_child, inherit};
 use mm_space::Closed;
 use mm_types::{Call, Entry, NoMemory, Reply, Seen, Verdict};
-use output_check::checked;
+use output::checked;
 use std::alloc::Global;
 use std::process::Abort;
 use std::test::Fail;

@@ -3,7 +3,7 @@
 
 use crate::judging::{bad_of_run, gathered, judged, parsed};
 use crate::running::run_trace;
-use draws::Draws;
+use gen_load::Draws;
 use history::check;
 use io_edge::Gate;
 use mm_types::{Call, Entry, NoMemory};

@@ -1,3 +1,8 @@
+pub mod PlainWords
+pub mod Numerals
+pub mod OperationLines
+pub mod PrintedLines
+pub mod LinesRead
 pub mod FieldValues
 pub mod CallValues
 pub mod TraceValues

@@ -1,3 +1,4 @@
+pub mod LineTexts
 pub mod Fields
 pub mod Calls
 pub mod Operations

@@ -27,12 +27,15 @@
 //! read are public here too.
 
 // The idea. A line is read by itself, behind what the lines before it said (`TraceBuilder`): so a session (live_session) and `check`
-// (output_check) read traces by the same function, line by line. A line has up to four kinds of test, and their order is the order of causes:
+// (output) read traces by the same function, line by line. A line has up to four kinds of test, and their order is the order of causes:
 //
 //    bytes of the line   too long, no end, not UTF-8                                         text_lexer
 //    its words           header, thread, name, how many, each from the left, after=          settings.rt, operations.rt, calls.rt
 //    against the others  the line that is named, the child, the descriptor                   builder.rt
 //    how many            lines, maps, named, forks, files                                    builder.rt, limits.rt
+//
+// The lines as text (specs/LineTexts.antt): the words of each operation, and the law that each line is read as it was printed. What prints traces
+// (gen_load, maps_read) stands on it.
 //
 // All tests of a line come before it takes memory. So a bad line is never hidden behind a lack of memory, and a line that was refused leaves the
 // builder as it was.
@@ -53,6 +56,7 @@ mod limits;
 mod operations;
 mod reading;
 mod settings;
+mod text_laws;
 mod trace;
 
 pub use builder::TraceBuilder;
@@ -61,5 +65,6 @@ pub use fields::thread_of;
 pub use laws::{first_bad_line, front_is_enough, trace_limits, traces_fit};
 pub use limits::{MOST_FILE_BYTES, MOST_FORKS, MOST_LINES, MOST_MAPS, MOST_NAMED};
 pub use reading::read;
+pub use text_laws::printed_lines_are_read;
 pub use text_lexer::{BadLine, CallError, Cause, ReadError, number_of};
 pub use trace::{Lines, Op, Trace, TraceLine};

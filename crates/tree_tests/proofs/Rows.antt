@@ -5,8 +5,8 @@ use Rattle.std.specs.List.{flat_map}
 use Rattle.std.proofs.lemmas.Bool.Decides.{nat_tests}
 use Rattle.std.proofs.lemmas.Grind.{flat_map-append}
 use Rattle.maple_node.specs.Trees.{Pair, pair_of}
-use Rattle.maple_items.specs.Pairs.{lower_part, upper_part, overwritten}
-use Rattle.span_tree.specs.SpanTrees.{SpanView}
+use Rattle.maple_node.specs.Pairs.{lower_part, upper_part, overwritten}
+use Rattle.area_tree.specs.SpanTrees.{SpanView}
 use Rattle.tree_tests.specs.Rows.{row_pairs, IsRow}
 
 -- all pairs lie below the page of the next

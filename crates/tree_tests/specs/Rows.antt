@@ -1,7 +1,7 @@
 -- Trees of pairs of one page each.
 use Rattle.std.specs.Prelude.{ℕ, zero, suc, ◌≡◌, ◌+◌, ◌*◌, true, List, [], ◌∷◌, ◌++◌}
 use Rattle.maple_node.specs.Trees.{Pair}
-use Rattle.span_tree.specs.SpanTrees.{SpanView}
+use Rattle.area_tree.specs.SpanTrees.{SpanView}
 
 -- a tree of at most 17 pairs whose pages end at page 0x7ffffffff
 pub record IsWide (tree : SpanView) : Type 0 where

@@ -2,9 +2,9 @@
 ghost use Rattle.std.specs.Prelude.{◌≡◌, false, [], IfOk};
 ghost use Rattle.tree_tests.specs.Rows.{IsWide, IsRow};
 
+use area_tree::SpanTree;
 use mm_types::{NoMemory, Page, Slot, Span};
 use node_slots::NodeTable;
-use span_tree::SpanTree;
 use std::alloc::Global;
 use std::process::Abort;
 

@@ -3,8 +3,8 @@ ghost use Rattle.std.specs.Prelude.{◌≡◌, IfSome, sum};
 ghost use Rattle.fault_path.specs.Passes.{caller};
 ghost use Rattle.mm_space.specs.Names.{IsPassOf, ArePasses};
 
-use draws::Draws;
 use fault_path::{Fast, Pass};
+use gen_load::Draws;
 use mm_space::{Ready, Space, SpaceName};
 use mm_types::{
     Access, Call, Config, Files, MAP_ANONYMOUS, MAP_FIXED, MAP_PRIVATE, MmapArgs, NoMemory, Page,

@@ -11,7 +11,7 @@ use Rattle.history.specs.SpaceLines.{child_lines}
 use Rattle.mm_fork.proofs.Alike.{same_history}
 use Rattle.vma_replay.specs.declared.forks.Fork.{Fork}
 use Rattle.vma_replay.specs.declared.words.Mode.TheVariants as modes
-use Rattle.output_text.specs.Output.{output_text}
+use Rattle.output.specs.Output.{output_text}
 use Rattle.vma_replay.specs.ChildTexts.{child_text}
 use Rattle.vma_replay.specs.Forks.{forks_of}
 use Rattle.vma_replay.specs.Replaying.{AreChildrenGiven, GivesRuns, IsChildGiven, history_of_run}

@@ -16,20 +16,20 @@ use Rattle.history.specs.Labels.{labelled}
 use Rattle.history.specs.Parents.{parent_lines}
 use Rattle.mm_fork.specs.Children.{parent_trace}
 use Rattle.mm_space.specs.Closing.{ClosedView}
-use Rattle.output_text.specs.Output.{item_text, listed_text, maps_text, told_by}
+use Rattle.output.specs.Output.{item_text, listed_text, maps_text, told_by}
 use Rattle.vma_replay.specs.Forks.{forks_of}
 use Rattle.vma_replay.specs.Internal.Families.{IsFamily, IsForkOf}
-use Rattle.output_print.specs.Giving.{IsCut, Prints}
+use Rattle.output.specs.Giving.{IsCut, Prints}
 use Rattle.vma_replay.specs.Internal.Giving.{GivesAnOutput}
-use Rattle.output_print.specs.Telling.{told_in_turn}
+use Rattle.output.specs.Telling.{told_in_turn}
 use Rattle.vma_replay.specs.Replaying.{IsRunOf, history_of_run}
 use Rattle.vma_replay.specs.declared.forks.Fork.{Fork}
-use Rattle.output_print.specs.declared.error.PrintError.{PrintError}
+use Rattle.output.specs.declared.error.PrintError.{PrintError}
 use Rattle.vma_replay.specs.declared.words.Mode.{Mode}
 use Rattle.vma_replay.proofs.FamilyTexts.{family_gives}
-use Rattle.output_print.proofs.InTurn.{told_of_lines}
+use Rattle.output.proofs.InTurn.{told_of_lines}
 use Rattle.vma_replay.proofs.Parents.{all_of_parent, family_made, found_right, no_children, own_parent}
-use Rattle.output_print.proofs.Pieces.{cut_more}
+use Rattle.output.proofs.Pieces.{cut_more}
 
 -- where no line forks there is no fork
 none_forks : (lines : List TraceLine) (journal : List Entry) (forks : List Fork) → children_of lines ≡ [] → All (IsForkOf lines journal) forks → [] ≡ forks

@@ -5,10 +5,10 @@ use Rattle.io_edge.specs.Edge.{SourceView}
 use Rattle.text_lexer.specs.declared.error.ReadError.{ReadError}
 use Rattle.text_lexer.specs.declared.error.BadLine.{BadLine}
 use Rattle.text_lexer.specs.Reading.{IsErrorOf}
-use Rattle.output_check.specs.Input.{CheckInput, check_limit, input_of}
-use Rattle.output_check.specs.Checked.{IsCheckedAs}
-use Rattle.output_check.proofs.Fronts.{input_of-front}
-use Rattle.output_check.proofs.Inputs.{input_within}
+use Rattle.output.specs.Input.{CheckInput, check_limit, input_of}
+use Rattle.output.specs.Checked.{IsCheckedAs}
+use Rattle.output.proofs.Fronts.{input_of-front}
+use Rattle.output.proofs.Inputs.{input_within}
 use Rattle.vma_replay.specs.declared.status.Status.{Status}
 use Rattle.vma_replay.specs.Internal.Reading.{IsChecking, IsReading, IsTaking, refused_as}
 use Rattle.vma_replay.proofs.Taken.{IsBounded, found_whole, refused_first}

@@ -4,10 +4,10 @@ use Rattle.std.specs.Prelude.{IsErrAnd, MatchResult}
 use Rattle.std.specs.Io.KnownBytes.{Appends, Keeps}
 use Rattle.io_edge.specs.Edge.{SinkView}
 use Rattle.mm_space.specs.Closing.{ClosedView}
-use Rattle.output_print.specs.declared.error.PrintError.{PrintError}
+use Rattle.output.specs.declared.error.PrintError.{PrintError}
 use Rattle.vma_replay.specs.declared.status.Status.{Status}
 use Rattle.vma_replay.specs.declared.status.Status.TheVariants as statuses
-use Rattle.output_print.specs.Giving.{IsCut}
+use Rattle.output.specs.Giving.{IsCut}
 use Rattle.vma_replay.specs.Statuses.{status_of_print}
 use Rattle.vma_replay.specs.Internal.Giving.{IsCutShort, IsDoing, IsDone}
 

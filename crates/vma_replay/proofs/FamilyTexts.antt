@@ -20,7 +20,7 @@ use Rattle.history.proofs.OneSpace.{parent_is_trace}
 use Rattle.vma_replay.specs.declared.forks.Fork.{Fork}
 use Rattle.vma_replay.specs.declared.words.Mode.{Mode}
 use Rattle.vma_replay.specs.declared.words.Mode.TheVariants as modes
-use Rattle.output_text.specs.Output.{listed_text, output_text, serial_output}
+use Rattle.output.specs.Output.{listed_text, output_text, serial_output}
 use Rattle.vma_replay.specs.ChildTexts.{child_line, child_text}
 use Rattle.vma_replay.specs.Forks.{forks_of}
 use Rattle.vma_replay.specs.Internal.Families.{AreRunsOfChildren, IsFamily, text_of_child, text_of_children, text_of_family}

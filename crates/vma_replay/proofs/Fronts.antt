@@ -14,12 +14,12 @@ use Rattle.vma_replay.specs.declared.words.Job.TheVariants as jobs
 use Rattle.vma_replay.specs.declared.words.Mode.{Mode}
 use Rattle.vma_replay.specs.declared.words.Mode.TheVariants as modes
 use Rattle.mm_fork.specs.Children.{parent_trace}
-use Rattle.output_text.specs.Output.{serial_output}
+use Rattle.output.specs.Output.{serial_output}
 use Rattle.text_lexer.specs.Lines.{input_limit}
 use Rattle.vma_replay.specs.Internal.Giving.{GivesAnOutput, GivesASummary, GivesThis, IsDone}
 use Rattle.vma_replay.specs.Internal.Reading.{IsChecking, IsReading}
-use Rattle.output_check.specs.Checked.{IsCheckedAs}
-use Rattle.output_check.specs.Input.{input_of}
+use Rattle.output.specs.Checked.{IsCheckedAs}
+use Rattle.output.specs.Input.{input_of}
 use Rattle.vma_replay.specs.Replaying.{GivesAll, GivesBeginning, GivesProperBeginning, BeginsWith, GivesRuns, GivesSerialOutput, OfInput, work_of}
 
 -- with these closed runs the mode gives this text for the input

@@ -43,13 +43,13 @@ use Rattle.vma_drive.proofs.NamesShared.{few_callers}
 use Rattle.vma_replay.specs.declared.forks.Fork.{Fork}
 use Rattle.vma_replay.specs.declared.words.Mode.{Mode}
 use Rattle.vma_replay.specs.declared.words.Mode.TheVariants as modes
-use Rattle.output_text.specs.Output.{told_by}
+use Rattle.output.specs.Output.{told_by}
 use Rattle.vma_replay.specs.Forks.{fork_of, forks_from, forks_of}
-use Rattle.output_print.specs.Giving.{AreLegal}
+use Rattle.output.specs.Giving.{AreLegal}
 use Rattle.vma_replay.specs.Internal.Families.{AreRunsOfChildren, IsFamily, IsForkOf, IsOfParent}
 use Rattle.vma_replay.specs.Replaying.{IsRunOf, history_of_run}
 use Rattle.vma_replay.proofs.RunTexts.{first_log, legal_of_run, serial_own}
-use Rattle.output_print.proofs.Answering.{there, none_at}
+use Rattle.output.proofs.Answering.{there, none_at}
 
 -- ---- where no line forks
 

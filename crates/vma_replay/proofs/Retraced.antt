@@ -27,14 +27,14 @@ use Rattle.history.proofs.SerialOrder.{insert_item, BeginsAt, inserted_first, se
 use Rattle.mm_space.specs.Closing.{ClosedView}
 use Rattle.history.specs.Parents.{parent_lines}
 use Rattle.mm_fork.specs.Children.{parent_trace}
-use Rattle.maps_retrace.specs.Laws.{space_with, AreMappedBehind, mapping_trace, MakesMaps}
-use Rattle.maps_retrace.specs.Mappings.{mapping_of, mapping_line, mapping_lines}
-use Rattle.maps_retrace.proofs.Made.{makes}
+use Rattle.maps_read.specs.RetraceLaws.{space_with, AreMappedBehind, mapping_trace, MakesMaps}
+use Rattle.maps_read.specs.Mappings.{mapping_of, mapping_line, mapping_lines}
+use Rattle.maps_read.proofs.Made.{makes}
 use Rattle.vma_replay.specs.declared.forks.Fork.{Fork}
 use Rattle.vma_replay.specs.declared.words.Conversion.TheVariants as conversions
 use Rattle.vma_replay.specs.declared.words.Mode.TheVariants as modes
 use Rattle.vma_replay.specs.Forks.{fork_of, forks_from, forks_of}
-use Rattle.output_text.specs.Output.{content_text, item_text, told_by, maps_text, listed_text, output_text, serial_output}
+use Rattle.output.specs.Output.{content_text, item_text, told_by, maps_text, listed_text, output_text, serial_output}
 use Rattle.vma_replay.specs.Replaying.{AreChildrenGiven, GivesRuns, converted, history_of_run}
 use Rattle.vma_replay.specs.Retraced.{address_line, address_lines, output_with, EndsWith}
 use Rattle.vma_replay.proofs.RunTexts.{serial_is}

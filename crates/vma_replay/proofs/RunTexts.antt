@@ -25,7 +25,7 @@ use Rattle.history.proofs.SerialOrder.{serial_is_history, serial_space}
 use Rattle.mm_space.specs.Closing.{ClosedView}
 use Rattle.vma_replay.specs.declared.words.Mode.{Mode}
 use Rattle.vma_replay.specs.declared.words.Mode.TheVariants as modes
-use Rattle.output_text.specs.Output.{output_text}
+use Rattle.output.specs.Output.{output_text}
 use Rattle.vma_replay.specs.Replaying.{IsRunOf, IsGivenFor, history_of_run}
 use Rattle.history.specs.CallerPlaces.{callers_of}
 use Rattle.vma_drive.proofs.NamesShared.{few_callers}

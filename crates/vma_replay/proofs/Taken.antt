@@ -20,7 +20,7 @@ use Rattle.trace_reader.specs.Grammar.{trace_of}
 use Rattle.trace_reader.proofs.Beginnings.{trace_of-front, trace_within}
 use Rattle.step_script.proofs.Scripts.{output-front, output-within}
 use Rattle.maps_read.proofs.Answers.{query_answer-front, query_answer-within}
-use Rattle.maps_retrace.proofs.Fronts.{retraced-front, retraced-within}
+use Rattle.maps_read.proofs.Fronts.{retraced-front, retraced-within}
 
 -- Of a function that the first `limit + 1` bytes settle: what follows more than `limit` bytes does not change it.
 read-append : {A : Type 0} (read : List ℕ → A) (limit : ℕ)

@@ -6,7 +6,7 @@ use Rattle.trace_reader.specs.declared.trace.TraceLine.{TraceLine}
 use Rattle.area_rules.specs.Steps.{after}
 use Rattle.history.specs.declared.items.Item.{Item}
 use Rattle.history.specs.Histories.{journal_of}
-use Rattle.output_text.specs.Output.{listed_text}
+use Rattle.output.specs.Output.{listed_text}
 use Rattle.vma_replay.specs.declared.forks.Fork.{Fork}
 
 -- the line before those of a child: the child, the line that forked it, and the version of its parent there

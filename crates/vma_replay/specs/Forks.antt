@@ -6,7 +6,7 @@ use Rattle.trace_reader.specs.declared.trace.TraceLine.{TraceLine}
 use Rattle.trace_reader.specs.Values.{child_of}
 use Rattle.history.specs.declared.items.Item.{Item}
 use Rattle.vma_replay.specs.declared.forks.Fork.{Fork}
-use Rattle.output_text.specs.Output.{told_by}
+use Rattle.output.specs.Output.{told_by}
 
 -- the fork of an item, by the line that it answers, if that forks
 abbrev pub fork_of : TraceLine → Item → List Fork

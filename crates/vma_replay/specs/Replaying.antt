@@ -32,14 +32,14 @@ use Rattle.vma_replay.specs.declared.words.Mode.TheVariants as modes
 use Rattle.vma_replay.specs.declared.status.Status.{Status}
 use Rattle.vma_replay.specs.declared.status.Status.TheVariants as statuses
 use Rattle.vma_replay.specs.Forks.{forks_of}
-use Rattle.output_text.specs.Output.{output_text, serial_output}
+use Rattle.output.specs.Output.{output_text, serial_output}
 use Rattle.vma_replay.specs.ChildTexts.{child_text}
 use Rattle.history.specs.CallerPlaces.{callers_of}
 use Rattle.step_script.specs.Output.{script_output}
 use Rattle.maps_read.specs.Query.{query_answer}
-use Rattle.maps_retrace.specs.Retracing.{retraced_of}
-use Rattle.output_check.specs.Input.{check_limit, input_of}
-use Rattle.output_check.specs.Checked.{IsCheckedAs}
+use Rattle.maps_read.specs.Retracing.{retraced_of}
+use Rattle.output.specs.Input.{check_limit, input_of}
+use Rattle.output.specs.Checked.{IsCheckedAs}
 use Rattle.vma_replay.specs.Jobs.{job_of_words}
 use Rattle.vma_replay.specs.Summaries.{summary_text}
 

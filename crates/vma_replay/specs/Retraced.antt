@@ -6,10 +6,10 @@ use Rattle.mm_types.specs.declared.config.TheConstants.{PAGE_SIZE}
 use Rattle.mm_types.specs.MapsText.{list_text}
 use Rattle.trace_reader.specs.declared.trace.Trace.{Trace}
 use Rattle.trace_reader.specs.Grammar.{trace_of}
-use Rattle.maps_retrace.specs.Mappings.{mapping_line}
+use Rattle.maps_read.specs.Mappings.{mapping_line}
 use Rattle.mm_space.specs.Closing.{ClosedView}
 use Rattle.vma_replay.specs.declared.words.Mode.TheVariants as modes
-use Rattle.output_text.specs.Output.{start_text, reply_text, serial_output}
+use Rattle.output.specs.Output.{start_text, reply_text, serial_output}
 use Rattle.vma_replay.specs.Replaying.{GivesRuns}
 
 -- the answer to the line of this number that maps an area: the address where the area begins, at this version

@@ -2,8 +2,8 @@
 use Rattle.std.specs.Prelude.{ℕ, List, [], ◌++◌, codes, decimal}
 use Rattle.text_lexer.specs.declared.error.Cause.{Cause}
 use Rattle.text_lexer.specs.Causes.{cause_number, cause_name}
-use Rattle.output_print.specs.declared.error.PrintError.{PrintError}
-use Rattle.output_print.specs.declared.error.PrintError.TheVariants as errors
+use Rattle.output.specs.declared.error.PrintError.{PrintError}
+use Rattle.output.specs.declared.error.PrintError.TheVariants as errors
 use Rattle.vma_replay.specs.declared.status.Status.{Status}
 use Rattle.vma_replay.specs.declared.status.Status.TheVariants as statuses
 

@@ -13,7 +13,7 @@ use crate::reading::{check_source, convert_source};
 use crate::status::Status;
 use crate::words::{Job, Run, WordsError, job_of};
 use io_edge::{Sink, Source};
-use output_print::give_all;
+use output::give_all;
 use std::alloc::Global;
 
 /// Answers the words after the program's name for which no space is opened: those of `steps`, `query`, `retrace` and `check`, and those that

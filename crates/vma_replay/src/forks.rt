@@ -2,12 +2,12 @@
 ghost use Rattle.std.specs.Prelude.{◌≡◌, ◌≤◌, ◌<◌, ◌++◌, All, IfOk, OnOk, length};
 ghost use Rattle.trace_reader.specs.declared.limits.TheConstants.{MOST_LINES};
 ghost use Rattle.history.specs.declared.callers.TheConstants.{MOST_THREADS};
-ghost use Rattle.output_print.specs.Giving.{AreLegal};
+ghost use Rattle.output.specs.Giving.{AreLegal};
 ghost use Rattle.vma_replay.specs.Forks.{fork_of, forks_from, forks_of};
 
 use history::Item;
 use mm_types::NoMemory;
-use output_print::AnsweredLines;
+use output::AnsweredLines;
 use std::alloc::Global;
 use trace_reader::{Op, TraceLine};
 

@@ -14,7 +14,7 @@ use gen_load::{MOST_OPERATIONS, load};
 use io_edge::Sink;
 use mm_space::Closed;
 use mm_types::NoMemory;
-use output_print::give_all;
+use output::give_all;
 use std::alloc::Global;
 use std::sync::Wait;
 use trace_reader::{Trace, read};

@@ -10,9 +10,8 @@ ghost use Rattle.vma_replay.specs.Replaying.{converted, most_converted};
 use crate::status::Status;
 use crate::words::Conversion;
 use io_edge::{Failed, Source};
-use maps_read::answer_of;
-use maps_retrace::retraced;
-use output_check::{TEXT_LIMIT, checked};
+use maps_read::{answer_of, retraced};
+use output::{TEXT_LIMIT, checked};
 use std::alloc::Global;
 use step_script::run_script;
 use text_lexer::{INPUT_LIMIT, ReadError};
@@ -62,7 +61,7 @@ fn convert(alloc: Global, conversion: Conversion, bytes: &[u8]) -> Result<Vec<u8
 }
 
 /// Reads all of a source, and tells whether the text behind its trace is a legal output of it. A status says why it has no such parts.
-#[tactic(auto, unfolding(output_check::specs::Input::check_limit, text_lexer::specs::Lines::input_limit))]
+#[tactic(auto, unfolding(output::specs::Input::check_limit, text_lexer::specs::Lines::input_limit))]
 pub(crate) fn check_source<S: Source>(alloc: Global, source: &mut S) -> Result<Vec<u8>, Status>
     requires { (S.seen source.old).faults < 2 ^ 64 - 1 }
     ensures { IsChecking (S.seen source.old) (S.seen source.new) (taken_bytes result) }

@@ -3,7 +3,7 @@ ghost use Rattle.vma_replay.specs.Statuses.{number_of_status, line_of_status};
 ghost use Rattle.vma_replay.specs.declared.status.Status.TheVariants.{NoMemory as no_memory};
 
 use mm_types::{NoMemory, Text};
-use output_print::PrintError;
+use output::PrintError;
 use std::alloc::{AllocError, Global};
 use text_lexer::{Cause, ReadError};
 

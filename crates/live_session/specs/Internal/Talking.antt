@@ -7,7 +7,7 @@ use Rattle.text_lexer.specs.declared.error.CallError.TheVariants as calls
 use Rattle.text_lexer.specs.declared.error.Cause.{Cause}
 use Rattle.trace_reader.specs.declared.trace.TraceLine.{TraceLine}
 use Rattle.trace_reader.specs.Reading.{so_far}
-use Rattle.output_print.specs.Giving.{Gave}
+use Rattle.output.specs.Giving.{Gave}
 use Rattle.live_session.specs.declared.asking.Asked.{Asked}
 use Rattle.live_session.specs.declared.asking.Says.{Says}
 use Rattle.live_session.specs.declared.answering.Stop.{Stop}

@@ -5,7 +5,7 @@ use Rattle.maple_node.specs.declared.item.NodeItem.{NodeItem}
 use Rattle.maple_node.specs.Nodes.{item_gap}
 use Rattle.maple_node.specs.Levels.{is_leaf, read, AllFrom, IsNode, level_of, item_at}
 use Rattle.maple_node.specs.Trees.{pairs_from, ApartFrom}
-use Rattle.maple_items.specs.declared.place.Place.{Place}
+use Rattle.maple_node.specs.declared.place.Place.{Place}
 use Rattle.node_slots.specs.declared.tree.Tree.{Tree}
 use Rattle.node_slots.specs.declared.seats.NodeWriter.{NodeWriter}
 use Rattle.node_slots.specs.Built.{words_at, pairs_now}

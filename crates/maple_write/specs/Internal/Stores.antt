@@ -5,8 +5,8 @@ use Rattle.maple_node.specs.declared.item.NodeItem.{NodeItem}
 use Rattle.maple_node.specs.Nodes.{words_of, items_of, most, least, end_of, Ascends, IsPlain}
 use Rattle.maple_node.specs.Levels.{is_leaf, at_of, read, below, item_at, level_of, IsTower, rows_of}
 use Rattle.maple_node.specs.Trees.{Tree, entries_of, tree_rows, pairs_of, ApartFrom}
-use Rattle.maple_items.specs.Splices.{ending_by, ending_after, spliced}
-use Rattle.maple_items.specs.declared.place.Place.{Place}
+use Rattle.maple_node.specs.Splices.{ending_by, ending_after, spliced}
+use Rattle.maple_node.specs.declared.place.Place.{Place}
 use Rattle.maple_write.specs.declared.rows.Rooted.{Rooted}
 use Rattle.maple_write.specs.declared.descent.Descent.{Descent}
 use Rattle.maple_write.specs.declared.state.WriteState.{WriteState}

@@ -2,7 +2,7 @@
 use Rattle.std.specs.Prelude.{ℕ, ◌≡◌, ◌≤◌, ◌+◌, List, map, length, if◌then◌else◌, nat_lt}
 use Rattle.maple_node.specs.declared.item.NodeItem.{NodeItem}
 use Rattle.maple_node.specs.Levels.{times}
-use Rattle.maple_items.specs.Splices.{ending_by, ending_after}
+use Rattle.maple_node.specs.Splices.{ending_by, ending_after}
 use Rattle.node_slots.specs.declared.seats.NodeWriter.{NodeWriter}
 use Rattle.node_slots.specs.Seats.{StaysAt, sight, writer_state, row_count, free_of, left_of, is_waiting}
 

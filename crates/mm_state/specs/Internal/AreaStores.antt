@@ -20,7 +20,7 @@ use Rattle.area_slots.specs.declared.leaving.Leaving.{Leaving}
 use Rattle.area_slots.specs.Slots.{SlotSet, gone_by, gone_after, times, times_left}
 use Rattle.vma_lock.specs.declared.view.View.{View}
 use Rattle.vma_lock.specs.Seats.{config_of, slots_of, Writes, sight, journal, slots, IsOpen, IsClosed}
-use Rattle.span_tree.specs.SpanTrees.{enough}
+use Rattle.area_tree.specs.SpanTrees.{enough}
 use Rattle.area_tree.specs.declared.shown.ShownArea.{ShownArea}
 use Rattle.area_tree.specs.AreaTrees.{AreaTreeView, shown_of, areas_of, times_shown, AreasRise, IsEndOf, IsRoomFor}
 use Rattle.mm_state.specs.declared.store.AreaStore.{AreaStore}

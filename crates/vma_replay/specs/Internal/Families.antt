@@ -16,7 +16,7 @@ use Rattle.mm_fork.specs.Children.{child_history_of, parent_trace}
 use Rattle.history.specs.SpaceLines.{child_lines}
 use Rattle.vma_replay.specs.declared.forks.Fork.{Fork}
 use Rattle.vma_replay.specs.declared.words.Mode.{Mode}
-use Rattle.output_text.specs.Output.{listed_text}
+use Rattle.output.specs.Output.{listed_text}
 use Rattle.vma_replay.specs.ChildTexts.{child_line}
 use Rattle.vma_replay.specs.Forks.{forks_of}
 use Rattle.vma_replay.specs.Replaying.{IsRunOf, IsRunOfChild, history_of_run}

@@ -5,13 +5,13 @@ use Rattle.io_edge.specs.Edge.{SinkView, FailedLast}
 use Rattle.mm_space.specs.Closing.{ClosedView}
 use Rattle.trace_reader.specs.declared.trace.Trace.{Trace}
 use Rattle.mm_fork.specs.Children.{parent_trace}
-use Rattle.output_print.specs.declared.error.PrintError.{PrintError}
-use Rattle.output_print.specs.Giving.{Gave, IsCut}
+use Rattle.output.specs.declared.error.PrintError.{PrintError}
+use Rattle.output.specs.Giving.{Gave, IsCut}
 use Rattle.vma_replay.specs.declared.status.Status.{Status}
 use Rattle.vma_replay.specs.declared.status.Status.TheVariants as statuses
 use Rattle.vma_replay.specs.declared.words.Mode.{Mode}
 use Rattle.vma_replay.specs.declared.words.Mode.TheVariants as modes
-use Rattle.output_text.specs.Output.{serial_output}
+use Rattle.output.specs.Output.{serial_output}
 use Rattle.vma_replay.specs.Statuses.{status_of_print}
 use Rattle.vma_replay.specs.Replaying.{BeginsWith, GivesRuns, RunsGenerated}
 use Rattle.vma_replay.specs.Summaries.{summary_text}

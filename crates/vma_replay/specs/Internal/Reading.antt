@@ -6,8 +6,8 @@ use Rattle.io_edge.specs.Edge.{SourceView, FailedLast}
 use Rattle.text_lexer.specs.declared.error.ReadError.{ReadError}
 use Rattle.text_lexer.specs.declared.error.ReadError.TheVariants as reads
 use Rattle.text_lexer.specs.declared.error.BadLine.{BadLine}
-use Rattle.output_check.specs.Input.{check_limit, input_of}
-use Rattle.output_check.specs.Checked.{IsCheckedAs}
+use Rattle.output.specs.Input.{check_limit, input_of}
+use Rattle.output.specs.Checked.{IsCheckedAs}
 use Rattle.vma_replay.specs.declared.status.Status.{Status}
 use Rattle.vma_replay.specs.declared.status.Status.TheVariants as statuses
 use Rattle.vma_replay.specs.Replaying.{Takes, ReadsEnough}

@@ -1,7 +1,7 @@
 -- The proof of `load`: the text grows line by line to that of the load.
 use Rattle.std.proofs.Common.{◌≡◌, ◌++◌, ℕ, arith, codes, subst, sym}
 use Rattle.std.proofs.lemmas.Grind.{common_steps}
-use Rattle.trace_text.specs.LineTexts.{line_text}
+use Rattle.trace_reader.specs.LineTexts.{line_text}
 use Rattle.gen_load.specs.Loads.{draw_of, line_of}
 use Rattle.gen_load.proofs.Written.{IsLoading, loading_none, loading_more, loading_all}
 use Rattle.gen_load.proofs.loading.load.Goals as goal

@@ -2,7 +2,7 @@
 use Rattle.std.proofs.Common.{◌≡◌, ◌++◌, ◌∙◌, sym, false, codes, decimal, arith}
 use Rattle.std.proofs.lemmas.Grind.{common_steps}
 use Rattle.std.specs.Fmt.{digits}
-use Rattle.trace_text.specs.LineTexts.{line_text}
+use Rattle.trace_reader.specs.LineTexts.{line_text}
 use Rattle.gen_load.specs.declared.draw.Kind.TheVariants.{MapExactly, MapNear, MapAnywhere, Unmap, Protect, Move}
 use Rattle.gen_load.specs.declared.draw.Kind.TheVariants as kinds
 use Rattle.gen_load.specs.Loads.{kind_of, line_of}

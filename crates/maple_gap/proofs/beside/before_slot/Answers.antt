@@ -3,8 +3,8 @@ use Rattle.std.proofs.Common.{ℕ, List, None, ◌≤◌, ◌+◌, ◌-◌, ◌�
 use Rattle.maple_node.specs.Nodes.{end_of}
 use Rattle.maple_node.specs.Levels.{item_at}
 use Rattle.maple_node.specs.Trees.{Pair}
-use Rattle.maple_items.specs.Splices.{ending_by}
-use Rattle.maple_items.proofs.Lists.{ending_by_below}
+use Rattle.maple_node.specs.Splices.{ending_by}
+use Rattle.maple_node.proofs.ItemLists.{ending_by_below}
 use Rattle.node_slots.specs.Built.{words_at}
 use Rattle.maple_gap.specs.Gaps.{last_before, slot_in}
 use Rattle.maple_gap.specs.Internal.Searches.{entries_under, with_gap}

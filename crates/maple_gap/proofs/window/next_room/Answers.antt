@@ -3,8 +3,8 @@ use Rattle.std.proofs.Common.{ℕ, ◌≡◌, ◌+◌, drop, false, sym, ap, ◌
 use Rattle.maple_node.specs.declared.item.NodeItem.{NodeItem}
 use Rattle.maple_node.specs.Nodes.{items_of}
 use Rattle.maple_node.specs.Codec.{width_of, listed_at}
-use Rattle.maple_items.proofs.Parts.{listed_none, listed_past}
-use Rattle.maple_items.proofs.Spliced.{some_words}
+use Rattle.maple_node.proofs.Parts.{listed_none, listed_past}
+use Rattle.maple_node.proofs.Spliced.{some_words}
 use Rattle.maple_gap.specs.Internal.Searches.{may_have, chosen_from}
 use Rattle.maple_gap.proofs.Choices.{chosen_step, chosen_none}
 use Rattle.maple_gap.proofs.window.next_room.Goals as goal

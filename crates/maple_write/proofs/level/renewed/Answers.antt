@@ -3,7 +3,7 @@ use Rattle.std.proofs.Common.{◌≤◌, ◌<◌, ◌∙◌, List, length, ap, s
 use Rattle.maple_node.specs.declared.item.NodeItem.{NodeItem}
 use Rattle.maple_node.specs.Nodes.{words_of, items_of, most, least}
 use Rattle.maple_node.specs.Levels.{is_leaf}
-use Rattle.maple_items.specs.Splices.{spliced}
+use Rattle.maple_node.specs.Splices.{spliced}
 use Rattle.maple_node.specs.Padding.{padded}
 use Rattle.maple_write.specs.Internal.Tables.{table_at}
 use Rattle.maple_write.specs.Internal.Stores.{level_in}

@@ -2,7 +2,7 @@
 use Rattle.std.proofs.Common.{◌≡◌, ◌∙◌, List, true, ap, sym, subst, arith}
 use Rattle.maple_node.specs.declared.item.NodeItem.{NodeItem}
 use Rattle.maple_node.specs.Nodes.{Ascends, IsPlain, words_of, end_of}
-use Rattle.maple_items.proofs.Entries.{overwrite-ascends, overwrite-ends, overwrite-plain}
+use Rattle.maple_node.proofs.ItemEntries.{overwrite-ascends, overwrite-ends, overwrite-plain}
 use Rattle.node_slots.specs.declared.view.NodeView.{NodeView}
 use Rattle.maple_write.specs.Internal.Tables.{table_at}
 use Rattle.maple_write.specs.Internal.Stores.{all_gap}

@@ -1,8 +1,8 @@
 -- For `overwrite`: the entries of the new tree are the old ones with the span overwritten.
 use Rattle.std.proofs.Common.{ℕ, List, ◌≡◌, ◌∙◌, ◌<◌, ◌≤◌, ap, arith}
 use Rattle.maple_node.specs.Trees.{entries_of, pairs_of}
-use Rattle.maple_items.specs.Splices.{overwrite, widened_lo, widened_hi}
-use Rattle.maple_items.specs.Pairs.{overwritten}
+use Rattle.maple_node.specs.Splices.{overwrite, widened_lo, widened_hi}
+use Rattle.maple_node.specs.Pairs.{overwritten}
 use Rattle.node_slots.specs.declared.seats.NodeWriter.{NodeWriter}
 use Rattle.node_slots.specs.Seats.{sight}
 use Rattle.node_slots.specs.Built.{words_at}

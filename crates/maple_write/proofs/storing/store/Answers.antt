@@ -2,7 +2,7 @@
 use Rattle.std.proofs.Common.{ℕ, ◌∙◌, refl, ap, arith, inl}
 use Rattle.maple_node.specs.Trees.{Tree, pairs_of}
 use Rattle.maple_node.specs.Words.{slot_word}
-use Rattle.maple_items.specs.Pairs.{overwritten}
+use Rattle.maple_node.specs.Pairs.{overwritten}
 use Rattle.node_slots.specs.declared.tree.Tree.{Tree as View}
 use Rattle.node_slots.specs.Built.{words_at}
 use Rattle.maple_write.specs.Internal.Tables.{table_at}

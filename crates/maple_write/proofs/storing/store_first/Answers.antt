@@ -1,6 +1,6 @@
 -- For `store_first`: the first leaf lists one entry among pages that are one gap.
 use Rattle.std.proofs.Common.{◌≡◌, ◌∙◌, [], ap, arith}
-use Rattle.maple_items.specs.Pairs.{overwritten}
+use Rattle.maple_node.specs.Pairs.{overwritten}
 use Rattle.node_slots.specs.Seats.{sight}
 use Rattle.maple_write.specs.Internal.Tables.{table_at}
 use Rattle.maple_write.specs.Internal.Stores.{all_gap, tree_under}

@@ -2,7 +2,7 @@
 use Rattle.std.proofs.Common.{ℕ, ◌≡◌, ◌∙◌, ◌+◌, [], nat_lt, cond, ap, sym, subst, arith}
 use Rattle.maple_node.specs.Nodes.{end_of}
 use Rattle.maple_node.specs.Levels.{at_of, times}
-use Rattle.maple_items.specs.Splices.{ending_by}
+use Rattle.maple_node.specs.Splices.{ending_by}
 use Rattle.node_slots.specs.declared.view.NodeView.{NodeView}
 use Rattle.node_slots.specs.Built.{words_at}
 use Rattle.maple_write.specs.Internal.Tables.{Table, table_at, rows_between}

@@ -4,7 +4,7 @@ use Rattle.std.proofs.lemmas.Bool.Decides.{nat_tests}
 use Rattle.maple_node.specs.declared.item.NodeItem.{NodeItem}
 use Rattle.maple_node.specs.Nodes.{end_of}
 use Rattle.maple_node.specs.Levels.{at_of, is_leaf, below, level_of, IsTower}
-use Rattle.maple_items.specs.Splices.{ending_by}
+use Rattle.maple_node.specs.Splices.{ending_by}
 use Rattle.node_slots.specs.declared.view.NodeView.{NodeView}
 use Rattle.node_slots.specs.Built.{words_at}
 use Rattle.maple_write.specs.declared.rows.Rooted.{Rooted}

@@ -3,7 +3,7 @@ use Rattle.std.proofs.Common.{◌-◌, ◌≡◌, ◌≤◌, ◌+◌, ◌*◌, t
 use Rattle.maple_node.specs.Nodes.{end_of}
 use Rattle.maple_node.specs.Levels.{below}
 use Rattle.maple_node.specs.Trees.{entries_of}
-use Rattle.maple_items.specs.Splices.{ending_by, overwrite}
+use Rattle.maple_node.specs.Splices.{ending_by, overwrite}
 use Rattle.node_slots.specs.Seats.{free_of}
 use Rattle.node_slots.specs.Built.{words_at}
 use Rattle.maple_write.specs.Internal.Tables.{table_at}

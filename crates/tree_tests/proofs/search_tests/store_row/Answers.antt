@@ -1,7 +1,7 @@
 -- For `store_row`: one area more.
 use Rattle.std.proofs.Common.{ℕ, ◌+◌, ◌*◌, ◌≤◌, length, sym, subst, ap, ◌∙◌, true, arith}
-use Rattle.maple_items.specs.Pairs.{overwritten}
-use Rattle.span_tree.specs.SpanTrees.{SpanView}
+use Rattle.maple_node.specs.Pairs.{overwritten}
+use Rattle.area_tree.specs.SpanTrees.{SpanView}
 use Rattle.tree_tests.proofs.Rows.{few_pairs, next_row}
 use Rattle.tree_tests.proofs.search_tests.store_row.Goals as goal
 

@@ -1,6 +1,6 @@
 -- The proof of `forks_from`: before the first item, at the next, and after the last.
 use Rattle.vma_replay.specs.Forks.{fork_of}
-use Rattle.output_print.proofs.Telling.{told_all, told_answers, told_next, told_none}
+use Rattle.output.proofs.Telling.{told_all, told_answers, told_next, told_none}
 use Rattle.vma_replay.proofs.forks.forks_from.Goals as goal
 
 pub loop-item-init : goal.loop-item-init

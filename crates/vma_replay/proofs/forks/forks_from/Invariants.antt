@@ -1,6 +1,6 @@
 -- The proof of `forks_from`: the forks of the items so far were found.
 use Rattle.vma_replay.specs.Forks.{fork_of}
-use Rattle.output_print.proofs.Telling.{Told}
+use Rattle.output.proofs.Telling.{Told}
 use Rattle.vma_replay.proofs.forks.forks_from.Given as goal
 
 abbrev pub invariant-loop-item : goal.invariant-loop-item

@@ -1,7 +1,7 @@
 -- The proof of `alone_given`: where memory runs out before anything was given, and what giving the text of the run results in.
 use Rattle.std.proofs.Common.{◌≡◌, ◌∙◌, ap, refl, subst, sym, List, [], ◌∷◌, ◌++◌, ℕ, get_or}
 use Rattle.mm_space.specs.Closing.{ClosedView}
-use Rattle.output_text.specs.Output.{listed_text}
+use Rattle.output.specs.Output.{listed_text}
 use Rattle.vma_replay.specs.Internal.Giving.{GivesAnOutput}
 use Rattle.vma_replay.specs.Replaying.{IsRunOf, history_of_run}
 use Rattle.vma_replay.proofs.Alone.{only_gives, own_run}

@@ -1,7 +1,7 @@
 -- The proof of `give_alone`: the text is printed into an empty piece, and then the rest is given.
 use Rattle.std.proofs.Common.{ap, arith, length, refl}
 use Rattle.vma_replay.proofs.Alone.{cut_empty, prints_empty}
-use Rattle.output_print.proofs.Pieces.{at_error, cut_none, giving_last}
+use Rattle.output.proofs.Pieces.{at_error, cut_none, giving_last}
 use Rattle.vma_replay.proofs.in_turn.give_alone.Goals as goal
 
 pub returns-in_err-piece : goal.returns-in_err-piece

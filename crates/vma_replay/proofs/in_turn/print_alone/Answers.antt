@@ -1,7 +1,7 @@
 -- The proof of `print_alone`: line by line, or by the history that is made.
 use Rattle.std.proofs.Common.{◌∙◌}
 use Rattle.vma_replay.proofs.Alone.{alone_history, alone_run, cut_whole, run_listed, run_told}
-use Rattle.output_print.proofs.Pieces.{at_error, printing_as, printing_then}
+use Rattle.output.proofs.Pieces.{at_error, printing_as, printing_then}
 use Rattle.vma_replay.proofs.Parents.{few_lines, legal_items, low_threads}
 use Rattle.vma_replay.proofs.in_turn.print_alone.Goals as goal
 

@@ -3,9 +3,9 @@ use Rattle.std.proofs.Common.{◌∙◌, ◌-◌, ap, arith, drop, get_or, lengt
 use Rattle.mm_fork.specs.Children.{parent_trace}
 use Rattle.history.proofs.OneSpace.{parent_is_trace}
 use Rattle.vma_replay.proofs.FamilyTexts.{family_whole}
-use Rattle.output_print.proofs.Outputs.{cut_first, cut_second, prints_both}
+use Rattle.output.proofs.Outputs.{cut_first, cut_second, prints_both}
 use Rattle.vma_replay.proofs.Parents.{few_lines, legal_items, low_threads, parent_value}
-use Rattle.output_print.proofs.Pieces.{at_error, giving_last}
+use Rattle.output.proofs.Pieces.{at_error, giving_last}
 use Rattle.vma_replay.proofs.printing.give_family.Goals as goal
 
 pub print_history-requires-clause-held : goal.print_history-requires-clause-held

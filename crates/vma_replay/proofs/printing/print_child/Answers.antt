@@ -6,13 +6,13 @@ use Rattle.mm_types.specs.declared.call.Entry.{Entry}
 use Rattle.mm_types.specs.declared.call.Seen.{Seen}
 use Rattle.mm_types.specs.declared.files.FileRow.{FileRow}
 use Rattle.history.specs.declared.items.Item.{Item}
-use Rattle.output_text.specs.Output.{listed_text}
+use Rattle.output.specs.Output.{listed_text}
 use Rattle.history.proofs.ThreadCounts.{threads_of_trace}
 use Rattle.mm_fork.specs.Children.{child_history_of}
 use Rattle.history.specs.SpaceLines.{child_lines}
 use Rattle.history.proofs.OwnLines.{own_few, own_threads}
 use Rattle.vma_replay.proofs.ChildSpaces.{reads_later}
-use Rattle.output_print.proofs.Pieces.{at_error, cut_more, printing_as, printing_then}
+use Rattle.output.proofs.Pieces.{at_error, cut_more, printing_as, printing_then}
 use Rattle.vma_replay.proofs.printing.print_child.Goals as goal
 
 pub child_history-requires-clause-later : goal.child_history-requires-clause-later

@@ -1,6 +1,6 @@
 -- The proof of `print_child_line`: the line was appended, and then what is full was given.
 use Rattle.std.proofs.Common.{refl}
-use Rattle.output_print.proofs.Pieces.{at_error, cut_none, printing_pushed}
+use Rattle.output.proofs.Pieces.{at_error, cut_none, printing_pushed}
 use Rattle.vma_replay.proofs.printing.print_child_line.Goals as goal
 
 pub returns-in_err-push_child_line : goal.returns-in_err-push_child_line

@@ -1,7 +1,7 @@
 -- The proof of `print_children`: at the next child; and there is a run for it.
 use Rattle.std.proofs.Common.{[], refl}
 use Rattle.vma_replay.proofs.FamilyTexts.{child_at, children_more, found_at, none_missing}
-use Rattle.output_print.proofs.Pieces.{at_error, cut_at, prints_none, prints_then}
+use Rattle.output.proofs.Pieces.{at_error, cut_at, prints_none, prints_then}
 use Rattle.vma_replay.proofs.printing.print_children.Goals as goal
 use Rattle.vma_replay.proofs.printing.print_children.Goals.{in-Some+in_ok-print_child, in_default}
 

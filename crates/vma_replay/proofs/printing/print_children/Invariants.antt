@@ -1,6 +1,6 @@
 -- The proof of `print_children`: the children so far were printed.
 use Rattle.std.proofs.Common.{ℕ, List}
-use Rattle.output_print.specs.Giving.{Prints}
+use Rattle.output.specs.Giving.{Prints}
 use Rattle.vma_replay.proofs.FamilyTexts.{ToldChildren}
 use Rattle.vma_replay.proofs.printing.print_children.Given as goal
 

@@ -1,7 +1,7 @@
 -- The proof of `check_source`: what was taken settles what is judged.
 use Rattle.std.proofs.lemmas.Result.{err_from_is_err_and}
 use Rattle.text_lexer.specs.Lines.{input_limit}
-use Rattle.output_check.specs.Input.{check_limit}
+use Rattle.output.specs.Input.{check_limit}
 use Rattle.vma_replay.proofs.CheckTaken.{checks, checks_nothing}
 use Rattle.vma_replay.proofs.reading.check_source.Goals as goal
 

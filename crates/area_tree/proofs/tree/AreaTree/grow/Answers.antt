@@ -2,7 +2,7 @@
 use Rattle.std.proofs.Common.{◌∙◌, List, length, set, sym, ap, subst, arith}
 use Rattle.std.proofs.lemmas.List.{length-set}
 use Rattle.mm_types.specs.declared.area.Record.{Record}
-use Rattle.span_tree.specs.SpanTrees.{SpanView}
+use Rattle.area_tree.specs.SpanTrees.{SpanView}
 use Rattle.area_tree.specs.AreaTrees.{AreRecords}
 use Rattle.area_tree.proofs.Reshaped.{slot_below, record_below, grown_told, upto_told, told_shown}
 use Rattle.area_tree.proofs.Unsealed.{set_open}

@@ -2,7 +2,7 @@
 use Rattle.std.proofs.Common.{◌∙◌, List, length, set, sym, ap, subst, arith}
 use Rattle.std.proofs.lemmas.List.{length-set}
 use Rattle.mm_types.specs.declared.area.Record.{Record}
-use Rattle.span_tree.specs.SpanTrees.{SpanView}
+use Rattle.area_tree.specs.SpanTrees.{SpanView}
 use Rattle.area_tree.specs.AreaTrees.{AreaTreeView, AreRecords}
 use Rattle.area_tree.proofs.Changing.{counted, more, more_shown}
 use Rattle.area_tree.proofs.Unsealed.{set_open}

@@ -6,7 +6,7 @@ use Rattle.mm_types.specs.declared.area.Record.{Record}
 use Rattle.area_rules.specs.declared.placement.Bounds.{Bounds}
 use Rattle.area_rules.proofs.Limits.{limit_between}
 use Rattle.maple_node.specs.Trees.{Pair}
-use Rattle.span_tree.specs.SpanTrees.{SpanView}
+use Rattle.area_tree.specs.SpanTrees.{SpanView}
 use Rattle.maple_gap.specs.Gaps.{span_of}
 use Rattle.area_tree.specs.AreaTrees.{AreRecords, area_in, no_area}
 use Rattle.area_tree.proofs.Unsealed.{IsOpen, none_open}

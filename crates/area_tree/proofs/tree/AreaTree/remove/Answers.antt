@@ -1,6 +1,6 @@
 -- For `AreaTree::remove`: a pair is taken out.
 use Rattle.std.proofs.Common.{◌∙◌, length, sym, ap, subst, arith}
-use Rattle.span_tree.specs.SpanTrees.{SpanView}
+use Rattle.area_tree.specs.SpanTrees.{SpanView}
 use Rattle.area_tree.specs.AreaTrees.{AreRecords}
 use Rattle.area_tree.proofs.Changing.{less_area, less_shown}
 use Rattle.area_tree.proofs.tree.AreaTree.remove.Goals as goal

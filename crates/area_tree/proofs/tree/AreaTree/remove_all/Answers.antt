@@ -1,6 +1,6 @@
 -- For `AreaTree::remove_all`: a gap for the pages of areas that adjoin each other.
 use Rattle.std.proofs.Common.{◌∙◌, length, sym, ap, subst, arith}
-use Rattle.span_tree.specs.SpanTrees.{SpanView}
+use Rattle.area_tree.specs.SpanTrees.{SpanView}
 use Rattle.area_tree.specs.AreaTrees.{AreRecords}
 use Rattle.area_tree.proofs.Taking.{adjoin_some, taken_told, taken_shown}
 use Rattle.area_tree.proofs.tree.AreaTree.remove_all.Goals as goal

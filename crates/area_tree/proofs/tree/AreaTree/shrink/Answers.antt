@@ -3,8 +3,8 @@ use Rattle.std.proofs.Common.{◌∙◌, List, length, set, sym, ap, subst, arit
 use Rattle.std.proofs.lemmas.List.{length-set}
 use Rattle.mm_types.specs.declared.area.Span.{Span}
 use Rattle.mm_types.specs.declared.area.Record.{Record}
-use Rattle.maple_items.specs.Pairs.{overwritten}
-use Rattle.span_tree.specs.SpanTrees.{SpanView}
+use Rattle.maple_node.specs.Pairs.{overwritten}
+use Rattle.area_tree.specs.SpanTrees.{SpanView}
 use Rattle.area_tree.specs.AreaTrees.{AreRecords}
 use Rattle.area_tree.proofs.Reshaped.{IsReshaped, record_below, shrunk_told, beside_within, told_shown}
 use Rattle.area_tree.proofs.Unsealed.{set_open}

@@ -2,7 +2,7 @@
 use Rattle.std.proofs.Common.{◌≡◌, ◌∙◌, ◌||◌, List, length, set, sym, ap, subst, arith}
 use Rattle.std.proofs.lemmas.List.{length-set}
 use Rattle.mm_types.specs.declared.area.Record.{Record}
-use Rattle.span_tree.specs.SpanTrees.{SpanView}
+use Rattle.area_tree.specs.SpanTrees.{SpanView}
 use Rattle.area_tree.specs.AreaTrees.{AreaTreeView, AreRecords}
 use Rattle.area_tree.proofs.Changing.{counted}
 use Rattle.area_tree.proofs.Splitting.{CanSplit, shown_below, other_below, split_off_told, split_off_shown}

@@ -3,7 +3,7 @@ use Rattle.std.proofs.Common.{◌≡◌, ℕ, arith, sym, ap}
 use Rattle.flag_table.specs.Printing.{printed}
 use Rattle.flag_table.specs.Tables.{prot_flags}
 use Rattle.trace_reader.specs.Fields.{prot_of_bits}
-use Rattle.trace_text.specs.LineTexts.{prot_word}
+use Rattle.trace_reader.specs.LineTexts.{prot_word}
 use Rattle.gen_load.specs.Loads.{prot_bits_of}
 use Rattle.gen_load.proofs.draw.Draw.prot.Goals as goal
 

@@ -1,6 +1,6 @@
 -- For `OneLeaf::scan`: the present tree stays.
 use Rattle.std.proofs.Common.{◌∙◌, ap}
-use Rattle.span_tree.proofs.Scanning.{scan_scans}
+use Rattle.area_tree.proofs.Scanning.{scan_scans}
 use Rattle.tree_tests.proofs.table_tests.leaf.OneLeaf.scan.Goals as goal
 
 pub invariant_of-self-clause-number : goal.invariant_of-self-clause-number

@@ -1,7 +1,7 @@
 -- For `Bench::scan`: scans leave the writer's tree as it is.
 use Rattle.std.proofs.Common.{◌∙◌, ap}
-use Rattle.span_tree.proofs.Scanning.{scan_scans}
-use Rattle.span_tree.proofs.Writing.{scanned_writers}
+use Rattle.area_tree.proofs.Scanning.{scan_scans}
+use Rattle.area_tree.proofs.Writing.{scanned_writers}
 use Rattle.tree_tests.proofs.write_tests.bench.Bench.scan.Goals as goal
 
 pub invariant_of-self : goal.invariant_of-self

@@ -1,4 +1,0 @@
-pub mod Splices
-pub mod Parts
-pub mod Pairs
-pub mod Internal

@@ -1,6 +1,0 @@
--- For `retraced_text_makes_the_maps`: its goal.
-use Rattle.maps_retrace.proofs.Made.{makes}
-use Rattle.maps_retrace.proofs.laws.retraced_text_makes_the_maps.Goals as goal
-
-pub returns : goal.returns
-returns c = makes

@@ -1,0 +1,13 @@
+-- The proof of `Walk::judge`: the items so far were compared, and each shortens what is left.
+use Rattle.std.proofs.Common.{ℕ, List, length}
+use Rattle.output.specs.Internal.Judging.{IsWalked}
+use Rattle.output.proofs.judging.Walk.judge.Given as goal
+
+abbrev pub invariant-loop-self : goal.invariant-loop-self
+invariant-loop-self l = record {
+  some : (text : List ℕ) × IsWalked l.trace text l.self;
+  kept : (text : List ℕ) → IsWalked l.trace text l.fn.self → IsWalked l.trace text l.self;
+}
+
+abbrev pub decreases-loop-self : goal.decreases-loop-self
+decreases-loop-self l = length l.self.given.rest.now

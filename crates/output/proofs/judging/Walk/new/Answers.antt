@@ -1,0 +1,12 @@
+-- The proof of `Walk::new`: the walk before the first item.
+use Rattle.std.proofs.Common.{List, [], subst}
+use Rattle.trace_reader.specs.declared.trace.TraceLine.{TraceLine}
+use Rattle.history.specs.Coming.{IsProgress}
+use Rattle.output.proofs.Walked.{walked_none}
+use Rattle.output.proofs.judging.Walk.new.Goals as goal
+
+pub returns : goal.returns
+returns c =
+    walked_none c.args.trace.now c.args.text.now _
+    (subst (λ (l : List TraceLine). IsProgress l [] c.in_ok-new.field-0) c.items.ensures c.in_ok-new.ensures) c.in_ok-new-2.ensures
+    c.of.ensures.read c.of.ensures.room

@@ -1,0 +1,10 @@
+pub mod Checked
+pub mod Input
+pub mod Reading
+pub mod TextLines
+pub mod Judgements
+pub mod Internal
+pub mod Giving
+pub mod Answering
+pub mod Telling
+pub mod Output

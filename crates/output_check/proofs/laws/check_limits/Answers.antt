@@ -1,9 +1,0 @@
--- For `check_limits`: its goals.
-use Rattle.std.proofs.Common.{refl}
-use Rattle.text_lexer.specs.Lines.{input_limit}
-use Rattle.output_check.specs.Input.{check_limit}
-use Rattle.output_check.proofs.laws.check_limits.Goals as goal
-
-pub returns-clause-input : goal.returns-clause-input
-unfolding check_limit input_limit
-returns-clause-input c = refl

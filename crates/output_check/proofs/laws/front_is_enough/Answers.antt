@@ -1,6 +1,0 @@
--- For `front_is_enough`: its goals.
-use Rattle.output_check.proofs.Fronts.{input_of-front}
-use Rattle.output_check.proofs.laws.front_is_enough.Goals as goal
-
-pub returns : goal.returns
-returns c = input_of-front

@@ -1,6 +1,0 @@
--- For `inputs_are_within`: its goals.
-use Rattle.output_check.proofs.Inputs.{input_within}
-use Rattle.output_check.proofs.laws.inputs_are_within.Goals as goal
-
-pub returns : goal.returns
-returns c = input_within

@@ -1,8 +1,0 @@
--- The proof of `print_list`: the lines of the areas so far were printed.
-use Rattle.std.proofs.Common.{take}
-use Rattle.mm_types.specs.MapsText.{list_text}
-use Rattle.output_print.specs.Giving.{Prints}
-use Rattle.output_print.proofs.printing.print_list.Given as goal
-
-abbrev pub invariant-loop-area : goal.invariant-loop-area
-invariant-loop-area g l = Prints (g.K.Sink.seen l.fn.sink) (g.K.Sink.seen l.sink) l.fn.piece.items l.piece.items (list_text l.files (take l.area-index l.areas))

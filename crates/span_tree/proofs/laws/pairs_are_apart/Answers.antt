@@ -1,6 +1,0 @@
--- For `pairs_are_apart`: the pairs of entries stand in order.
-use Rattle.span_tree.proofs.Pairs.{layout-pairs}
-use Rattle.span_tree.proofs.laws.pairs_are_apart.Goals as goal
-
-pub returns : goal.returns
-returns c = layout-pairs

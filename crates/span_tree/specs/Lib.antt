@@ -1,3 +1,0 @@
-pub mod SpanTrees
-pub mod Rows
-pub mod Kept
