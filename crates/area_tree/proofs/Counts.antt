@@ -112,7 +112,7 @@ blank_count writer tree is =
 pub writers_low : (writer : NodeWriter) (tree : Tree) (areas : ℕ) → IsWriters writer tree → length (pairs_now writer tree) ≤ areas → areas ≤ 65530
     → tree.height ≤ 9
 writers_low writer tree areas (inl is) few most =
-    few_levels (words_at writer) (sight writer).size.slots areas (built_rows writer tree) (built writer tree) is.layout few most
+    few_levels (words_at writer) (sight writer).size.slots areas (built writer tree) is.layout few most
 writers_low writer tree areas (inr is) few most = omega (arith, is.height)
 
 -- and has few rows
@@ -120,7 +120,7 @@ writers_few : (writer : NodeWriter) (tree : Tree) (areas : ℕ) → IsWriters wr
     → 9 * kept_rows writer ≤ 4 * areas + 81
 writers_few writer tree areas (inl is) few most =
     let low = writers_low writer tree areas (inl is) few most in
-    let rows = few_rows (words_at writer) (sight writer).size.slots areas (built_rows writer tree) (built writer tree) is.layout few in
+    let rows = few_rows (words_at writer) (sight writer).size.slots areas (built writer tree) is.layout few in
     omega (arith, rows, low, built_count writer tree is)
 writers_few writer tree areas (inr is) few most = omega (arith, blank_count writer tree is)
 

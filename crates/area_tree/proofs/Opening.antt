@@ -1,5 +1,5 @@
 -- For `SpanTree::new`: the writer of a new table.
-use Rattle.std.proofs.Common.{ℕ, ◌≡◌, ◌<◌, ◌≤◌, ◌+◌, ◌∙◌, false, nat_eq, List, [], ◌∷◌, length, replicate, arith, inl, inr, sym, refl, ap}
+use Rattle.std.proofs.Common.{ℕ, ◌≡◌, ◌<◌, ◌≤◌, ◌+◌, ◌∙◌, false, nat_eq, List, [], length, replicate, arith, inl, inr, sym, refl, ap}
 use Rattle.std.proofs.lemmas.Bool.{cases_lt}
 use Rattle.std.proofs.lemmas.Bool.Decides.{eqb_tells}
 use Rattle.std.proofs.lemmas.List.{get_or-replicate}
@@ -61,13 +61,12 @@ fresh_pairs areas writer tree fresh root height = first_pairs writer tree (fresh
 fresh_shown : (areas : ℕ) (writer : NodeWriter) → IsFreshWriter areas writer → shown_pairs writer ≡ []
 unfolding pairs_in
 fresh_shown areas writer fresh =
-    let is : IsFirst (at_of (replicate (areas + 128) empty_row)) (0 ∷ []) first_root = record {
+    let is : IsFirst (at_of (replicate (areas + 128) empty_row)) first_root = record {
       named = refl;
       words = get_or-replicate (areas + 128) 0 empty_row [] (omega arith);
-      row = refl;
     } in
     ap (λ (v : NodeView). pairs_in v.known.writer_state.tree v.known.root) fresh.view
-    ∙ first-pairs (at_of (replicate (areas + 128) empty_row)) (0 ∷ []) first_root is
+    ∙ first-pairs (at_of (replicate (areas + 128) empty_row)) first_root is
 
 -- no tree's grace period has elapsed but tree 0
 fresh_elapsed : (areas : ℕ) (writer : NodeWriter) → IsFreshWriter areas writer → elapsed_of writer ≡ 0

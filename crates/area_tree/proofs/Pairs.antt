@@ -34,7 +34,7 @@ from_pairs slots limit start (item ∷ entries) ascends ends few =
           (omega arith, ascends.0, omega (arith, below, some), rest)
     ]
 
-pub layout-pairs : (at : ℕ → List ℕ) (slots : ℕ) (rows : List ℕ) (tree : Tree) → IsLayout at slots rows tree
+pub layout-pairs : (at : ℕ → List ℕ) (slots : ℕ) (tree : Tree) → IsLayout at slots tree
     → ArePairs slots tree.top.end 0 (pairs_of at tree)
-layout-pairs at slots rows tree layout =
-    from_pairs slots tree.top.end 0 (entries_of at tree) (entries-ascend at slots rows tree layout) (entries-end at slots rows tree layout) layout.numbered
+layout-pairs at slots tree layout =
+    from_pairs slots tree.top.end 0 (entries_of at tree) (entries-ascend at slots tree layout) (entries-end at slots tree layout) layout.numbered

@@ -54,22 +54,22 @@ unfolding more_if
 few_entries entries apart = few_from 1 0 entries apart
 
 -- a tree of few pairs has few rows
-pub few_rows : (at : ℕ → List ℕ) (slots areas : ℕ) (rows : List ℕ) (tree : Tree) → IsLayout at slots rows tree
+pub few_rows : (at : ℕ → List ℕ) (slots areas : ℕ) (tree : Tree) → IsLayout at slots tree
     → length (pairs_of at tree) ≤ areas → 9 * length (tree_rows at tree) ≤ 4 * areas + 9 * tree.height
-few_rows at slots areas rows tree layout few =
-    let size = tree_sizes at slots rows tree layout in
+few_rows at slots areas tree layout few =
+    let size = tree_sizes at slots tree layout in
     let entries = few_entries (entries_of at tree) layout.apart in
     omega (arith, size, entries, few)
 
 -- and few levels
-pub few_levels : (at : ℕ → List ℕ) (slots areas : ℕ) (rows : List ℕ) (tree : Tree) → IsLayout at slots rows tree
+pub few_levels : (at : ℕ → List ℕ) (slots areas : ℕ) (tree : Tree) → IsLayout at slots tree
     → length (pairs_of at tree) ≤ areas → areas ≤ 65530 → tree.height ≤ 9
-few_levels at slots areas rows tree layout few most =
+few_levels at slots areas tree layout few most =
     let entries = few_entries (entries_of at tree) layout.apart in
     elim (cases_lt 9 tree.height) [
       | inl tall ↦ absurd
           (let power : 4 ^ 8 ≤ 4 ^ (tree.height - 2) = pow-le-pow_right {n = 4} (omega arith) {i = 8} {j = tree.height - 2} (omega arith) in
-          let long = tall_trees at slots rows tree layout (omega arith) in
+          let long = tall_trees at slots tree layout (omega arith) in
           omega (arith, power, long, entries, few, most))
       | inr low ↦ low
     ]

@@ -1,5 +1,5 @@
 -- For `SpanTree::scan`, `SpanTree::prepare` and others: what the fields keep.
-use Rattle.std.proofs.Common.{ℕ, ◌≡◌, ◌<◌, ◌≤◌, ◌+◌, ◌*◌, ◌∙◌, true, false, List, [], ◌∷◌, replicate, arith, inl, inr, refl, sym, ap, subst}
+use Rattle.std.proofs.Common.{ℕ, ◌≡◌, ◌<◌, ◌≤◌, ◌+◌, ◌*◌, ◌∙◌, true, false, List, [], replicate, arith, inl, inr, sym, ap, subst}
 use Rattle.grace_core.specs.Core.{since_at, row_at}
 use Rattle.maple_node.specs.declared.root.Root.{Root}
 use Rattle.maple_node.specs.Trees.{Pair, IsFirst}
@@ -7,7 +7,7 @@ use Rattle.maple_node.proofs.Trees.{first-pairs}
 use Rattle.node_slots.specs.declared.seats.NodeWriter.{NodeWriter}
 use Rattle.node_slots.specs.declared.tree.Tree.{Tree}
 use Rattle.node_slots.specs.Seats.{Writes, sight, writer_state, is_waiting, row_count}
-use Rattle.node_slots.specs.Built.{IsBuilt, IsWriters, words_at, built, built_rows, pairs_now}
+use Rattle.node_slots.specs.Built.{IsBuilt, IsWriters, words_at, built, pairs_now}
 use Rattle.area_tree.specs.declared.spans.SpanTree.TheInside.{Inside}
 use Rattle.area_tree.specs.SpanTrees.{ArePairs, enough}
 use Rattle.area_tree.specs.SpanKept.{IsSpanTree}
@@ -79,8 +79,7 @@ elapsed_is writer found most none greatest =
 pub built_pairs : (fields : Inside) → IsSpanTree fields → IsBuilt fields.writer fields.tree
     → ArePairs (2 * fields.areas + 2) fields.tree.limit.0 0 (pairs_now fields.writer fields.tree)
 built_pairs fields kept is =
-    let pairs = layout-pairs (words_at fields.writer) (sight fields.writer).size.slots (built_rows fields.writer fields.tree)
-    (built fields.writer fields.tree) is.layout in
+    let pairs = layout-pairs (words_at fields.writer) (sight fields.writer).size.slots (built fields.writer fields.tree) is.layout in
     let at : ℕ → ℕ → Type 0 = λ slots limit. ArePairs slots limit 0 (pairs_now fields.writer fields.tree) in
     subst (at (2 * fields.areas + 2)) is.limit (subst (λ n. at n (built fields.writer fields.tree).top.end) kept.slots pairs)
 
@@ -89,12 +88,11 @@ pub first_pairs : (writer : NodeWriter) (tree : Tree) → row_at (writer_state w
     → pairs_now writer tree ≡ []
 first_pairs writer tree words root height =
     let named : ℕ → ℕ → Root = λ levels row. record { tree = 0; height = levels; row = record { 0 = row } } in
-    let is : IsFirst (words_at writer) (0 ∷ []) (named tree.height tree.root.0) = record {
+    let is : IsFirst (words_at writer) (named tree.height tree.root.0) = record {
       named = ap (λ levels. named levels tree.root.0) height ∙ ap (named 1) root;
       words = words;
-      row = refl;
     } in
-    first-pairs (words_at writer) (0 ∷ []) (named tree.height tree.root.0) is
+    first-pairs (words_at writer) (named tree.height tree.root.0) is
 
 -- the pairs of a tree that was built, or of none
 pub writers_pairs : (fields : Inside) → IsSpanTree fields → IsWriters fields.writer fields.tree

@@ -67,7 +67,7 @@ tree_in : List (List ℕ) → Tree → maple.Tree
 tree_in words tree = record { top = top_of (at_of words) tree.height tree.root.0; height = tree.height }
 
 layout_in : List (List ℕ) → ℕ → Tree → Type 0
-layout_in words slots tree = IsLayout (at_of words) slots (tree_rows (at_of words) (tree_in words tree)) (tree_in words tree)
+layout_in words slots tree = IsLayout (at_of words) slots (tree_in words tree)
 
 -- the same words show the same pairs
 pub pairs_same : (old new : NodeWriter) (tree : Tree) → (writer_state new).words ≡ (writer_state old).words → pairs_now new tree ≡ pairs_now old tree

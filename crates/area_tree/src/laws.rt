@@ -11,14 +11,14 @@ ghost use Rattle.area_tree.specs.SpanTrees.{enough, ArePairs};
 
 /// The pairs of a tree that meets the layout stand in order, with no page in common, and end at its limit or below it.
 pub fn pairs_are_apart()
-    ensures { (at : ℕ → List ℕ) (slots : ℕ) (rows : List ℕ) (tree : Tree) → IsLayout at slots rows tree
+    ensures { (at : ℕ → List ℕ) (slots : ℕ) (tree : Tree) → IsLayout at slots tree
         → ArePairs slots tree.top.end 0 (pairs_of at tree) }
 {}
 
 /// A tree that meets the layout and has few pairs has so few rows that enough others are left in its table: where no row waits,
 /// and the tree that the writer builds is the present one, enough rows are free. So no call is refused because no row is free.
 pub fn rows_suffice()
-    ensures rows { (at : ℕ → List ℕ) (slots areas : ℕ) (rows : List ℕ) (tree : Tree) → IsLayout at slots rows tree
+    ensures rows { (at : ℕ → List ℕ) (slots areas : ℕ) (tree : Tree) → IsLayout at slots tree
         → length (pairs_of at tree) ≤ areas → areas ≤ MOST_AREAS → length (tree_rows at tree) + enough areas ≤ rows_for areas }
     ensures free { (writer : NodeWriter) (tree : View) (areas : ℕ) → IsWriters writer tree → row_count writer ≡ rows_for areas
         → length (pairs_now writer tree) ≤ areas → areas ≤ MOST_AREAS → ((row : ℕ) → is_present writer row ≡ is_kept writer row)

@@ -14,7 +14,7 @@ use Rattle.maple_node.proofs.ItemLists.{AllFrom-left, AllFrom-right}
 use Rattle.node_slots.specs.declared.tree.Tree.{Tree as View}
 use Rattle.node_slots.specs.declared.seats.NodeWriter.{NodeWriter}
 use Rattle.node_slots.specs.Seats.{sight, row_count}
-use Rattle.node_slots.specs.Built.{words_at, built, built_rows, IsBuilt, IsWriters}
+use Rattle.node_slots.specs.Built.{words_at, built, IsBuilt, IsWriters}
 use Rattle.maple_gap.specs.declared.branch.Branch.{Branch}
 use Rattle.maple_gap.specs.Internal.Searches.{IsUnder, IsBranch, with_gap, IsAnyBranch, IsRootOf}
 use Rattle.maple_gap.proofs.Rows.{node_there, node_under}
@@ -59,7 +59,7 @@ top_under : (writer : NodeWriter) (tree : View) → IsBuilt writer tree
     → IsUnder (words_at writer) (built writer tree).top.end tree.height 0 (built writer tree).top
 top_under writer tree made =
     let top = (built writer tree).top in
-    let past = limit_above (words_at writer) (sight writer).size.slots (built_rows writer tree) (built writer tree) made.layout in
+    let past = limit_above (words_at writer) (sight writer).size.slots (built writer tree) made.layout in
     (tower_under (words_at writer) top.end tree.height (top ∷ []) (past, tt) made.layout.tower).0
 
 top_node : (writer : NodeWriter) (tree : View) → IsBuilt writer tree

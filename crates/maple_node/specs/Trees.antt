@@ -23,7 +23,7 @@ tree_of at root = record { top = top_of at root.height root.row.0; height = root
 abbrev pub entries_of : (ℕ → List ℕ) → Tree → List NodeItem
 entries_of at tree = level_of at 0 tree.height (tree.top ∷ [])
 
--- the rows of the nodes: the root, and each row as often as it is a child
+-- the rows of a tree: those that are reached from its root, the root first, and each row as often as it is a child
 abbrev pub tree_rows : (ℕ → List ℕ) → Tree → List ℕ
 tree_rows at tree = rows_of at 0 tree.height (tree.top ∷ [])
 
@@ -51,8 +51,8 @@ abbrev pub ApartFrom : ℕ → List NodeItem → Type 0
 ApartFrom before [] = Unit {0}
 ApartFrom before (item ∷ items) = (before ≡ 0 → item.word ≡ 0 → ⊥) × ApartFrom item.word items
 
--- a table shows a tree that meets the layout: its nodes are these rows, and its slots are below so many
-pub record IsLayout (at : ℕ → List ℕ) (slots : ℕ) (rows : List ℕ) (tree : Tree) : Type 0 where
+-- a table shows a tree that meets the layout, whose slots are below so many
+pub record IsLayout (at : ℕ → List ℕ) (slots : ℕ) (tree : Tree) : Type 0 where
   -- a single leaf has height 1
   pub tall : 1 ≤ tree.height
   -- from the root down to the leaves, each row that is pointed to is a node
@@ -63,18 +63,15 @@ pub record IsLayout (at : ℕ → List ℕ) (slots : ℕ) (rows : List ℕ) (tre
   pub apart : ApartFrom 1 (entries_of at tree)
   -- an entry's word is 0 for a gap, or the number of one of so many slots plus 1
   pub numbered : All (λ entry. entry.word ≤ slots) (entries_of at tree)
-  -- each node is one of the rows, and each of the rows is a node
-  pub each : (row : ℕ) → times row (tree_rows at tree) ≡ times row rows
-  -- no row is reached twice: the root is no child, and each other row is a child once
+  -- each of its rows is reached once: the root is no child, and each other row is a child once
   pub once : (row : ℕ) → times row (tree_rows at tree) ≤ 1
 
 -- tree 0: a leaf without entries, in row 0, whose words are all 0
-pub record IsFirst (at : ℕ → List ℕ) (rows : List ℕ) (root : Root) : Type 0 where
+pub record IsFirst (at : ℕ → List ℕ) (root : Root) : Type 0 where
   pub named : root ≡ record { tree = 0; height = 1; row = record { 0 = 0 } }
   pub words : at 0 ≡ replicate 32 0
-  pub row : rows ≡ 0 ∷ []
 
 -- what a table shows from a root on: tree 0 has no entries, and each later tree meets the layout
-pub record IsTree (at : ℕ → List ℕ) (slots : ℕ) (rows : List ℕ) (root : Root) : Type 0 where
-  pub first : root.tree ≡ 0 → IsFirst at rows root
-  pub later : 1 ≤ root.tree → IsLayout at slots rows (tree_of at root)
+pub record IsTree (at : ℕ → List ℕ) (slots : ℕ) (root : Root) : Type 0 where
+  pub first : root.tree ≡ 0 → IsFirst at root
+  pub later : 1 ≤ root.tree → IsLayout at slots (tree_of at root)

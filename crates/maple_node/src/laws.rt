@@ -28,52 +28,48 @@ pub fn depends_on_its_rows()
         → entries_of at tree ≡ entries_of other tree }
     ensures pairs { (at other : ℕ → List ℕ) (tree : Tree) → Agree at other (tree_rows at tree)
         → pairs_of at tree ≡ pairs_of other tree }
-    ensures layout { (at other : ℕ → List ℕ) (slots : ℕ) (rows : List ℕ) (tree : Tree) → Agree at other (tree_rows at tree)
-        → IsLayout at slots rows tree ↔ IsLayout other slots rows tree }
-    ensures tree { (at other : ℕ → List ℕ) (slots : ℕ) (rows : List ℕ) (root : Root)
-        → Agree at other (tree_rows at (tree_of at root)) → IsTree at slots rows root ↔ IsTree other slots rows root }
+    ensures layout { (at other : ℕ → List ℕ) (slots : ℕ) (tree : Tree) → Agree at other (tree_rows at tree)
+        → IsLayout at slots tree ↔ IsLayout other slots tree }
+    ensures tree { (at other : ℕ → List ℕ) (slots : ℕ) (root : Root)
+        → Agree at other (tree_rows at (tree_of at root)) → IsTree at slots root ↔ IsTree other slots root }
 {}
 
 /// Tree 0 has one row, row 0, and no entries or pairs.
 pub fn first_tree_is_empty()
-    ensures rows { (at : ℕ → List ℕ) (rows : List ℕ) (root : Root) → IsFirst at rows root
+    ensures rows { (at : ℕ → List ℕ) (root : Root) → IsFirst at root
         → tree_rows at (tree_of at root) ≡ 0 ∷ [] }
-    ensures entries { (at : ℕ → List ℕ) (rows : List ℕ) (root : Root) → IsFirst at rows root
+    ensures entries { (at : ℕ → List ℕ) (root : Root) → IsFirst at root
         → entries_of at (tree_of at root) ≡ [] }
-    ensures pairs { (at : ℕ → List ℕ) (rows : List ℕ) (root : Root) → IsFirst at rows root
+    ensures pairs { (at : ℕ → List ℕ) (root : Root) → IsFirst at root
         → pairs_of at (tree_of at root) ≡ [] }
 {}
 
 /// The root of a tree that meets the layout stands in the tree's rows once, and names the tree: its row and height determine
 /// where the tree ends and its largest gap, so the root of any later number that has them shows this tree.
 pub fn root_stands_once()
-    ensures once { (at : ℕ → List ℕ) (slots : ℕ) (rows : List ℕ) (tree : Tree) → IsLayout at slots rows tree
-        → (times tree.top.word (tree_rows at tree) ≡ 1) × (times tree.top.word rows ≡ 1) }
-    ensures named { (at : ℕ → List ℕ) (slots : ℕ) (rows : List ℕ) (tree : Tree) → IsLayout at slots rows tree
+    ensures once { (at : ℕ → List ℕ) (slots : ℕ) (tree : Tree) → IsLayout at slots tree
+        → times tree.top.word (tree_rows at tree) ≡ 1 }
+    ensures named { (at : ℕ → List ℕ) (slots : ℕ) (tree : Tree) → IsLayout at slots tree
         → tree.top ≡ top_of at tree.height tree.top.word }
-    ensures shown { (at : ℕ → List ℕ) (slots : ℕ) (rows : List ℕ) (tree : Tree) (root : Root) → IsLayout at slots rows tree
-        → 1 ≤ root.tree → root.height ≡ tree.height → root.row.0 ≡ tree.top.word → IsTree at slots rows root }
+    ensures shown { (at : ℕ → List ℕ) (slots : ℕ) (tree : Tree) (root : Root) → IsLayout at slots tree
+        → 1 ≤ root.tree → root.height ≡ tree.height → root.row.0 ≡ tree.top.word → IsTree at slots root }
 {}
 
-/// The rows of a tree are those of its nodes, each once, so a tree shows that it is one from its own rows alone.
-pub fn rows_are_those_of_its_nodes()
-    ensures counted { (at : ℕ → List ℕ) (slots : ℕ) (rows : List ℕ) (root : Root) (row : ℕ) → IsTree at slots rows root
-        → times row rows ≡ times row (tree_rows at (tree_of at root)) }
-    ensures once { (at : ℕ → List ℕ) (slots : ℕ) (rows : List ℕ) (root : Root) (row : ℕ) → IsTree at slots rows root
-        → times row rows ≤ 1 }
-    ensures own { (at : ℕ → List ℕ) (slots : ℕ) (rows : List ℕ) (root : Root) → IsTree at slots rows root
-        → IsTree at slots (tree_rows at (tree_of at root)) root }
+/// No row of a tree is reached twice from its root.
+pub fn rows_are_reached_once()
+    ensures { (at : ℕ → List ℕ) (slots : ℕ) (root : Root) (row : ℕ) → IsTree at slots root
+        → times row (tree_rows at (tree_of at root)) ≤ 1 }
 {}
 
 /// The entries of a tree that meets the layout cover the pages from 0 up to the limit with no hole: they ascend from page 0,
 /// the last ends at the limit, and each page below it is in an entry.
 pub fn entries_cover_pages()
-    ensures some { (at : ℕ → List ℕ) (slots : ℕ) (rows : List ℕ) (tree : Tree) → IsLayout at slots rows tree
+    ensures some { (at : ℕ → List ℕ) (slots : ℕ) (tree : Tree) → IsLayout at slots tree
         → 0 < tree.top.end }
-    ensures ascend { (at : ℕ → List ℕ) (slots : ℕ) (rows : List ℕ) (tree : Tree) → IsLayout at slots rows tree
+    ensures ascend { (at : ℕ → List ℕ) (slots : ℕ) (tree : Tree) → IsLayout at slots tree
         → Ascends 0 (entries_of at tree) }
-    ensures limit { (at : ℕ → List ℕ) (slots : ℕ) (rows : List ℕ) (tree : Tree) → IsLayout at slots rows tree
+    ensures limit { (at : ℕ → List ℕ) (slots : ℕ) (tree : Tree) → IsLayout at slots tree
         → end_of 0 (entries_of at tree) ≡ tree.top.end }
-    ensures covered { (at : ℕ → List ℕ) (slots : ℕ) (rows : List ℕ) (tree : Tree) (page : ℕ) → IsLayout at slots rows tree
+    ensures covered { (at : ℕ → List ℕ) (slots : ℕ) (tree : Tree) (page : ℕ) → IsLayout at slots tree
         → page < tree.top.end → IsSome (item_at page (entries_of at tree)) }
 {}

@@ -82,7 +82,7 @@ pub use item_laws::{
 };
 pub use laws::{
     depends_on_its_rows, entries_cover_pages, first_tree_is_empty, nodes_are_read_by_place,
-    root_stands_once, rows_are_those_of_its_nodes,
+    root_stands_once, rows_are_reached_once,
 };
 pub use layout::{Layout, inner_packing_is_undone, leaf_packing_is_undone};
 pub use list::{ItemList, push_all, push_ending_after};

@@ -54,10 +54,10 @@ pub record Loaded (shown : ShownTree) (slots : ℕ) : Type 0 where
   pub ascends : Ascends 0 (entries_in shown)
   pub numbered : All (λ entry. entry.word ≤ slots) (entries_in shown)
 
-first_loaded : (shown : ShownTree) (slots : ℕ) → IsFirst (at_of shown.words) (shown_rows shown) shown.root → Loaded shown slots
+first_loaded : (shown : ShownTree) (slots : ℕ) → IsFirst (at_of shown.words) shown.root → Loaded shown slots
 first_loaded shown slots first =
     let at = at_of shown.words in
-    let none : entries_in shown ≡ [] = first-entries at (shown_rows shown) shown.root first in
+    let none : entries_in shown ≡ [] = first-entries at shown.root first in
     let tall : shown.root.height ≡ 1 = ap (λ (r : Root). r.height) first.named in
     record {
       tall = omega arith;
@@ -67,7 +67,7 @@ first_loaded shown slots first =
       numbered = subst (λ (xs : List NodeItem). All (λ (entry : NodeItem). entry.word ≤ slots) xs) (sym none) (λ k d low. absurd (omega arith));
     }
 
-later_loaded : (shown : ShownTree) (slots : ℕ) → IsLayout (at_of shown.words) slots (shown_rows shown) (tree_of (at_of shown.words) shown.root)
+later_loaded : (shown : ShownTree) (slots : ℕ) → IsLayout (at_of shown.words) slots (tree_of (at_of shown.words) shown.root)
     → Loaded shown slots
 later_loaded shown slots layout =
     let at = at_of shown.words in
@@ -76,7 +76,7 @@ later_loaded shown slots layout =
       tall = layout.tall;
       tower = λ inner. layout.tower;
       long = top-long at tree.top.end tree.height tree.top layout.tall layout.tower;
-      ascends = entries-ascend at slots (shown_rows shown) tree layout;
+      ascends = entries-ascend at slots tree layout;
       numbered = layout.numbered;
     }
 

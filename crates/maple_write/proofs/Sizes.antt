@@ -91,9 +91,9 @@ many_entries at limit (suc up) m items tower ends some =
     omega arith
 
 -- the sizes of a tree
-pub tree_sizes : (at : ℕ → List ℕ) (slots : ℕ) (rows : List ℕ) (tree : Tree) → IsLayout at slots rows tree
+pub tree_sizes : (at : ℕ → List ℕ) (slots : ℕ) (tree : Tree) → IsLayout at slots tree
     → 9 * length (tree_rows at tree) + 2 ≤ 2 * length (entries_of at tree) + 9 * tree.height
-tree_sizes at slots rows tree layout =
+tree_sizes at slots tree layout =
     let tall = layout.tall in
     let e : tree.height ≡ suc (tree.height - 1) = omega arith in
     let top = tree.top in
@@ -103,10 +103,10 @@ tree_sizes at slots rows tree layout =
     let b = ap (λ (n : ℕ). length (level_of at 0 n (top ∷ []))) e in
     omega arith
 
-pub tall_trees : (at : ℕ → List ℕ) (slots : ℕ) (rows : List ℕ) (tree : Tree) → IsLayout at slots rows tree → 2 ≤ tree.height
+pub tall_trees : (at : ℕ → List ℕ) (slots : ℕ) (tree : Tree) → IsLayout at slots tree → 2 ≤ tree.height
     → 6 * 4 ^ (tree.height - 2) < length (entries_of at tree)
 unfolding IsTower level_of
-tall_trees at slots rows tree layout high =
+tall_trees at slots tree layout high =
     let up = tree.height - 2 in
     let top = tree.top in
     let e : tree.height ≡ suc (suc up) = omega arith in

@@ -19,7 +19,7 @@ use Rattle.node_slots.specs.declared.view.Size.{Size}
 use Rattle.node_slots.specs.declared.view.NodeView.{NodeView}
 use Rattle.node_slots.specs.declared.seats.NodeWriter.{NodeWriter}
 use Rattle.node_slots.specs.Seats.{sight, writer_state, row_count, free_of, left_of, is_kept, count_of}
-use Rattle.node_slots.specs.Built.{words_at, built, built_rows, IsBuilt, IsWriters, pairs_now}
+use Rattle.node_slots.specs.Built.{words_at, built, IsBuilt, IsWriters, pairs_now}
 use Rattle.node_slots.proofs.Listing.{gone_few}
 use Rattle.maple_write.specs.declared.rows.Rooted.{Rooted}
 use Rattle.maple_write.specs.Internal.Tables.{Table, table_at, gone}
@@ -261,7 +261,7 @@ whole_of : (writer : NodeWriter) (tree : View) → IsBuilt writer tree → IsWho
 whole_of writer tree is = record {
   shaped = record {
     tall = is.layout.tall;
-    limit = limit_above (words_at writer) (sight writer).size.slots (built_rows writer tree) (built writer tree) is.layout;
+    limit = limit_above (words_at writer) (sight writer).size.slots (built writer tree) is.layout;
     tower = is.layout.tower;
     wide = is.layout.wide;
     stand = record { each = λ row. let a = is.reached row in let b = kept_counts writer row in omega arith };
@@ -360,27 +360,26 @@ built_from old new t tree fills whole limit root height =
     let at = words_at new in
     let shaped = whole.shaped in
     let slots : (sight old).size.slots ≡ (sight new).size.slots = sym (ap (λ (v : NodeView). v.size.slots) fills.seen) in
-    let layout : IsLayout at (sight old).size.slots (tree_rows at t) t = record {
+    let layout : IsLayout at (sight old).size.slots t = record {
       tall = shaped.tall;
       tower = shaped.tower;
       wide = shaped.wide;
       apart = whole.apart;
       numbered = whole.numbered;
-      each = λ row. refl;
       once = λ row.
           let each = shaped.stand.each row in
           let few : times row (tree_rows at t) ≤ cond (nat_lt row (length (writer_state new).words)) 1 0 = omega arith in
           (counts row (length (writer_state new).words) (times row (tree_rows at t)) few).0;
     } in
     let made : NodeItem → ℕ → Tree = λ top h. record { top = top; height = h } in
-    let named = root-named at (sight old).size.slots (tree_rows at t) t layout in
+    let named = root-named at (sight old).size.slots t layout in
     let same : t ≡ built new tree = ap (λ (i : NodeItem). made i t.height) named
     ∙ ap (λ (h : ℕ). made (top_of at h t.top.word) h) (sym height)
     ∙ ap (λ (r : ℕ). made (top_of at tree.height r) tree.height) (sym root) in
     record {
       is = record {
-        layout = subst (λ (x : Tree). IsLayout at (sight new).size.slots (tree_rows at x) x) same
-            (subst (λ (n : ℕ). IsLayout at n (tree_rows at t) t) slots layout);
+        layout = subst (λ (x : Tree). IsLayout at (sight new).size.slots x) same
+            (subst (λ (n : ℕ). IsLayout at n t) slots layout);
         limit = sym (ap (λ (x : Tree). x.top.end) same) ∙ limit;
         reached = λ row.
             let a = shaped.stand.each row in
@@ -396,14 +395,14 @@ pub still_built : (old new : NodeWriter) (tree : View) → (writer_state new).wo
     → free_of new ≡ free_of old → left_of new ≡ left_of old → IsBuilt old tree → IsBuilt new tree
 still_built old new tree words size free left is =
     let made : (ws : List (List ℕ)) → Tree = λ ws. record { top = top_of (at_of ws) tree.height tree.root.0; height = tree.height } in
-    let layout : IsLayout (words_at new) (sight old).size.slots (built_rows new tree) (built new tree) =
-    subst (λ (ws : List (List ℕ)). IsLayout (at_of ws) (sight old).size.slots (tree_rows (at_of ws) (made ws)) (made ws)) (sym words) is.layout in
+    let layout : IsLayout (words_at new) (sight old).size.slots (built new tree) =
+    subst (λ (ws : List (List ℕ)). IsLayout (at_of ws) (sight old).size.slots (made ws)) (sym words) is.layout in
     let kept : (row : ℕ) → is_kept new row ≡ is_kept old row = λ row.
     ap (λ (s : Size). nat_lt row s.rows && nat_eq (grace.times row (free_of new) + grace.times row (left_of new)) 0) size
     ∙ ap (λ (xs : List ℕ). nat_lt row (row_count old) && nat_eq (grace.times row xs + grace.times row (left_of new)) 0) free
     ∙ ap (λ (xs : List ℕ). nat_lt row (row_count old) && nat_eq (grace.times row (free_of old) + grace.times row xs) 0) left in
     record {
-      layout = subst (λ (s : Size). IsLayout (words_at new) s.slots (built_rows new tree) (built new tree)) (sym size) layout;
+      layout = subst (λ (s : Size). IsLayout (words_at new) s.slots (built new tree)) (sym size) layout;
       limit = ap (λ (ws : List (List ℕ)). (made ws).top.end) words ∙ is.limit;
       reached = λ row. ap (λ (ws : List (List ℕ)). times row (tree_rows (at_of ws) (made ws))) words ∙ is.reached row
           ∙ sym (ap count_of (kept row));

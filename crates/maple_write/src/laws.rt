@@ -13,9 +13,9 @@ ghost use Rattle.node_slots.specs.Built.{IsBlank};
 /// A tree has at most two rows for nine entries, and one more for each level; and each level more takes four times as many
 /// entries.
 pub fn sizes_of_trees()
-    ensures rows { (at : ℕ → List ℕ) (slots : ℕ) (rows : List ℕ) (tree : Tree) → IsLayout at slots rows tree
+    ensures rows { (at : ℕ → List ℕ) (slots : ℕ) (tree : Tree) → IsLayout at slots tree
         → 9 * length (tree_rows at tree) + 2 ≤ 2 * length (entries_of at tree) + 9 * tree.height }
-    ensures height { (at : ℕ → List ℕ) (slots : ℕ) (rows : List ℕ) (tree : Tree) → IsLayout at slots rows tree → 2 ≤ tree.height
+    ensures height { (at : ℕ → List ℕ) (slots : ℕ) (tree : Tree) → IsLayout at slots tree → 2 ≤ tree.height
         → 6 * 4 ^ (tree.height - 2) < length (entries_of at tree) }
 {}
 

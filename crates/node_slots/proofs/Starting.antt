@@ -26,23 +26,22 @@ use Rattle.node_slots.specs.Kept.{IsSize, WriterKept, RowsKept, free_numbers, wi
 use Rattle.node_slots.proofs.Counting.{times_first, one_if, none_if}
 
 -- tree 0 is first
-is_first : (rows : ℕ) → 1 ≤ rows → IsFirst (at_of (first_tree rows).words) (0 ∷ []) first_root
+is_first : (rows : ℕ) → 1 ≤ rows → IsFirst (at_of (first_tree rows).words) first_root
 is_first rows some = record {
   named = refl;
   words = get_or-replicate rows 0 empty_row [] (omega arith);
-  row = refl;
 }
 
 -- it has row 0 alone
 pub first_rows : (rows : ℕ) → 1 ≤ rows → shown_rows (first_tree rows) ≡ 0 ∷ []
 unfolding shown_rows
-first_rows rows some = first-rows (at_of (first_tree rows).words) (0 ∷ []) first_root (is_first rows some)
+first_rows rows some = first-rows (at_of (first_tree rows).words) first_root (is_first rows some)
 
 -- and meets the layout
 first_shown : (rows slots : ℕ) → 1 ≤ rows → IsShown slots (first_tree rows)
 first_shown rows slots some = record {
   tree = record {
-    first = λ zeroth. let is = is_first rows some in record { named = is.named; words = is.words; row = first_rows rows some };
+    first = λ zeroth. is_first rows some;
     later = λ later. absurd (omega arith);
   };
   low = omega arith;

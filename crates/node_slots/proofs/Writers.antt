@@ -78,9 +78,10 @@ times_same row (other ∷ rows) = ap (λ n. cond (nat_eq other row) 1 0 + n) (ti
 
 -- the root of a tree is a row that exists
 pub root_within : (writer : NodeWriter) (shown : ShownTree) (slots : ℕ) → ReachesNewRows writer shown
-    → IsLayout (at_of shown.words) slots (shown_rows shown) (tree_of (at_of shown.words) shown.root) → shown.root.row.0 < 2 ^ 20
+    → IsLayout (at_of shown.words) slots (tree_of (at_of shown.words) shown.root) → shown.root.row.0 < 2 ^ 20
+unfolding shown_rows
 root_within writer shown slots reaches layout =
-    let once = (root-once (at_of shown.words) slots (shown_rows shown) (tree_of (at_of shown.words) shown.root) layout).1 in
+    let once : levels.times shown.root.row.0 (shown_rows shown) ≡ 1 = root-once (at_of shown.words) slots (tree_of (at_of shown.words) shown.root) layout in
     let some : 1 ≤ times shown.root.row.0 (shown_rows shown) = omega (arith, once, times_same shown.root.row.0 (shown_rows shown)) in
     omega (arith, new_within writer shown reaches shown.root.row.0 some, writer.writer_state.table.sized.fits.few_rows)
 

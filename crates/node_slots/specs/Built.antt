@@ -23,7 +23,7 @@ built_rows writer tree = tree_rows (words_at writer) (built writer tree)
 -- The rows show the tree of the writer's view: it meets the layout, ends at the view's limit, and reaches each row that is
 -- neither free nor left once, and no other.
 pub record IsBuilt (writer : NodeWriter) (tree : Tree) : Type 0 where
-  pub layout : IsLayout (words_at writer) (sight writer).size.slots (built_rows writer tree) (built writer tree)
+  pub layout : IsLayout (words_at writer) (sight writer).size.slots (built writer tree)
   pub limit : (built writer tree).top.end ≡ tree.limit.0
   pub reached : (row : ℕ) → times row (built_rows writer tree) ≡ count_of (is_kept writer row)
 

@@ -6,7 +6,7 @@ use Rattle.maple_node.specs.Levels.{at_of}
 use Rattle.maple_node.specs.Trees.{tree_of, tree_rows, IsTree}
 use Rattle.node_slots.specs.declared.view.ShownTree.{ShownTree}
 
--- the rows of a tree: those that are reached from its root, the root first
+-- the rows of a tree that is shown
 unfoldable pub shown_rows : ShownTree → List ℕ
 shown_rows shown = tree_rows (at_of shown.words) (tree_of (at_of shown.words) shown.root)
 
@@ -17,7 +17,7 @@ grace_tree shown = record { number = shown.root.tree; rows = shown_rows shown; w
 -- a tree that readers can load
 pub record IsShown (slots : ℕ) (shown : ShownTree) : Type 0 where
   -- it meets the layout of nodes, and pairs only slots below this number
-  pub tree : IsTree (at_of shown.words) slots (shown_rows shown) shown.root
+  pub tree : IsTree (at_of shown.words) slots shown.root
   -- it has at most nine levels
   pub low : shown.root.height ≤ 9
 

@@ -4,7 +4,6 @@ ghost use Rattle.grace_core.specs.Core.{since_at, times};
 ghost use Rattle.grace_core.specs.Steps.{least};
 ghost use Rattle.maple_node.specs.Levels.{at_of};
 ghost use Rattle.maple_node.specs.Trees.{tree_of, IsLayout};
-ghost use Rattle.node_slots.specs.Trees.{shown_rows};
 ghost use Rattle.node_slots.specs.Views.{fill_at, publish_at, scan_from};
 ghost use Rattle.node_slots.specs.Kept.{left_at, number_at, replaced_of};
 ghost use Rattle.node_slots.specs.Built.{words_at};
@@ -67,7 +66,7 @@ impl NodeTable {
         requires table { Writes writer.old self.now }
         requires height { height ≤ 9 }
         requires number { (writer_state writer.old).tree.number < 2 ^ 40 - 1 }
-        requires layout { IsLayout (at_of (writer_state writer.old).words) (sight writer.old).size.slots (shown_rows (next_shown writer.old root.0 height))
+        requires layout { IsLayout (at_of (writer_state writer.old).words) (sight writer.old).size.slots
             (tree_of (at_of (writer_state writer.old).words) (next_root writer.old root.0 height)) }
         requires rows { ReachesNewRows writer.old (next_shown writer.old root.0 height) }
         ensures table { Writes writer.new self.now }

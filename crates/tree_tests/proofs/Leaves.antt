@@ -61,10 +61,10 @@ one_small end word slots zero d small low = small
 one_small end word slots (suc k) d small low = absurd (omega arith)
 
 -- and a tree that meets the layout
-pub leaf_layout : (at : ℕ → List ℕ) (slots tree row end word : ℕ) (rows : List ℕ) → at row ≡ words_of true (entry end word ∷ []) → 0 < end
-    → word ≤ slots → rows ≡ row ∷ [] → IsLayout at slots rows (tree_of at (leaf_root tree row))
+pub leaf_layout : (at : ℕ → List ℕ) (slots tree row end word : ℕ) → at row ≡ words_of true (entry end word ∷ []) → 0 < end
+    → word ≤ slots → IsLayout at slots (tree_of at (leaf_root tree row))
 unfolding IsTower level_of rows_of
-leaf_layout at slots tree row end word rows is some small alone =
+leaf_layout at slots tree row end word is some small =
     let reads : leaf_items (at row) ≡ entry end word ∷ [] = ap leaf_items is ∙ one_entry end word some in
     record {
       tall = omega arith;
@@ -73,7 +73,6 @@ leaf_layout at slots tree row end word rows is some small alone =
       apart = subst (λ (xs : List NodeItem). ApartFrom 1 (xs ++ [])) (sym reads) ((λ gap. absurd (omega arith)), tt);
       numbered = subst (λ (xs : List NodeItem). All (λ (e : NodeItem). e.word ≤ slots) (xs ++ [])) (sym reads)
           (λ k d low. one_small end word slots k d small low);
-      each = λ other. ap (λ (xs : List ℕ). levels.times other xs) (sym alone);
       once = λ other. single other row;
     }
 

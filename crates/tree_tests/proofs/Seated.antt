@@ -4,9 +4,10 @@ use Rattle.std.proofs.lemmas.Bool.{cases_lt, lt-ltb}
 use Rattle.std.specs.List.{slice_get}
 use Rattle.grace_core.specs.Core.{times, has_row}
 use Rattle.maple_node.specs.declared.root.Root.{Root}
+use Rattle.maple_node.specs.Levels as levels
 use Rattle.maple_node.specs.Levels.{at_of}
 use Rattle.maple_node.specs.Trees.{tree_of}
-use Rattle.maple_node.proofs.Trees.{root-once}
+use Rattle.maple_node.proofs.Trees.{root-once, first-rows}
 use Rattle.node_slots.specs.declared.view.Size.{Size}
 use Rattle.node_slots.specs.declared.view.ShownTree.{ShownTree}
 use Rattle.node_slots.specs.declared.view.NodeView.{NodeView}
@@ -22,16 +23,17 @@ use Rattle.node_slots.proofs.Writers.{times_same}
 
 -- the root of a tree is one of its rows
 pub root_there : (slots : ℕ) (shown : ShownTree) → IsShown slots shown → has_row (grace_tree shown) shown.root.row.0 ≡ true
+unfolding shown_rows
 root_there slots shown is =
     let rows = shown_rows shown in
     lt-ltb 0 (times shown.root.row.0 rows) (elim (cases_lt 0 shown.root.tree) [
       | inl some ↦
-          let once = (root-once (at_of shown.words) slots rows (tree_of (at_of shown.words) shown.root) (is.tree.later some)).1 in
+          let once : levels.times shown.root.row.0 rows ≡ 1 = root-once (at_of shown.words) slots (tree_of (at_of shown.words) shown.root) (is.tree.later some) in
           omega (arith, once, times_same shown.root.row.0 rows)
       | inr none ↦
           let first = is.tree.first (omega arith) in
           let named = ap (λ (root : Root). times root.row.0 rows) first.named in
-          let zeroth = ap (times 0) first.row in
+          let zeroth = ap (times 0) (first-rows (at_of shown.words) shown.root first) in
           omega (arith, named, zeroth, times_first 0 0 [], one_if 0 0 refl)
     ])
 

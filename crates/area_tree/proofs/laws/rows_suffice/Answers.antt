@@ -5,9 +5,9 @@ use Rattle.area_tree.proofs.Counts.{rest_free}
 use Rattle.area_tree.proofs.laws.rows_suffice.Goals as goal
 
 pub returns-clause-rows : goal.returns-clause-rows
-returns-clause-rows c = λ at slots areas rows tree layout few most.
-    let count = few_rows at slots areas rows tree layout few in
-    let low = few_levels at slots areas rows tree layout few most in
+returns-clause-rows c = λ at slots areas tree layout few most.
+    let count = few_rows at slots areas tree layout few in
+    let low = few_levels at slots areas tree layout few most in
     omega (arith, count, low)
 
 pub returns-clause-free : goal.returns-clause-free

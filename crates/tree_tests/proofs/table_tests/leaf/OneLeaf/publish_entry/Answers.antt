@@ -37,9 +37,8 @@ publish-requires-clause-layout c =
     let words = ap (λ (v : NodeView). at_of v.known.writer_state.words row) filled ∙ get_or-set_same _ _ _ _ low ∙ c.leaf_words-words.ensures in
     let slots = ap (λ (v : NodeView). v.size.slots) filled ∙ ap (λ (v : NodeView). v.size.slots) c.in_ok-row.ensures.view
     ∙ c.args.self.now.kept.1.slots in
-    leaf_layout (at_of (writer_state next).words) (sight next).size.slots ((writer_state next).tree.number + 1) row c.args.end.0 _ _ words
+    leaf_layout (at_of (writer_state next).words) (sight next).size.slots ((writer_state next).tree.number + 1) row c.args.end.0 _ words
     c.requires.end (omega (arith, slots, c.requires.slot))
-    (leaf_rows (writer_state next).words ((writer_state next).tree.number + 1) row)
 
 pub publish-requires-clause-rows : goal.publish-requires-clause-rows
 publish-requires-clause-rows c = λ other.
