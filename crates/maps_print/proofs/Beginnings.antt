@@ -1,5 +1,5 @@
 -- For `push_line`, `push_list`, `push_range` and what they call: where an append that stops leaves a beginning of its text.
-use Rattle.std.proofs.Common.{◌≡◌, ℕ, ◌-◌, ◌+◌, ◌≤◌, List, [], ◌++◌, length, take, drop, append_assoc, append-nil, take-append-drop, sym, ap, ◌∙◌, arith, length-append}
+use Rattle.std.proofs.Common.{◌≡◌, ℕ, ◌-◌, ◌+◌, ◌≤◌, ◌<◌, List, [], ◌++◌, length, take, drop, append_assoc, append-nil, take-append-drop, sym, ap, ◌∙◌, arith, length-append}
 use Rattle.std.proofs.Math.Seq.{take-append_seam, take-append-add}
 use Rattle.std.specs.Prelude.{Result, Ok, Err, OnErr}
 use Rattle.mm_types.specs.declared.memory.NoMemory.{NoMemory}
@@ -63,3 +63,18 @@ front_after_loop old now new next rest left whole so_far parts stopped =
       longer = let long = length-append now (take stopped.count next) in let same = ap length stopped.front in
           let longer = so_far.longer in omega arith;
     })
+
+-- where the loop had no room for the next part, there was none for the whole
+pub no_room_in_loop : (old now next rest left whole : List ℕ) (held count before room : ℕ) → IsAppending old now left whole → left ≡ next ++ rest
+    → held ≡ length old → count ≡ length now → before ≤ room → room < count + length next → before < held + length whole
+no_room_in_loop old now next rest left whole held count before room so_far parts is_held is_count stays full =
+    let all : length now + length left ≡ length old + length whole =
+    sym (length-append now left) ∙ ap length so_far.text ∙ length-append old whole in
+    let some : length left ≡ length next + length rest = ap length parts ∙ length-append next rest in
+    omega (arith, all, some, is_held, is_count, stays, full)
+
+-- the same where a beginning of the next part was added
+pub no_room_after_loop : (old now new next rest left whole : List ℕ) (held count before room : ℕ) → IsAppending old now left whole → left ≡ next ++ rest
+    → AppendsFront now new next → held ≡ length old → count ≡ length now → before ≤ room → room < count + length next → before < held + length whole
+no_room_after_loop old now new next rest left whole held count before room so_far parts stopped =
+    no_room_in_loop old now next rest left whole held count before room so_far parts

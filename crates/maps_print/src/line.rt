@@ -1,4 +1,4 @@
-ghost use Rattle.std.specs.Prelude.{◌≡◌, ◌≤◌, ◌++◌, codes, IfOk, OnOk, OnErr, flat_map};
+ghost use Rattle.std.specs.Prelude.{◌≡◌, ◌≤◌, ◌<◌, ◌+◌, ◌++◌, codes, IfOk, OnOk, OnErr, flat_map, length, vec_capacity, vec_len};
 ghost use Rattle.mm_types.specs.MapsText.{letter, perms, span_text, range_text, place_text, front_text, shown_byte, spaces_before, name_text, area_text};
 ghost use Rattle.maps_print.specs.Appends.{AppendsFront};
 
@@ -20,11 +20,13 @@ pub fn print_line(alloc: Global, area: &Record, files: &Files) -> Result<Vec<u8>
     Ok(text)
 }
 
-/// Appends the line of one area, with the newline that ends it.
+/// Appends the line of one area, with the newline that ends it. A text that has room for it takes no memory; the same of all that appends here.
 #[tactic(auto, unfolding(mm_types::specs::MapsText::area_text))]
 pub fn push_line(text: &mut Vec<u8>, area: &Record, files: &Files) -> Result<(), NoMemory>
     ensures ok { OnOk result (text.new.items ≡ text.old.items ++ area_text files.now area.now) }
     ensures no_memory { OnErr result (AppendsFront text.old.items text.new.items (area_text files.now area.now)) }
+    ensures room { OnErr result (vec_capacity text.old < vec_len text.old + length (area_text files.now area.now)) }
+    ensures capacity { vec_capacity text.old ≤ vec_capacity text.new }
 {
     let mapped = Mapped::of(files, area);
     let start = text.len();
@@ -40,6 +42,8 @@ pub fn push_line(text: &mut Vec<u8>, area: &Record, files: &Files) -> Result<(),
 fn push_front(text: &mut Vec<u8>, area: &Record, mapped: &Mapped) -> Result<(), NoMemory>
     ensures ok { OnOk result (text.new.items ≡ text.old.items ++ front_text area.now mapped.now) }
     ensures no_memory { OnErr result (AppendsFront text.old.items text.new.items (front_text area.now mapped.now)) }
+    ensures room { OnErr result (vec_capacity text.old < vec_len text.old + length (front_text area.now mapped.now)) }
+    ensures capacity { vec_capacity text.old ≤ vec_capacity text.new }
 {
     push_range(text, area)?;
     let place = place_part(area.offset, mapped);
@@ -52,6 +56,8 @@ fn push_front(text: &mut Vec<u8>, area: &Record, mapped: &Mapped) -> Result<(), 
 pub fn push_range(text: &mut Vec<u8>, area: &Record) -> Result<(), NoMemory>
     ensures ok { OnOk result (text.new.items ≡ text.old.items ++ range_text area.now) }
     ensures no_memory { OnErr result (AppendsFront text.old.items text.new.items (range_text area.now)) }
+    ensures room { OnErr result (vec_capacity text.old < vec_len text.old + length (range_text area.now)) }
+    ensures capacity { vec_capacity text.old ≤ vec_capacity text.new }
 {
     let addresses = span_part(area.span.lo, area.span.hi);
     text.extend_from_slice(addresses.as_slice())?;
@@ -117,6 +123,8 @@ fn place_part(offset: u64, mapped: &Mapped) -> Part
 fn push_name(text: &mut Vec<u8>, column: usize, name: &[u8]) -> Result<(), NoMemory>
     ensures ok { OnOk result (text.new.items ≡ text.old.items ++ name_text column name.now) }
     ensures no_memory { OnErr result (AppendsFront text.old.items text.new.items (name_text column name.now)) }
+    ensures room { OnErr result (vec_capacity text.old < vec_len text.old + length (name_text column name.now)) }
+    ensures capacity { vec_capacity text.old ≤ vec_capacity text.new }
 {
     if name.is_empty() {
         return Ok(());
@@ -142,6 +150,8 @@ fn spaces_before(column: usize) -> usize
 fn push_shown(text: &mut Vec<u8>, name: &[u8]) -> Result<(), NoMemory>
     ensures ok { OnOk result (text.new.items ≡ text.old.items ++ flat_map shown_byte name.now) }
     ensures no_memory { OnErr result (AppendsFront text.old.items text.new.items (flat_map shown_byte name.now)) }
+    ensures room { OnErr result (vec_capacity text.old < vec_len text.old + length (flat_map shown_byte name.now)) }
+    ensures capacity { vec_capacity text.old ≤ vec_capacity text.new }
 {
     for byte in name {
         if *byte == b'\n' {

@@ -1,4 +1,4 @@
-ghost use Rattle.std.specs.Prelude.{◌≡◌, ◌++◌, IfOk, OnOk, OnErr};
+ghost use Rattle.std.specs.Prelude.{◌≡◌, ◌≤◌, ◌<◌, ◌+◌, ◌++◌, IfOk, OnOk, OnErr, length, vec_capacity, vec_len};
 ghost use Rattle.mm_types.specs.MapsText.{list_text};
 ghost use Rattle.maps_print.specs.Appends.{AppendsFront};
 
@@ -10,6 +10,8 @@ use std::alloc::Global;
 pub fn push_list(text: &mut Vec<u8>, areas: &[Record], files: &Files) -> Result<(), NoMemory>
     ensures ok { OnOk result (text.new.items ≡ text.old.items ++ list_text files.now areas.now) }
     ensures no_memory { OnErr result (AppendsFront text.old.items text.new.items (list_text files.now areas.now)) }
+    ensures room { OnErr result (vec_capacity text.old < vec_len text.old + length (list_text files.now areas.now)) }
+    ensures capacity { vec_capacity text.old ≤ vec_capacity text.new }
 {
     for area in areas {
         push_line(text, area, files)?;

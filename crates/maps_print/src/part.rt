@@ -1,5 +1,5 @@
 //! Parts of a line that are put together before they are appended, and the numbers in them.
-ghost use Rattle.std.specs.Prelude.{◌≡◌, ◌≤◌, ◌<◌, ◌+◌, ◌++◌, ◌%◌, false, decimal, drop, length, replicate, take, OnErr, OnOk};
+ghost use Rattle.std.specs.Prelude.{◌≡◌, ◌≤◌, ◌<◌, ◌+◌, ◌++◌, ◌%◌, false, decimal, drop, length, replicate, take, vec_capacity, vec_len, OnErr, OnOk};
 ghost use Rattle.std.specs.Fmt.{digit_glyph, digits};
 ghost use Rattle.arrayvec.specs.ArrayVec.{array_vec_len};
 ghost use Rattle.mm_types.specs.MapsText.{hex};
@@ -55,6 +55,8 @@ pub(crate) fn add_padded(part: &mut Part, number: u64, width: usize)
 pub fn push_decimal(text: &mut Vec<u8>, number: u64) -> Result<(), NoMemory>
     ensures ok { OnOk result (text.new.items ≡ text.old.items ++ decimal number) }
     ensures no_memory { OnErr result (text.new.items ≡ text.old.items) }
+    ensures room { OnErr result (vec_capacity text.old < vec_len text.old + length (decimal number)) }
+    ensures capacity { vec_capacity text.old ≤ vec_capacity text.new }
 {
     let mut buffer = Buffer::new();
     text.extend_from_slice(buffer.format(number).as_bytes())?;
@@ -65,6 +67,8 @@ pub fn push_decimal(text: &mut Vec<u8>, number: u64) -> Result<(), NoMemory>
 pub fn push_hex(text: &mut Vec<u8>, number: u64) -> Result<(), NoMemory>
     ensures ok { OnOk result (text.new.items ≡ text.old.items ++ digits 16 false number) }
     ensures no_memory { OnErr result (text.new.items ≡ text.old.items) }
+    ensures room { OnErr result (vec_capacity text.old < vec_len text.old + length (digits 16 false number)) }
+    ensures capacity { vec_capacity text.old ≤ vec_capacity text.new }
 {
     let (digits, first) = hex_digits(number);
     text.extend_from_slice(&digits[first..])?;
