@@ -297,9 +297,12 @@ no_children (line ∷ lines) none = by_child (child_of line.op) none (λ rest. n
     by_child (Some child) none rest = absurd (cc)
 
 -- where no line forks, all lines are the parent's
+pub none_forked : (lines : List TraceLine) → children_of lines ≡ [] → parent_lines lines ≡ lines
+none_forked lines none =
+    ap (λ (children : List ℕ). filter (λ (line : TraceLine). not (has_child children line.thread)) lines) none ∙ all_stay lines
+
 pub all_of_parent : (lines : List TraceLine) → list_any (λ line. is_some (child_of line.op)) lines ≡ false → parent_lines lines ≡ lines
-all_of_parent lines none =
-    ap (λ (children : List ℕ). filter (λ (line : TraceLine). not (has_child children line.thread)) lines) (no_children lines none) ∙ all_stay lines
+all_of_parent lines none = none_forked lines (no_children lines none)
 
 -- so they are of one space
 pub whole_is_space : (trace : Trace) (lines : List TraceLine) (some : Bool) → IsTraceValue trace → lines ≡ trace.lines

@@ -15,7 +15,6 @@ use Rattle.history.specs.declared.items.Content.{Content}
 use Rattle.history.specs.declared.items.Content.TheVariants as contents
 use Rattle.history.specs.declared.items.Item.{Item}
 use Rattle.history.specs.Histories.{lines_of}
-use Rattle.history.specs.Parents.{parent_lines}
 use Rattle.history.specs.SpaceLines.{child_lines}
 use Rattle.history.specs.Runs.{history_of, own_of, ops_of, asked, HasGrown, AreTold}
 use Rattle.mm_fork.specs.Behind.{log_behind}
@@ -31,10 +30,6 @@ inherited journal version = map as_inherited (take version journal)
 -- the history of a child that was forked at a version, by its whole journal and the logs of its callers
 abbrev pub child_history_of : ℕ → List Entry → List (List Seen) → List Item
 child_history_of version journal logs = history_of (drop version journal) (map (log_behind version) logs)
-
--- the trace of the parent: its lines, in the same configuration
-abbrev pub parent_trace : Trace → Trace
-parent_trace trace = record trace { lines = parent_lines trace.lines }
 
 -- the trace of a child
 abbrev pub child_trace : Trace → ℕ → Trace

@@ -12,7 +12,8 @@ ghost use Rattle.history.specs.declared.items.Item.{Item};
 ghost use Rattle.history.specs.Histories.{journal_of, IsLegalHistory};
 ghost use Rattle.history.specs.Runs.{IsRun};
 ghost use Rattle.mm_fork.specs.Behind.{log_behind};
-ghost use Rattle.mm_fork.specs.Children.{inherited, child_history_of, parent_trace, child_trace, space_from, IsRightOver, IsChildRun};
+ghost use Rattle.mm_fork.specs.Children.{inherited, child_history_of, child_trace, space_from, IsRightOver, IsChildRun};
+ghost use Rattle.history.specs.Parents.{parent_trace};
 ghost use Rattle.history.specs.SpaceLines.{child_lines};
 
 /// What a child inherits makes the space that its parent had at the fork: with other callers, the calls are the same.

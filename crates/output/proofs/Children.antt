@@ -1,9 +1,11 @@
 -- For `plain_trace`: a good line adds a child exactly where it forks, as its words say.
 use Rattle.std.proofs.Common.{◌≡◌, ℕ, zero, suc, ◌+◌, ◌-◌, ◌<◌, ◌≤◌, Bool, true, false, not, ◌&&◌, cond, nat_eq, nat_lt, if◌then◌else◌, List, [], ◌∷◌, ◌++◌, length, take, codes, bytes_eq, Option, Some, None, is_some, Result, Ok, Err, ok_or, IfOk, IfSome, refl, sym, ap, subst, ◌∙◌, inl, inr, arith}
 use Rattle.std.specs.Prelude.{◌/◌, option_to_list, IfErr}
+use Rattle.std.specs.List.{cons_option}
 use Rattle.std.specs.Str.{byte}
 use Rattle.std.proofs.lemmas.Bool.{both_ways, cases_Bool, cond_both, eq-eqb, eqb-true, le-ltb, lt-ltb, ne_eqb}
 use Rattle.std.proofs.lemmas.List.{length-append, nil_from_length}
+use Rattle.std.proofs.lemmas.List.Elements.{filter_map-append}
 use Rattle.std.proofs.lemmas.Slice.Eq.{bytes_eq-Decides}
 use Rattle.mm_types.specs.declared.area.Access.{Access}
 use Rattle.mm_types.specs.declared.call.Call.{Call}
@@ -29,7 +31,7 @@ use Rattle.text_lexer.specs.Lines.{text_of, RawLine, lines_from, raw_lines}
 use Rattle.trace_reader.specs.Operations as operations
 use Rattle.trace_reader.specs.Operations.{fault_of, maps_of, fork_of, called, op_named, op_of, note_of, without_note, line_named, op_has_its_new, line_of}
 use Rattle.trace_reader.specs.Settings.{limit_of, bound_of, file_of}
-use Rattle.trace_reader.specs.Values.{child_of}
+use Rattle.trace_reader.specs.Values.{child_of, children_of}
 use Rattle.text_lexer.proofs.RawLaws.{raw_lines-AreLinesOf}
 use Rattle.text_lexer.proofs.RawPieces.{lines_from-nil}
 use Rattle.output.specs.Input.{plain_line, plain_trace_of}
@@ -139,9 +141,10 @@ unfolding line_of
 line_of-forks number first words = line_parts-forks (names_fork words) number (ok_or (thread_of first) Thread) (op_of (without_note words))
     (line_named (note_of words)) (without_note words) (op_of-forks words)
 
--- a line adds a child, or none
+-- a line adds a child, or none, to those that were counted, and to those that the lines fork
 abbrev pub Adds : Bool → SoFar → SoFar → Type 0
-Adds forks before next = length next.children ≡ length before.children + cond forks 1 0
+Adds forks before next = (length next.children ≡ length before.children + cond forks 1 0)
+    × (length (children_of next.lines) ≡ length (children_of before.lines) + cond forks 1 0)
 
 unless_some : {A : Type 0} (P : A → Type 0) (cause : Option Cause) (r : Result A Cause) → IfOk r P → IfOk (unless cause r) P
 unless_some P None r is = is
@@ -151,10 +154,17 @@ child_counts : (child : Option ℕ) → length (option_to_list child) ≡ cond (
 child_counts None = refl
 child_counts (Some c) = refl
 
+line_counts : (child : Option ℕ) → length (cons_option child []) ≡ cond (is_some child) 1 0
+line_counts None = refl
+line_counts (Some c) = refl
+
 with_one-adds : (s : SoFar) (line : TraceLine) → Adds (is_some (child_of line.op)) s (with_one s line)
 unfolding with_one
-with_one-adds s line = length-append s.children (option_to_list (child_of line.op))
-    ∙ ap (λ (n : ℕ). length s.children + n) (child_counts (child_of line.op))
+with_one-adds s line = (
+  length-append s.children (option_to_list (child_of line.op)) ∙ ap (λ (n : ℕ). length s.children + n) (child_counts (child_of line.op)),
+  ap length (filter_map-append (λ (l : TraceLine). child_of l.op) s.lines (line ∷ []))
+      ∙ length-append (children_of s.lines) (children_of (line ∷ [])) ∙ ap (λ (n : ℕ). length (children_of s.lines) + n) (line_counts (child_of line.op)),
+)
 
 with_line-adds : (s : SoFar) (line : TraceLine) → IfOk (with_line s line) (Adds (is_some (child_of line.op)) s)
 unfolding with_line
@@ -167,8 +177,8 @@ line_added forks s (Err c) is = tt
 
 -- ---- a setting adds none
 
-none_added : (s : SoFar) → length s.children ≡ length s.children + 0
-none_added s = omega arith
+none_added : (s : SoFar) → Adds false s s
+none_added s = (omega arith, omega arith)
 
 then_adds : {A : Type 0} (s : SoFar) (change : A → SoFar) → ((x : A) → Adds false s (change x)) → (r : Result A Cause)
     → IfOk (r >>= λ x. Ok (change x)) (Adds false s)
@@ -330,12 +340,37 @@ plain_lines number start (line ∷ lines) s follow none =
     by_line more (Err cause) false adds = sym (bad_first (first_fork lines) (bad_line line.number cause)
         (past (first_fork lines) (first_fork-from (number + 1) _ lines follow.2)))
     by_line more (Ok next) true adds =
-        let child : nat_eq (length next.children) 0 ≡ false = ne_eqb (length next.children) 0 (λ is. absurd (omega (arith, adds, is))) in
+        let child : nat_eq (length next.children) 0 ≡ false = ne_eqb (length next.children) 0 (λ is. absurd (omega (arith, adds.0, is))) in
         rw child (sym (fork_first line.number (lines_leave after_line next lines)
         (behind (lines_leave after_line next lines) (first_bad-from after_line (number + 1) _ lines next follow.2))))
     by_line more (Ok next) false adds =
-        let count : length next.children ≡ 0 = omega (arith, adds, no_child) in
+        let count : length next.children ≡ 0 = omega (arith, adds.0, no_child) in
         rw (eq-eqb (length next.children) 0 count) (more next (nil_from_length next.children count))
+
+-- where no line may fork, none of those that were read forks
+pub none_read : (lines : List RawLine) (s read : SoFar) → s.children ≡ [] → children_of s.lines ≡ []
+    → lines_leave plain_line s lines ≡ Ok read → children_of read.lines ≡ []
+unfolding plain_line
+none_read [] s read none alone is = let same : s ≡ read = cc in ap (λ (r : SoFar). children_of r.lines) (sym same) ∙ alone
+none_read (line ∷ lines) s read none alone is =
+    by_line (λ next empty rest more. none_read lines next read empty rest more) (after_line s line) (is_fork line) (line_adds s line) is
+  where
+    before : (length s.children ≡ 0) × (length (children_of s.lines) ≡ 0)
+    before = (ap length none, ap length alone)
+
+    by_line : ((next : SoFar) → next.children ≡ [] → children_of next.lines ≡ [] → lines_leave plain_line next lines ≡ Ok read
+        → children_of read.lines ≡ [])
+        → (r : Result SoFar Cause) (forks : Bool) → IfOk r (Adds forks s)
+        → at_line line.number (r >>= λ next. if nat_eq (length next.children) 0 then Ok next else Err Child) (λ next. lines_leave plain_line next lines)
+        ≡ Ok read → children_of read.lines ≡ []
+    by_line more (Err cause) forks adds is = absurd cc
+    by_line more (Ok next) forks adds is = cond_both (nat_eq (length next.children) 0) (Ok next) (Err Child)
+        (λ (r : Result SoFar Cause). at_line line.number r (λ next. lines_leave plain_line next lines) ≡ Ok read → children_of read.lines ≡ [])
+        (λ empty good.
+        let count : length next.children ≡ 0 = eqb-true (length next.children) 0 empty in
+        let forked : length (children_of next.lines) ≡ 0 = omega (arith, adds.0, adds.1, before.0, before.1, count) in
+        more next (nil_from_length next.children count) (nil_from_length (children_of next.lines) forked) good)
+        (λ _ bad. absurd cc) is
 
 whole_without : (fork : Option ℕ) (r : Result SoFar BadLine) → whole (without_forks fork r) ≡ without_forks fork (whole r)
 whole_without None r = refl

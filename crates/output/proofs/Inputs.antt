@@ -1,5 +1,5 @@
 -- For `inputs_are_within` and `checked`: how long an input is, and what its trace is.
-use Rattle.std.proofs.Common.{◌≡◌, ℕ, ◌+◌, ◌≤◌, true, nat_eq, nat_lt, if◌then◌else◌, List, [], ◌∷◌, length, take, drop, Option, Some, None, Result, Ok, Err, refl, ap, subst, arith}
+use Rattle.std.proofs.Common.{◌≡◌, ℕ, ◌+◌, ◌≤◌, true, nat_eq, nat_lt, if◌then◌else◌, List, [], ◌∷◌, length, take, drop, Option, Some, None, Result, Ok, Err, refl, sym, ap, subst, ◌∙◌, arith}
 use Rattle.std.proofs.lemmas.Bool.{cond_both, eqb-true, ltb-false}
 use Rattle.std.proofs.lemmas.List.{length-drop, length-take}
 use Rattle.text_lexer.specs.declared.error.Cause.{Cause}
@@ -7,19 +7,22 @@ use Rattle.text_lexer.specs.declared.error.Cause.TheVariants.{Header, TooLong, N
 use Rattle.text_lexer.specs.declared.error.BadLine.{BadLine}
 use Rattle.text_lexer.specs.declared.limits.TheConstants.{LINE_LIMIT}
 use Rattle.trace_reader.specs.declared.trace.Trace.{Trace}
+use Rattle.trace_reader.specs.declared.trace.TraceLine.{TraceLine}
 use Rattle.text_lexer.specs.Causes.{◌>>=◌}
 use Rattle.text_lexer.specs.BadLines.{bad_line, lines_leave}
-use Rattle.trace_reader.specs.Grammar.{nothing, whole}
+use Rattle.trace_reader.specs.Grammar.{nothing, trace_so_far, whole}
 use Rattle.trace_reader.specs.Lines.{SoFar, after_line, after_words, with_header}
 use Rattle.text_lexer.specs.Lines.{input_limit, raw_lines}
-use Rattle.trace_reader.specs.Values.{IsTraceValue}
+use Rattle.trace_reader.specs.Values.{IsTraceValue, children_of}
 use Rattle.text_lexer.specs.Words.{words_of}
 use Rattle.text_lexer.proofs.Beginnings.{IsLimited, lines_leave-within}
 use Rattle.text_lexer.proofs.LineTests.{text_within-past}
 use Rattle.trace_reader.proofs.TraceValues.{trace_of-value}
 use Rattle.output.specs.declared.input.TheConstants.{TEXT_LIMIT}
 use Rattle.output.specs.Input.{CheckInput, mark_from, plain_line, plain_trace_of, line_at, after_trace, with_given, parted, input_of, check_limit}
-use Rattle.output.proofs.Children.{plain_good}
+use Rattle.history.specs.Parents.{parent_trace}
+use Rattle.history.proofs.OneSpace.{none_forked}
+use Rattle.output.proofs.Children.{none_read, plain_good}
 
 -- the lines of a trace are limited
 pub plain_line-limited : IsLimited input_limit plain_line
@@ -41,6 +44,20 @@ plain_within bytes trace = cond_both (nat_eq (length bytes) 0) (Err (bad_line 1 
     (λ none is. omega (arith, eqb-true (length bytes) 0 none))
     (λ _ is. let read = whole_read (lines_leave plain_line nothing (raw_lines bytes)) trace is in
     lines_leave-within input_limit plain_line plain_line-limited nothing read.0 bytes read.1)
+
+-- and no line of it forks
+pub plain_alone : (bytes : List ℕ) (trace : Trace) → plain_trace_of bytes ≡ Ok trace → children_of trace.lines ≡ []
+unfolding plain_trace_of
+plain_alone bytes trace = cond_both (nat_eq (length bytes) 0) (Err (bad_line 1 Header)) (whole (lines_leave plain_line nothing (raw_lines bytes)))
+    (λ r. r ≡ Ok trace → children_of trace.lines ≡ [])
+    (λ none is. absurd cc)
+    (λ _ is. of_lines (lines_leave plain_line nothing (raw_lines bytes)) (λ read good. none_read (raw_lines bytes) nothing read refl refl good) is)
+  where
+    of_lines : (r : Result SoFar BadLine) → ((read : SoFar) → r ≡ Ok read → children_of read.lines ≡ [])
+        → whole r ≡ Ok trace → children_of trace.lines ≡ []
+    of_lines (Ok read) alone is =
+        let same : trace_so_far read ≡ trace = cc in ap (λ (t : Trace). children_of t.lines) (sym same) ∙ alone read refl
+    of_lines (Err first) alone is = absurd cc
 
 good_trace : (read : Result Trace BadLine) (rest : Trace → Result CheckInput BadLine) (input : CheckInput) → after_trace read rest ≡ Ok input
     → (trace : Trace) × (read ≡ Ok trace) × (rest trace ≡ Ok input)
@@ -96,6 +113,23 @@ parted_value None bytes input is =
 pub input_value : (bytes : List ℕ) (input : CheckInput) → input_of bytes ≡ Ok input → IsTraceValue input.trace
 unfolding input_of
 input_value bytes input is = parted_value (mark_from true bytes) bytes input is
+
+parted_alone : (found : Option ℕ) (bytes : List ℕ) (input : CheckInput) → parted found bytes ≡ Ok input → children_of input.trace.lines ≡ []
+parted_alone (Some place) bytes input is =
+    let good = good_trace (plain_trace_of (take place bytes)) (with_given place bytes) input is in
+    ap (λ (t : Trace). children_of t.lines) (sym (given_trace place bytes good.0 input good.2)) ∙ plain_alone (take place bytes) good.0 good.1
+parted_alone None bytes input is =
+    let good = good_trace (plain_trace_of bytes) (λ trace. Err (bad_line (line_at (length bytes) bytes) NoEnd)) input is in absurd (no_ok good.2)
+  where
+    no_ok : Err (bad_line (line_at (length bytes) bytes) NoEnd) ≡ Ok input → ⊥
+    no_ok e = cc
+
+-- no line of it forks, so that all lines are the parent's
+pub input_parent : (bytes : List ℕ) (input : CheckInput) → input_of bytes ≡ Ok input → parent_trace input.trace ≡ input.trace
+unfolding input_of
+input_parent bytes input is =
+    ap (λ (lines : List TraceLine). record input.trace { lines = lines })
+    (none_forked input.trace.lines (parted_alone (mark_from true bytes) bytes input is))
 
 -- no bytes are no trace: line 1 is no header
 pub empty_input : (bytes : List ℕ) → length bytes ≡ 0 → input_of bytes ≡ Err (bad_line 1 Header)

@@ -11,11 +11,17 @@ use Rattle.output.specs.declared.input.Input.{Input}
 use Rattle.output.specs.Checked.{IsCheckedAs}
 use Rattle.output.specs.Input.{CheckInput, input_of}
 use Rattle.output.specs.Reading.{GivesInput, input_view}
-use Rattle.output.proofs.Inputs.{input_value}
+use Rattle.history.specs.Parents.{parent_trace}
+use Rattle.output.proofs.Inputs.{input_parent, input_value}
 
 pub value_read : (bytes : List ℕ) (read : Result Input ReadError) → GivesInput read (input_of bytes) → IfOk read (λ input. IsTraceValue input.trace)
 value_read bytes (Ok input) gives = input_value bytes (input_view input) gives
 value_read bytes (Err error) gives = tt
+
+pub parent_read : (bytes : List ℕ) (read : Result Input ReadError) → GivesInput read (input_of bytes)
+    → IfOk read (λ input. parent_trace input.trace ≡ input.trace)
+parent_read bytes (Ok input) gives = input_parent bytes (input_view input) gives
+parent_read bytes (Err error) gives = tt
 
 pub text_read : (bytes : List ℕ) (read : Result Input ReadError) (result : Result (Vec ℕ Global) ReadError) → GivesInput read (input_of bytes)
     → IfOk result (λ text. IsOkAnd read (λ input. IsCheckedAs (input_view input) text.items))

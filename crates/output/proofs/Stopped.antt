@@ -11,7 +11,6 @@ use Rattle.mm_types.specs.declared.memory.NoMemory.{NoMemory}
 use Rattle.mm_types.specs.MapsText.{area_text, list_text}
 use Rattle.trace_reader.specs.declared.trace.Trace.{Trace}
 use Rattle.trace_reader.specs.declared.trace.TraceLine.{TraceLine}
-use Rattle.trace_reader.specs.Values.{IsTraceValue}
 use Rattle.area_rules.specs.Steps.{after}
 use Rattle.area_rules.specs.Tables.{AddressSpace}
 use Rattle.history.specs.declared.items.Content.{Content}
@@ -99,24 +98,24 @@ two_stop text before first more whole stop is bad =
     subst (λ (t : List ℕ). IsBadAt text t stop) (append_assoc before first more ∙ ap (λ (t : List ℕ). before ++ t) (sym is)) bad
 
 -- the text differs from that of the next item
-pub stop_item : (trace : Trace) (text : List ℕ) (walk : Walk) (walked : IsWalked trace text walk) → IsTraceValue trace → IsLeft trace walk
+pub stop_item : (trace : Trace) (text : List ℕ) (walk : Walk) (walked : IsWalked trace text walk) → IsLeft trace.lines walk
     → (walk.given.rest.now ≡ [] → ⊥) → (line : TraceLine) (caller version : ℕ) (areas : List Record) (answer : Answer)
     → TheOneComes trace.lines walked.items walk.given.rest.now line caller → Ran trace walk line caller version areas answer
     → (stop : Stop) → IsBadAt text (items_text trace walked.items ++ item_text trace.config.files line (item_with caller version areas answer)) stop
     → IsToldRightly trace text stop
-stop_item trace text walk walked value left some line caller version areas answer comes ran (stops.Bad bad) differs =
+stop_item trace text walk walked left some line caller version areas answer comes ran (stops.Bad bad) differs =
     bad_item trace text walked.items walk.given walk.progress line (item_with caller version areas answer) bad (stood trace text walk walked)
-    walked.progress (left walked.items walked.progress) some value.numbered
-    (ran_item trace text walk walked value line caller version areas answer comes ran) comes.tells differs
-stop_item trace text walk walked value left some line caller version areas answer comes ran stops.NoMemory differs = tt
+    walked.progress (left walked.items walked.progress) some walked.kept.numbered
+    (ran_item trace text walk walked line caller version areas answer comes ran) comes.tells differs
+stop_item trace text walk walked left some line caller version areas answer comes ran stops.NoMemory differs = tt
 
 -- and it tells the line of that item, which is good
-pub tells_item : (trace : Trace) (text : List ℕ) (walk : Walk) (walked : IsWalked trace text walk) → IsTraceValue trace
+pub tells_item : (trace : Trace) (text : List ℕ) (walk : Walk) (walked : IsWalked trace text walk)
     → (line : TraceLine) (caller version : ℕ) (areas : List Record) (answer : Answer)
     → TheOneComes trace.lines walked.items walk.given.rest.now line caller → Ran trace walk line caller version areas answer
     → TellsGoodItem trace walked.items walk.given.rest.now
-tells_item trace text walk walked value line caller version areas answer comes ran =
-    let is = ran_item trace text walk walked value line caller version areas answer comes ran in
+tells_item trace text walk walked line caller version areas answer comes ran =
+    let is = ran_item trace text walk walked line caller version areas answer comes ran in
     record {
       line = line;
       item = item_with caller version areas answer;
@@ -126,13 +125,13 @@ tells_item trace text walk walked value line caller version areas answer comes r
     }
 
 -- the text ends where a line of the trace is left
-pub stop_short : (trace : Trace) (text : List ℕ) (walk : Walk) → IsWalked trace text walk → IsLeft trace walk → walk.given.rest.now ≡ []
+pub stop_short : (trace : Trace) (text : List ℕ) (walk : Walk) → IsWalked trace text walk → IsLeft trace.lines walk → walk.given.rest.now ≡ []
     → IsFirstBad trace text (walk.given.line + 1)
 stop_short trace text walk walked left none =
     cut_short trace text walked.items walk.given (stood trace text walk walked) (left walked.items walked.progress) none
 
 -- no item can come next
-pub stop_none : (trace : Trace) (text : List ℕ) (walk : Walk) (walked : IsWalked trace text walk) → IsLeft trace walk
+pub stop_none : (trace : Trace) (text : List ℕ) (walk : Walk) (walked : IsWalked trace text walk) → IsLeft trace.lines walk
     → (walk.given.rest.now ≡ [] → ⊥) → NoneComes trace.lines walked.items walk.given.rest.now → IsFirstBad trace text (walk.given.line + 1)
 stop_none trace text walk walked left some none =
     no_item trace text walked.items walk.given (stood trace text walk walked) (left walked.items walked.progress) some
@@ -140,17 +139,17 @@ stop_none trace text walk walked left some none =
     none line item.caller (known_begins trace.config trace.lines walked.items walk.given.rest.now behind line item known begins))
 
 -- the item that comes is a read of a lower caller than that of the read before it
-pub stop_order : (trace : Trace) (text : List ℕ) (walk : Walk) (walked : IsWalked trace text walk) → IsTraceValue trace → IsLeft trace walk
+pub stop_order : (trace : Trace) (text : List ℕ) (walk : Walk) (walked : IsWalked trace text walk) → IsLeft trace.lines walk
     → (walk.given.rest.now ≡ [] → ⊥) → (line : TraceLine) (caller : ℕ) (areas : List Record) (answer : Answer)
     → TheOneComes trace.lines walked.items walk.given.rest.now line caller
     → shown areas answer ≡ answer_of walk.space.config walk.space.space line.op
     → ((is_call (shown areas answer) ≡ false → walk.progress.lowest ≤ caller) → ⊥) → IsFirstBad trace text (walk.given.line + 1)
-stop_order trace text walk walked value left some line caller areas answer comes made never =
+stop_order trace text walk walked left some line caller areas answer comes made never =
     no_item trace text walked.items walk.given (stood trace text walk walked) (left walked.items walked.progress) some (λ other item behind known begins.
     let config : Config = trace.config in
     let here : AddressSpace = after config (journal_of walked.items) in
     let same : other ≡ line =
-    same_line trace.lines walked.items other line item.caller caller value.numbered known.next comes.next
+    same_line trace.lines walked.items other line item.caller caller walked.kept.numbered known.next comes.next
     (comes.tells other item.caller (known_begins config trace.lines walked.items walk.given.rest.now behind other item known begins)) in
     let owner : item.caller ≡ caller =
     known.owned ∙ ap (λ (l : TraceLine). caller_of trace.lines l.thread) same ∙ sym comes.owned in
@@ -161,7 +160,7 @@ stop_order trace text walk walked value left some line caller areas answer comes
     never (λ read. omega (arith, known.order (ap is_call content ∙ read), owner, walked.progress.lowest)))
 
 -- the text differs from the final list
-pub stop_list : (trace : Trace) (text : List ℕ) (walk : Walk) (walked : IsWalked trace text walk) → IsEnded trace walk → (stop : Stop)
+pub stop_list : (trace : Trace) (text : List ℕ) (walk : Walk) (walked : IsWalked trace text walk) → IsEnded trace.lines walk → (stop : Stop)
     → IsBadAt text (items_text trace walked.items ++ maps_text trace.config.files walk.space.space.areas) stop → IsToldRightly trace text stop
 stop_list trace text walk walked ended (stops.Bad bad) differs =
     bad_list trace text walked.items walk.given bad (stood trace text walk walked) (ended walked.items walked.progress)
@@ -175,7 +174,7 @@ listed trace text walk walked new read =
     subst (λ (s : AddressSpace). HasRead text (items_text trace walked.items ++ maps_text trace.config.files s.areas) new) walked.space read
 
 -- the text goes on behind the final list
-pub stop_behind : (trace : Trace) (text : List ℕ) (walk : Walk) (walked : IsWalked trace text walk) → IsEnded trace walk
+pub stop_behind : (trace : Trace) (text : List ℕ) (walk : Walk) (walked : IsWalked trace text walk) → IsEnded trace.lines walk
     → (new : Given) → HasRead text (items_text trace walked.items ++ maps_text trace.config.files walk.space.space.areas) new
     → walk.given.line ≤ new.line → (new.rest.now ≡ [] → ⊥) → IsFirstBad trace text (new.line + 1)
 stop_behind trace text walk walked ended new read later some =
@@ -183,7 +182,7 @@ stop_behind trace text walk walked ended new read later some =
     (listed trace text walk walked new read) later some
 
 -- the text ends with the final list
-pub ends_whole : (trace : Trace) (text : List ℕ) (walk : Walk) (walked : IsWalked trace text walk) → IsEnded trace walk
+pub ends_whole : (trace : Trace) (text : List ℕ) (walk : Walk) (walked : IsWalked trace text walk) → IsEnded trace.lines walk
     → (new : Given) → HasRead text (items_text trace walked.items ++ maps_text trace.config.files walk.space.space.areas) new
     → new.rest.now ≡ [] → IsLegalText trace text
 ends_whole trace text walk walked ended new read none =
@@ -245,7 +244,7 @@ none_long [] long = refl
 none_long (c ∷ text) long = absurd (omega arith)
 
 -- what is told of the text behind the final list is right
-pub end_right : (trace : Trace) (text : List ℕ) (walk : Walk) (walked : IsWalked trace text walk) → IsEnded trace walk
+pub end_right : (trace : Trace) (text : List ℕ) (walk : Walk) (walked : IsWalked trace text walk) → IsEnded trace.lines walk
     → (new : Given) (listed result : Result (Unit {0}) Stop)
     → OnOk listed (HasRead text (items_text trace walked.items ++ maps_text trace.config.files walk.space.space.areas) new)
     → IfErr listed (IsBadAt text (items_text trace walked.items ++ maps_text trace.config.files walk.space.space.areas))

@@ -2,14 +2,16 @@
 use Rattle.std.proofs.Common.{ℕ, ◌≡◌, ◌+◌, ◌-◌, ◌^◌, ◌<◌, ◌≤◌, ◌∙◌, refl, sym, ap, subst, cond, Bool, false, List, [], ◌∷◌, ◌++◌, length, get_or, set, arith}
 use Rattle.mm_types.specs.declared.area.Record.{Record}
 use Rattle.mm_types.specs.declared.config.Config.{Config}
+use Rattle.mm_types.specs.Config.{IsValidConfig}
 use Rattle.trace_reader.specs.declared.trace.Trace.{Trace}
 use Rattle.trace_reader.specs.declared.trace.TraceLine.{TraceLine}
-use Rattle.trace_reader.specs.Values.{IsLineValue, IsTraceValue}
+use Rattle.trace_reader.specs.Values.{IsLineValue}
 use Rattle.area_rules.specs.Tables.{AddressSpace}
 use Rattle.area_rules.specs.Steps.{after, opening}
 use Rattle.area_rules.proofs.Journals.{after-nil}
 use Rattle.history.specs.declared.items.Item.{Item}
 use Rattle.history.specs.Coming.{IsProgress, HasNoneLeft}
+use Rattle.history.specs.SpaceLines.{AreSpaceLines}
 use Rattle.history.specs.Histories.{items_of, journal_of, is_call, read_as, op_of, answer_of, space_after}
 use Rattle.history.proofs.Advances.{journal_within, left_within, left_fewer, lines_within, progress_more, progress_within}
 use Rattle.history.proofs.Calls.{reads_space, IsAnswer, op_asks}
@@ -32,11 +34,13 @@ pub stood : (trace : Trace) (text : List ℕ) (walk : Walk) (walked : IsWalked t
 stood trace text walk walked = record { good = walked.good; read = walked.read; forced = walked.forced }
 
 -- before the first item
-pub walked_none : (trace : Trace) (text : List ℕ) (walk : Walk) → IsProgress trace.lines [] walk.progress
+pub walked_none : (trace : Trace) (text : List ℕ) (walk : Walk) → IsValidConfig trace.config → AreSpaceLines trace.lines → IsProgress trace.lines [] walk.progress
     → walk.space ≡ record { config = trace.config; space = opening trace.config } → HasRead text [] walk.given
     → walk.given.line + length walk.given.rest.now < 2 ^ 64 - 1 → IsWalked trace text walk
 unfolding journal_of opening
-walked_none trace text walk reached space read room = record {
+walked_none trace text walk valid kept reached space read room = record {
+  valid = valid;
+  kept = kept;
   items = [];
   good = λ place item below found. absurd (omega arith);
   progress = reached;
@@ -49,22 +53,22 @@ walked_none trace text walk reached space read room = record {
 }
 
 -- there is room for one object more, and for one version more
-pub walked_room : (trace : Trace) (text : List ℕ) (walk : Walk) (walked : IsWalked trace text walk) → IsTraceValue trace
+pub walked_room : (trace : Trace) (text : List ℕ) (walk : Walk) (walked : IsWalked trace text walk)
     → (walk.space.space.objects < 2 ^ 32 - 1) × (walk.progress.version < 2 ^ 32)
-walked_room trace text walk walked value =
+walked_room trace text walk walked =
     let entries : length (journal_of walked.items) ≤ length walked.items = journal_within walked.items in
     let few : length walked.items ≤ length trace.lines = progress_within trace.lines walked.items _ walked.progress in
-    let most = value.few in
-    let files = value.config.most_files in (
+    let most = walked.kept.few in
+    let files = walked.valid.most_files in (
       omega (arith, walked.objects, walked.progress.version, entries, few, most, files),
       omega (arith, walked.progress.version, entries, few, most),
     )
 
 -- the caller of a line that comes is counted, and its count has room
-pub counts_room : (trace : Trace) (text : List ℕ) (walk : Walk) (walked : IsWalked trace text walk) → IsTraceValue trace
+pub counts_room : (trace : Trace) (text : List ℕ) (walk : Walk) (walked : IsWalked trace text walk)
     → (line : TraceLine) (caller : ℕ) → TheOneComes trace.lines walked.items walk.given.rest.now line caller
     → (caller < length walk.progress.answered) × (get_or walk.progress.answered caller 0 < 2 ^ 32)
-counts_room trace text walk walked value line caller comes =
+counts_room trace text walk walked line caller comes =
     let within : caller < length walk.progress.answered = left_within trace.lines walked.items _ caller line walked.progress comes.next in (
       within,
       omega (
@@ -72,7 +76,7 @@ counts_room trace text walk walked value line caller comes =
         walked.progress.answered caller within,
         left_fewer trace.lines walked.items caller line comes.next,
         lines_within trace.lines caller,
-        value.few,
+        walked.kept.few,
       ),
     )
 
@@ -92,13 +96,13 @@ pub record Ran (trace : Trace) (walk : Walk) (line : TraceLine) (caller version 
   pub order : is_call (shown areas answer) ≡ false → walk.progress.lowest ≤ caller
 
 -- that is the item of the line
-pub ran_item : (trace : Trace) (text : List ℕ) (walk : Walk) (walked : IsWalked trace text walk) → IsTraceValue trace
+pub ran_item : (trace : Trace) (text : List ℕ) (walk : Walk) (walked : IsWalked trace text walk)
     → (line : TraceLine) (caller version : ℕ) (areas : List Record) (answer : Answer)
     → TheOneComes trace.lines walked.items walk.given.rest.now line caller → Ran trace walk line caller version areas answer
     → IsItemOf trace.config trace.lines walked.items line (item_with caller version areas answer)
-ran_item trace text walk walked value line caller version areas answer comes ran =
+ran_item trace text walk walked line caller version areas answer comes ran =
     let at = own_place trace.lines caller (length (items_of walked.items caller)) line comes.next in
-    let line_value : IsLineValue line = at_place IsLineValue trace.lines at.0 line value.lines at.1 in
+    let line_value : IsLineValue line = at_place IsLineValue trace.lines at.0 line walked.kept.values at.1 in
     record {
       next = comes.next;
       told = comes.told;
@@ -122,21 +126,21 @@ pub record Passed (old new : Walk) (line : TraceLine) (caller version : ℕ) (ca
   pub later : old.given.line < new.given.line
 
 -- after an item
-pub walked_more : (trace : Trace) (text : List ℕ) (old new : Walk) (walked : IsWalked trace text old) → IsTraceValue trace
+pub walked_more : (trace : Trace) (text : List ℕ) (old new : Walk) (walked : IsWalked trace text old)
     → (HasNoneLeft trace.lines walked.items → ⊥) → (old.given.rest.now ≡ [] → ⊥)
     → (line : TraceLine) (caller version : ℕ) (areas : List Record) (answer : Answer)
     → TheOneComes trace.lines walked.items old.given.rest.now line caller → Ran trace old line caller version areas answer
     → Passed old new line caller version (is_call (shown areas answer))
     → HasRead text (items_text trace walked.items ++ item_text trace.config.files line (item_with caller version areas answer)) new.given
     → IsWalked trace text new
-walked_more trace text old new walked value left some line caller version areas answer comes ran passed read =
+walked_more trace text old new walked left some line caller version areas answer comes ran passed read =
     let config : Config = trace.config in
     let items : List Item = walked.items in
     let item : Item = item_with caller version areas answer in
     let here : AddressSpace = after config (journal_of items) in
-    let is : IsItemOf config trace.lines items line item = ran_item trace text old walked value line caller version areas answer comes ran in
+    let is : IsItemOf config trace.lines items line item = ran_item trace text old walked line caller version areas answer comes ran in
     let now : Stood trace text (items ++ item ∷ []) new.given =
-    good_item trace text items old.given new.given line item (stood trace text old walked) left some value.numbered is comes.tells passed.later read in
+    good_item trace text items old.given new.given line item (stood trace text old walked) left some walked.kept.numbered is comes.tells passed.later read in
     let right : IsAnswer config (journal_of items) item.content = item_answer config trace.lines items line item is in
     let asks : read_as line.op ≡ op_of item.content = asked config here line.op is.asks ∙ ap op_of (sym is.answer) in
     let moved : new.space.space ≡ space_after config here (op_of item.content) =
@@ -144,6 +148,8 @@ walked_more trace text old new walked value left some line caller version areas 
     ∙ ap (λ (s : AddressSpace). space_after config s line.op) walked.space ∙ sym (reads_space config here line.op)
     ∙ ap (space_after config here) asks in
     record {
+      valid = walked.valid;
+      kept = walked.kept;
       items = items ++ item ∷ [];
       good = now.good;
       progress = progress_more trace.lines items item line _ _ walked.progress comes.next passed.lines passed.answered

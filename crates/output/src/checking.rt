@@ -4,6 +4,7 @@ ghost use Rattle.text_lexer.specs.BadLines.{bad_line};
 ghost use Rattle.text_lexer.specs.declared.error.Cause.TheVariants.{Header};
 ghost use Rattle.text_lexer.specs.Reading.{IsErrorOf};
 ghost use Rattle.trace_reader.specs.Values.{IsTraceValue};
+ghost use Rattle.history.specs.Parents.{parent_trace};
 ghost use Rattle.output.specs.Input.{input_of};
 ghost use Rattle.output.specs.Checked.{IsCheckedAs};
 ghost use Rattle.output.specs.Reading.{input_view};
@@ -29,7 +30,8 @@ pub fn checked(alloc: Global, bytes: &[u8]) -> Result<Vec<u8>, ReadError>
 
 /// The judgement of an input as a line of text, where it was read; else why it was not.
 fn judged(alloc: Global, read: Result<Input<'_>, ReadError>) -> Result<Vec<u8>, ReadError>
-    requires { IfOk read (λ input. IsTraceValue input.trace) }
+    requires value { IfOk read (λ input. IsTraceValue input.trace) }
+    requires parent { IfOk read (λ input. parent_trace input.trace ≡ input.trace) }
     ensures text { IfOk result (λ text. IsOkAnd read.entry (λ input. IsCheckedAs (input_view input) text.items)) }
     ensures unread { IfErr read.entry (IsErrOf result) }
     ensures memory { IsOk read.entry → IfErr result (λ error. error ≡ ReadError.NoMemory) }

@@ -5,8 +5,8 @@ use Rattle.trace_reader.specs.declared.trace.Trace.{Trace}
 use Rattle.trace_reader.specs.declared.trace.TraceLine.{TraceLine}
 use Rattle.history.specs.declared.items.Item.{Item}
 use Rattle.mm_space.specs.Closing.{ClosedView}
-use Rattle.history.specs.Parents.{parent_lines}
-use Rattle.mm_fork.specs.Children.{inherited, child_history_of, parent_trace}
+use Rattle.history.specs.Parents.{parent_lines, parent_trace}
+use Rattle.mm_fork.specs.Children.{inherited, child_history_of}
 use Rattle.history.specs.SpaceLines.{child_lines}
 use Rattle.mm_fork.proofs.Alike.{same_history}
 use Rattle.vma_replay.specs.declared.forks.Fork.{Fork}

@@ -13,8 +13,7 @@ use Rattle.trace_reader.specs.Values.{IsTraceValue, child_of, children_of}
 use Rattle.lock_core.specs.Facts.{list_after}
 use Rattle.history.specs.declared.items.Item.{Item}
 use Rattle.history.specs.Labels.{labelled}
-use Rattle.history.specs.Parents.{parent_lines}
-use Rattle.mm_fork.specs.Children.{parent_trace}
+use Rattle.history.specs.Parents.{parent_lines, parent_trace}
 use Rattle.mm_space.specs.Closing.{ClosedView}
 use Rattle.output.specs.Output.{item_text, listed_text, maps_text, told_by}
 use Rattle.vma_replay.specs.Forks.{forks_of}

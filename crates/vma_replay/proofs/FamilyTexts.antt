@@ -12,8 +12,8 @@ use Rattle.lock_core.specs.Facts.{list_after}
 use Rattle.history.specs.declared.items.Item.{Item}
 use Rattle.history.specs.Histories.{journal_of}
 use Rattle.mm_space.specs.Closing.{ClosedView}
-use Rattle.history.specs.Parents.{parent_lines}
-use Rattle.mm_fork.specs.Children.{inherited, child_history_of, parent_trace}
+use Rattle.history.specs.Parents.{parent_lines, parent_trace}
+use Rattle.mm_fork.specs.Children.{inherited, child_history_of}
 use Rattle.history.specs.SpaceLines.{child_lines}
 use Rattle.mm_fork.proofs.ChildRuns.{child_journal}
 use Rattle.history.proofs.OneSpace.{parent_is_trace}

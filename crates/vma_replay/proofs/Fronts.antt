@@ -13,7 +13,7 @@ use Rattle.vma_replay.specs.declared.words.Job.{Job}
 use Rattle.vma_replay.specs.declared.words.Job.TheVariants as jobs
 use Rattle.vma_replay.specs.declared.words.Mode.{Mode}
 use Rattle.vma_replay.specs.declared.words.Mode.TheVariants as modes
-use Rattle.mm_fork.specs.Children.{parent_trace}
+use Rattle.history.specs.Parents.{parent_trace}
 use Rattle.output.specs.Output.{serial_output}
 use Rattle.text_lexer.specs.Lines.{input_limit}
 use Rattle.vma_replay.specs.Internal.Giving.{GivesAnOutput, GivesASummary, GivesThis, IsDone}

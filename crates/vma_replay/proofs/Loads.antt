@@ -8,8 +8,7 @@ use Rattle.trace_reader.specs.Lines.{has_child}
 use Rattle.trace_reader.specs.Values.{child_of}
 use Rattle.gen_load.specs.Loads.{kind_of, next_of, draw_of, line_of, lines_after, load_lines, load_trace}
 use Rattle.gen_load.proofs.LoadOperations.{operation-loaded}
-use Rattle.history.specs.Parents.{parent_lines}
-use Rattle.mm_fork.specs.Children.{parent_trace}
+use Rattle.history.specs.Parents.{parent_lines, parent_trace}
 use Rattle.mm_space.specs.Closing.{ClosedView}
 use Rattle.history.proofs.OneSpace.{forks_none}
 use Rattle.vma_replay.specs.Replaying.{IsRunOf}

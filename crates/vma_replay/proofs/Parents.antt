@@ -36,8 +36,7 @@ use Rattle.history.proofs.ThreadCounts.{items_within, threads_of_trace}
 use Rattle.split_merge.proofs.Counting.{contains_later}
 use Rattle.mm_types.proofs.Sorting.{All-sort_by}
 use Rattle.mm_space.specs.Closing.{ClosedView}
-use Rattle.history.specs.Parents.{parent_lines}
-use Rattle.mm_fork.specs.Children.{parent_trace}
+use Rattle.history.specs.Parents.{parent_lines, parent_trace}
 use Rattle.history.proofs.OneSpace.{parent_is_trace}
 use Rattle.vma_drive.proofs.NamesShared.{few_callers}
 use Rattle.vma_replay.specs.declared.forks.Fork.{Fork}

@@ -25,8 +25,7 @@ use Rattle.history.specs.Histories.{AsksItself, AskThemselves, asks_for, caller_
 use Rattle.history.proofs.Serial.{AllAnswer, all_answer, items_of_pairs, none_counted, opening_stands, pairs_from}
 use Rattle.history.proofs.SerialOrder.{insert_item, BeginsAt, inserted_first, serial_space}
 use Rattle.mm_space.specs.Closing.{ClosedView}
-use Rattle.history.specs.Parents.{parent_lines}
-use Rattle.mm_fork.specs.Children.{parent_trace}
+use Rattle.history.specs.Parents.{parent_lines, parent_trace}
 use Rattle.maps_read.specs.RetraceLaws.{space_with, AreMappedBehind, mapping_trace, MakesMaps}
 use Rattle.maps_read.specs.Mappings.{mapping_of, mapping_line, mapping_lines}
 use Rattle.maps_read.proofs.Made.{makes}

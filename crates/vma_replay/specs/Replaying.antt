@@ -13,8 +13,8 @@ use Rattle.history.specs.declared.items.Item.{Item}
 use Rattle.history.specs.Histories.{journal_of, IsLegalHistory}
 use Rattle.history.specs.Runs.{history_of, IsRun}
 use Rattle.history.specs.Labels.{label_of, IsSerialRun}
-use Rattle.history.specs.Parents.{parent_lines}
-use Rattle.mm_fork.specs.Children.{inherited, child_history_of, parent_trace, IsChildRun}
+use Rattle.history.specs.Parents.{parent_lines, parent_trace}
+use Rattle.mm_fork.specs.Children.{inherited, child_history_of, IsChildRun}
 use Rattle.history.specs.SpaceLines.{child_lines}
 use Rattle.text_lexer.specs.declared.error.Cause.{Cause}
 use Rattle.text_lexer.specs.declared.error.BadLine.{BadLine}

@@ -1,7 +1,8 @@
 //! The closed runs of a trace: that of its parent, and those of its children.
 ghost use Rattle.std.specs.Prelude.{◌≡◌, ◌<◌, ◌≤◌, [], All, IfOk, Ok, Some, length, map, slice_get};
 ghost use Rattle.std.specs.Vec.{vec_capacity};
-ghost use Rattle.mm_fork.specs.Children.{parent_trace, child_trace};
+ghost use Rattle.mm_fork.specs.Children.{child_trace};
+ghost use Rattle.history.specs.Parents.{parent_trace};
 ghost use Rattle.trace_reader.specs.Values.{IsTraceValue};
 ghost use Rattle.vma_replay.specs.Internal.Families.{AreRunsOfChildren, IsFamily, IsForkOf, IsOfParent};
 ghost use Rattle.vma_replay.specs.Replaying.{IsRunOfChild};

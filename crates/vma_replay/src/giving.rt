@@ -1,7 +1,7 @@
 //! Runs of a trace that are given to a sink.
 ghost use Rattle.std.specs.Prelude.{◌≡◌, ◌<◌, ◌^◌, ◌-◌};
 ghost use Rattle.trace_reader.specs.Values.{IsTraceValue};
-ghost use Rattle.mm_fork.specs.Children.{parent_trace};
+ghost use Rattle.history.specs.Parents.{parent_trace};
 ghost use Rattle.vma_replay.specs.Internal.Giving.{GivesAnOutput, IsDoing, IsDone};
 
 use crate::families::{closed_family, parent_of};

@@ -2,7 +2,7 @@
 ghost use Rattle.std.specs.Prelude.{◌≡◌, ◌<◌, ◌^◌, ◌-◌, ◌++◌, IfOk, OnOk, List, length};
 ghost use Rattle.mm_types.specs.declared.call.Entry.{Entry};
 ghost use Rattle.trace_reader.specs.Values.{IsTraceValue};
-ghost use Rattle.mm_fork.specs.Children.{parent_trace};
+ghost use Rattle.history.specs.Parents.{parent_trace};
 ghost use Rattle.vma_replay.specs.ChildTexts.{child_line};
 ghost use Rattle.vma_replay.specs.Internal.Families.{AreRunsOfChildren, IsFamily, text_of_child, text_of_children, text_of_family};
 ghost use Rattle.output.specs.declared.giving.TheConstants.{MOST_GIVEN};

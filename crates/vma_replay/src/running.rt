@@ -1,7 +1,7 @@
 //! A closed run of a trace, in a mode.
 ghost use Rattle.std.specs.Prelude.{◌≡◌, IfOk};
 ghost use Rattle.lock_core.specs.Facts.{list_after};
-ghost use Rattle.mm_fork.specs.Children.{parent_trace};
+ghost use Rattle.history.specs.Parents.{parent_trace};
 ghost use Rattle.trace_reader.specs.Values.{IsTraceValue};
 ghost use Rattle.vma_replay.specs.Replaying.{IsRunOf};
 

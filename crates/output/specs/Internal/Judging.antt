@@ -1,6 +1,8 @@
 -- What a walk over a text keeps from item to item.
 use Rattle.std.specs.Prelude.{ℕ, ◌≡◌, ◌<◌, ◌≤◌, ◌+◌, ◌-◌, ◌^◌, ◌==◌, List, [], ◌++◌, length, take, codes, Some, IfSome, Result, Ok, Err, if◌then◌else◌}
+use Rattle.mm_types.specs.declared.config.Config.{Config}
 use Rattle.mm_types.specs.declared.memory.NoMemory.{NoMemory}
+use Rattle.mm_types.specs.Config.{IsValidConfig}
 use Rattle.text_lexer.specs.Numbers.{decimal_of}
 use Rattle.trace_reader.specs.declared.trace.Trace.{Trace}
 use Rattle.trace_reader.specs.declared.trace.TraceLine.{TraceLine}
@@ -9,6 +11,7 @@ use Rattle.history.specs.declared.items.Item.{Item}
 use Rattle.history.specs.Histories.{caller_of, journal_of, line_of, StandsAmong}
 use Rattle.history.specs.Checking.{AreGood, IsGood, next_line}
 use Rattle.history.specs.Coming.{IsProgress, HasNoneLeft}
+use Rattle.history.specs.SpaceLines.{AreSpaceLines}
 use Rattle.output.specs.Output.{start_text}
 use Rattle.output.specs.declared.given.Given.{Given}
 use Rattle.output.specs.declared.judgement.Judgement.{Judgement}
@@ -44,8 +47,14 @@ abbrev pub end_told : Given → Result (Unit {0}) Stop → Result (Unit {0}) Sto
 end_told given (Ok done) = if length given.rest.now == 0 then Ok done else Err (stops.Bad (given.line + 1))
 end_told given (Err stop) = Err stop
 
--- A walk has compared the text of some good items, and each right text that agrees up to here begins with these items.
+-- a trace of these lines in this configuration
+abbrev pub trace_over : Config → List TraceLine → Trace
+trace_over config lines = record { config = config; lines = lines }
+
+-- A walk over the lines of one space has compared the text of some good items, and each right text that agrees up to here begins with these items.
 pub record IsWalked (trace : Trace) (text : List ℕ) (walk : Walk) : Type 0 where
+  pub valid : IsValidConfig trace.config
+  pub kept : AreSpaceLines trace.lines
   pub items : List Item
   pub good : AreGood trace.config [] trace.lines items (length items)
   pub progress : IsProgress trace.lines items walk.progress
@@ -57,13 +66,13 @@ pub record IsWalked (trace : Trace) (text : List ℕ) (walk : Walk) : Type 0 whe
   pub forced : (others : List Item) (right : List ℕ) → IsRightText trace others right
       → take walk.given.line (text_lines right) ≡ take walk.given.line (text_lines text) → (more : List Item) × (others ≡ items ++ more)
 
--- whatever items were compared, a line of the trace is left
-abbrev pub IsLeft : Trace → Walk → Type 0
-IsLeft trace walk = (items : List Item) → IsProgress trace.lines items walk.progress → HasNoneLeft trace.lines items → ⊥
+-- whatever items were compared, a line is left
+abbrev pub IsLeft : List TraceLine → Walk → Type 0
+IsLeft lines walk = (items : List Item) → IsProgress lines items walk.progress → HasNoneLeft lines items → ⊥
 
 -- or none is
-abbrev pub IsEnded : Trace → Walk → Type 0
-IsEnded trace walk = (items : List Item) → IsProgress trace.lines items walk.progress → HasNoneLeft trace.lines items
+abbrev pub IsEnded : List TraceLine → Walk → Type 0
+IsEnded lines walk = (items : List Item) → IsProgress lines items walk.progress → HasNoneLeft lines items
 
 -- a text begins with `L`, the digits of a number, and a space
 pub record TellsNumber (text : List ℕ) (number : ℕ) : Type 0 where

@@ -11,8 +11,8 @@ use Rattle.lock_core.specs.Facts.{list_after}
 use Rattle.history.specs.declared.callers.TheConstants.{MOST_THREADS}
 use Rattle.history.specs.declared.items.Item.{Item}
 use Rattle.mm_space.specs.Closing.{ClosedView}
-use Rattle.history.specs.Parents.{parent_lines}
-use Rattle.mm_fork.specs.Children.{child_history_of, parent_trace}
+use Rattle.history.specs.Parents.{parent_lines, parent_trace}
+use Rattle.mm_fork.specs.Children.{child_history_of}
 use Rattle.history.specs.SpaceLines.{child_lines}
 use Rattle.vma_replay.specs.declared.forks.Fork.{Fork}
 use Rattle.vma_replay.specs.declared.words.Mode.{Mode}

@@ -4,7 +4,7 @@ use Rattle.std.specs.Io.KnownBytes.{Appends, Keeps}
 use Rattle.io_edge.specs.Edge.{SinkView, FailedLast}
 use Rattle.mm_space.specs.Closing.{ClosedView}
 use Rattle.trace_reader.specs.declared.trace.Trace.{Trace}
-use Rattle.mm_fork.specs.Children.{parent_trace}
+use Rattle.history.specs.Parents.{parent_trace}
 use Rattle.output.specs.declared.error.PrintError.{PrintError}
 use Rattle.output.specs.Giving.{Gave, IsCut}
 use Rattle.vma_replay.specs.declared.status.Status.{Status}

@@ -2,7 +2,7 @@
 use Rattle.std.proofs.Common.{◌≡◌, ◌∙◌, ap, List, [], ◌∷◌, ◌++◌, All, subst, sym}
 use Rattle.history.specs.declared.items.Item.{Item}
 use Rattle.lock_core.specs.Facts.{list_after}
-use Rattle.mm_fork.specs.Children.{parent_trace}
+use Rattle.history.specs.Parents.{parent_trace}
 use Rattle.mm_space.specs.Closing.{ClosedView}
 use Rattle.mm_types.specs.declared.call.Entry.{Entry}
 use Rattle.trace_reader.specs.declared.trace.Trace.{Trace}

@@ -1,6 +1,6 @@
 -- The proof of `give_family`: the parent's text is printed into an empty piece, then those of its children, and then the rest is given.
 use Rattle.std.proofs.Common.{◌∙◌, ◌-◌, ap, arith, drop, get_or, length, refl, take}
-use Rattle.mm_fork.specs.Children.{parent_trace}
+use Rattle.history.specs.Parents.{parent_trace}
 use Rattle.history.proofs.OneSpace.{parent_is_trace}
 use Rattle.vma_replay.proofs.FamilyTexts.{family_whole}
 use Rattle.output.proofs.Outputs.{cut_first, cut_second, prints_both}
