@@ -1,5 +1,5 @@
-//! The text of an item of a history, which ends at the end of a line.
-ghost use Rattle.std.specs.Prelude.{◌≡◌, ◌++◌, OnOk};
+//! The text of an item of a history, which ends at the end of a line. A text that has room for it takes no memory.
+ghost use Rattle.std.specs.Prelude.{◌≡◌, ◌≤◌, ◌<◌, ◌+◌, ◌++◌, OnErr, OnOk, length, vec_capacity, vec_len};
 ghost use Rattle.trace_reader.specs.Values.{child_of};
 ghost use Rattle.output.specs.Output.{content_text, item_text, maps_text, result_text};
 
@@ -16,7 +16,9 @@ pub fn push_item(
     line: &TraceLine,
     item: &Item,
 ) -> Result<(), NoMemory>
-    ensures { OnOk result (text.new.items ≡ text.old.items ++ item_text files.now line.now item.now) }
+    ensures ok { OnOk result (text.new.items ≡ text.old.items ++ item_text files.now line.now item.now) }
+    ensures room { OnErr result (vec_capacity text.old < vec_len text.old + length (item_text files.now line.now item.now)) }
+    ensures capacity { vec_capacity text.old ≤ vec_capacity text.new }
 {
     push_start(text, line, item.version)?;
     push_result(text, files, line.op, &item.content)
@@ -29,7 +31,9 @@ pub(crate) fn push_result(
     op: Op,
     content: &Content,
 ) -> Result<(), NoMemory>
-    ensures { OnOk result (text.new.items ≡ text.old.items ++ result_text files.now (child_of op) content.now) }
+    ensures ok { OnOk result (text.new.items ≡ text.old.items ++ result_text files.now (child_of op) content.now) }
+    ensures room { OnErr result (vec_capacity text.old < vec_len text.old + length (result_text files.now (child_of op) content.now)) }
+    ensures capacity { vec_capacity text.old ≤ vec_capacity text.new }
 {
     match (op, content) {
         (Op::Fork { child }, Content::List(areas)) => push_forked(text, child, areas.items().len()),
@@ -44,7 +48,9 @@ pub(crate) fn push_content(
     files: &Files,
     content: &Content,
 ) -> Result<(), NoMemory>
-    ensures { OnOk result (text.new.items ≡ text.old.items ++ content_text files.now content.now) }
+    ensures ok { OnOk result (text.new.items ≡ text.old.items ++ content_text files.now content.now) }
+    ensures room { OnErr result (vec_capacity text.old < vec_len text.old + length (content_text files.now content.now)) }
+    ensures capacity { vec_capacity text.old ≤ vec_capacity text.new }
 {
     match content {
         Content::Called(_, reply) => push_reply(text, *reply)?,
@@ -57,7 +63,9 @@ pub(crate) fn push_content(
 /// Appends how many areas a list has, and their lines.
 #[tactic(auto, unfolding(crate::specs::Output::maps_text))]
 pub fn push_maps(text: &mut Vec<u8>, files: &Files, areas: &[Record]) -> Result<(), NoMemory>
-    ensures { OnOk result (text.new.items ≡ text.old.items ++ maps_text files.now areas.now) }
+    ensures ok { OnOk result (text.new.items ≡ text.old.items ++ maps_text files.now areas.now) }
+    ensures room { OnErr result (vec_capacity text.old < vec_len text.old + length (maps_text files.now areas.now)) }
+    ensures capacity { vec_capacity text.old ≤ vec_capacity text.new }
 {
     push_count(text, areas.len())?;
     push_list(text, areas, files)

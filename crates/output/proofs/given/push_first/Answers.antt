@@ -21,4 +21,4 @@ forked_is op answer child count areas forks is many =
 pub returns-in-Fork-List : goal.returns-in-Fork-List
 returns-in-Fork-List c = λ areas many.
     subst (λ (t : List ℕ). OnOk c.push_forked.result (c.push_forked.new.text.items ≡ c.args.text.now.items ++ t))
-    (forked_is c.args.op c.args.answer.now c.in-Fork-List.child c.args.count areas c.in-Fork-List.is-0 c.in-Fork-List.is-1 many) c.push_forked.ensures
+    (forked_is c.args.op c.args.answer.now c.in-Fork-List.child c.args.count areas c.in-Fork-List.is-0 c.in-Fork-List.is-1 many) c.push_forked.ensures.ok

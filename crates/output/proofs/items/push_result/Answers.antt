@@ -1,5 +1,5 @@
 -- The proof of `push_result`: the list that a child begins with.
-use Rattle.std.proofs.Common.{ℕ, ◌≡◌, ◌∙◌, sym, ap, subst, List, ◌++◌, length, codes, decimal, OnOk}
+use Rattle.std.proofs.Common.{ℕ, ◌≡◌, ◌+◌, ◌<◌, ◌∙◌, sym, ap, subst, List, ◌++◌, length, codes, decimal, OnErr, OnOk, vec_capacity, vec_len}
 use Rattle.mm_types.specs.declared.area.Record.{Record}
 use Rattle.mm_types.specs.declared.files.FileRow.{FileRow}
 use Rattle.trace_reader.specs.declared.trace.Op.{Op}
@@ -20,8 +20,14 @@ forked_is files op content child areas shown forks is same =
     ∙ ap (λ (o : Op). result_text files (child_of o) (contents.List areas)) (sym forks)
     ∙ ap (result_text files (child_of op)) (sym is)
 
-pub returns-in-Fork-List : goal.returns-in-Fork-List
-returns-in-Fork-List c =
+pub returns-in-Fork-List-clause-ok : goal.returns-in-Fork-List-clause-ok
+returns-in-Fork-List-clause-ok c =
     subst (λ (t : List ℕ). OnOk c.push_forked.result (c.push_forked.new.text.items ≡ c.args.text.now.items ++ t))
     (forked_is c.args.files.now c.args.op c.args.content.now c.in-Fork-List.child _ c.items.result.now c.in-Fork-List.is-0 c.in-Fork-List.is-1 c.items.ensures)
-    c.push_forked.ensures
+    c.push_forked.ensures.ok
+
+pub returns-in-Fork-List-clause-room : goal.returns-in-Fork-List-clause-room
+returns-in-Fork-List-clause-room c =
+    subst (λ (t : List ℕ). OnErr c.push_forked.result (vec_capacity c.args.text.now < vec_len c.args.text.now + length t))
+    (forked_is c.args.files.now c.args.op c.args.content.now c.in-Fork-List.child _ c.items.result.now c.in-Fork-List.is-0 c.in-Fork-List.is-1 c.items.ensures)
+    c.push_forked.ensures.room

@@ -9,7 +9,7 @@ use Rattle.output.proofs.printing.print_areas.Goals as goal
 pub returns-in_ok-push_forked-in-Fork : goal.returns-in_ok-push_forked-in-Fork
 returns-in_ok-push_forked-in-Fork g c = printing_as _ _ _ _ _ _ _
     (forked_is c.args.files.now c.args.op (contents.List c.args.areas.now) c.in-Fork.child c.args.areas.now c.args.areas.now c.in-Fork.is refl refl)
-    (printing_pushed _ _ _ _ _ _ _ c.in_ok-push_forked-in-Fork.ensures c.give_full.ensures)
+    (printing_pushed _ _ _ _ _ _ _ c.in_ok-push_forked-in-Fork.ensures.ok c.give_full.ensures)
 
 pub returns-in-Call : goal.returns-in-Call
 returns-in-Call g c = printing_as _ _ _ _ _ _ _

@@ -9,9 +9,9 @@ returns-in_err-push_count g c = at_error _ _ _ _ c.from_residual.ensures.1 (cut_
 
 pub returns : goal.returns
 returns g c = printing_as _ _ _ _ _ _ _ (maps_is c.args.files.now c.args.areas.now)
-    (printing_then _ _ _ _ _ _ _ _ _ (prints_pushed _ _ _ _ _ _ c.in_ok-push_count.ensures c.in_ok-give_full.ensures) c.print_list.ensures)
+    (printing_then _ _ _ _ _ _ _ _ _ (prints_pushed _ _ _ _ _ _ c.in_ok-push_count.ensures.ok c.in_ok-give_full.ensures) c.print_list.ensures)
 
 pub returns-in_err-give_full : goal.returns-in_err-give_full
 returns-in_err-give_full g c = at_error _ _ _ _ c.from_residual-in_err-give_full.ensures.1
     (cut_first_of _ _ _ _ _ _ _ (maps_is c.args.files.now c.args.areas.now)
-    (cut_pushed _ _ _ _ _ _ c.in_ok-push_count.ensures c.in_err-give_full.ensures))
+    (cut_pushed _ _ _ _ _ _ c.in_ok-push_count.ensures.ok c.in_err-give_full.ensures))

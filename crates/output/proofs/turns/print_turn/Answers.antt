@@ -11,7 +11,7 @@ use Rattle.output.proofs.turns.print_turn.Goals as goal
 pub returns-in-Call : goal.returns-in-Call
 returns-in-Call g c =
     printing_after _ _ _ _ _ _ _ _
-    (c.in_ok-push_start.ensures ∙ ap (λ (v : ℕ). c.args.piece.now.items ++ start_text c.args.line.now v) c.version.ensures)
+    (c.in_ok-push_start.ensures.ok ∙ ap (λ (v : ℕ). c.args.piece.now.items ++ start_text c.args.line.now v) c.version.ensures)
     (printing_as _ _ _ _ _ _ _
     (reply_told c.args.files.now (child_of c.args.line.now.op) c.in-Call.entry.now.call c.in-Call.entry.now.reply
     ∙ ap (λ (t : Turn). result_text c.args.files.now (child_of c.args.line.now.op) (turn_item t).content) (sym c.in-Call.is))

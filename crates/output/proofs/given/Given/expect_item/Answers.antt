@@ -18,7 +18,7 @@ expect-requires-clause-line c =
     let first : List ℕ = start ++ first_text child content in
     let is : c.as_slice.result.now ≡ first =
     item_printed c.as_slice.result.now _ _ _ start (first_text child content) c.as_slice.ensures.value
-    (c.in_ok-push_first.ensures c.args.space.now.space.areas (sym c.area_count.ensures)) c.in_ok-push_start.ensures c.clear.ensures.items in
+    (c.in_ok-push_first.ensures c.args.space.now.space.areas (sym c.area_count.ensures)) c.in_ok-push_start.ensures.ok c.clear.ensures.items in
     subst (λ (l : List ℕ). IsLine l) (sym is) (first_line start child content (start_plain c.args.asked.now c.args.version))
 
 pub returns-in_err-expect-clause-bad : goal.returns-in_err-expect-clause-bad
@@ -29,7 +29,7 @@ returns-in_err-expect-clause-bad c = λ text before read.
     let first : List ℕ = start ++ first_text child content in
     let is : c.as_slice.result.now ≡ first =
     item_printed c.as_slice.result.now _ _ _ start (first_text child content) c.as_slice.ensures.value
-    (c.in_ok-push_first.ensures c.args.space.now.space.areas (sym c.area_count.ensures)) c.in_ok-push_start.ensures c.clear.ensures.items in
+    (c.in_ok-push_first.ensures c.args.space.now.space.areas (sym c.area_count.ensures)) c.in_ok-push_start.ensures.ok c.clear.ensures.items in
     let more : List ℕ = more_text c.args.files.now child content in
     let whole : List ℕ = start ++ result_text c.args.files.now child content in
     let parts : whole ≡ first ++ more = item_parts c.args.files.now child content start more refl in
@@ -45,7 +45,7 @@ returns-then-shows_areas-clause-ok c = λ text before read.
     let first : List ℕ = start ++ first_text child content in
     let is : c.as_slice.result.now ≡ first =
     item_printed c.as_slice.result.now _ _ _ start (first_text child content) c.as_slice.ensures.value
-    (c.in_ok-push_first.ensures c.args.space.now.space.areas (sym c.area_count.ensures)) c.in_ok-push_start.ensures c.clear.ensures.items in
+    (c.in_ok-push_first.ensures c.args.space.now.space.areas (sym c.area_count.ensures)) c.in_ok-push_start.ensures.ok c.clear.ensures.items in
     let more : List ℕ = list_text c.args.files.now c.args.space.now.space.areas in
     let whole : List ℕ = start ++ result_text c.args.files.now child content in
     let parts : whole ≡ first ++ more =
@@ -63,7 +63,7 @@ returns-then-shows_areas-clause-bad c = λ text before read.
     let first : List ℕ = start ++ first_text child content in
     let is : c.as_slice.result.now ≡ first =
     item_printed c.as_slice.result.now _ _ _ start (first_text child content) c.as_slice.ensures.value
-    (c.in_ok-push_first.ensures c.args.space.now.space.areas (sym c.area_count.ensures)) c.in_ok-push_start.ensures c.clear.ensures.items in
+    (c.in_ok-push_first.ensures c.args.space.now.space.areas (sym c.area_count.ensures)) c.in_ok-push_start.ensures.ok c.clear.ensures.items in
     let more : List ℕ = list_text c.args.files.now c.args.space.now.space.areas in
     let whole : List ℕ = start ++ result_text c.args.files.now child content in
     let parts : whole ≡ first ++ more =
@@ -82,7 +82,7 @@ returns-else-shows_areas-clause-ok c = λ text before read.
     let first : List ℕ = start ++ first_text child content in
     let is : c.as_slice.result.now ≡ first =
     item_printed c.as_slice.result.now _ _ _ start (first_text child content) c.as_slice.ensures.value
-    (c.in_ok-push_first.ensures c.args.space.now.space.areas (sym c.area_count.ensures)) c.in_ok-push_start.ensures c.clear.ensures.items in
+    (c.in_ok-push_first.ensures c.args.space.now.space.areas (sym c.area_count.ensures)) c.in_ok-push_start.ensures.ok c.clear.ensures.items in
     let whole : List ℕ = start ++ result_text c.args.files.now child content in
     let parts : whole ≡ first ++ [] =
     item_parts c.args.files.now child content start [] (sym (c.if-shows_areas.ensures c.args.files.now c.args.space.now.space.areas)) in

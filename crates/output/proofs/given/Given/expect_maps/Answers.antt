@@ -14,7 +14,7 @@ expect-requires-clause-line c =
     let areas : List Record = c.args.space.now.space.areas in
     let first : List ℕ = codes "maps " ++ (decimal (length areas) ++ codes "\n") in
     let is : c.as_slice.result.now ≡ first =
-    count_printed _ _ _ _ _ c.as_slice.ensures.value c.in_ok-push_count.ensures c.clear.ensures.items c.area_count.ensures in
+    count_printed _ _ _ _ _ c.as_slice.ensures.value c.in_ok-push_count.ensures.ok c.clear.ensures.items c.area_count.ensures in
     subst (λ (l : List ℕ). IsLine l) (sym is) (count_line (length areas))
 
 pub returns-in_err-expect-clause-bad : goal.returns-in_err-expect-clause-bad
@@ -23,7 +23,7 @@ returns-in_err-expect-clause-bad c = λ text before read.
     let first : List ℕ = codes "maps " ++ (decimal (length areas) ++ codes "\n") in
     let more : List ℕ = list_text c.args.files.now areas in
     let is : c.as_slice.result.now ≡ first =
-    count_printed _ _ _ _ _ c.as_slice.ensures.value c.in_ok-push_count.ensures c.clear.ensures.items c.area_count.ensures in
+    count_printed _ _ _ _ _ c.as_slice.ensures.value c.in_ok-push_count.ensures.ok c.clear.ensures.items c.area_count.ensures in
     err_is _ c.in_err-expect.field-0.0 (IsBadAt text (before ++ maps_text c.args.files.now areas)) c.from_residual-in_err-expect.ensures.1
     (two_stop text before first more (maps_text c.args.files.now areas) c.in_err-expect.field-0.0 (maps_is c.args.files.now areas)
     (stop_more text (before ++ first) more c.in_err-expect.field-0.0
@@ -35,7 +35,7 @@ returns-clause-ok c = λ text before read.
     let first : List ℕ = codes "maps " ++ (decimal (length areas) ++ codes "\n") in
     let more : List ℕ = list_text c.args.files.now areas in
     let is : c.as_slice.result.now ≡ first =
-    count_printed _ _ _ _ _ c.as_slice.ensures.value c.in_ok-push_count.ensures c.clear.ensures.items c.area_count.ensures in
+    count_printed _ _ _ _ _ c.as_slice.ensures.value c.in_ok-push_count.ensures.ok c.clear.ensures.items c.area_count.ensures in
     on_ok c.expect_listed.result _ _
     (two_parts text before first more (maps_text c.args.files.now areas) c.expect_listed.new.self
     (maps_is c.args.files.now areas))
@@ -48,7 +48,7 @@ returns-clause-bad c = λ text before read.
     let first : List ℕ = codes "maps " ++ (decimal (length areas) ++ codes "\n") in
     let more : List ℕ = list_text c.args.files.now areas in
     let is : c.as_slice.result.now ≡ first =
-    count_printed _ _ _ _ _ c.as_slice.ensures.value c.in_ok-push_count.ensures c.clear.ensures.items c.area_count.ensures in
+    count_printed _ _ _ _ _ c.as_slice.ensures.value c.in_ok-push_count.ensures.ok c.clear.ensures.items c.area_count.ensures in
     if_err c.expect_listed.result (IsBadAt text ((before ++ first) ++ more)) (IsBadAt text (before ++ maps_text c.args.files.now areas))
     (λ stop bad. two_stop text before first more (maps_text c.args.files.now areas) stop
     (maps_is c.args.files.now areas) bad)
