@@ -5,3 +5,7 @@ mod Rows4
 mod Rows5
 mod Rows6
 mod JoinLemmas
+mod OrderLemmas
+mod FaultLemmas
+mod ProfileFaults
+mod PlainAccess

@@ -6,3 +6,5 @@ pub mod Rows4
 pub mod Rows5
 pub mod Rows6
 pub mod Forgetting
+pub mod InOrder
+pub mod Faulting

@@ -1,4 +1,4 @@
-//! What Linux joins, and what it answers to a fault, beside the profile.
+//! What Linux joins, beside the profile.
 
 ghost use Rattle.linux_beside.specs.Forgetting.{JoinsOnTheLeft, JoinsOnTheRight};
 

@@ -1,8 +1,10 @@
 //! What ties Linux's rules to the profile's: the rows of docs/KERNEL.md by both, and laws.
 #![tactic(auto)]
 
+mod faulting;
 mod joining;
 mod rows;
 
+pub use faulting::plain_access_is_of_the_profile;
 pub use joining::linux_joins_no_more;
 pub use rows::rows_are_computed;
