@@ -1,4 +1,5 @@
 -- What no clause of a public function cites: it follows the code, and may change with it.
 pub mod Giving
 pub mod Held
+pub mod Lacking
 pub mod Talking

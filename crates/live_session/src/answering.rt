@@ -1,8 +1,9 @@
 //! The answer to a line.
-ghost use Rattle.std.specs.Prelude.{◌≡◌, ◌≢◌, ◌<◌, ◌+◌, ◌-◌, ◌^◌, ◌++◌, false, IfOk, IsErr, IsSome, OnOk, length, unwrap_or};
+ghost use Rattle.std.specs.Prelude.{◌≡◌, ◌<◌, ◌+◌, ◌-◌, ◌^◌, ◌++◌, false, IfOk, IsErr, IsSome, IsSomeAnd, OnErr, OnOk, length, unwrap_or, vec_capacity, vec_len};
 ghost use Rattle.text_lexer.specs.Lines.{raw_line, text_of};
 ghost use Rattle.trace_reader.specs.Lines.{SoFar};
 ghost use Rattle.live_session.specs.Sessions.{answer_read, answered, areas_text, bad_counted, bad_text, closing_text, ending_text, found_text, opened_by, unended_text};
+ghost use Rattle.live_session.specs.Internal.Lacking.{LacksRoom, MayLack};
 ghost use Rattle.live_session.specs.Internal.Talking.{AnswersLine, HasRoom, IsReached, Operates, as_called, session_of};
 
 use crate::asking::{Asked, Says};
@@ -69,7 +70,8 @@ fn asked_or_bad(asked: Result<Asked, CallError>) -> Result<Result<Asked, Cause>,
     }
 }
 
-/// Appends the answer to what a line asks for that was read, and counts the line. A line that asks for nothing takes no memory.
+/// Appends the answer to what a line asks for that was read, and counts the line. Memory is taken for a list, and where the piece has no
+/// room.
 fn answer(
     alloc: Global,
     piece: &mut Vec<u8>,
@@ -82,7 +84,7 @@ fn answer(
     ensures answers { IfOk result (AnswersLine (answer_read (session_of says.old space.old) asked) piece.old.items piece.new.items
         (session_of says.new space.new)) }
     ensures open { IsSome space.old → IsSome space.new }
-    ensures memory { IsErr result → asked ≢ Asked.Nothing }
+    ensures memory { OnErr result (MayLack asked space.old (vec_capacity piece.old) (vec_len piece.old)) }
 {
     match asked {
         Asked::Nothing => {
@@ -120,6 +122,7 @@ fn operate(
 ) -> Result<Option<Stop>, NoMemory>
     requires { HasRoom space.old }
     ensures operates { IfOk result (Operates space.old space.new line piece.old.items piece.new.items) }
+    ensures memory { OnErr result (IsSomeAnd space.old (λ now. LacksRoom now line (vec_capacity piece.old) (vec_len piece.old))) }
     ensures open { IsSome space.old → IsSome space.new }
 {
     match space {

@@ -1,9 +1,10 @@
 //! An address space of a session, with its configuration and how many calls were made.
-ghost use Rattle.std.specs.Prelude.{◌≡◌, ◌≤◌, ◌<◌, ◌+◌, ◌-◌, ◌/◌, ◌^◌, ◌++◌, Some, IfOk, IsOk, IsSomeAnd, OnOk};
+ghost use Rattle.std.specs.Prelude.{◌≡◌, ◌≤◌, ◌<◌, ◌+◌, ◌-◌, ◌/◌, ◌^◌, ◌++◌, false, None, Some, IfOk, IsOk, IsSomeAnd, OnErr, OnOk, vec_capacity, vec_len};
 ghost use Rattle.mm_types.specs.Config.{IsValidConfig};
 ghost use Rattle.area_rules.specs.Steps.{opening};
-ghost use Rattle.history.specs.Histories.{answer_of, read_of, space_after, space_by, answer_by, version_by};
+ghost use Rattle.history.specs.Histories.{answer_of, call_of, read_of, space_after, space_by, answer_by, version_by};
 ghost use Rattle.live_session.specs.Sessions.{after_operation, areas_text, found_text, operation_text};
+ghost use Rattle.live_session.specs.Internal.Lacking.{LacksRoom, reads_list};
 
 use history::{Content, Item, made_call};
 use maps_print::push_line;
@@ -101,7 +102,7 @@ impl<'a> LiveSpace<'a> {
         self.version
     }
 
-    /// Makes an operation, and appends its answer. Fails only where memory runs out.
+    /// Makes an operation, and appends its answer. Fails only where memory runs out: that is taken for a list, and where the piece has no room.
     pub(crate) fn operate(
         &mut self,
         alloc: Global,
@@ -112,6 +113,7 @@ impl<'a> LiveSpace<'a> {
         requires version { self.old.version < 2 ^ 64 - 1 }
         ensures text { OnOk result (piece.new.items ≡ piece.old.items ++ operation_text self.old line.now) }
         ensures now { OnOk result (self.new ≡ after_operation self.old line.now.op) }
+        ensures at_once { OnErr result (LacksRoom self.old line.now (vec_capacity piece.old) (vec_len piece.old)) }
     {
         let content = self.content(alloc, line.op)?;
         let item = Item {
@@ -122,12 +124,13 @@ impl<'a> LiveSpace<'a> {
         push_item(piece, &self.config.files, line, &item)
     }
 
-    /// Makes an operation, and answers what it results in.
+    /// Makes an operation, and answers what it results in. Only a list takes memory.
     fn content(&mut self, alloc: Global, op: Op) -> Result<Content, NoMemory>
         requires objects { self.old.space.objects < 2 ^ 32 - 1 }
         requires version { self.old.version < 2 ^ 64 - 1 }
         ensures content { IfOk result (λ content. content ≡ answer_of self.old.config self.old.space op) }
         ensures now { OnOk result (self.new ≡ after_operation self.old op) }
+        ensures at_once { reads_list op ≡ false → IsOk result }
     {
         match made_call(&self.space, op) {
             Some(call) => {
@@ -138,9 +141,12 @@ impl<'a> LiveSpace<'a> {
         }
     }
 
-    /// What an operation reads that makes no call.
+    /// What an operation reads that makes no call. Only a list takes memory.
+    #[tactic(auto, unfolding(history::specs::Histories::call_of))]
     fn read(&self, alloc: Global, op: Op) -> Result<Content, NoMemory>
-        ensures { IfOk result (λ content. content ≡ read_of self.now.config self.now.space op) }
+        requires { call_of self.now.config self.now.space op ≡ None }
+        ensures content { IfOk result (λ content. content ≡ read_of self.now.config self.now.space op) }
+        ensures at_once { reads_list op ≡ false → IsOk result }
     {
         match op {
             Op::Fault { page, access } => {
