@@ -9,3 +9,6 @@ mod OrderLemmas
 mod FaultLemmas
 mod ProfileFaults
 mod PlainAccess
+mod SplitLemmas
+mod RemovalLemmas
+mod MunmapLemmas

@@ -8,3 +8,4 @@ pub mod Rows6
 pub mod Forgetting
 pub mod InOrder
 pub mod Faulting
+pub mod Unmapping

@@ -4,7 +4,9 @@
 mod faulting;
 mod joining;
 mod rows;
+mod unmapping;
 
 pub use faulting::plain_access_is_of_the_profile;
 pub use joining::linux_joins_no_more;
 pub use rows::rows_are_computed;
+pub use unmapping::munmap_maps_as_the_profile;
