@@ -23,5 +23,4 @@ pub mod Advances
 pub mod Told
 pub mod Coming
 pub mod Walking
-pub mod OwnLines
 pub mod OneSpace

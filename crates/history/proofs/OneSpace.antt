@@ -287,7 +287,7 @@ all_stay : (lines : List TraceLine) → filter (λ (line : TraceLine). true) lin
 all_stay [] = refl
 all_stay (line ∷ lines) = ap (λ (l : List TraceLine). line ∷ l) (all_stay lines)
 
-no_children : (lines : List TraceLine) → list_any (λ line. is_some (child_of line.op)) lines ≡ false → children_of lines ≡ []
+pub no_children : (lines : List TraceLine) → list_any (λ line. is_some (child_of line.op)) lines ≡ false → children_of lines ≡ []
 no_children [] none = refl
 no_children (line ∷ lines) none = by_child (child_of line.op) none (λ rest. no_children lines rest)
   where

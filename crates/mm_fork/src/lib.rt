@@ -14,4 +14,4 @@ pub use laws::{
     child_answers_by_its_own_calls, child_run_makes_a_legal_history,
     children_of_equal_spaces_answer_alike, inherited_entries_keep_the_space, spaces_have_traces,
 };
-pub use lines::{has_child, lines_of_child};
+pub use lines::has_child;

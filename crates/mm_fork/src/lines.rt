@@ -1,25 +1,10 @@
-//! The lines of a child, and whether there is one.
-ghost use Rattle.std.specs.Prelude.{◌≡◌, ◌↔◌, Contains, IfOk, IsTrue, false, nat_eq};
+//! Whether a trace has a child.
+ghost use Rattle.std.specs.Prelude.{◌≡◌, ◌↔◌, Contains, IsTrue, false, nat_eq};
 ghost use Rattle.std.specs.Option.{option_map_or};
 ghost use Rattle.std.specs.List.{list_any};
 ghost use Rattle.trace_reader.specs.Values.{child_of, children_of};
-ghost use Rattle.history.specs.SpaceLines.{child_lines};
 
-use mm_types::NoMemory;
-use std::alloc::Global;
 use trace_reader::{Op, Trace, TraceLine};
-
-/// The lines of a child, in order: those of its one thread. Fails only where memory runs out.
-pub fn lines_of_child(
-    alloc: Global,
-    lines: &[TraceLine],
-    child: u32,
-) -> Result<Vec<TraceLine>, NoMemory>
-    ensures { IfOk result (λ own. own.items ≡ child_lines lines.now child) }
-{
-    let own = lines.iter().filter(|line| line.thread == child);
-    Ok(own.copied().collect(alloc)?)
-}
 
 /// Whether a line of a trace forks this child, as `check_child` and `SpaceLines::child_of` ask.
 pub fn has_child(trace: &Trace, child: u32) -> bool

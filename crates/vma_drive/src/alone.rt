@@ -1,5 +1,5 @@
 //! Closed runs by one pass alone: of all lines of a trace, one after the other.
-ghost use Rattle.std.specs.Prelude.{◌≡◌, ◌≤◌, ◌+◌, ◌∷◌, ◌++◌, [], ℕ, List, All, IfOk, length};
+ghost use Rattle.std.specs.Prelude.{◌≡◌, ◌≤◌, ◌+◌, ◌∷◌, ◌++◌, [], ℕ, List, IfOk, length};
 ghost use Rattle.lock_core.specs.Facts.{list_after};
 ghost use Rattle.mm_types.specs.Config.{IsValidConfig};
 ghost use Rattle.mm_types.specs.declared.call.Entry.{Entry};
@@ -13,36 +13,37 @@ ghost use Rattle.vma_drive.specs.Sharing.{AreOfOneThread, NameNoLine};
 use crate::driving::in_order_with;
 use crate::watcher::Watcher;
 use area_rules::config_for;
+use history::SpaceLines;
 use mm_space::{Closed, Ready, Space, SpaceName};
-use mm_types::{Entry, NoMemory};
+use mm_types::{Config, Entry, NoMemory};
 use std::alloc::Global;
 use std::marker::Brand;
 use std::sync::Wait;
-use trace_reader::{Trace, TraceLine};
+use trace_reader::TraceLine;
 
 /// Runs the lines of a child, of its one thread, over a space that begins with what the child inherits, and closes it. Each line is told
 /// before and after its operation. Refused where memory runs out.
 pub fn run_child<R: Wait, T: Watcher<R>>(
     rt: &R,
     alloc: Global,
-    trace: &Trace,
+    config: &Config,
+    own: &SpaceLines<'_>,
     before: &[Entry],
     watcher: &T,
 ) -> Result<Closed, NoMemory>
-    requires config { IsValidConfig trace.now.config }
-    requires few { length before.now + length trace.now.lines ≤ 16777216 }
-    requires legal { IsLegalJournal trace.now.config before.now }
+    requires config { IsValidConfig config.now }
+    requires few { length before.now + length own.now ≤ 16777216 }
+    requires legal { IsLegalJournal config.now before.now }
     requires strangers { AreStrangers before.now }
-    requires lines { AskThemselves trace.now.lines }
-    requires own { AreOfOneThread trace.now.lines }
-    requires alone { NameNoLine trace.now.lines }
-    ensures run { IfOk result (λ run. (own : List Entry) × (run.journal ≡ before.now ++ own)
-        × IsChildRun trace.now.config before.now trace.now.lines 1 own run.logs) }
-    ensures list { IfOk result (λ run. run.list ≡ list_after trace.now.config run.journal) }
+    requires own { AreOfOneThread own.now }
+    requires alone { NameNoLine own.now }
+    ensures run { IfOk result (λ run. (made : List Entry) × (run.journal ≡ before.now ++ made)
+        × IsChildRun config.now before.now own.now 1 made run.logs) }
+    ensures list { IfOk result (λ run. run.list ≡ list_after config.now run.journal) }
 {
-    let lines = trace.lines.items();
+    let lines = own.items();
     let count = lines.len() as u64;
-    let config = config_for(alloc, &trace.config, before.len() as u64 + count)?;
+    let config = config_for(alloc, config, before.len() as u64 + count)?;
     let ready = Ready::make_after(rt, alloc, config, before, &[count])?;
     run_alone::<Brand, R, T>(rt, alloc, ready, lines, watcher)
 }

@@ -14,6 +14,7 @@ use Rattle.lock_core.specs.Facts.{list_after}
 use Rattle.history.specs.declared.items.Item.{Item}
 use Rattle.history.specs.Labels.{labelled}
 use Rattle.history.specs.Parents.{parent_lines, parent_trace}
+use Rattle.history.proofs.OneSpace.{all_of_parent, no_children}
 use Rattle.mm_space.specs.Closing.{ClosedView}
 use Rattle.output.specs.Output.{item_text, listed_text, maps_text, told_by}
 use Rattle.vma_replay.specs.Forks.{forks_of}
@@ -27,7 +28,7 @@ use Rattle.output.specs.declared.error.PrintError.{PrintError}
 use Rattle.vma_replay.specs.declared.words.Mode.{Mode}
 use Rattle.vma_replay.proofs.FamilyTexts.{family_gives}
 use Rattle.output.proofs.InTurn.{told_of_lines}
-use Rattle.vma_replay.proofs.Parents.{all_of_parent, family_made, found_right, no_children, own_parent}
+use Rattle.vma_replay.proofs.Parents.{family_made, found_right, own_parent}
 use Rattle.output.proofs.Pieces.{cut_more}
 
 -- where no line forks there is no fork
@@ -67,13 +68,16 @@ pub alone_gives : (mode : Mode) (trace : Trace) (run : ClosedView) → IsTraceVa
     → list_any (λ line. is_some (child_of line.op)) trace.lines ≡ false → IsRunOf mode trace run → run.list ≡ list_after trace.config run.journal
     → GivesAnOutput mode trace (run ∷ []) (listed_text trace.config.files trace.lines (history_of_run mode trace run) run.list)
 alone_gives mode trace run value none is list =
-    let own : trace ≡ parent_trace trace = own_parent trace trace.lines false refl (sym none) refl in
+    let lines : trace.lines ≡ parent_lines trace.lines = sym (all_of_parent trace.lines none) in
     let items : List Item = history_of_run mode trace run in
+    let parent : IsRunOf mode (parent_trace trace) run = alone_run mode trace run none is in
+    let made : items ≡ history_of_run mode (parent_trace trace) run =
+    ap (λ (t : Trace). history_of_run mode t run) (own_parent trace trace.lines false refl (sym none) refl) in
     let found : List Fork = forks_of trace.lines items in
     let no_forks : [] ≡ found = none_forks trace.lines run.journal found (no_children trace.lines none)
-    (found_right trace trace mode run trace.lines items items found value is own refl refl refl refl) in
+    (found_right trace mode run trace.lines items items found value parent lines made refl refl) in
     let family : IsFamily mode trace items [] (run ∷ []) =
-    family_made trace trace mode run trace.lines items items [] [] (run ∷ []) is list own refl refl refl no_forks refl ([], refl, tt) in
+    family_made trace mode run trace.lines items items [] [] (run ∷ []) parent list lines made refl no_forks refl ([], refl, tt) in
     let text : listed_text trace.config.files (parent_lines trace.lines) items run.list ++ []
     ≡ listed_text trace.config.files trace.lines items run.list =
     append-nil (listed_text trace.config.files (parent_lines trace.lines) items run.list)

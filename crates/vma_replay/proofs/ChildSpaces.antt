@@ -17,8 +17,7 @@ use Rattle.area_rules.specs.Tables.{AddressSpace}
 use Rattle.area_rules.specs.Steps.{step, after, IsLegalJournal}
 use Rattle.area_rules.specs.Journals.{version_of}
 use Rattle.lock_core.specs.Facts.{list_after}
-use Rattle.history.specs.Histories.{AskThemselves, IsLegalHistory}
-use Rattle.history.proofs.Calls.{values_ask}
+use Rattle.history.specs.Histories.{IsLegalHistory}
 use Rattle.mm_space.specs.Closing.{ClosedView}
 use Rattle.mm_space.specs.Names.{AreStrangers}
 use Rattle.mm_fork.specs.Children.{as_inherited, inherited, child_history_of, child_trace, IsChildRun}
@@ -70,18 +69,17 @@ inherited_strangers journal version =
 pub inherited_count : (journal : List Entry) (version : ℕ) → version ≤ length journal → length (inherited journal version) ≡ version
 inherited_count journal version within = omega (arith, length-map (take version journal) as_inherited, length-take version journal)
 
--- what the run of a child asks for, of its trace and what it begins with
-pub record CanRun (own : Trace) (before : List Entry) : Type 0 where
-  pub config : IsValidConfig own.config
-  pub few : length before + length own.lines ≤ 16777216
-  pub legal : IsLegalJournal own.config before
+-- what the run of a child asks for, of its lines and what it begins with
+pub record CanRun (config : Config) (own : List TraceLine) (before : List Entry) : Type 0 where
+  pub config : IsValidConfig config
+  pub few : length before + length own ≤ 16777216
+  pub legal : IsLegalJournal config before
   pub strangers : AreStrangers before
-  pub lines : AskThemselves own.lines
-  pub one_thread : AreOfOneThread own.lines
-  pub alone : NameNoLine own.lines
+  pub one_thread : AreOfOneThread own
+  pub alone : NameNoLine own
 
 can_run_at : (trace : Trace) (parent : List Entry) (fork : Fork) → IsTraceValue trace → IsOfParent trace.config parent → IsForkOf trace.lines parent fork
-    → CanRun (child_trace trace fork.child) (inherited parent fork.version)
+    → CanRun trace.config (child_lines trace.lines fork.child) (inherited parent fork.version)
 can_run_at trace parent fork value bears forks =
     let own : IsTraceValue (child_trace trace fork.child) = child_is_trace trace fork.child value forks.child in
     record {
@@ -89,28 +87,28 @@ can_run_at trace parent fork value bears forks =
       few = omega (arith, own.few, inherited_count parent fork.version forks.within, forks.within, bears.few);
       legal = inherited_legal trace.config parent fork.version bears.legal;
       strangers = inherited_strangers parent fork.version;
-      lines = values_ask (child_lines trace.lines fork.child) own.lines;
       one_thread = (fork.child, child_is_alone trace fork.child);
       alone = child_lines_name_none trace fork.child value forks.child;
     }
 
-pub can_run : (trace : Trace) (parent : List Entry) (fork : Fork) (own : Trace) (before : List Entry) → IsTraceValue trace → IsOfParent trace.config parent
-    → IsForkOf trace.lines parent fork → own ≡ child_trace trace fork.child → before ≡ inherited parent fork.version → CanRun own before
+pub can_run : (trace : Trace) (parent : List Entry) (fork : Fork) (own : List TraceLine) (before : List Entry) → IsTraceValue trace
+    → IsOfParent trace.config parent → IsForkOf trace.lines parent fork → own ≡ child_lines trace.lines fork.child
+    → before ≡ inherited parent fork.version → CanRun trace.config own before
 can_run trace parent fork own before value bears forks is begun =
-    subst (λ (o : Trace). CanRun o before) (sym is)
-    (subst (λ (b : List Entry). CanRun (child_trace trace fork.child) b) (sym begun) (can_run_at trace parent fork value bears forks))
+    subst (λ (o : List TraceLine). CanRun trace.config o before) (sym is)
+    (subst (λ (b : List Entry). CanRun trace.config (child_lines trace.lines fork.child) b) (sym begun) (can_run_at trace parent fork value bears forks))
 
 -- ---- what its run is
 
 -- a run of these lines behind these entries, as `run_child` makes it
-pub record RanChild (own : Trace) (before : List Entry) (run : ClosedView) : Type 0 where
+pub record RanChild (config : Config) (own : List TraceLine) (before : List Entry) (run : ClosedView) : Type 0 where
   pub made : List Entry
   pub journal : run.journal ≡ before ++ made
-  pub run_is : IsChildRun own.config before own.lines 1 made run.logs
-  pub list : run.list ≡ list_after own.config run.journal
+  pub run_is : IsChildRun config before own 1 made run.logs
+  pub list : run.list ≡ list_after config run.journal
 
 ran_at : (trace : Trace) (parent : List Entry) (fork : Fork) (run : ClosedView) → IsTraceValue trace → IsForkOf trace.lines parent fork
-    → RanChild (child_trace trace fork.child) (inherited parent fork.version) run → IsRunOfChild trace parent fork run
+    → RanChild trace.config (child_lines trace.lines fork.child) (inherited parent fork.version) run → IsRunOfChild trace parent fork run
 ran_at trace parent fork run value forks ran =
     let before : List Entry = inherited parent fork.version in
     let lines : List TraceLine = child_lines trace.lines fork.child in
@@ -128,18 +126,20 @@ ran_at trace parent fork run value forks ran =
       list = ran.list;
     }
 
-pub ran_child : (trace : Trace) (parent : List Entry) (fork : Fork) (own : Trace) (before : List Entry) (run : ClosedView) → IsTraceValue trace
-    → IsForkOf trace.lines parent fork → own ≡ child_trace trace fork.child → before ≡ inherited parent fork.version
-    → RanChild own before run → IsRunOfChild trace parent fork run
+pub ran_child : (trace : Trace) (parent : List Entry) (fork : Fork) (own : List TraceLine) (before : List Entry) (run : ClosedView)
+    → IsTraceValue trace → IsForkOf trace.lines parent fork → own ≡ child_lines trace.lines fork.child → before ≡ inherited parent fork.version
+    → RanChild trace.config own before run → IsRunOfChild trace parent fork run
 ran_child trace parent fork own before run value forks is begun ran =
     ran_at trace parent fork run value forks
-    (subst (λ (b : List Entry). RanChild (child_trace trace fork.child) b run) begun (subst (λ (o : Trace). RanChild o before run) is ran))
+    (subst (λ (b : List Entry). RanChild trace.config (child_lines trace.lines fork.child) b run) begun
+    (subst (λ (o : List TraceLine). RanChild trace.config o before run) is ran))
 
 -- so it is of whatever the run results in
-pub ran_result : {E : Type 0} (trace : Trace) (parent : List Entry) (fork : Fork) (own : Trace) (before : List Entry) (result : Result ClosedView E)
-    → IsTraceValue trace → IsForkOf trace.lines parent fork → own ≡ child_trace trace fork.child → before ≡ inherited parent fork.version
-    → IfOk result (λ run. (made : List Entry) × (run.journal ≡ before ++ made) × IsChildRun own.config before own.lines 1 made run.logs)
-    → IfOk result (λ run. run.list ≡ list_after own.config run.journal) → IfOk result (IsRunOfChild trace parent fork)
+pub ran_result : {E : Type 0} (trace : Trace) (parent : List Entry) (fork : Fork) (own : List TraceLine) (before : List Entry)
+    (result : Result ClosedView E)
+    → IsTraceValue trace → IsForkOf trace.lines parent fork → own ≡ child_lines trace.lines fork.child → before ≡ inherited parent fork.version
+    → IfOk result (λ run. (made : List Entry) × (run.journal ≡ before ++ made) × IsChildRun trace.config before own 1 made run.logs)
+    → IfOk result (λ run. run.list ≡ list_after trace.config run.journal) → IfOk result (IsRunOfChild trace parent fork)
 ran_result trace parent fork own before (Ok run) value forks is begun ran list =
     ran_child trace parent fork own before run value forks is begun (record { made = ran.0; journal = ran.1; run_is = ran.2; list = list })
 ran_result trace parent fork own before (Err error) value forks is begun ran list = tt

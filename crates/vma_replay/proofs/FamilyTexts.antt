@@ -164,18 +164,17 @@ none_missing trace parent forks runs place are within past =
 
 -- ---- the text of a family, by what is printed
 
-pub family_whole : (mode : Mode) (trace parent : Trace) (history shown : List Item) (forks seen : List Fork) (runs rest : List ClosedView)
-    (lines : List TraceLine) (areas : List Record) (found : ClosedView) → IsFamily mode trace history forks runs → parent ≡ parent_trace trace
-    → lines ≡ parent.lines → shown ≡ history → found ≡ get_or runs 0 found → areas ≡ found.list → seen ≡ forks
+pub family_whole : (mode : Mode) (trace : Trace) (history shown : List Item) (forks seen : List Fork) (runs rest : List ClosedView)
+    (lines : List TraceLine) (areas : List Record) (found : ClosedView) → IsFamily mode trace history forks runs
+    → lines ≡ parent_lines trace.lines → shown ≡ history → found ≡ get_or runs 0 found → areas ≡ found.list → seen ≡ forks
     → rest ≡ take (length runs - 1) (drop 1 runs)
     → listed_text trace.config.files lines shown areas ++ text_of_children trace seen rest ≡ text_of_family trace history forks runs
-family_whole mode trace parent history shown forks seen runs rest lines areas found family is of_parent same first list showing left =
+family_whole mode trace history shown forks seen runs rest lines areas found family own same first list showing left =
     let begun : runs ≡ family.parent ∷ family.children = family.runs_are in
     let one : found ≡ family.parent = first ∙ ap (λ (l : List ClosedView). get_or l 0 found) begun in
     let two : rest ≡ family.children =
     left ∙ take_all (length runs - 1) (drop 1 runs) (omega (arith, length-drop 1 runs)) ∙ ap (drop 1) begun in
-    ap (λ (l : List TraceLine). listed_text trace.config.files l shown areas ++ text_of_children trace seen rest)
-    (of_parent ∙ ap (λ (p : Trace). p.lines) is)
+    ap (λ (l : List TraceLine). listed_text trace.config.files l shown areas ++ text_of_children trace seen rest) own
     ∙ ap (λ (l : List Item). listed_text trace.config.files (parent_lines trace.lines) l areas ++ text_of_children trace seen rest) same
     ∙ ap (λ (l : List Record). listed_text trace.config.files (parent_lines trace.lines) history l ++ text_of_children trace seen rest)
     (list ∙ ap (λ (r : ClosedView). r.list) one)

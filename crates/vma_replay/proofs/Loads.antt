@@ -1,19 +1,17 @@
 -- Serves `generated_run`: no line of a load forks, so all are the parent's.
-use Rattle.std.proofs.Common.{ℕ, zero, suc, ◌≡◌, ◌+◌, ◌∙◌, ap, subst, not, List, filter, None, All}
+use Rattle.std.proofs.Common.{ℕ, zero, suc, ◌≡◌, ◌+◌, ◌∙◌, ap, subst, List, None, All}
 use Rattle.std.specs.Prelude.{Result, IfOk}
 use Rattle.std.proofs.lemmas.List.Elements.{All-nil, All-cons}
 use Rattle.trace_reader.specs.declared.trace.Trace.{Trace}
 use Rattle.trace_reader.specs.declared.trace.TraceLine.{TraceLine}
-use Rattle.trace_reader.specs.Lines.{has_child}
 use Rattle.trace_reader.specs.Values.{child_of}
 use Rattle.gen_load.specs.Loads.{kind_of, next_of, draw_of, line_of, lines_after, load_lines, load_trace}
 use Rattle.gen_load.proofs.LoadOperations.{operation-loaded}
 use Rattle.history.specs.Parents.{parent_lines, parent_trace}
 use Rattle.mm_space.specs.Closing.{ClosedView}
-use Rattle.history.proofs.OneSpace.{forks_none}
+use Rattle.history.proofs.OneSpace.{forks_none, none_forked}
 use Rattle.vma_replay.specs.Replaying.{IsRunOf}
 use Rattle.vma_replay.specs.declared.words.Mode.TheVariants as modes
-use Rattle.vma_replay.proofs.Parents.{all_kept}
 
 none_forks : (number count last : ℕ) → All (λ line. child_of line.op ≡ None) (lines_after number count last)
 unfolding lines_after
@@ -25,9 +23,7 @@ none_forks number (suc count) last =
 
 pub load_of_parent : (count seed : ℕ) → parent_lines (load_lines count seed) ≡ load_lines count seed
 load_of_parent count seed =
-    ap (λ (children : List ℕ). filter (λ (line : TraceLine). not (has_child children line.thread)) (load_lines count seed))
-    (forks_none (load_lines count seed) (none_forks 2 count seed))
-    ∙ all_kept (load_lines count seed)
+    none_forked (load_lines count seed) (forks_none (load_lines count seed) (none_forks 2 count seed))
 
 -- so a run of the parent's lines of a load is one of the load
 pub load_run : {E : Type 0} (trace : Trace) (count seed : ℕ) (result : Result ClosedView E) → trace ≡ load_trace count seed

@@ -1,5 +1,5 @@
 -- Serves `closed_family`: the journal of a parent that has run, and its forks.
-use Rattle.std.proofs.Common.{ℕ, ◌≡◌, ◌+◌, ◌<◌, ◌≤◌, ◌∙◌, refl, sym, ap, subst, Bool, true, false, not, List, [], ◌∷◌, ◌++◌, ◌||◌, append_assoc, append-nil, length, length-append, take, drop, take-append-drop, filter, slice_get, get_or, zero, suc, Option, Some, None, All, Contains, arith, inl, inr}
+use Rattle.std.proofs.Common.{ℕ, ◌≡◌, ◌+◌, ◌<◌, ◌≤◌, ◌∙◌, refl, sym, ap, subst, Bool, false, not, List, [], ◌∷◌, ◌++◌, append_assoc, append-nil, length, length-append, take, drop, take-append-drop, slice_get, get_or, zero, suc, Option, Some, None, All, Contains, arith, inl, inr}
 use Rattle.std.specs.Prelude.{is_some}
 use Rattle.std.specs.List.{list_any, cons_option}
 use Rattle.std.specs.Option.{option_map_or}
@@ -37,7 +37,7 @@ use Rattle.split_merge.proofs.Counting.{contains_later}
 use Rattle.mm_types.proofs.Sorting.{All-sort_by}
 use Rattle.mm_space.specs.Closing.{ClosedView}
 use Rattle.history.specs.Parents.{parent_lines, parent_trace}
-use Rattle.history.proofs.OneSpace.{parent_is_trace}
+use Rattle.history.proofs.OneSpace.{all_of_parent, parent_is_trace}
 use Rattle.vma_drive.proofs.NamesShared.{few_callers}
 use Rattle.vma_replay.specs.declared.forks.Fork.{Fork}
 use Rattle.vma_replay.specs.declared.words.Mode.{Mode}
@@ -49,26 +49,6 @@ use Rattle.vma_replay.specs.Internal.Families.{AreRunsOfChildren, IsFamily, IsFo
 use Rattle.vma_replay.specs.Replaying.{IsRunOf, history_of_run}
 use Rattle.vma_replay.proofs.RunTexts.{first_log, legal_of_run, serial_own}
 use Rattle.output.proofs.Answering.{there, none_at}
-
--- ---- where no line forks
-
-pub no_children : (lines : List TraceLine) → list_any (λ line. is_some (child_of line.op)) lines ≡ false → children_of lines ≡ []
-no_children [] none = refl
-no_children (line ∷ lines) none = by_child (child_of line.op) none (λ rest. no_children lines rest)
-  where
-    by_child : (child : Option ℕ) → (is_some child || list_any (λ line. is_some (child_of line.op)) lines) ≡ false
-        → (list_any (λ line. is_some (child_of line.op)) lines ≡ false → children_of lines ≡ []) → cons_option child (children_of lines) ≡ []
-    by_child None none rest = rest none
-    by_child (Some child) none rest = absurd (cc)
-
-pub all_kept : (lines : List TraceLine) → filter (λ (line : TraceLine). true) lines ≡ lines
-all_kept [] = refl
-all_kept (line ∷ lines) = ap (λ (l : List TraceLine). line ∷ l) (all_kept lines)
-
--- all lines are the parent's
-pub all_of_parent : (lines : List TraceLine) → list_any (λ line. is_some (child_of line.op)) lines ≡ false → parent_lines lines ≡ lines
-all_of_parent lines none =
-    ap (λ (children : List ℕ). filter (λ (line : TraceLine). not (has_child children line.thread)) lines) (no_children lines none) ∙ all_kept lines
 
 -- ---- the journal of a parent
 
@@ -258,15 +238,12 @@ forks_right lines journal items within =
         (record { child = forked lines place line child found is; within = within }) (All-nil (IsForkOf lines journal))
 
 -- so it is of a parent that has run
-pub forks_of_parent : (mode : Mode) (trace parent : Trace) (run : ClosedView) → IsTraceValue parent → IsRunOf mode parent run
-    → All (IsForkOf trace.lines run.journal) (forks_of (parent_lines trace.lines) (history_of_run mode parent run))
-forks_of_parent mode trace parent run value is =
-    forks_right trace.lines run.journal (history_of_run mode parent run) (versions_within mode parent run value is)
+pub forks_of_parent : (mode : Mode) (trace : Trace) (run : ClosedView) → IsTraceValue trace → IsRunOf mode (parent_trace trace) run
+    → All (IsForkOf trace.lines run.journal) (forks_of (parent_lines trace.lines) (history_of_run mode (parent_trace trace) run))
+forks_of_parent mode trace run value is = forks_right trace.lines run.journal (history_of_run mode (parent_trace trace) run)
+    (versions_within mode (parent_trace trace) run (parent_is_trace trace value) is)
 
 -- ---- a family, by what was made of it
-
-pub parent_value : (trace parent : Trace) → parent ≡ parent_trace trace → IsTraceValue trace → IsTraceValue parent
-parent_value trace parent is value = subst IsTraceValue (sym is) (parent_is_trace trace value)
 
 -- the history of a run is legal
 pub legal_items : (mode : Mode) (trace : Trace) (run : ClosedView) (lines : List TraceLine) (history shown : List Item) → IsTraceValue trace
@@ -286,46 +263,52 @@ low_threads trace lines value is =
     subst (λ (l : List TraceLine). All (λ line. line.thread < MOST_THREADS) l) (sym is) (threads_of_trace trace.lines value.lines)
 
 -- the journal of a parent's run
-pub bears : (mode : Mode) (trace parent : Trace) (run : ClosedView) → IsTraceValue trace → parent ≡ parent_trace trace → IsRunOf mode parent run
+pub bears : (mode : Mode) (trace : Trace) (run : ClosedView) → IsTraceValue trace → IsRunOf mode (parent_trace trace) run
     → IsOfParent trace.config run.journal
-bears mode trace parent run value is run_is =
-    of_parent mode (parent_trace trace) run (parent_is_trace trace value) (subst (λ (p : Trace). IsRunOf mode p run) is run_is)
+bears mode trace run value is = of_parent mode (parent_trace trace) run (parent_is_trace trace value) is
 
 -- the forks that were found
-found_are : (trace parent : Trace) (mode : Mode) (run : ClosedView) (lines : List TraceLine) (history shown : List Item) (found : List Fork)
-    → parent ≡ parent_trace trace → lines ≡ parent.lines → history ≡ history_of_run mode parent run → shown ≡ history
-    → found ≡ forks_of lines shown → found ≡ forks_of (parent_lines trace.lines) (history_of_run mode parent run)
-found_are trace parent mode run lines history shown found is of_parent made same are =
-    are ∙ ap (λ (l : List TraceLine). forks_of l shown) (of_parent ∙ ap (λ (p : Trace). p.lines) is)
-    ∙ ap (forks_of (parent_lines trace.lines)) (same ∙ made)
+found_are : (trace : Trace) (mode : Mode) (run : ClosedView) (lines : List TraceLine) (history shown : List Item) (found : List Fork)
+    → lines ≡ parent_lines trace.lines → history ≡ history_of_run mode (parent_trace trace) run → shown ≡ history
+    → found ≡ forks_of lines shown → found ≡ forks_of (parent_lines trace.lines) (history_of_run mode (parent_trace trace) run)
+found_are trace mode run lines history shown found own made same are =
+    are ∙ ap (λ (l : List TraceLine). forks_of l shown) own ∙ ap (forks_of (parent_lines trace.lines)) (same ∙ made)
 
-pub found_right : (trace parent : Trace) (mode : Mode) (run : ClosedView) (lines : List TraceLine) (history shown : List Item) (found : List Fork)
-    → IsTraceValue trace → IsRunOf mode parent run
-    → parent ≡ parent_trace trace → lines ≡ parent.lines → history ≡ history_of_run mode parent run → shown ≡ history
+pub found_right : (trace : Trace) (mode : Mode) (run : ClosedView) (lines : List TraceLine) (history shown : List Item) (found : List Fork)
+    → IsTraceValue trace → IsRunOf mode (parent_trace trace) run
+    → lines ≡ parent_lines trace.lines → history ≡ history_of_run mode (parent_trace trace) run → shown ≡ history
     → found ≡ forks_of lines shown → All (IsForkOf trace.lines run.journal) found
-found_right trace parent mode run lines history shown found value run_is is of_parent made same are =
+found_right trace mode run lines history shown found value run_is own made same are =
     subst (λ (l : List Fork). All (IsForkOf trace.lines run.journal) l)
-    (sym (found_are trace parent mode run lines history shown found is of_parent made same are))
-    (forks_of_parent mode trace parent run (parent_value trace parent is value) run_is)
+    (sym (found_are trace mode run lines history shown found own made same are)) (forks_of_parent mode trace run value run_is)
 
 -- so all make a family
-pub family_made : (trace parent : Trace) (mode : Mode) (run : ClosedView) (lines : List TraceLine) (history shown : List Item) (found : List Fork)
-    (seen : List Fork) (runs : List ClosedView) → IsRunOf mode parent run → run.list ≡ list_after parent.config run.journal
-    → parent ≡ parent_trace trace → lines ≡ parent.lines → history ≡ history_of_run mode parent run → shown ≡ history
+pub family_made : (trace : Trace) (mode : Mode) (run : ClosedView) (lines : List TraceLine) (history shown : List Item) (found : List Fork)
+    (seen : List Fork) (runs : List ClosedView) → IsRunOf mode (parent_trace trace) run → run.list ≡ list_after trace.config run.journal
+    → lines ≡ parent_lines trace.lines → history ≡ history_of_run mode (parent_trace trace) run → shown ≡ history
     → found ≡ forks_of lines shown → seen ≡ found
     → (children : List ClosedView) × (runs ≡ run ∷ children) × AreRunsOfChildren trace run.journal seen children
     → IsFamily mode trace history found runs
-family_made trace parent mode run lines history shown found seen runs run_is list is of_parent made same are showing children = record {
+family_made trace mode run lines history shown found seen runs run_is list own made same are showing children = record {
   parent = run;
   children = children.0;
   runs_are = children.1;
-  parent_is = subst (λ (p : Trace). IsRunOf mode p run) is run_is;
-  list = list ∙ ap (λ (p : Trace). list_after p.config run.journal) is;
-  history_is = made ∙ ap (λ (p : Trace). history_of_run mode p run) is;
-  forks_are = found_are trace parent mode run lines history shown found is of_parent made same are
-      ∙ ap (forks_of (parent_lines trace.lines)) (sym made);
+  parent_is = run_is;
+  list = list;
+  history_is = made;
+  forks_are = found_are trace mode run lines history shown found own made same are ∙ ap (forks_of (parent_lines trace.lines)) (sym made);
   children_are = subst (λ (l : List Fork). AreRunsOfChildren trace run.journal l children.0) showing children.2;
 }
+
+-- its forks are of children of the trace
+pub family_children : (mode : Mode) (trace : Trace) (history : List Item) (forks seen : List Fork) (runs : List ClosedView) → IsTraceValue trace
+    → IsFamily mode trace history forks runs → seen ≡ forks → All (λ fork. Contains (children_of trace.lines) fork.child) seen
+family_children mode trace history forks seen runs value family same =
+    let right : List Fork = forks_of (parent_lines trace.lines) (history_of_run mode (parent_trace trace) family.parent) in
+    subst (λ (l : List Fork). All (λ fork. Contains (children_of trace.lines) fork.child) l)
+    (sym (same ∙ family.forks_are ∙ ap (forks_of (parent_lines trace.lines)) family.history_is))
+    (All-weaker (IsForkOf trace.lines family.parent.journal) (λ fork. Contains (children_of trace.lines) fork.child) (λ fork is. is.child) right
+    (forks_of_parent mode trace family.parent value family.parent_is))
 
 -- a trace of which no line forks is its parent's
 pub own_parent : (trace : Trace) (lines : List TraceLine) (some : Bool) → lines ≡ trace.lines

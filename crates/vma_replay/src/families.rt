@@ -1,8 +1,7 @@
 //! The closed runs of a trace: that of its parent, and those of its children.
 ghost use Rattle.std.specs.Prelude.{◌≡◌, ◌<◌, ◌≤◌, [], All, IfOk, Ok, Some, length, map, slice_get};
 ghost use Rattle.std.specs.Vec.{vec_capacity};
-ghost use Rattle.mm_fork.specs.Children.{child_trace};
-ghost use Rattle.history.specs.Parents.{parent_trace};
+ghost use Rattle.history.specs.Parents.{parent_lines};
 ghost use Rattle.trace_reader.specs.Values.{IsTraceValue};
 ghost use Rattle.vma_replay.specs.Internal.Families.{AreRunsOfChildren, IsFamily, IsForkOf, IsOfParent};
 ghost use Rattle.vma_replay.specs.Replaying.{IsRunOfChild};
@@ -12,16 +11,16 @@ use crate::forks::{Fork, forks_of};
 use crate::printing::run_history;
 use crate::running::closed_run;
 use crate::words::Mode;
-use history::{History, lines_of_parent};
+use history::{History, SpaceLines};
 use io_edge::Gate;
-use mm_fork::{inherit, lines_of_child};
+use mm_fork::inherit;
 use mm_space::Closed;
 use mm_types::{Entry, NoMemory};
 use std::alloc::Global;
 use std::sync::Wait;
 use std::thread;
 use std::thread::Threads;
-use trace_reader::{Lines, MOST_FORKS, Trace};
+use trace_reader::{MOST_FORKS, Trace};
 use vma_drive::{GateWatcher, NoWatcher, Watcher, run_child};
 
 /// The closed runs of a trace, the parent's first and then one for each child, by ascending child, with the history and the forks of the
@@ -33,46 +32,24 @@ pub(crate) struct Family {
     pub(crate) runs: Vec<Closed>,
 }
 
-/// The trace of the parent.
-pub(crate) fn parent_of(alloc: Global, trace: &Trace) -> Result<Trace, NoMemory>
-    ensures { IfOk result (λ parent. parent ≡ parent_trace trace.now) }
-{
-    let lines = lines_of_parent(alloc, trace.lines.items())?;
-    Ok(Trace {
-        config: trace.config.copy(alloc)?,
-        lines: Lines::of(lines),
-    })
-}
-
-/// The trace of a child.
-fn child_of(alloc: Global, trace: &Trace, child: u32) -> Result<Trace, NoMemory>
-    ensures { IfOk result (λ own. own ≡ child_trace trace.now child) }
-{
-    let lines = lines_of_child(alloc, trace.lines.items(), child)?;
-    Ok(Trace {
-        config: trace.config.copy(alloc)?,
-        lines: Lines::of(lines),
-    })
-}
-
-/// Runs a trace: first the parent, whose trace is given, to its end, and then each child from what the parent had at its fork. The room for
+/// Runs a trace: first the parent, whose lines are given, to its end, and then each child from what the parent had at its fork. The room for
 /// the list of all runs is taken before the first space is opened.
 pub(crate) fn closed_family<R: Threads + Wait + Sync, G: Gate>(
     rt: &R,
     alloc: Global,
     mode: Mode,
     trace: &Trace,
-    parent: &Trace,
+    lines: &SpaceLines<'_>,
     gate: &G,
 ) -> Result<Family, NoMemory>
     requires trace { IsTraceValue trace.now }
-    requires parent { parent.now ≡ parent_trace trace.now }
+    requires lines { lines.now ≡ parent_lines trace.now.lines }
     ensures { IfOk result (λ family. IsFamily mode trace.now family.history family.forks.items family.runs.items) }
 {
     let mut runs = Vec::with_capacity(alloc, 1 + MOST_FORKS)?;
     let run = closed_run(rt, alloc, mode, trace, gate)?;
     let history = run_history(alloc, mode, trace, &run)?;
-    let forks = forks_of(alloc, parent.lines.items(), history.items())?;
+    let forks = forks_of(alloc, lines, history.items())?;
     let mut children = children_runs(
         rt,
         alloc,
@@ -186,6 +163,6 @@ fn closed_child<R: Wait, T: Watcher<R>>(
     ensures { IfOk result (IsRunOfChild trace.now parent.now fork.now) }
 {
     let before = inherit(alloc, parent, fork.version)?;
-    let child = child_of(alloc, trace, fork.child)?;
-    run_child(rt, alloc, &child, before.as_slice(), watcher)
+    let lines = SpaceLines::child_of(alloc, trace, fork.child)?;
+    run_child(rt, alloc, &trace.config, &lines, before.as_slice(), watcher)
 }

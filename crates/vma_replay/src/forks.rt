@@ -1,11 +1,9 @@
 //! The forks of a trace whose parent has run.
-ghost use Rattle.std.specs.Prelude.{◌≡◌, ◌≤◌, ◌<◌, ◌++◌, All, IfOk, OnOk, length};
-ghost use Rattle.trace_reader.specs.declared.limits.TheConstants.{MOST_LINES};
-ghost use Rattle.history.specs.declared.callers.TheConstants.{MOST_THREADS};
+ghost use Rattle.std.specs.Prelude.{◌≡◌, ◌++◌, IfOk, OnOk};
 ghost use Rattle.output.specs.Giving.{AreLegal};
 ghost use Rattle.vma_replay.specs.Forks.{fork_of, forks_from, forks_of};
 
-use history::Item;
+use history::{Item, SpaceLines};
 use mm_types::NoMemory;
 use output::AnsweredLines;
 use std::alloc::Global;
@@ -25,12 +23,10 @@ pub struct Fork {
 /// The forks of a legal history of a parent's lines, by ascending child.
 pub(crate) fn forks_of(
     alloc: Global,
-    lines: &[TraceLine],
+    lines: &SpaceLines<'_>,
     items: &[Item],
 ) -> Result<Vec<Fork>, NoMemory>
-    requires few { length lines.now ≤ MOST_LINES }
-    requires threads { All (λ line. line.thread < MOST_THREADS) lines.now }
-    requires legal { AreLegal lines.now items.now }
+    requires { AreLegal lines.now items.now }
     ensures { IfOk result (λ forks. forks.items ≡ forks_of lines.now items.now) }
 {
     let mut forks = forks_from(alloc, lines, items)?;
@@ -39,14 +35,12 @@ pub(crate) fn forks_of(
 }
 
 /// The forks of a legal history, in its order.
-fn forks_from(alloc: Global, lines: &[TraceLine], items: &[Item]) -> Result<Vec<Fork>, NoMemory>
-    requires few { length lines.now ≤ MOST_LINES }
-    requires threads { All (λ line. line.thread < MOST_THREADS) lines.now }
-    requires legal { AreLegal lines.now items.now }
+fn forks_from(alloc: Global, lines: &SpaceLines<'_>, items: &[Item]) -> Result<Vec<Fork>, NoMemory>
+    requires { AreLegal lines.now items.now }
     ensures { IfOk result (λ forks. forks.items ≡ forks_from lines.now items.now) }
 {
     let mut forks = Vec::new(alloc);
-    let mut answered = AnsweredLines::new(alloc, lines)?;
+    let mut answered = AnsweredLines::new(alloc, lines.items())?;
     for item in items {
         push_fork(&mut forks, answered.next(item), item)?;
     }

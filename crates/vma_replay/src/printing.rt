@@ -1,8 +1,8 @@
 //! The text of closed runs, which is given while it is printed: each history stands whole before its first byte is given.
-ghost use Rattle.std.specs.Prelude.{◌≡◌, ◌<◌, ◌^◌, ◌-◌, ◌++◌, IfOk, OnOk, List, length};
+ghost use Rattle.std.specs.Prelude.{◌≡◌, ◌<◌, ◌^◌, ◌-◌, ◌++◌, All, Contains, IfOk, OnOk, List, length};
 ghost use Rattle.mm_types.specs.declared.call.Entry.{Entry};
-ghost use Rattle.trace_reader.specs.Values.{IsTraceValue};
-ghost use Rattle.history.specs.Parents.{parent_trace};
+ghost use Rattle.trace_reader.specs.Values.{IsTraceValue, children_of};
+ghost use Rattle.history.specs.Parents.{parent_lines, parent_trace};
 ghost use Rattle.vma_replay.specs.ChildTexts.{child_line};
 ghost use Rattle.vma_replay.specs.Internal.Families.{AreRunsOfChildren, IsFamily, text_of_child, text_of_children, text_of_family};
 ghost use Rattle.output.specs.declared.giving.TheConstants.{MOST_GIVEN};
@@ -13,9 +13,9 @@ ghost use Rattle.vma_replay.specs.declared.words.Mode.{Mode};
 use crate::families::Family;
 use crate::forks::Fork;
 use crate::words::Mode;
-use history::{History, gather, label};
+use history::{History, SpaceLines, gather, label};
 use io_edge::Sink;
-use mm_fork::{child_history, lines_of_child};
+use mm_fork::child_history;
 use mm_space::Closed;
 use mm_types::NoMemory;
 use output::{PrintError, ROOM, give_all, give_full, print_history};
@@ -28,17 +28,17 @@ pub(crate) fn give_family<K: Sink>(
     alloc: Global,
     sink: &mut K,
     trace: &Trace,
-    parent: &Trace,
+    own: &SpaceLines<'_>,
     family: &Family,
 ) -> Result<(), PrintError>
     requires trace { IsTraceValue trace.now }
-    requires parent { parent.now ≡ parent_trace trace.now }
+    requires own { own.now ≡ parent_lines trace.now.lines }
     requires family { (mode : Mode) × IsFamily mode trace.now family.now.history family.now.forks.items family.now.runs.items }
     requires sink { (K.seen sink.old).faults < 2 ^ 64 - 1 }
     ensures { IsGivingText (K.seen sink.old) (K.seen sink.new)
         (text_of_family trace.now family.now.history family.now.forks.items family.now.runs.items) result }
 {
-    let (lines, files) = (parent.lines.items(), &trace.config.files);
+    let (lines, files) = (own.items(), &trace.config.files);
     let runs = family.runs.as_slice();
     let areas = runs[0].list().items();
     let mut piece = Vec::with_capacity(alloc, ROOM)?;
@@ -89,6 +89,7 @@ fn print_children<K: Sink>(
     runs: &[Closed],
 ) -> Result<(), PrintError>
     requires trace { IsTraceValue trace.now }
+    requires forks { All (λ fork. Contains (children_of trace.now.lines) fork.child) forks.now }
     requires runs { (parent : List Entry) × AreRunsOfChildren trace.now parent forks.now runs.now }
     requires held { length piece.old.items < MOST_GIVEN }
     requires sink { (K.seen sink.old).faults < 2 ^ 64 - 1 }
@@ -113,24 +114,18 @@ fn print_child<K: Sink>(
     run: &Closed,
 ) -> Result<(), PrintError>
     requires trace { IsTraceValue trace.now }
+    requires child { Contains (children_of trace.now.lines) fork.now.child }
     requires run { (parent : List Entry) × IsRunOfChild trace.now parent fork.now run.now }
     requires sink { (K.seen sink.old).faults < 2 ^ 64 - 1 }
     ensures { IsPrinting (K.seen sink.old) (K.seen sink.new) piece.old.items piece.new.items
         (text_of_child trace.now fork.now run.now) result }
 {
-    let lines = lines_of_child(alloc, trace.lines.items(), fork.child)?;
+    let own = SpaceLines::child_of(alloc, trace, fork.child)?;
+    let lines = own.items();
     let history = child_history(alloc, fork.version, run.journal(), run.logs())?;
     let (files, areas) = (&trace.config.files, run.list().items());
     print_child_line(sink, piece, fork)?;
-    print_history(
-        alloc,
-        sink,
-        piece,
-        lines.as_slice(),
-        files,
-        history.items(),
-        areas,
-    )
+    print_history(alloc, sink, piece, lines, files, history.items(), areas)
 }
 
 /// Prints the line before those of a child.

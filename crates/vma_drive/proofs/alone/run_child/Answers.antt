@@ -17,15 +17,15 @@ make_after-requires-clause-config g c = subst (λ (s : Config). IsValidConfig s)
 pub make_after-requires-clause-legal : goal.make_after-requires-clause-legal
 make_after-requires-clause-legal g c =
     subst (λ (s : Config). IsLegalJournal s c.args.before.now) (sym c.in_ok-config.ensures)
-    ((legal_for (length c.args.before.now + length c.items-lines.result.now) c.args.trace.now.config c.requires.config
-    (omega (arith, c.requires.few, ap length c.items-lines.ensures)) c.args.before.now (omega arith)).1 c.requires.legal)
+    ((legal_for (length c.args.before.now + length c.items-lines.result.now) c.args.config.now c.requires.config
+    (omega (arith, c.requires.few, ap length c.items-lines.ensures.lines)) c.args.before.now (omega arith)).1 c.requires.legal)
 
 pub returns : goal.returns
 returns g c =
     let calls : ℕ = length c.args.before.now + length c.items-lines.result.now in
-    let ran : IfOk c.run_alone.result (RanAlone c.args.trace.now.config c.args.before.now c.args.trace.now.lines) =
-    subst (λ (l : List TraceLine). IfOk c.run_alone.result (RanAlone c.args.trace.now.config c.args.before.now l)) c.items-lines.ensures
-    (alone_result calls _ c.requires.config (omega (arith, c.requires.few, ap length c.items-lines.ensures)) _ _ c.args.before.now
+    let ran : IfOk c.run_alone.result (RanAlone c.args.config.now c.args.before.now c.args.own.now) =
+    subst (λ (l : List TraceLine). IfOk c.run_alone.result (RanAlone c.args.config.now c.args.before.now l)) c.items-lines.ensures.lines
+    (alone_result calls _ c.requires.config (omega (arith, c.requires.few, ap length c.items-lines.ensures.lines)) _ _ c.args.before.now
     c.items-lines.result.now _
     (c.in_ok-ready.ensures.config ∙ c.in_ok-config.ensures) c.in_ok-ready.ensures.before (omega arith) c.run_alone.ensures) in
     record { run = child_result _ _ _ _ ran c.requires.strangers c.requires.own c.requires.alone; list = list_result _ _ _ _ ran }

@@ -7,8 +7,11 @@ use Rattle.vma_replay.proofs.Doing.{doing_cut, wants_memory}
 use Rattle.vma_replay.proofs.FamilyTexts.{family_gives}
 use Rattle.vma_replay.proofs.giving.family_given.Goals as goal
 
+pub returns-in_err-lines : goal.returns-in_err-lines
+returns-in_err-lines g c = wants_memory _ _ _ _ c.from_residual.ensures.1 refl
+
 pub returns-in_err-family : goal.returns-in_err-family
-returns-in_err-family g c = wants_memory _ _ _ _ c.from_residual.ensures.1 refl
+returns-in_err-family g c = wants_memory _ _ _ _ c.from_residual-in_err-family.ensures.1 refl
 
 pub give_family-requires-clause-family : goal.give_family-requires-clause-family
 give_family-requires-clause-family g c = (c.args.mode, c.in_ok-family.ensures)

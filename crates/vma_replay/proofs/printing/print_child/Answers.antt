@@ -1,5 +1,5 @@
--- The proof of `print_child`: its reads are from the fork on, and its lines are lines of a trace.
-use Rattle.std.proofs.Common.{◌∙◌, ◌≡◌, ℕ, List, ap, nat_eq}
+-- The proof of `print_child`: its reads are from the fork on.
+use Rattle.std.proofs.Common.{◌∙◌, ◌≡◌, ℕ, List, ap}
 use Rattle.trace_reader.specs.declared.trace.TraceLine.{TraceLine}
 use Rattle.mm_types.specs.declared.area.Record.{Record}
 use Rattle.mm_types.specs.declared.call.Entry.{Entry}
@@ -7,10 +7,7 @@ use Rattle.mm_types.specs.declared.call.Seen.{Seen}
 use Rattle.mm_types.specs.declared.files.FileRow.{FileRow}
 use Rattle.history.specs.declared.items.Item.{Item}
 use Rattle.output.specs.Output.{listed_text}
-use Rattle.history.proofs.ThreadCounts.{threads_of_trace}
 use Rattle.mm_fork.specs.Children.{child_history_of}
-use Rattle.history.specs.SpaceLines.{child_lines}
-use Rattle.history.proofs.OwnLines.{own_few, own_threads}
 use Rattle.vma_replay.proofs.ChildSpaces.{reads_later}
 use Rattle.output.proofs.Pieces.{at_error, cut_more, printing_as, printing_then}
 use Rattle.vma_replay.proofs.printing.print_child.Goals as goal
@@ -38,19 +35,8 @@ history_same version items journal own logs all is a b =
 
 pub returns : goal.returns
 returns g c =
-    let lines = c.as_slice.ensures.value ∙ c.in_ok-lines.ensures ∙ ap (λ lines. child_lines lines c.args.fork.now.child) c.items.ensures in
-    let history = history_same _ _ _ _ _ _ (c.items-2.ensures ∙ c.in_ok-history.ensures) c.journal.ensures c.logs.ensures in
+    let lines = c.items-lines.ensures.lines ∙ c.in_ok-own.ensures in
+    let history = history_same _ _ _ _ _ _ (c.items.ensures ∙ c.in_ok-history.ensures) c.journal.ensures c.logs.ensures in
     let list = c.items-areas.ensures ∙ c.list.ensures in
     printing_then _ _ _ _ _ _ _ _ _ c.in_ok-print_child_line.ensures
     (printing_as _ _ _ _ _ _ _ (listed_same _ _ _ _ _ _ _ lines history list) c.print_history.ensures)
-
-pub print_history-requires-clause-few : goal.print_history-requires-clause-few
-print_history-requires-clause-few g c =
-    own_few (λ (line : TraceLine). nat_eq line.thread c.args.fork.now.child) c.args.trace.now.lines c.as_slice.result.now _
-    (c.as_slice.ensures.value ∙ c.in_ok-lines.ensures ∙ ap (λ lines. child_lines lines c.args.fork.now.child) c.items.ensures) c.requires.trace.few
-
-pub print_history-requires-clause-threads : goal.print_history-requires-clause-threads
-print_history-requires-clause-threads g c =
-    own_threads (λ (line : TraceLine). nat_eq line.thread c.args.fork.now.child) c.args.trace.now.lines c.as_slice.result.now _
-    (c.as_slice.ensures.value ∙ c.in_ok-lines.ensures ∙ ap (λ lines. child_lines lines c.args.fork.now.child) c.items.ensures)
-    (threads_of_trace c.args.trace.now.lines c.requires.trace.lines)
