@@ -1,7 +1,7 @@
 -- Serves `replay`: the text that was given for the input, or a beginning of it.
-use Rattle.std.proofs.Common.{ℕ, ◌≡◌, ◌∙◌, ap, sym, subst, List, [], Option, Some, None, Result, Ok, inl, inr}
-use Rattle.std.specs.Prelude.{◌⊎◌, IsOkAnd, IsSomeAnd, option_and_then}
-use Rattle.std.specs.Io.KnownBytes.{Appends, Keeps}
+use Rattle.std.proofs.Common.{ℕ, ◌≡◌, ◌∙◌, sym, subst, List, [], Option, Some, Result, Ok, inl, inr}
+use Rattle.std.specs.Prelude.{◌⊎◌, IsOkAnd, IsSomeAnd}
+use Rattle.std.specs.Io.KnownBytes.{Keeps}
 use Rattle.io_edge.specs.Edge.{SourceView, SinkView}
 use Rattle.mm_space.specs.Closing.{ClosedView}
 use Rattle.text_lexer.specs.declared.error.BadLine.{BadLine}
@@ -12,15 +12,12 @@ use Rattle.vma_replay.specs.declared.status.Status.TheVariants as statuses
 use Rattle.vma_replay.specs.declared.words.Job.{Job}
 use Rattle.vma_replay.specs.declared.words.Job.TheVariants as jobs
 use Rattle.vma_replay.specs.declared.words.Mode.{Mode}
-use Rattle.vma_replay.specs.declared.words.Mode.TheVariants as modes
-use Rattle.history.specs.Parents.{parent_trace}
-use Rattle.output.specs.Output.{serial_output}
 use Rattle.text_lexer.specs.Lines.{input_limit}
 use Rattle.vma_replay.specs.Internal.Giving.{GivesAnOutput, GivesASummary, GivesThis, IsDone}
 use Rattle.vma_replay.specs.Internal.Reading.{IsChecking, IsReading}
 use Rattle.output.specs.Checked.{IsCheckedAs}
 use Rattle.output.specs.Input.{input_of}
-use Rattle.vma_replay.specs.Replaying.{GivesAll, GivesBeginning, GivesProperBeginning, BeginsWith, GivesRuns, GivesSerialOutput, OfInput, work_of}
+use Rattle.vma_replay.specs.Replaying.{GivesBeginning, GivesProperBeginning, GivesRuns, work_of}
 
 -- with these closed runs the mode gives this text for the input
 given_for : (mode : Mode) (input : List ℕ) (trace : Trace) (runs : List ClosedView) (text : List ℕ) → trace_of input ≡ Ok trace

@@ -1,5 +1,5 @@
 -- For `serial_outputs_are_equal`: two runs of the same lines, in their order, have the same journal.
-use Rattle.std.proofs.Common.{ℕ, zero, suc, ◌≡◌, ◌+◌, ◌<◌, ◌≤◌, ◌^◌, ◌∙◌, refl, sym, ap, subst, cond, List, [], ◌∷◌, ◌++◌, length, get_or, map, take, slice_get, All, Some, arith}
+use Rattle.std.proofs.Common.{ℕ, zero, suc, ◌≡◌, ◌+◌, ◌<◌, ◌≤◌, ◌∙◌, refl, sym, ap, subst, cond, List, [], ◌∷◌, ◌++◌, length, get_or, map, take, slice_get, All, Some, arith}
 use Rattle.std.specs.Option.{option_map}
 use Rattle.std.proofs.lemmas.List.{length-map, take_all, take_more_same}
 use Rattle.std.proofs.lemmas.List.Elements.{All-append}

@@ -1,5 +1,5 @@
 -- What the promises of `replay` say of what it takes, runs, gives and answers.
-use Rattle.std.specs.Prelude.{ℕ, ◌≡◌, ◌<◌, ◌≤◌, ◌+◌, ◌⊎◌, Bool, true, false, List, [], ◌∷◌, ◌++◌, length, take, Option, Some, None, IfSome, is_some, option_and_then, unwrap_or, slice_get, String, Result, Ok, IsOkAnd}
+use Rattle.std.specs.Prelude.{ℕ, ◌≡◌, ◌<◌, ◌≤◌, ◌+◌, ◌⊎◌, Bool, true, false, List, [], ◌∷◌, ◌++◌, length, take, Option, Some, None, is_some, option_and_then, unwrap_or, slice_get, String, Result, Ok, IsOkAnd}
 use Rattle.std.specs.Option.{option_map_or}
 use Rattle.std.specs.Result.{result_err}
 use Rattle.std.specs.declared.alloc.Global.{Global}
@@ -110,11 +110,10 @@ RunsGenerated count seed runs = (run : ClosedView) × (runs ≡ run ∷ []) × I
 abbrev pub BeginsWith : List ℕ → List ℕ → Type 0
 BeginsWith text front = (rest : List ℕ) × (text ≡ front ++ rest)
 
--- the input is a trace, and what was given is the text of closed runs of it in the order of its lines, which begins with the output of the
--- parent's lines in their order
-abbrev pub GivesSerialOutput : List ℕ → SinkView → SinkView → Type 0
-GivesSerialOutput input old new = IsOkAnd (trace_of input) (λ trace. (runs : List ClosedView) × (text : List ℕ)
-    × GivesRuns modes.Serial trace runs text × BeginsWith text (serial_output (parent_trace trace)) × Appends old.written new.written text)
+-- the input is a trace, and what was given is the text of these closed runs of it in the order of its lines, which begins with the output of
+-- the parent's lines in their order
+abbrev pub GivesSerialOutput : List ℕ → List ClosedView → SinkView → SinkView → Type 0
+GivesSerialOutput input runs old new = IsOkAnd (trace_of input) (λ trace. (text : List ℕ) × GivesRuns modes.Serial trace runs text × BeginsWith text (serial_output (parent_trace trace)) × Appends old.written new.written text)
 
 -- A kind of work, as one row of a table: the mode in which it runs a trace, if it reads one; the most bytes that what it reads may have, if
 -- it reads anything; whether it opens a space; the first bad line of an input; and with which closed runs it gives which text for an input.

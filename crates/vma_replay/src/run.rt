@@ -56,7 +56,7 @@ pub fn replay<R: Threads + Wait + Sync, S: Source, K: Sink, G: Gate>(
         GivesAll (work_of job) (S.seen source.old) (S.seen source.new) result.runs (K.seen sink.old) (K.seen sink.new)) }
     ensures serial_output { result.status ≡ Status.Done → mode_of_words words.now ≡ Some Serial
         → OfInput (most_of_words words.now) (S.seen source.old) (S.seen source.new) (λ input.
-        GivesSerialOutput input (K.seen sink.old) (K.seen sink.new)) }
+        GivesSerialOutput input result.runs (K.seen sink.old) (K.seen sink.new)) }
     ensures some_run { result.status ≡ Status.Done → opens_a_space words.now ≡ true → (parent : ClosedView) × (children : List ClosedView)
         × (result.runs ≡ parent ∷ children) × (reads_the_source words.now ≡ false → children ≡ []) }
     ensures no_run { (result.status ≡ Status.Done) ⊎ (result.runs ≡ []) }

@@ -1,4 +1,4 @@
-ghost use Rattle.std.specs.Prelude.{◌≡◌, ◌++◌, IfOk, codes, decimal, string_bytes};
+ghost use Rattle.std.specs.Prelude.{◌≡◌, ◌++◌, IfOk, IsOk, codes, decimal, string_bytes};
 ghost use Rattle.vma_replay.specs.Statuses.{number_of_status, line_of_status};
 ghost use Rattle.vma_replay.specs.declared.status.Status.TheVariants.{NoMemory as no_memory};
 
@@ -86,10 +86,11 @@ pub fn status_number(status: &Status) -> u8
     }
 }
 
-/// The line for standard error, without its newline: empty where the run is done, else as `read fault` or
+/// The line for standard error, without its newline: empty where the run is done, which takes no memory, else as `read fault` or
 /// `trace line 2 cause 11 NoEnd`.
 pub fn status_line(alloc: Global, status: &Status) -> Result<Text, NoMemory>
-    ensures { IfOk result (λ line. line ≡ line_of_status status.now) }
+    ensures line { IfOk result (λ line. line ≡ line_of_status status.now) }
+    ensures done { status.now ≡ Status.Done → IsOk result }
 {
     let line = match *status {
         Status::Done => String::new(alloc),
