@@ -24,3 +24,4 @@ pub mod Outputs
 pub mod Answering
 pub mod Telling
 pub mod InTurn
+pub mod Fitting

@@ -1,5 +1,5 @@
 -- What printing a text and giving it to a sink result in.
-use Rattle.std.specs.Prelude.{ℕ, ◌≡◌, ◌<◌, ◌+◌, ◌⊎◌, List, [], ◌++◌, length, Result, MatchResult}
+use Rattle.std.specs.Prelude.{ℕ, ◌≡◌, ◌<◌, ◌≤◌, ◌+◌, ◌⊎◌, List, [], ◌++◌, length, Result, MatchResult}
 use Rattle.std.specs.Io.KnownBytes.{Appends}
 use Rattle.io_edge.specs.Edge.{SinkView, FailedLast}
 use Rattle.mm_types.specs.declared.call.Entry.{Entry}
@@ -48,6 +48,19 @@ pub record IsCut (old new : SinkView) (held text : List ℕ) (error : PrintError
 -- what printing a text results in
 abbrev pub IsPrinting : {T : Type 0} → SinkView → SinkView → List ℕ → List ℕ → List ℕ → Result T PrintError → Type 0
 IsPrinting old new held holds text result = MatchResult result (λ done. Prints old new held holds text) (λ error. IsCut old new held text error)
+
+-- a text fits into a piece with so much room: what it holds and the text are less than is given at a call
+pub record FitsPiece (room : ℕ) (held text : List ℕ) : Type 0 where
+  pub few : length held + length text < MOST_GIVEN
+  pub enough : length held + length text ≤ room
+
+-- a text that fits into a piece was only appended to it, and its room did not shrink
+pub record Pushes (room after : ℕ) (held holds text : List ℕ) : Type 0 where
+  pub appended : FitsPiece room held text → (holds ≡ held ++ text) × (room ≤ after)
+
+-- what printing a text results in where it fits into the piece: nothing of it is given, and neither a sink nor memory ends it early
+abbrev pub IsPushing : {T : Type 0} → ℕ → ℕ → List ℕ → List ℕ → List ℕ → Result T PrintError → Type 0
+IsPushing room after held holds text result = MatchResult result (λ done. Pushes room after held holds text) (λ error. ¬ FitsPiece room held text)
 
 -- what giving a text a piece after the other results in: all of it was given, or a beginning
 abbrev pub IsGivingText : {T : Type 0} → SinkView → SinkView → List ℕ → Result T PrintError → Type 0

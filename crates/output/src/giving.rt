@@ -1,6 +1,6 @@
 //! Texts that are given to a sink a piece after the other.
-ghost use Rattle.std.specs.Prelude.{◌≡◌, ◌≤◌, ◌<◌, ◌^◌, ◌-◌, [], codes, drop, length, take};
-ghost use Rattle.output.specs.Giving.{IsGivingText, IsPrinting};
+ghost use Rattle.std.specs.Prelude.{◌≡◌, ◌≤◌, ◌<◌, ◌^◌, ◌-◌, [], codes, drop, length, take, vec_capacity};
+ghost use Rattle.output.specs.Giving.{IsGivingText, IsPrinting, IsPushing};
 ghost use Rattle.output.specs.declared.giving.TheConstants.{MOST_GIVEN};
 
 use crate::error::PrintError;
@@ -42,7 +42,8 @@ fn front(text: &[u8]) -> &[u8]
 /// Gives of what a piece holds as much as fills whole pieces, so that it holds less than `MOST_GIVEN` bytes.
 pub fn give_full<K: Sink>(sink: &mut K, piece: &mut Vec<u8>) -> Result<(), PrintError>
     requires { (K.seen sink.old).faults < 2 ^ 64 - 1 }
-    ensures { IsPrinting (K.seen sink.old) (K.seen sink.new) piece.old.items piece.new.items [] result }
+    ensures printing { IsPrinting (K.seen sink.old) (K.seen sink.new) piece.old.items piece.new.items [] result }
+    ensures fits { IsPushing (vec_capacity piece.old) (vec_capacity piece.new) piece.old.items piece.new.items [] result }
 {
     let full = piece.len() - piece.len() % MOST_GIVEN;
     if full == 0 {
@@ -68,7 +69,8 @@ fn drop_front(piece: &mut Vec<u8>, count: usize)
 /// Ends a line in a piece, and gives as much as fills whole pieces.
 pub(crate) fn end_line<K: Sink>(sink: &mut K, piece: &mut Vec<u8>) -> Result<(), PrintError>
     requires { (K.seen sink.old).faults < 2 ^ 64 - 1 }
-    ensures { IsPrinting (K.seen sink.old) (K.seen sink.new) piece.old.items piece.new.items (codes "\n") result }
+    ensures printing { IsPrinting (K.seen sink.old) (K.seen sink.new) piece.old.items piece.new.items (codes "\n") result }
+    ensures fits { IsPushing (vec_capacity piece.old) (vec_capacity piece.new) piece.old.items piece.new.items (codes "\n") result }
 {
     piece.extend_from_slice(b"\n")?;
     give_full(sink, piece)

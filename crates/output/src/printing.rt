@@ -1,5 +1,5 @@
 //! The text of a history and of lists, which is given while it is printed.
-ghost use Rattle.std.specs.Prelude.{◌≡◌, ◌≤◌, ◌<◌, ◌^◌, ◌-◌, ◌++◌, [], All, codes, length};
+ghost use Rattle.std.specs.Prelude.{◌≡◌, ◌≤◌, ◌<◌, ◌^◌, ◌-◌, ◌++◌, [], All, codes, length, vec_capacity};
 ghost use Rattle.mm_types.specs.MapsText.{list_text};
 ghost use Rattle.trace_reader.specs.declared.limits.TheConstants.{MOST_LINES};
 ghost use Rattle.trace_reader.specs.Values.{child_of};
@@ -7,7 +7,7 @@ ghost use Rattle.history.specs.declared.callers.TheConstants.{MOST_THREADS};
 ghost use Rattle.history.specs.declared.items.Content.TheVariants as contents;
 ghost use Rattle.output.specs.Output.{item_text, listed_text, maps_text, reply_text, result_text, told_by, verdict_text};
 ghost use Rattle.output.specs.declared.giving.TheConstants.{MOST_GIVEN};
-ghost use Rattle.output.specs.Giving.{AreLegal, IsPrinting};
+ghost use Rattle.output.specs.Giving.{AreLegal, IsPrinting, IsPushing};
 
 use crate::answered::AnsweredLines;
 use crate::error::PrintError;
@@ -80,7 +80,9 @@ fn print_item<K: Sink>(
     item: &Item,
 ) -> Result<(), PrintError>
     requires { (K.seen sink.old).faults < 2 ^ 64 - 1 }
-    ensures { IsPrinting (K.seen sink.old) (K.seen sink.new) piece.old.items piece.new.items
+    ensures printing { IsPrinting (K.seen sink.old) (K.seen sink.new) piece.old.items piece.new.items
+        (item_text files.now line.now item.now) result }
+    ensures fits { IsPushing (vec_capacity piece.old) (vec_capacity piece.new) piece.old.items piece.new.items
         (item_text files.now line.now item.now) result }
 {
     push_start(piece, line, item.version)?;
@@ -96,7 +98,9 @@ fn print_result<K: Sink>(
     content: &Content,
 ) -> Result<(), PrintError>
     requires { (K.seen sink.old).faults < 2 ^ 64 - 1 }
-    ensures { IsPrinting (K.seen sink.old) (K.seen sink.new) piece.old.items piece.new.items
+    ensures printing { IsPrinting (K.seen sink.old) (K.seen sink.new) piece.old.items piece.new.items
+        (result_text files.now (child_of op) content.now) result }
+    ensures fits { IsPushing (vec_capacity piece.old) (vec_capacity piece.new) piece.old.items piece.new.items
         (result_text files.now (child_of op) content.now) result }
 {
     match content {
@@ -113,7 +117,8 @@ pub(crate) fn print_reply<K: Sink>(
     reply: Reply,
 ) -> Result<(), PrintError>
     requires { (K.seen sink.old).faults < 2 ^ 64 - 1 }
-    ensures { IsPrinting (K.seen sink.old) (K.seen sink.new) piece.old.items piece.new.items (reply_text reply ++ codes "\n") result }
+    ensures printing { IsPrinting (K.seen sink.old) (K.seen sink.new) piece.old.items piece.new.items (reply_text reply ++ codes "\n") result }
+    ensures fits { IsPushing (vec_capacity piece.old) (vec_capacity piece.new) piece.old.items piece.new.items (reply_text reply ++ codes "\n") result }
 {
     push_reply(piece, reply)?;
     end_line(sink, piece)
@@ -126,7 +131,8 @@ pub(crate) fn print_verdict<K: Sink>(
     verdict: Verdict,
 ) -> Result<(), PrintError>
     requires { (K.seen sink.old).faults < 2 ^ 64 - 1 }
-    ensures { IsPrinting (K.seen sink.old) (K.seen sink.new) piece.old.items piece.new.items (verdict_text verdict ++ codes "\n") result }
+    ensures printing { IsPrinting (K.seen sink.old) (K.seen sink.new) piece.old.items piece.new.items (verdict_text verdict ++ codes "\n") result }
+    ensures fits { IsPushing (vec_capacity piece.old) (vec_capacity piece.new) piece.old.items piece.new.items (verdict_text verdict ++ codes "\n") result }
 {
     push_verdict(piece, verdict)?;
     end_line(sink, piece)
@@ -141,7 +147,9 @@ pub(crate) fn print_areas<K: Sink>(
     areas: &[Record],
 ) -> Result<(), PrintError>
     requires { (K.seen sink.old).faults < 2 ^ 64 - 1 }
-    ensures { IsPrinting (K.seen sink.old) (K.seen sink.new) piece.old.items piece.new.items
+    ensures printing { IsPrinting (K.seen sink.old) (K.seen sink.new) piece.old.items piece.new.items
+        (result_text files.now (child_of op) (contents.List areas.now)) result }
+    ensures fits { IsPushing (vec_capacity piece.old) (vec_capacity piece.new) piece.old.items piece.new.items
         (result_text files.now (child_of op) (contents.List areas.now)) result }
 {
     match op {
@@ -161,7 +169,9 @@ pub fn print_maps<K: Sink>(
     areas: &[Record],
 ) -> Result<(), PrintError>
     requires { (K.seen sink.old).faults < 2 ^ 64 - 1 }
-    ensures { IsPrinting (K.seen sink.old) (K.seen sink.new) piece.old.items piece.new.items
+    ensures printing { IsPrinting (K.seen sink.old) (K.seen sink.new) piece.old.items piece.new.items
+        (maps_text files.now areas.now) result }
+    ensures fits { IsPushing (vec_capacity piece.old) (vec_capacity piece.new) piece.old.items piece.new.items
         (maps_text files.now areas.now) result }
 {
     push_count(piece, areas.len())?;
@@ -178,7 +188,9 @@ fn print_list<K: Sink>(
 ) -> Result<(), PrintError>
     requires held { length piece.old.items < MOST_GIVEN }
     requires sink { (K.seen sink.old).faults < 2 ^ 64 - 1 }
-    ensures { IsPrinting (K.seen sink.old) (K.seen sink.new) piece.old.items piece.new.items
+    ensures printing { IsPrinting (K.seen sink.old) (K.seen sink.new) piece.old.items piece.new.items
+        (list_text files.now areas.now) result }
+    ensures fits { IsPushing (vec_capacity piece.old) (vec_capacity piece.new) piece.old.items piece.new.items
         (list_text files.now areas.now) result }
 {
     for area in areas {

@@ -1,11 +1,11 @@
 //! What one caller did, which is given while it is printed, one thing with each line.
-ghost use Rattle.std.specs.Prelude.{◌<◌, ◌^◌, ◌-◌, length};
+ghost use Rattle.std.specs.Prelude.{◌<◌, ◌^◌, ◌-◌, length, vec_capacity};
 ghost use Rattle.history.specs.Runs.{content_of};
 ghost use Rattle.history.specs.Turns.{turn_item};
 ghost use Rattle.output.specs.Output.{item_text, result_text};
 ghost use Rattle.trace_reader.specs.Values.{child_of};
 ghost use Rattle.output.specs.declared.giving.TheConstants.{MOST_GIVEN};
-ghost use Rattle.output.specs.Giving.{IsPrinting};
+ghost use Rattle.output.specs.Giving.{IsPrinting, IsPushing};
 ghost use Rattle.output.specs.Telling.{told_in_turn};
 
 use crate::error::PrintError;
@@ -26,7 +26,9 @@ pub fn print_turns<K: Sink>(
 ) -> Result<(), PrintError>
     requires held { length piece.old.items < MOST_GIVEN }
     requires sink { (K.seen sink.old).faults < 2 ^ 64 - 1 }
-    ensures { IsPrinting (K.seen sink.old) (K.seen sink.new) piece.old.items piece.new.items
+    ensures printing { IsPrinting (K.seen sink.old) (K.seen sink.new) piece.old.items piece.new.items
+        (told_in_turn (item_text files.now) lines.now turns.entry) result }
+    ensures fits { IsPushing (vec_capacity piece.old) (vec_capacity piece.new) piece.old.items piece.new.items
         (told_in_turn (item_text files.now) lines.now turns.entry) result }
 {
     for line in lines {
@@ -47,7 +49,9 @@ fn print_turn<K: Sink>(
     turn: Turn<'_>,
 ) -> Result<(), PrintError>
     requires { (K.seen sink.old).faults < 2 ^ 64 - 1 }
-    ensures { IsPrinting (K.seen sink.old) (K.seen sink.new) piece.old.items piece.new.items
+    ensures printing { IsPrinting (K.seen sink.old) (K.seen sink.new) piece.old.items piece.new.items
+        (item_text files.now line.now (turn_item turn.entry)) result }
+    ensures fits { IsPushing (vec_capacity piece.old) (vec_capacity piece.new) piece.old.items piece.new.items
         (item_text files.now line.now (turn_item turn.entry)) result }
 {
     push_start(piece, line, turn.version())?;
@@ -66,7 +70,9 @@ fn print_read<K: Sink>(
     read: &Seen,
 ) -> Result<(), PrintError>
     requires { (K.seen sink.old).faults < 2 ^ 64 - 1 }
-    ensures { IsPrinting (K.seen sink.old) (K.seen sink.new) piece.old.items piece.new.items
+    ensures printing { IsPrinting (K.seen sink.old) (K.seen sink.new) piece.old.items piece.new.items
+        (result_text files.now (child_of op) (content_of read.now)) result }
+    ensures fits { IsPushing (vec_capacity piece.old) (vec_capacity piece.new) piece.old.items piece.new.items
         (result_text files.now (child_of op) (content_of read.now)) result }
 {
     match read {

@@ -71,7 +71,7 @@ inherited_count journal version within = omega (arith, length-map (take version 
 
 -- what the run of a child asks for, of its lines and what it begins with
 pub record CanRun (config : Config) (own : List TraceLine) (before : List Entry) : Type 0 where
-  pub config : IsValidConfig config
+  pub valid : IsValidConfig config
   pub few : length before + length own ≤ 16777216
   pub legal : IsLegalJournal config before
   pub strangers : AreStrangers before
@@ -83,7 +83,7 @@ can_run_at : (trace : Trace) (parent : List Entry) (fork : Fork) → IsTraceValu
 can_run_at trace parent fork value bears forks =
     let own : IsTraceValue (child_trace trace fork.child) = child_is_trace trace fork.child value forks.child in
     record {
-      config = value.config;
+      valid = value.config;
       few = omega (arith, own.few, inherited_count parent fork.version forks.within, forks.within, bears.few);
       legal = inherited_legal trace.config parent fork.version bears.legal;
       strangers = inherited_strangers parent fork.version;

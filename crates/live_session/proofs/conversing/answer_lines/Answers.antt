@@ -80,7 +80,7 @@ lines-preserved g c = record {
       (ap (λ (b : List ℕ). take c.in-Some.len b) c.bytes.ensures) c.pass.ensures
       (subst (λ (o : Option Stop). AnswersLine (answered (session_of c.lines.says c.lines.space) (take c.in-Some.len c.bytes.result.now)) c.find_line.new.piece.items
       c.answer_line.new.piece.items (session_of c.answer_line.new.says c.answer_line.new.space) o) c.in_default-stop.is c.in_ok-stop.ensures.answers))
-      c.in_ok-give_full.ensures;
+      c.in_ok-give_full.ensures.printing;
   later = omega (arith, c.lines.invariant.later, c.in_ok-len.ensures.turns.0, ap (λ (h : HeldView). h.turns) c.pass.ensures);
   stays = λ some. c.in_ok-stop.ensures.open (c.lines.invariant.stays some);
 }
@@ -97,7 +97,7 @@ returns-in_err-give_full-clause-ends g c = λ s k t.
     (ap (λ (b : List ℕ). take c.in-Some.len b) c.bytes.ensures) c.pass.ensures
     (subst (λ (o : Option Stop). AnswersLine (answered (session_of c.lines.says c.lines.space) (take c.in-Some.len c.bytes.result.now)) c.find_line.new.piece.items
     c.answer_line.new.piece.items (session_of c.answer_line.new.says c.answer_line.new.space) o) c.in_default-stop.is c.in_ok-stop.ensures.answers))
-    (omega (arith, found.2, ap (λ (h : HeldView). h.turns) c.pass.ensures)) c.in_err-give_full.ensures)
+    (omega (arith, found.2, ap (λ (h : HeldView). h.turns) c.pass.ensures)) c.in_err-give_full.ensures.printing)
 
 pub push_ending-requires : goal.push_ending-requires
 push_ending-requires g c =

@@ -9,4 +9,4 @@ returns-in_err-print_items g c = at_error _ _ _ _ c.from_residual.ensures.1 (cut
 
 pub returns : goal.returns
 unfolding listed_text
-returns g c = printing_then _ _ _ _ _ _ _ _ _ c.in_ok-print_items.ensures c.print_maps.ensures
+returns g c = printing_then _ _ _ _ _ _ _ _ _ c.in_ok-print_items.ensures c.print_maps.ensures.printing

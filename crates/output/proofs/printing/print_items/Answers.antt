@@ -15,7 +15,7 @@ next-line-requires g c = told_answers (item_text c.args.files.now) c.args.lines.
 pub loop-item-preserved : goal.loop-item-preserved
 loop-item-preserved g c = (
   _,
-  prints_then _ _ _ _ _ _ _ _ c.loop-item.invariant.1 c.in_ok-print_item.ensures,
+  prints_then _ _ _ _ _ _ _ _ c.loop-item.invariant.1 c.in_ok-print_item.ensures.printing,
   told_next (item_text c.args.files.now) c.args.lines.now c.args.items.now c.loop-item.item-index c.loop-item.answered _
       c.loop-item.invariant.0 _ c.item-item.result c.next-line.result.now c.loop-item.invariant.2 c.loop-item-test.true c.item-item.is
       c.next-line.ensures refl,
@@ -30,7 +30,7 @@ returns-in_err-print_item g c =
     c.loop-item.invariant.0 _ c.item-item.result c.next-line.result.now c.loop-item.invariant.2 c.loop-item-test.true c.item-item.is
     c.next-line.ensures refl in
     at_error _ _ _ _ c.from_residual-in_err-print_item.ensures.1
-    (cut_at _ _ _ _ _ _ _ _ _ _ c.loop-item.invariant.1 told.told c.in_err-print_item.ensures)
+    (cut_at _ _ _ _ _ _ _ _ _ _ c.loop-item.invariant.1 told.told c.in_err-print_item.ensures.printing)
 
 pub returns : goal.returns
 returns g c = prints_as _ _ _ _ _ _ (told_all _ _ _ _ _ _ c.loop-item.invariant.2 c.loop-item-test.false) c.loop-item.invariant.1

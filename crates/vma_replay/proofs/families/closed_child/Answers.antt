@@ -5,7 +5,7 @@ use Rattle.vma_replay.proofs.families.closed_child.Goals as goal
 
 pub run_child-requires-clause-config : goal.run_child-requires-clause-config
 run_child-requires-clause-config g c = (can_run c.args.trace.now c.args.parent.now c.args.fork.now c.in_ok-lines.lines c.as_slice.result.now
-    c.requires.trace c.requires.parent c.requires.fork c.in_ok-lines.ensures (c.as_slice.ensures.value ∙ c.in_ok-before.ensures)).config
+    c.requires.trace c.requires.parent c.requires.fork c.in_ok-lines.ensures (c.as_slice.ensures.value ∙ c.in_ok-before.ensures)).valid
 
 pub run_child-requires-clause-few : goal.run_child-requires-clause-few
 run_child-requires-clause-few g c = (can_run c.args.trace.now c.args.parent.now c.args.fork.now c.in_ok-lines.lines c.as_slice.result.now

@@ -24,13 +24,13 @@ pub returns-in_err-print_turns : goal.returns-in_err-print_turns
 returns-in_err-print_turns g c = at_error _ _ _ _ c.from_residual.ensures.1
     (cut_whole _ _ _ _ _ _ _
     (run_told c.args.mode c.args.trace.now c.args.run.now c.items-lines.result.now c.in-Some.turns c.items-areas.result.now c.items-lines.ensures
-    c.in-Some.ensures (c.items-areas.ensures ∙ c.list.ensures)) c.in_err-print_turns.ensures)
+    c.in-Some.ensures (c.items-areas.ensures ∙ c.list.ensures)) c.in_err-print_turns.ensures.printing)
 
 pub returns-in-Some : goal.returns-in-Some
 returns-in-Some g c = printing_as _ _ _ _ _ _ _
     (run_told c.args.mode c.args.trace.now c.args.run.now c.items-lines.result.now c.in-Some.turns c.items-areas.result.now c.items-lines.ensures
     c.in-Some.ensures (c.items-areas.ensures ∙ c.list.ensures))
-    (printing_then _ _ _ _ _ _ _ _ _ c.in_ok-print_turns.ensures c.print_maps.ensures)
+    (printing_then _ _ _ _ _ _ _ _ _ c.in_ok-print_turns.ensures.printing c.print_maps.ensures.printing)
 
 pub returns : goal.returns
 returns g c = printing_as _ _ _ _ _ _ _

@@ -1,5 +1,5 @@
 -- The proof of `print_child`: its reads are from the fork on.
-use Rattle.std.proofs.Common.{◌∙◌, ◌≡◌, ℕ, List, ap}
+use Rattle.std.proofs.Common.{◌∙◌, ◌≡◌, ℕ, List, ap, refl}
 use Rattle.trace_reader.specs.declared.trace.TraceLine.{TraceLine}
 use Rattle.mm_types.specs.declared.area.Record.{Record}
 use Rattle.mm_types.specs.declared.call.Entry.{Entry}
@@ -9,12 +9,18 @@ use Rattle.history.specs.declared.items.Item.{Item}
 use Rattle.output.specs.Output.{listed_text}
 use Rattle.mm_fork.specs.Children.{child_history_of}
 use Rattle.vma_replay.proofs.ChildSpaces.{reads_later}
-use Rattle.output.proofs.Pieces.{at_error, cut_more, printing_as, printing_then}
+use Rattle.output.proofs.Pieces.{at_error, cut_more, cut_none, printing_as, printing_then}
 use Rattle.vma_replay.proofs.printing.print_child.Goals as goal
 
 pub child_history-requires-clause-later : goal.child_history-requires-clause-later
 child_history-requires-clause-later g c =
     reads_later c.args.trace.now c.requires.run.0 c.args.fork.now c.args.run.now c.logs.result.now c.requires.run.1 c.logs.ensures
+
+pub returns-in_err-own : goal.returns-in_err-own
+returns-in_err-own g c = at_error _ _ _ _ c.from_residual.ensures.1 (cut_none _ _ _ _ refl)
+
+pub returns-in_err-history : goal.returns-in_err-history
+returns-in_err-history g c = at_error _ _ _ _ c.from_residual-in_err-history.ensures.1 (cut_none _ _ _ _ refl)
 
 pub returns-in_err-print_child_line : goal.returns-in_err-print_child_line
 returns-in_err-print_child_line g c = at_error _ _ _ _ c.from_residual-in_err-print_child_line.ensures.1

@@ -8,6 +8,9 @@ use Rattle.vma_replay.proofs.printing.print_children.Goals.{in-Some+in_ok-print_
 pub loop-place-init : goal.loop-place-init
 loop-place-init g c = ([], prints_none _ _ c.requires.held, record { told = refl })
 
+pub print_child-requires-clause-child : goal.print_child-requires-clause-child
+print_child-requires-clause-child g c = c.requires.forks c.loop-place.place _ c.loop-place-test.true
+
 pub print_child-requires-clause-run : goal.print_child-requires-clause-run
 print_child-requires-clause-run g c =
     child_at c.args.trace.now c.requires.runs.0 c.args.forks.now c.args.runs.now c.loop-place.place _ c.in-Some.run'.now c.requires.runs.1
