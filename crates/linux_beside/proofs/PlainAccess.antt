@@ -1,9 +1,11 @@
 -- An access outside the named rows is the profile's.
 use Rattle.std.proofs.Common.{arith, sym, subst, ap, ◌∙◌}
 use Rattle.std.proofs.lemmas.Bool.Decides.{nat_tests}
-use Rattle.std.specs.Prelude.{ℕ, ◌≡◌, ◌<◌, ◌^◌, Bool, true, false, not, ◌&&◌, nat_eq, nat_le, Option, Some, None, Result, Ok, refl}
+use Rattle.std.specs.Prelude.{ℕ, ◌≡◌, ◌<◌, ◌^◌, Bool, true, false, not, ◌&&◌, nat_eq, nat_le, List, [], ◌∷◌, map, Option, Some, None, Result, Ok, refl}
 use Rattle.mm_types.specs.declared.area.Access.{Access}
+use Rattle.mm_types.specs.declared.area.Record.{Record}
 use Rattle.area_rules.specs.Accesses.{permits}
+use Rattle.area_rules.specs.Tables.{AddressSpace}
 use Rattle.linux_rules.specs.declared.area.Vma.{Vma}
 use Rattle.linux_rules.specs.declared.kernel.Kernel.{Kernel}
 use Rattle.linux_rules.specs.declared.verdict.LinuxVerdict.{LinuxVerdict}
@@ -13,7 +15,9 @@ use Rattle.linux_rules.specs.Doing.{LinuxSpace, Did, go_on, done}
 use Rattle.linux_rules.specs.Faults.{VSYSCALL, is_not_canonical, fault, do_user_addr_fault, area_for_fault, area_verdict, or_bad_area, is_exec, is_denied}
 use Rattle.linux_rules.specs.Recorded as linux
 use Rattle.linux_rules.specs.Steps.{Answer, Signal}
-use Rattle.linux_beside.specs.Faulting.{IsPlainAccess, IsPlainArea, HasVerdictOfProfile, KeepsWhatProfileKnows, forgotten_space, is_past_end}
+use Rattle.linux_beside.specs.Faulting.{IsPlainAccess, IsPlainArea, HasVerdictOfProfile, KeepsWhatProfileKnows, StaysInOrder, forgotten_space, is_past_end}
+use Rattle.linux_beside.specs.Forgetting.{forgotten}
+use Rattle.linux_beside.specs.InOrder.{AreInOrderFrom}
 use Rattle.linux_beside.specs.Sides as profile
 use Rattle.linux_beside.proofs.FaultLemmas.{IsAnswered, area_answered, answers_agree, by_linux, by_profile, past_by_profile, same_past_end, served}
 use Rattle.linux_beside.proofs.OrderLemmas.{at_found, none_at_hole, none_at_end, no_stack_at_hole, no_stack_at_end}
@@ -107,3 +111,20 @@ has_verdict_of_profile kernel space page access plain = let both = alike kernel 
 pub keeps_what_profile_knows : KeepsWhatProfileKnows
 keeps_what_profile_knows kernel space page access plain = let both = alike kernel space page access plain in
     seen_space space both.answer (fault kernel page access space) both.linux ∙ sym (ap (λ (a : profile.Answered). a.space) both.profile)
+
+-- a list of which the profile knows the same has the same order
+same_order : (low : ℕ) (areas others : List Vma) → map forgotten areas ≡ map forgotten others → AreInOrderFrom low others → AreInOrderFrom low areas
+same_order low [] others same order = tt
+same_order low (first ∷ areas) [] same order = absurd (cc)
+same_order low (first ∷ areas) (other ∷ others) same order =
+    let heads : forgotten first ≡ forgotten other = cc in
+    let rest : map forgotten areas ≡ map forgotten others = cc in
+    let lo : first.lo ≡ other.lo = ap (λ (r : Record). r.span.lo) heads in
+    let hi : first.hi ≡ other.hi = ap (λ (r : Record). r.span.hi) heads in
+    let begin = order.0 in let some = order.1 in
+    (omega arith, omega arith, same_order first.hi areas others rest (subst (λ (page : ℕ). AreInOrderFrom page others) (sym hi) order.2))
+
+pub stays_in_order : StaysInOrder
+stays_in_order kernel space page access plain = let both = alike kernel space page access plain in
+    same_order 0 (go_on (fault kernel page access space).space (fault kernel page access space).result (λ verdict. done (linux.answer_of verdict))).space.areas
+    space.areas (ap (λ (s : AddressSpace). s.areas) (seen_space space both.answer (fault kernel page access space) both.linux)) plain.in_order

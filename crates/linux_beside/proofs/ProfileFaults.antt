@@ -5,7 +5,7 @@ use Rattle.std.specs.Prelude.{ℕ, ◌≡◌, ◌+◌, ◌-◌, Bool, true, fals
 use Rattle.std.specs.Option.{option_map_or}
 use Rattle.mm_types.specs.declared.area.Access.{Access}
 use Rattle.mm_types.specs.declared.area.Record.{Record}
-use Rattle.mm_types.specs.declared.area.Verdict.TheVariants.{Served, MapErr, AccErr, BusErr}
+use Rattle.mm_types.specs.declared.area.Verdict.TheVariants.{Served, AccErr, BusErr}
 use Rattle.mm_types.specs.declared.config.Config.{Config}
 use Rattle.mm_types.specs.declared.files.FileRow.{FileRow}
 use Rattle.area_list.specs.Areas.{has_page, index_of, area_at, page_of}

@@ -48,3 +48,8 @@ abbrev pub KeepsWhatProfileKnows : Type 0
 KeepsWhatProfileKnows = (kernel : Kernel) (space : LinuxSpace) (page : ℕ) (access : Access) → IsPlainAccess kernel space page access
     → forgotten_space (linux.operated kernel (Touch page access) space).space
     ≡ (profile.operated kernel.config (forgotten_space space) (Touch page access)).space
+
+-- its list stays in order
+abbrev pub StaysInOrder : Type 0
+StaysInOrder = (kernel : Kernel) (space : LinuxSpace) (page : ℕ) (access : Access) → IsPlainAccess kernel space page access
+    → AreInOrder (linux.operated kernel (Touch page access) space).space.areas
