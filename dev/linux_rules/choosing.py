@@ -1,5 +1,6 @@
 """Which recorded traces become statements: of each version those that tell most, by the planted wrong rules that they
-notice, what is answered, and which other versions answer otherwise. They stand in the folder chosen, a file a version."""
+notice, what is answered, and which other versions answer otherwise; and one for each such rule that these don't notice. They
+stand in the folder chosen, a file a version."""
 from __future__ import annotations
 
 import contextlib
@@ -107,22 +108,31 @@ def best(told: dict[str, set[object]]) -> list[str]:
     return sorted(names)
 
 
-def told_by(found: Sequence[Recording]) -> dict[str, set[object]]:
+def completed(names: list[str], rules: dict[str, list[str]]) -> list[str]:
+    """These, and of each wrong rule that none of them notices the shortest that does."""
+    for noticing in rules.values():
+        if noticing and not set(noticing) & set(names):
+            names = [*names, noticing[0]]
+    return sorted(names)
+
+
+def told_by(found: Sequence[Recording], rules: dict[str, list[str]]) -> dict[str, set[object]]:
     """What each recorded trace tells."""
     told: dict[str, set[object]] = {one.name: set(features(one)) for one in found}
-    for rule, names in planting.noticed(planting.TOP, found).items():
+    for rule, names in rules.items():
         for name in names:
             told[name].add(rule)
     return told
 
 
 def of_the_kernel(recordings: Iterator[Recording]) -> list[Recording]:
-    """Those whose answers tell of the kernel alone, and that terms can say."""
+    """Those whose answers tell of the kernel alone, that terms can say, and that the definitions answer when evaluated."""
     return [
         one
         for one in recordings
         if not is_of_the_process(one.trace)
         and is_sayable(one)
+        and not planting.is_noticed(planting.unchanged(planting.TOP), one)
         and output(one.trace, kernel_of(one.version, one.settings)) == one.output
     ]
 
@@ -132,6 +142,7 @@ def choose(top: Path, folder: Path, versions: Sequence[str]) -> None:
     CHOSEN.mkdir(exist_ok=True)
     for version in versions or [text_of(version) for version in table()]:
         found = of_the_kernel(recorded(top, version, folder))
-        names = best(told_by(found)) if found else []
+        rules = planting.noticed(planting.TOP, found)
+        names = completed(best(told_by(found, rules)), rules)
         if names:
             (CHOSEN / f"{version}.gz").write_bytes(written([one for one in found if one.name in names]))

@@ -1,5 +1,6 @@
 """Wrong rules, one each: planted in the definitions, each has to make a recorded trace's statement false. They stand in
-planted.txt: the file and the version whose traces are tried, the rule that goes wrong, and the text before and after.
+planted.txt: the file and the version whose traces are tried, the rule that goes wrong, and the text before and after. A line
+with `=` says why one changes nothing: then no trace may notice it.
 """
 from __future__ import annotations
 
@@ -12,13 +13,14 @@ HEAD = re.compile(r"^== (\w+) ([\d.]+): (.*)\n", re.M)
 
 
 class Planted(NamedTuple):
-    """A rule in words, the file of definitions, the text that says it, and what stands in its place."""
+    """A rule in words, the file of definitions, the text that says it, what stands in its place, and why nothing notices it."""
 
     rule: str
     file: str
     old: str
     new: str
     version: str
+    reason: str = ""
 
 
 def part(lines: list[str], mark: str) -> str:
@@ -31,7 +33,7 @@ def read(text: str) -> list[Planted]:
     found = []
     for file, version, rule, body in zip(*(pieces[place::4] for place in range(4))):
         lines = body.splitlines()
-        found.append(Planted(rule, file, part(lines, "- "), part(lines, "+ "), version))
+        found.append(Planted(rule, file, part(lines, "- "), part(lines, "+ "), version, part(lines, "= ")))
     return found
 
 

@@ -4,6 +4,7 @@ from __future__ import annotations
 
 from collections.abc import Callable, Sequence
 from functools import lru_cache, partial
+from itertools import islice
 from pathlib import Path
 from typing import Any
 
@@ -14,7 +15,7 @@ from .recordings import Recording, term
 
 TOP = Path(__file__).resolve().parents[2]
 SPECS = statements.CRATE / "specs"
-TRIED = 12  # of the traces in which a wrong rule makes a difference, the shortest
+NOTICING = 12  # of the traces that notice a wrong rule, the shortest
 
 
 def changed(top: Path, planted: Planted) -> dict[str, str]:
@@ -112,13 +113,13 @@ def key_of(planted: Planted) -> str:
 
 
 def noticed(top: Path, recordings: Sequence[Recording]) -> dict[str, list[str]]:
-    """The traces that notice a wrong rule, by the rule: of the shortest in which it makes a difference."""
+    """The shortest traces that notice a wrong rule, by the rule."""
     watched = Watched(top)
     differ = {recording.name: watched.of(recording) for recording in recordings}
     shortest = sorted(recordings, key=lambda recording: (len(recording.trace.lines), recording.name))
     found = {}
     for planted in PLANTED:
         definitions, key = Definitions(top, changed(top, planted)), key_of(planted)
-        tried = [one for one in shortest if key in differ[one.name]][:TRIED]
-        found[key] = [one.name for one in tried if is_noticed(definitions, one)]
+        noticing = (one.name for one in shortest if key in differ[one.name] and is_noticed(definitions, one))
+        found[key] = list(islice(noticing, NOTICING))
     return found

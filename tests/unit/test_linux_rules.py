@@ -5,11 +5,13 @@ import unittest
 from dataclasses import replace
 from typing import Any
 
-from dev.linux_rules import choosing, evaluating, planting, recordings, resolving, terms, versions
-from dev.linux_rules.planted import PLANTED
-from vmatools.linux.kernel import Settings
-from vmatools.traces import read_trace
-from vmatools.program import TOP
+TOP = Path(__file__).resolve().parents[2]
+sys.path[:0] = [str(TOP), str(TOP / "tools")]
+
+from dev.linux_rules import choosing, evaluating, plant, planted, planting, recordings, resolving, terms, versions  # noqa: E402
+from dev.linux_rules.planted import PLANTED  # noqa: E402
+from vmatools.linux.kernel import Settings  # noqa: E402
+from vmatools.traces import read_trace  # noqa: E402
 
 TRACE = b"""vmatrace 1
 heap 0x200000
@@ -124,9 +126,9 @@ class TestEvaluating(unittest.TestCase):
         self.assertTrue(planting.is_noticed(definitions, replace(recording, output=wrong)))
 
     def test_each_planted_rule_is_in_the_definitions_once(self) -> None:
-        for planted in PLANTED:
-            with self.subTest(planted.rule):
-                self.assertEqual(len(planting.changed(TOP, planted)), 1)
+        for rule in PLANTED:
+            with self.subTest(rule.rule):
+                self.assertEqual(len(planting.changed(TOP, rule)), 1)
 
 
 class TestChoosing(unittest.TestCase):
@@ -135,3 +137,26 @@ class TestChoosing(unittest.TestCase):
         told["other"] = {"c"}
         self.assertIn("other", choosing.best(told))
         self.assertEqual(len(choosing.best(told)), choosing.MOST)
+
+    def test_each_rule_that_is_noticed_has_a_trace(self) -> None:
+        rules: dict[str, list[str]] = {"one": ["short", "long"], "two": ["b"], "three": []}
+        self.assertEqual(choosing.completed(["a", "b"], rules), ["a", "b", "short"])
+
+
+class TestPlanted(unittest.TestCase):
+    planted = planted.read("== Mmap 6.18.44: a rule\n- old\n+ new\n= no list has it\n")[0]
+
+    def test_a_rule_says_why_it_changes_nothing(self) -> None:
+        self.assertEqual(self.planted, planted.Planted("a rule", "Mmap", "old", "new", "6.18.44", "no list has it"))
+        self.assertIn("a rule: changes nothing: no list has it", plant.said(self.planted, [], []))
+
+    def test_the_shortest_that_notices_is_named(self) -> None:
+        short = recordings.Recording("short", "6.18.44", Settings(), read_trace(TRACE), OUTPUT)
+        long = replace(short, name="long", trace=read_trace(TRACE + b"0 brk 0\n"))
+        self.assertIn("1 traces  1 rows", plant.said(self.planted, [long], [short]))
+        self.assertTrue(plant.said(self.planted, [long], [short]).endswith("a rule: short"))
+        self.assertTrue(plant.said(self.planted._replace(reason=""), [], []).endswith("a rule: nothing notices it"))
+
+
+if __name__ == "__main__":
+    unittest.main()

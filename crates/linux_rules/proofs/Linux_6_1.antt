@@ -45,4 +45,5 @@ all_of_linux_6_1 = record {
   written_220_holds = refl;
   hard_272_holds = refl;
   hard_331_holds = refl;
+  placement_first_search_one_more_holds = refl;
 }

@@ -15,6 +15,7 @@ all_of_linux_6_18 = record {
   mseal_mprotect_odd_address_holds = refl;
   mseal_munmap_refused_otherwise_holds = refl;
   mseal_part_then_all_holds = refl;
+  munmap_limit_cut_at_the_end_holds = refl;
   written_1_holds = refl;
   written_limit_15_holds = refl;
   hard_limit_37_holds = refl;
@@ -45,4 +46,8 @@ all_of_linux_6_18 = record {
   sealed_1402_holds = refl;
   hard_1464_holds = refl;
   written_2062_holds = refl;
+  directed_anon_vma_of_the_next_first_holds = refl;
+  directed_refused_growth_counts_as_written_holds = refl;
+  directed_written_range_of_a_fork_stays_apart_holds = refl;
+  directed_anon_vma_needs_running_offsets_holds = refl;
 }

@@ -45,4 +45,6 @@ all_of_linux_7_2 = record {
   hard_272_holds = refl;
   hard_limit_301_holds = refl;
   hard_331_holds = refl;
+  hard_611_holds = refl;
+  hard_771_holds = refl;
 }

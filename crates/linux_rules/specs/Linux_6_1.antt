@@ -1,11 +1,11 @@
--- What Linux 6.1.192 answered to 40 traces. Made by dev/make-linux-rules from suite/.
+-- What Linux 6.1.192 answered to 41 traces. Made by dev/make-linux-rules from suite/.
 use Rattle.std.specs.Prelude.{List, ◌∷◌, [], true, false, pos, negsuc, Some, None, Ok, Err}
 use Rattle.mm_types.specs.declared.area.Access.TheVariants.{Read, Write, Exec}
 use Rattle.linux_rules.specs.declared.kernel.Kernel.{Kernel}
 use Rattle.linux_rules.specs.declared.kernel.Vsyscall.TheVariants.{Xonly}
 use Rattle.linux_rules.specs.declared.verdict.LinuxVerdict.TheVariants.{MapErr, AccErr, PkuErr, BusErr}
 use Rattle.linux_rules.specs.Versions.{linux_6_1}
-use Rattle.linux_rules.specs.Steps.{Map, Unmap, Protect, Remap, Break, Touch, Fork, Returned, Serves, Signal, Step, r, w, x, rw, rx, rwx, plain, heap, filed, step, file_row, config}
+use Rattle.linux_rules.specs.Steps.{Map, Unmap, Protect, Remap, Break, Touch, Fork, Returned, Serves, Signal, Step, none, r, w, x, rw, rx, rwx, plain, heap, filed, step, file_row, config}
 use Rattle.linux_rules.specs.Recorded.{IsAsRecorded}
 
 -- faults_after_a_refused_call: the kernel
@@ -1027,6 +1027,16 @@ hard_331 =
     ∷ step 0 (Protect 1114112 12288 rwx) (Ok (Returned 0)) (Some (plain 256 257 r ∷ plain 257 258 rw ∷ heap 261 269 rw ∷ plain 272 275 rwx ∷ plain 275 277 w ∷ plain 34359705597 34359705598 rx ∷ filed 34359705598 34359705599 r true 0 1 ∷ []))
     ∷ []
 
+-- placement_first_search_one_more: the kernel
+abbrev pub placement_first_search_one_more_on : Kernel
+placement_first_search_one_more_on = record { rules = linux_6_1; machine = record { lowest_built = 16; memory = 245000; stack = 8388608; has_keys = true; huge_always = true; files_are_huge = false; vsyscall = Xonly }; config = config 4096 140737354133504 65530 0 ([]) }
+
+-- placement_first_search_one_more: its answers
+abbrev pub placement_first_search_one_more : List Step
+placement_first_search_one_more =
+    step 0 (Map 0 140737354072064 none 34 (negsuc 0) 0) (Ok (Returned 61440)) (Some (plain 15 34359705599 none ∷ []))
+    ∷ []
+
 -- The definitions answer all of these traces as Linux 6.1.192 did.
 pub record AllOfLinux_6_1 : Type 0 where
   pub faults_after_a_refused_call_holds : IsAsRecorded faults_after_a_refused_call_on faults_after_a_refused_call
@@ -1069,3 +1079,4 @@ pub record AllOfLinux_6_1 : Type 0 where
   pub written_220_holds : IsAsRecorded written_220_on written_220
   pub hard_272_holds : IsAsRecorded hard_272_on hard_272
   pub hard_331_holds : IsAsRecorded hard_331_on hard_331
+  pub placement_first_search_one_more_holds : IsAsRecorded placement_first_search_one_more_on placement_first_search_one_more

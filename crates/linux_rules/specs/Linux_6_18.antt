@@ -1,4 +1,4 @@
--- What Linux 6.18.44 answered to 40 traces. Made by dev/make-linux-rules from suite/.
+-- What Linux 6.18.44 answered to 45 traces. Made by dev/make-linux-rules from suite/.
 use Rattle.std.specs.Prelude.{List, ◌∷◌, [], true, false, pos, negsuc, Some, None, Ok, Err}
 use Rattle.mm_types.specs.declared.area.Access.TheVariants.{Read, Write, Exec}
 use Rattle.linux_rules.specs.declared.kernel.Kernel.{Kernel}
@@ -134,6 +134,17 @@ mseal_part_then_all =
     step 0 (Map 131072 12288 rw 50 (negsuc 0) 0) (Ok (Returned 131072)) None
     ∷ step 0 (Seal 135168 4096 0) (Ok (Returned 0)) None
     ∷ step 0 (Seal 131072 12288 0) (Ok (Returned 0)) (Some (plain 32 35 rw ∷ []))
+    ∷ []
+
+-- munmap_limit_cut_at_the_end: the kernel
+abbrev pub munmap_limit_cut_at_the_end_on : Kernel
+munmap_limit_cut_at_the_end_on = record { rules = linux_6_18; machine = record { lowest_built = 16; memory = 6170807; stack = 8388608; has_keys = true; huge_always = false; files_are_huge = false; vsyscall = Xonly }; config = config 4096 140737354133504 1 0 ([]) }
+
+-- munmap_limit_cut_at_the_end: its answers
+abbrev pub munmap_limit_cut_at_the_end : List Step
+munmap_limit_cut_at_the_end =
+    step 0 (Map 131072 12288 r 50 (negsuc 0) 0) (Ok (Returned 131072)) None
+    ∷ step 0 (Unmap 139264 4096) (Ok (Returned 0)) (Some (plain 32 34 r ∷ []))
     ∷ []
 
 -- written_1: the kernel
@@ -1306,6 +1317,73 @@ written_2062 =
     ∷ step 0 (Touch 257 Write) (Ok (Signal AccErr)) (Some (plain 256 261 r ∷ []))
     ∷ []
 
+-- directed_anon_vma_of_the_next_first: the kernel
+abbrev pub directed_anon_vma_of_the_next_first_on : Kernel
+directed_anon_vma_of_the_next_first_on = record { rules = linux_6_18; machine = record { lowest_built = 16; memory = 6170918; stack = 8388608; has_keys = true; huge_always = false; files_are_huge = false; vsyscall = Xonly }; config = config 4096 140737354133504 65530 0 ([]) }
+
+-- directed_anon_vma_of_the_next_first: its answers
+abbrev pub directed_anon_vma_of_the_next_first : List Step
+directed_anon_vma_of_the_next_first =
+    step 0 (Map 1048576 4096 rw 50 (negsuc 0) 0) (Ok (Returned 1048576)) None
+    ∷ step 0 (Map 1056768 4096 rw 50 (negsuc 0) 0) (Ok (Returned 1056768)) None
+    ∷ step 0 (Touch 256 Write) (Ok (Serves 256 257 rw false 0)) None
+    ∷ step 0 (Touch 258 Write) (Ok (Serves 258 259 rw false 0)) None
+    ∷ step 0 (Protect 1048576 4096 r) (Ok (Returned 0)) None
+    ∷ step 0 (Protect 1056768 4096 r) (Ok (Returned 0)) None
+    ∷ step 0 (Map 1052672 4096 rw 50 (negsuc 0) 0) (Ok (Returned 1052672)) None
+    ∷ step 0 (Touch 257 Write) (Ok (Serves 257 258 rw false 0)) None
+    ∷ step 0 (Protect 1052672 4096 r) (Ok (Returned 0)) (Some (plain 256 257 r ∷ plain 257 259 r ∷ []))
+    ∷ []
+
+-- directed_refused_growth_counts_as_written: the kernel
+abbrev pub directed_refused_growth_counts_as_written_on : Kernel
+directed_refused_growth_counts_as_written_on = record { rules = linux_6_18; machine = record { lowest_built = 16; memory = 6170918; stack = 8388608; has_keys = true; huge_always = false; files_are_huge = false; vsyscall = Xonly }; config = config 4096 140737354133504 65530 0 ([]) }
+
+-- directed_refused_growth_counts_as_written: its answers
+abbrev pub directed_refused_growth_counts_as_written : List Step
+directed_refused_growth_counts_as_written =
+    step 0 (Map 16777216 8388608 rw 306 (negsuc 0) 0) (Ok (Returned 16777216)) None
+    ∷ step 0 (Touch 4095 Write) (Ok (Signal MapErr)) None
+    ∷ step 0 (Protect 16777216 8388608 r) (Ok (Returned 0)) None
+    ∷ step 0 (Map 25165824 4096 r 306 (negsuc 0) 0) (Ok (Returned 25165824)) (Some (plain 4096 6144 r ∷ plain 6144 6145 r ∷ []))
+    ∷ step 0 (Map 50331648 8388608 rw 306 (negsuc 0) 0) (Ok (Returned 50331648)) None
+    ∷ step 0 (Protect 50331648 8388608 r) (Ok (Returned 0)) None
+    ∷ step 0 (Map 58720256 4096 r 306 (negsuc 0) 0) (Ok (Returned 58720256)) (Some (plain 4096 6144 r ∷ plain 6144 6145 r ∷ plain 12288 14337 r ∷ []))
+    ∷ []
+
+-- directed_written_range_of_a_fork_stays_apart: the kernel
+abbrev pub directed_written_range_of_a_fork_stays_apart_on : Kernel
+directed_written_range_of_a_fork_stays_apart_on = record { rules = linux_6_18; machine = record { lowest_built = 16; memory = 6170918; stack = 8388608; has_keys = true; huge_always = false; files_are_huge = false; vsyscall = Xonly }; config = config 4096 140737354133504 65530 0 ([]) }
+
+-- directed_written_range_of_a_fork_stays_apart: its answers
+abbrev pub directed_written_range_of_a_fork_stays_apart : List Step
+directed_written_range_of_a_fork_stays_apart =
+    step 0 (Map 1048576 8192 rw 50 (negsuc 0) 0) (Ok (Returned 1048576)) None
+    ∷ step 0 (Touch 256 Write) (Ok (Serves 256 258 rw false 0)) None
+    ∷ step 0 (Protect 1048576 8192 r) (Ok (Returned 0)) None
+    ∷ step 0 (Fork 1) (Ok (Returned 0)) (Some (plain 256 258 r ∷ []))
+    ∷ step 1 (Map 1056768 4096 rw 50 (negsuc 0) 0) (Ok (Returned 1056768)) None
+    ∷ step 1 (Protect 1052672 4096 rw) (Ok (Returned 0)) (Some (plain 256 257 r ∷ plain 257 258 rw ∷ plain 258 259 rw ∷ []))
+    ∷ []
+
+-- directed_anon_vma_needs_running_offsets: the kernel
+abbrev pub directed_anon_vma_needs_running_offsets_on : Kernel
+directed_anon_vma_needs_running_offsets_on = record { rules = linux_6_18; machine = record { lowest_built = 16; memory = 6170918; stack = 8388608; has_keys = true; huge_always = false; files_are_huge = false; vsyscall = Xonly }; config = config 4096 140737354133504 65530 0 ([]) }
+
+-- directed_anon_vma_needs_running_offsets: its answers
+abbrev pub directed_anon_vma_needs_running_offsets : List Step
+directed_anon_vma_needs_running_offsets =
+    step 0 (Map 1048576 12288 rw 50 (negsuc 0) 0) (Ok (Returned 1048576)) None
+    ∷ step 0 (Touch 256 Write) (Ok (Serves 256 259 rw false 0)) None
+    ∷ step 0 (Remap 1052672 4096 4096 3 2101248) (Ok (Returned 2101248)) None
+    ∷ step 0 (Remap 1056768 4096 4096 3 3145728) (Ok (Returned 3145728)) None
+    ∷ step 0 (Unmap 1048576 4096) (Ok (Returned 0)) None
+    ∷ step 0 (Remap 3145728 4096 4096 3 1052672) (Ok (Returned 1052672)) None
+    ∷ step 0 (Map 1048576 4096 rw 50 (negsuc 0) 0) (Ok (Returned 1048576)) None
+    ∷ step 0 (Touch 256 Write) (Ok (Serves 256 257 rw false 0)) None
+    ∷ step 0 (Remap 2101248 4096 4096 3 1052672) (Ok (Returned 1052672)) (Some (plain 256 257 rw ∷ plain 257 258 rw ∷ []))
+    ∷ []
+
 -- The definitions answer all of these traces as Linux 6.18.44 did.
 pub record AllOfLinux_6_18 : Type 0 where
   pub brk_beside_plain_memory_holds : IsAsRecorded brk_beside_plain_memory_on brk_beside_plain_memory
@@ -1318,6 +1396,7 @@ pub record AllOfLinux_6_18 : Type 0 where
   pub mseal_mprotect_odd_address_holds : IsAsRecorded mseal_mprotect_odd_address_on mseal_mprotect_odd_address
   pub mseal_munmap_refused_otherwise_holds : IsAsRecorded mseal_munmap_refused_otherwise_on mseal_munmap_refused_otherwise
   pub mseal_part_then_all_holds : IsAsRecorded mseal_part_then_all_on mseal_part_then_all
+  pub munmap_limit_cut_at_the_end_holds : IsAsRecorded munmap_limit_cut_at_the_end_on munmap_limit_cut_at_the_end
   pub written_1_holds : IsAsRecorded written_1_on written_1
   pub written_limit_15_holds : IsAsRecorded written_limit_15_on written_limit_15
   pub hard_limit_37_holds : IsAsRecorded hard_limit_37_on hard_limit_37
@@ -1348,3 +1427,7 @@ pub record AllOfLinux_6_18 : Type 0 where
   pub sealed_1402_holds : IsAsRecorded sealed_1402_on sealed_1402
   pub hard_1464_holds : IsAsRecorded hard_1464_on hard_1464
   pub written_2062_holds : IsAsRecorded written_2062_on written_2062
+  pub directed_anon_vma_of_the_next_first_holds : IsAsRecorded directed_anon_vma_of_the_next_first_on directed_anon_vma_of_the_next_first
+  pub directed_refused_growth_counts_as_written_holds : IsAsRecorded directed_refused_growth_counts_as_written_on directed_refused_growth_counts_as_written
+  pub directed_written_range_of_a_fork_stays_apart_holds : IsAsRecorded directed_written_range_of_a_fork_stays_apart_on directed_written_range_of_a_fork_stays_apart
+  pub directed_anon_vma_needs_running_offsets_holds : IsAsRecorded directed_anon_vma_needs_running_offsets_on directed_anon_vma_needs_running_offsets

@@ -1,4 +1,4 @@
--- What Linux 7.2.12 answered to 40 traces. Made by dev/make-linux-rules from suite/.
+-- What Linux 7.2.12 answered to 42 traces. Made by dev/make-linux-rules from suite/.
 use Rattle.std.specs.Prelude.{List, ◌∷◌, [], true, false, pos, negsuc, Some, None, Ok, Err}
 use Rattle.mm_types.specs.declared.area.Access.TheVariants.{Read, Write, Exec}
 use Rattle.linux_rules.specs.declared.kernel.Kernel.{Kernel}
@@ -1568,6 +1568,84 @@ hard_331 =
     ∷ step 0 (Protect 1114112 12288 rwx) (Err 12) (Some (plain 256 257 r ∷ plain 257 258 rw ∷ heap 261 269 rw ∷ plain 269 270 rx ∷ plain 272 273 rwx ∷ plain 274 277 w ∷ plain 34359705597 34359705598 rx ∷ filed 34359705598 34359705599 r true 0 1 ∷ []))
     ∷ []
 
+-- hard_611: the kernel
+abbrev pub hard_611_on : Kernel
+hard_611_on = record { rules = linux_7_2; machine = record { lowest_built = 16; memory = 245000; stack = 8388608; has_keys = true; huge_always = true; files_are_huge = false; vsyscall = Xonly }; config = config 4096 140737354133504 65530 1052672 ([]) }
+
+-- hard_611: its answers
+abbrev pub hard_611 : List Step
+hard_611 =
+    step 0 (Map 0 4194304 w 34 (negsuc 0) 0) (Ok (Returned 140737347846144)) (Some (plain 34359704064 34359705088 w ∷ []))
+    ∷ step 0 (Map 0 8589934592 rw 34 (negsuc 0) 0) (Err 12) (Some (plain 34359704064 34359705088 w ∷ []))
+    ∷ step 0 (Map 0 2101248 rwx 34 (negsuc 0) 0) (Ok (Returned 140737345744896)) (Some (plain 34359703551 34359704064 rwx ∷ plain 34359704064 34359705088 w ∷ []))
+    ∷ step 0 (Remap 140737345744896 0 2101248 0 0) (Err 22) (Some (plain 34359703551 34359704064 rwx ∷ plain 34359704064 34359705088 w ∷ []))
+    ∷ step 0 (Protect 140737347846144 4194304 x) (Ok (Returned 0)) (Some (plain 34359703551 34359704064 rwx ∷ plain 34359704064 34359705088 x ∷ []))
+    ∷ step 0 (Touch 34359704011 Read) (Ok (Serves 34359703551 34359704064 rwx false 0)) None
+    ∷ step 0 (Protect 140737345789952 2056192 r) (Ok (Returned 0)) (Some (plain 34359703551 34359703562 rwx ∷ plain 34359703562 34359704064 r ∷ plain 34359704064 34359705088 x ∷ []))
+    ∷ step 0 (Remap 140737345744896 45056 45056 7 1101824) (Ok (Returned 1101824)) (Some (plain 269 280 rwx ∷ plain 34359703551 34359703562 rwx ∷ plain 34359703562 34359704064 r ∷ plain 34359704064 34359705088 x ∷ []))
+    ∷ step 0 (Break 1064960) (Ok (Returned 1064960)) (Some (heap 257 260 rw ∷ plain 269 280 rwx ∷ plain 34359703551 34359703562 rwx ∷ plain 34359703562 34359704064 r ∷ plain 34359704064 34359705088 x ∷ []))
+    ∷ step 0 (Map 0 2093056 rw 34 (negsuc 0) 0) (Ok (Returned 140737352040448)) (Some (heap 257 260 rw ∷ plain 269 280 rwx ∷ plain 34359703551 34359703562 rwx ∷ plain 34359703562 34359704064 r ∷ plain 34359704064 34359705088 x ∷ plain 34359705088 34359705599 rw ∷ []))
+    ∷ step 0 (Remap 1064960 16384 8192 1 0) (Err 14) (Some (heap 257 260 rw ∷ plain 269 280 rwx ∷ plain 34359703551 34359703562 rwx ∷ plain 34359703562 34359704064 r ∷ plain 34359704064 34359705088 x ∷ plain 34359705088 34359705599 rw ∷ []))
+    ∷ step 0 (Break 1056776) (Ok (Returned 1056776)) (Some (heap 257 259 rw ∷ plain 269 280 rwx ∷ plain 34359703551 34359703562 rwx ∷ plain 34359703562 34359704064 r ∷ plain 34359704064 34359705088 x ∷ plain 34359705088 34359705599 rw ∷ []))
+    ∷ step 0 (Protect 1110016 20480 x) (Ok (Returned 0)) (Some (heap 257 259 rw ∷ plain 269 271 rwx ∷ plain 271 276 x ∷ plain 276 280 rwx ∷ plain 34359703551 34359703562 rwx ∷ plain 34359703562 34359704064 r ∷ plain 34359704064 34359705088 x ∷ plain 34359705088 34359705599 rw ∷ []))
+    ∷ step 0 (Remap 1101824 4096 4096 3 1105920) (Ok (Returned 1105920)) (Some (heap 257 259 rw ∷ plain 270 271 rwx ∷ plain 271 276 x ∷ plain 276 280 rwx ∷ plain 34359703551 34359703562 rwx ∷ plain 34359703562 34359704064 r ∷ plain 34359704064 34359705088 x ∷ plain 34359705088 34359705599 rw ∷ []))
+    ∷ step 0 (Map 0 4096 none 16418 (negsuc 0) 0) (Ok (Returned 140737345740800)) (Some (heap 257 259 rw ∷ plain 270 271 rwx ∷ plain 271 276 x ∷ plain 276 280 rwx ∷ plain 34359703550 34359703551 none ∷ plain 34359703551 34359703562 rwx ∷ plain 34359703562 34359704064 r ∷ plain 34359704064 34359705088 x ∷ plain 34359705088 34359705599 rw ∷ []))
+    ∷ step 0 (Touch 258 Write) (Ok (Serves 257 259 rw false 0)) None
+    ∷ step 0 (Touch 272 Read) (Ok (Signal PkuErr)) None
+    ∷ step 0 (Protect 1069056 4096 rw) (Err 12) (Some (heap 257 259 rw ∷ plain 270 271 rwx ∷ plain 271 276 x ∷ plain 276 280 rwx ∷ plain 34359703550 34359703551 none ∷ plain 34359703551 34359703562 rwx ∷ plain 34359703562 34359704064 r ∷ plain 34359704064 34359705088 x ∷ plain 34359705088 34359705599 rw ∷ []))
+    ∷ step 0 (Break 1064976) (Ok (Returned 1064976)) (Some (heap 257 261 rw ∷ plain 270 271 rwx ∷ plain 271 276 x ∷ plain 276 280 rwx ∷ plain 34359703550 34359703551 none ∷ plain 34359703551 34359703562 rwx ∷ plain 34359703562 34359704064 r ∷ plain 34359704064 34359705088 x ∷ plain 34359705088 34359705599 rw ∷ []))
+    ∷ step 0 (Map 1089536 4096 rwx 50 (negsuc 0) 0) (Ok (Returned 1089536)) (Some (heap 257 261 rw ∷ plain 266 267 rwx ∷ plain 270 271 rwx ∷ plain 271 276 x ∷ plain 276 280 rwx ∷ plain 34359703550 34359703551 none ∷ plain 34359703551 34359703562 rwx ∷ plain 34359703562 34359704064 r ∷ plain 34359704064 34359705088 x ∷ plain 34359705088 34359705599 rw ∷ []))
+    ∷ step 0 (Remap 1089536 4096 4096 7 1052672) (Ok (Returned 1052672)) (Some (heap 257 258 rwx ∷ heap 258 261 rw ∷ plain 266 267 rwx ∷ plain 270 271 rwx ∷ plain 271 276 x ∷ plain 276 280 rwx ∷ plain 34359703550 34359703551 none ∷ plain 34359703551 34359703562 rwx ∷ plain 34359703562 34359704064 r ∷ plain 34359704064 34359705088 x ∷ plain 34359705088 34359705599 rw ∷ []))
+    ∷ step 0 (Protect 1110016 36864 x) (Ok (Returned 0)) (Some (heap 257 258 rwx ∷ heap 258 261 rw ∷ plain 266 267 rwx ∷ plain 270 271 rwx ∷ plain 271 280 x ∷ plain 34359703550 34359703551 none ∷ plain 34359703551 34359703562 rwx ∷ plain 34359703562 34359704064 r ∷ plain 34359704064 34359705088 x ∷ plain 34359705088 34359705599 rw ∷ []))
+    ∷ step 0 (Protect 1089536 4096 x) (Ok (Returned 0)) (Some (heap 257 258 rwx ∷ heap 258 261 rw ∷ plain 266 267 x ∷ plain 270 271 rwx ∷ plain 271 280 x ∷ plain 34359703550 34359703551 none ∷ plain 34359703551 34359703562 rwx ∷ plain 34359703562 34359704064 r ∷ plain 34359704064 34359705088 x ∷ plain 34359705088 34359705599 rw ∷ []))
+    ∷ step 0 (Remap 1064960 4096 16384 1 0) (Ok (Returned 1064960)) (Some (heap 257 258 rwx ∷ heap 258 264 rw ∷ plain 266 267 x ∷ plain 270 271 rwx ∷ plain 271 280 x ∷ plain 34359703550 34359703551 none ∷ plain 34359703551 34359703562 rwx ∷ plain 34359703562 34359704064 r ∷ plain 34359704064 34359705088 x ∷ plain 34359705088 34359705599 rw ∷ []))
+    ∷ step 0 (Map 140737345732608 8192 w 50 (negsuc 0) 0) (Ok (Returned 140737345732608)) (Some (heap 257 258 rwx ∷ heap 258 264 rw ∷ plain 266 267 x ∷ plain 270 271 rwx ∷ plain 271 280 x ∷ plain 34359703548 34359703550 w ∷ plain 34359703550 34359703551 none ∷ plain 34359703551 34359703562 rwx ∷ plain 34359703562 34359704064 r ∷ plain 34359704064 34359705088 x ∷ plain 34359705088 34359705599 rw ∷ []))
+    ∷ step 0 (Protect 1138688 8192 w) (Ok (Returned 0)) (Some (heap 257 258 rwx ∷ heap 258 264 rw ∷ plain 266 267 x ∷ plain 270 271 rwx ∷ plain 271 278 x ∷ plain 278 280 w ∷ plain 34359703548 34359703550 w ∷ plain 34359703550 34359703551 none ∷ plain 34359703551 34359703562 rwx ∷ plain 34359703562 34359704064 r ∷ plain 34359704064 34359705088 x ∷ plain 34359705088 34359705599 rw ∷ []))
+    ∷ step 0 (Remap 1110016 28672 28672 7 1081344) (Ok (Returned 1081344)) (Some (heap 257 258 rwx ∷ heap 258 264 rw ∷ plain 264 271 x ∷ plain 271 278 x ∷ plain 278 280 w ∷ plain 34359703548 34359703550 w ∷ plain 34359703550 34359703551 none ∷ plain 34359703551 34359703562 rwx ∷ plain 34359703562 34359704064 r ∷ plain 34359704064 34359705088 x ∷ plain 34359705088 34359705599 rw ∷ []))
+    ∷ step 0 (Protect 1052672 4096 rw) (Ok (Returned 0)) (Some (heap 257 264 rw ∷ plain 264 271 x ∷ plain 271 278 x ∷ plain 278 280 w ∷ plain 34359703548 34359703550 w ∷ plain 34359703550 34359703551 none ∷ plain 34359703551 34359703562 rwx ∷ plain 34359703562 34359704064 r ∷ plain 34359704064 34359705088 x ∷ plain 34359705088 34359705599 rw ∷ []))
+    ∷ step 0 (Protect 1110016 45056 rw) (Err 12) (Some (heap 257 264 rw ∷ plain 264 271 x ∷ plain 271 278 rw ∷ plain 278 280 rw ∷ plain 34359703548 34359703550 w ∷ plain 34359703550 34359703551 none ∷ plain 34359703551 34359703562 rwx ∷ plain 34359703562 34359704064 r ∷ plain 34359704064 34359705088 x ∷ plain 34359705088 34359705599 rw ∷ []))
+    ∷ step 0 (Remap 1081344 28672 28672 3 1024000) (Ok (Returned 1024000)) (Some (plain 250 257 x ∷ heap 257 264 rw ∷ plain 271 278 rw ∷ plain 278 280 rw ∷ plain 34359703548 34359703550 w ∷ plain 34359703550 34359703551 none ∷ plain 34359703551 34359703562 rwx ∷ plain 34359703562 34359704064 r ∷ plain 34359704064 34359705088 x ∷ plain 34359705088 34359705599 rw ∷ []))
+    ∷ []
+
+-- hard_771: the kernel
+abbrev pub hard_771_on : Kernel
+hard_771_on = record { rules = linux_7_2; machine = record { lowest_built = 16; memory = 245000; stack = 8388608; has_keys = true; huge_always = true; files_are_huge = false; vsyscall = Xonly }; config = config 4096 140737354133504 65530 0 ([]) }
+
+-- hard_771: its answers
+abbrev pub hard_771 : List Step
+hard_771 =
+    step 0 (Map 1114112 16384 rwx 50 (negsuc 0) 0) (Ok (Returned 1114112)) (Some (plain 272 276 rwx ∷ []))
+    ∷ step 0 (Map 1130496 16384 none 16434 (negsuc 0) 0) (Ok (Returned 1130496)) (Some (plain 272 276 rwx ∷ plain 276 280 none ∷ []))
+    ∷ step 0 (Map 1052672 16384 rw 50 (negsuc 0) 0) (Ok (Returned 1052672)) (Some (plain 257 261 rw ∷ plain 272 276 rwx ∷ plain 276 280 none ∷ []))
+    ∷ step 0 (Map 1081344 4096 x 306 (negsuc 0) 0) (Ok (Returned 1081344)) (Some (plain 257 261 rw ∷ plain 264 265 x ∷ plain 272 276 rwx ∷ plain 276 280 none ∷ []))
+    ∷ step 0 (Touch 263 Exec) (Ok (Signal MapErr)) None
+    ∷ step 0 (Map 1048576 4096 rw 50 (negsuc 0) 0) (Ok (Returned 1048576)) (Some (plain 256 261 rw ∷ plain 264 265 x ∷ plain 272 276 rwx ∷ plain 276 280 none ∷ []))
+    ∷ step 0 (Touch 259 Exec) (Ok (Signal AccErr)) None
+    ∷ step 0 (Protect 1114112 4096 rw) (Ok (Returned 0)) (Some (plain 256 261 rw ∷ plain 264 265 x ∷ plain 272 273 rw ∷ plain 273 276 rwx ∷ plain 276 280 none ∷ []))
+    ∷ step 0 (Map 1093632 4096 rw 32818 (negsuc 0) 0) (Ok (Returned 1093632)) (Some (plain 256 261 rw ∷ plain 264 265 x ∷ plain 267 268 rw ∷ plain 272 273 rw ∷ plain 273 276 rwx ∷ plain 276 280 none ∷ []))
+    ∷ step 0 (Protect 1130496 4096 none) (Ok (Returned 0)) (Some (plain 256 261 rw ∷ plain 264 265 x ∷ plain 267 268 rw ∷ plain 272 273 rw ∷ plain 273 276 rwx ∷ plain 276 280 none ∷ []))
+    ∷ step 0 (Protect 1138688 4096 rwx) (Ok (Returned 0)) (Some (plain 256 261 rw ∷ plain 264 265 x ∷ plain 267 268 rw ∷ plain 272 273 rw ∷ plain 273 276 rwx ∷ plain 276 278 none ∷ plain 278 279 rwx ∷ plain 279 280 none ∷ []))
+    ∷ step 0 (Touch 276 Write) (Ok (Signal AccErr)) None
+    ∷ step 0 (Touch 275 Write) (Ok (Serves 273 276 rwx false 0)) None
+    ∷ step 0 (Touch 263 Write) (Ok (Signal MapErr)) None
+    ∷ step 0 (Touch 264 Exec) (Ok (Serves 264 265 x false 0)) None
+    ∷ step 0 (Remap 1093632 4096 8192 3 1146880) (Ok (Returned 1146880)) (Some (plain 256 261 rw ∷ plain 264 265 x ∷ plain 272 273 rw ∷ plain 273 276 rwx ∷ plain 276 278 none ∷ plain 278 279 rwx ∷ plain 279 280 none ∷ plain 280 282 rw ∷ []))
+    ∷ step 0 (Touch 204 Write) (Ok (Signal MapErr)) None
+    ∷ step 0 (Map 1069056 12288 rwx 131122 (negsuc 0) 0) (Ok (Returned 1069056)) (Some (plain 256 261 rw ∷ plain 261 264 rwx ∷ plain 264 265 x ∷ plain 272 273 rw ∷ plain 273 276 rwx ∷ plain 276 278 none ∷ plain 278 279 rwx ∷ plain 279 280 none ∷ plain 280 282 rw ∷ []))
+    ∷ step 0 (Protect 1142784 4096 rwx) (Ok (Returned 0)) (Some (plain 256 261 rw ∷ plain 261 264 rwx ∷ plain 264 265 x ∷ plain 272 273 rw ∷ plain 273 276 rwx ∷ plain 276 278 none ∷ plain 278 280 rwx ∷ plain 280 282 rw ∷ []))
+    ∷ step 0 (Remap 1146880 8192 8192 7 1105920) (Ok (Returned 1105920)) (Some (plain 256 261 rw ∷ plain 261 264 rwx ∷ plain 264 265 x ∷ plain 270 272 rw ∷ plain 272 273 rw ∷ plain 273 276 rwx ∷ plain 276 278 none ∷ plain 278 280 rwx ∷ plain 280 282 rw ∷ []))
+    ∷ step 0 (Map 1085440 4096 x 50 (negsuc 0) 0) (Ok (Returned 1085440)) (Some (plain 256 261 rw ∷ plain 261 264 rwx ∷ plain 264 265 x ∷ plain 265 266 x ∷ plain 270 272 rw ∷ plain 272 273 rw ∷ plain 273 276 rwx ∷ plain 276 278 none ∷ plain 278 280 rwx ∷ plain 280 282 rw ∷ []))
+    ∷ step 0 (Remap 1085440 36864 36864 3 1089536) (Err 22) (Some (plain 256 261 rw ∷ plain 261 264 rwx ∷ plain 264 265 x ∷ plain 265 266 x ∷ plain 270 272 rw ∷ plain 272 273 rw ∷ plain 273 276 rwx ∷ plain 276 278 none ∷ plain 278 280 rwx ∷ plain 280 282 rw ∷ []))
+    ∷ step 0 (Map 1122304 16384 rw 50 (negsuc 0) 0) (Ok (Returned 1122304)) (Some (plain 256 261 rw ∷ plain 261 264 rwx ∷ plain 264 265 x ∷ plain 265 266 x ∷ plain 270 272 rw ∷ plain 272 273 rw ∷ plain 273 274 rwx ∷ plain 274 278 rw ∷ plain 278 280 rwx ∷ plain 280 282 rw ∷ []))
+    ∷ step 0 (Map 1114112 4096 r 34 (negsuc 0) 0) (Ok (Returned 140737354129408)) (Some (plain 256 261 rw ∷ plain 261 264 rwx ∷ plain 264 265 x ∷ plain 265 266 x ∷ plain 270 272 rw ∷ plain 272 273 rw ∷ plain 273 274 rwx ∷ plain 274 278 rw ∷ plain 278 280 rwx ∷ plain 280 282 rw ∷ plain 34359705598 34359705599 r ∷ []))
+    ∷ step 0 (Map 1048576 16384 r 50 (negsuc 0) 0) (Ok (Returned 1048576)) (Some (plain 256 260 r ∷ plain 260 261 rw ∷ plain 261 264 rwx ∷ plain 264 265 x ∷ plain 265 266 x ∷ plain 270 272 rw ∷ plain 272 273 rw ∷ plain 273 274 rwx ∷ plain 274 278 rw ∷ plain 278 280 rwx ∷ plain 280 282 rw ∷ plain 34359705598 34359705599 r ∷ []))
+    ∷ step 0 (Map 1134592 12288 w 50 (negsuc 0) 0) (Ok (Returned 1134592)) (Some (plain 256 260 r ∷ plain 260 261 rw ∷ plain 261 264 rwx ∷ plain 264 265 x ∷ plain 265 266 x ∷ plain 270 272 rw ∷ plain 272 273 rw ∷ plain 273 274 rwx ∷ plain 274 277 rw ∷ plain 277 280 w ∷ plain 280 282 rw ∷ plain 34359705598 34359705599 r ∷ []))
+    ∷ step 0 (Remap 1146880 8192 16384 1 0) (Ok (Returned 1146880)) (Some (plain 256 260 r ∷ plain 260 261 rw ∷ plain 261 264 rwx ∷ plain 264 265 x ∷ plain 265 266 x ∷ plain 270 272 rw ∷ plain 272 273 rw ∷ plain 273 274 rwx ∷ plain 274 277 rw ∷ plain 277 280 w ∷ plain 280 284 rw ∷ plain 34359705598 34359705599 r ∷ []))
+    ∷ step 0 (Map 1146880 4096 rw 50 (negsuc 0) 0) (Ok (Returned 1146880)) (Some (plain 256 260 r ∷ plain 260 261 rw ∷ plain 261 264 rwx ∷ plain 264 265 x ∷ plain 265 266 x ∷ plain 270 272 rw ∷ plain 272 273 rw ∷ plain 273 274 rwx ∷ plain 274 277 rw ∷ plain 277 280 w ∷ plain 280 284 rw ∷ plain 34359705598 34359705599 r ∷ []))
+    ∷ step 0 (Protect 1159168 4096 r) (Ok (Returned 0)) (Some (plain 256 260 r ∷ plain 260 261 rw ∷ plain 261 264 rwx ∷ plain 264 265 x ∷ plain 265 266 x ∷ plain 270 272 rw ∷ plain 272 273 rw ∷ plain 273 274 rwx ∷ plain 274 277 rw ∷ plain 277 280 w ∷ plain 280 283 rw ∷ plain 283 284 r ∷ plain 34359705598 34359705599 r ∷ []))
+    ∷ step 0 (Touch 270 Exec) (Ok (Signal AccErr)) (Some (plain 256 260 r ∷ plain 260 261 rw ∷ plain 261 264 rwx ∷ plain 264 265 x ∷ plain 265 266 x ∷ plain 270 272 rw ∷ plain 272 273 rw ∷ plain 273 274 rwx ∷ plain 274 277 rw ∷ plain 277 280 w ∷ plain 280 283 rw ∷ plain 283 284 r ∷ plain 34359705598 34359705599 r ∷ []))
+    ∷ []
+
 -- The definitions answer all of these traces as Linux 7.2.12 did.
 pub record AllOfLinux_7_2 : Type 0 where
   pub written_1_holds : IsAsRecorded written_1_on written_1
@@ -1610,3 +1688,5 @@ pub record AllOfLinux_7_2 : Type 0 where
   pub hard_272_holds : IsAsRecorded hard_272_on hard_272
   pub hard_limit_301_holds : IsAsRecorded hard_limit_301_on hard_limit_301
   pub hard_331_holds : IsAsRecorded hard_331_on hard_331
+  pub hard_611_holds : IsAsRecorded hard_611_on hard_611
+  pub hard_771_holds : IsAsRecorded hard_771_on hard_771
