@@ -5,13 +5,11 @@ import unittest
 from dataclasses import replace
 from typing import Any
 
-TOP = Path(__file__).resolve().parents[2]
-sys.path[:0] = [str(TOP), str(TOP / "tools")]
-
-from dev.linux_rules import choosing, evaluating, plant, planted, planting, recordings, resolving, terms, versions  # noqa: E402
-from dev.linux_rules.planted import PLANTED  # noqa: E402
-from vmatools.linux.kernel import Settings  # noqa: E402
-from vmatools.traces import read_trace  # noqa: E402
+from dev.linux_rules import choosing, evaluating, plant, planted, planting, recordings, resolving, terms, versions
+from dev.linux_rules.planted import PLANTED
+from vmatools.linux.kernel import Settings
+from vmatools.program import TOP
+from vmatools.traces import read_trace
 
 TRACE = b"""vmatrace 1
 heap 0x200000
