@@ -1,6 +1,6 @@
 """The generated traces, and the summary of an output of one.
 
-They are written from the section "Generated loads" of docs/MODEL.md alone, and have nothing of the program's code.
+They are written from the section "Generated traces" of docs/TRACE.md alone, and have nothing of the program's code.
 """
 from __future__ import annotations
 
