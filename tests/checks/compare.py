@@ -26,7 +26,6 @@ from vmatools.campaign import sources
 from vmatools.commands import compare
 from models import mutants
 
-HERE = os.path.dirname(os.path.abspath(__file__))
 TOOLS, DEV, TESTS = (os.path.join(programs.TOP, name) for name in ("tools", "dev", "tests"))
 
 Job = tuple[str, list[str], int, str]  # a tool, its words, its status, and what it names
@@ -335,7 +334,7 @@ def check_statuses(program: str) -> None:
     vma, measure = os.path.join(TOOLS, "vma"), os.path.join(DEV, "measure")
     jobs: list[Job] = [(vma, ["compare", "--program", program, *words], wanted, "") for words, wanted in runs]
     jobs += [
-        (os.path.join(HERE, f"{name}.py"), ["/no/program"], 2, "rt run")
+        (os.path.join(TESTS, "run"), ["--program", "/no/program", name], 2, "rt run")
         for name in ("program", "compare", "judged_runs", "memory")
     ]
     jobs += [(measure, [what, "/no/program"], 2, "rt run") for what in ("runs", "faults", "sessions")]
